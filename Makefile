@@ -1,0 +1,22 @@
+# rt is the command of the Rattle toolchain.
+RT ?= rt
+
+.PHONY: run test check fmt bench
+
+# the main job: one push body, judged and read back
+run:
+	@cd crates/ingest1 && $(RT) run -- 20 < stdin
+
+# the merge gate
+test:
+	$(RT) ci
+
+# every crate, lowest first, over the work of earlier checks
+check:
+	$(RT) all check
+
+fmt:
+	@for crate in crates/*/; do (cd "$$crate" && $(RT) fmt) || exit 1; done
+
+bench:
+	@cd crates/bench && $(RT) run -- time

@@ -1,0 +1,10 @@
+pub mod Codes
+pub mod Streams
+pub mod Rooms
+pub mod Histories
+pub mod Steps
+pub mod States
+pub mod OneKey
+pub mod Replies
+pub mod EachEntry
+pub use Rattle.labels.specs.Keys

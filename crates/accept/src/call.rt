@@ -1,0 +1,86 @@
+ghost use Rattle.std.specs.Prelude.{◌≡◌, ◌↔◌, ◌<◌, ◌^◌, IsTrue};
+ghost use Rattle.accept.specs.Streams.{AreTimes};
+
+use crate::entry::{Entry, EntryList};
+use crate::outcome::OutcomeList;
+use labels::StreamKey;
+
+/// A call on the stream of a key. Times are in nanoseconds.
+#[derive(Debug, Drop)]
+pub enum Call {
+    /// Judges the entries in order, and stores the accepted ones.
+    Push {
+        key: StreamKey,
+        /// What the clock says: below 2^63.
+        now: u64,
+        /// At most 10,000, with times below 2^63 and lines of any length.
+        entries: EntryList,
+    },
+    /// Reads the kept entries with `from <= time < to`.
+    Read {
+        key: StreamKey,
+        from: u64,
+        to: u64,
+    },
+    /// Removes the kept entries with `time < bound`.
+    Trim {
+        key: StreamKey,
+        bound: u64,
+    },
+}
+
+/// What is answered to a call.
+#[derive(Debug, Drop)]
+pub enum Reply {
+    /// To a push: what became of each entry.
+    Verdict(OutcomeList),
+    /// To a read: the entries in rising time, those of equal time in the order of storing.
+    Entries(EntryList),
+    /// To a trim: how many entries were removed.
+    Trimmed(u64),
+    /// To a trim whose bound is above the oldest time that the stream accepts: nothing was removed.
+    TrimTooNew,
+    /// To a trim of a key that never had an entry.
+    NoStream,
+    /// The state after the call would not fit into the log's capacity: nothing changed.
+    NoRoom,
+    /// The shard's log failed: nothing is answered until it is opened again.
+    Unavailable,
+}
+
+impl Call {
+    ghost use Rattle.std.specs.Prelude.{◌≡◌, ◌↔◌, IsTrue};
+    ghost use Rattle.accept.specs.Histories.{key_of};
+    ghost use Rattle.accept.specs.Steps.{AreNumbers};
+
+    /// The key of the stream that the call is on.
+    pub fn key(&self) -> &StreamKey
+        ensures { result.now ≡ key_of self.now }
+    {
+        match self {
+            Call::Push { key, .. } | Call::Read { key, .. } | Call::Trim { key, .. } => key,
+        }
+    }
+
+    /// Whether the clock and the times of a push are below 2^63.
+    pub fn has_lawful_numbers(&self) -> bool
+        ensures { IsTrue result ↔ AreNumbers self.now }
+    {
+        match self {
+            Call::Push { now, entries, .. } => is_time(*now) && are_times(entries.as_slice()),
+            Call::Read { .. } | Call::Trim { .. } => true,
+        }
+    }
+}
+
+fn is_time(time: u64) -> bool
+    ensures { IsTrue result ↔ (time < 2 ^ 63) }
+{
+    time < 1 << 63
+}
+
+fn are_times(entries: &[Entry]) -> bool
+    ensures { IsTrue result ↔ AreTimes entries.now }
+{
+    entries.iter().all(|entry| is_time(entry.time))
+}

@@ -1,0 +1,92 @@
+//! `bench time` prints how fast push bodies are read; `bench check` only what the bodies hold.
+#![tactic(auto)]
+
+use anyhow::{Result, bail};
+use ingester::run_ingest1;
+use pushjson::read_push;
+use serde_json::Value;
+use std::alloc::Global;
+use std::env;
+use std::rt::Clock;
+use std::time::{Duration, Instant};
+
+/// How often each thing is timed; the best run counts.
+const RUNS: u32 = 20;
+
+/// The time of the first entry, and the clock: a nanosecond count of 2023.
+const START: u64 = 1_700_000_000_000_000_000;
+
+/// Entries and bytes of a line of the two bodies, of about 1 MB and 4 MB. A body holds at most 10,000
+/// entries, so the lines of the larger one are longer.
+const BODIES: [(u64, usize); 2] = [(4_600, 200), (9_600, 400)];
+
+fn main(rt: HostRuntime) -> Result<()> {
+    let words: Vec<String> = env::args(&rt)?.skip(1).collect(rt.alloc())?;
+    let timed = match words.as_slice() {
+        [word] if word.as_str() == "time" => true,
+        [word] if word.as_str() == "check" => false,
+        _ => bail!("usage: bench time|check"),
+    };
+    for (entries, line) in BODIES {
+        let body = body_of(rt.alloc(), entries, line)?;
+        let size = body.len();
+        let batches = read_push(rt.alloc(), &body)?;
+        let streams = batches.len();
+        println!(rt; "{size} bytes: {entries} lines of {line} bytes, {streams} stream")?;
+        if timed {
+            report(&rt, &body)?;
+        }
+    }
+    Ok(())
+}
+
+/// A push body of one stream.
+fn body_of(alloc: Global, entries: u64, line: usize) -> Result<Vec<u8>> {
+    let mut body = Vec::new(alloc);
+    body.extend_from_slice(b"{\"streams\":[{\"stream\":{\"a\":\"1\"},\"values\":[")?;
+    let text = vec![in alloc; b'x'; line]?;
+    for entry in 0..entries {
+        if entry > 0 {
+            body.push(b',')?;
+        }
+        let time = START.saturating_add(entry);
+        let head = format!(in alloc; "[\"{time}\",\"")?;
+        body.extend_from_slice(head.as_bytes())?;
+        body.extend_from_slice(&text)?;
+        body.extend_from_slice(b"\"]")?;
+    }
+    body.extend_from_slice(b"]}]}")?;
+    Ok(body)
+}
+
+fn report<R: Clock + Print + AllocGlobal>(rt: &R, body: &[u8]) -> Result<()> {
+    let mut json = Duration::MAX;
+    let mut push = Duration::MAX;
+    let mut whole = Duration::MAX;
+    let word = START.to_string(rt.alloc())?;
+    let words = vec![in rt.alloc(); word]?;
+    for _ in 0..RUNS {
+        let start = Instant::now(rt)?;
+        drop(Value::from_slice(rt.alloc(), body)?);
+        json = json.min(start.elapsed(rt)?);
+        let start = Instant::now(rt)?;
+        drop(read_push(rt.alloc(), body)?);
+        push = push.min(start.elapsed(rt)?);
+        let start = Instant::now(rt)?;
+        let mut output = Vec::new(rt.alloc());
+        let mut errors = Vec::new(rt.alloc());
+        let _status = run_ingest1(rt.alloc(), &words, &mut &*body, &mut output, &mut errors);
+        whole = whole.min(start.elapsed(rt)?);
+    }
+    let size = body.len();
+    for (name, time) in [
+        ("serde_json", json),
+        ("read_push", push),
+        ("run_ingest1", whole),
+    ] {
+        let micros = time.as_micros().max(1);
+        let speed = size as u128 / micros;
+        rt.println(format_args!("  {name}: {micros} us, {speed} MB/s"))?;
+    }
+    Ok(())
+}

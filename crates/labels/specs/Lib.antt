@@ -1,0 +1,5 @@
+pub mod Canonical
+pub mod Faults
+pub mod Keys
+pub mod Labels
+pub mod Tenants

@@ -1,0 +1,25 @@
+ghost use Rattle.std.specs.Prelude.{◌≡◌, ℕ, List};
+ghost use Rattle.labels.specs.Labels.{Label};
+ghost use Rattle.labels.specs.Canonical.{IsCanonical};
+ghost use Rattle.labels.specs.Keys.{key_cmp};
+
+use crate::key::StreamKey;
+use std::cmp::Ordering;
+
+/// The law that labels have one canonical text.
+pub fn one_text()
+    ensures { (t u : List ℕ) (ps : List Label) → IsCanonical t ps → IsCanonical u ps → t ≡ u }
+{}
+
+/// The law that no two label sets share a canonical text.
+#[tactic(auto, using(crate::proofs::Unique::one_set))]
+pub fn one_set()
+    ensures { (t : List ℕ) (ps qs : List Label) → IsCanonical t ps → IsCanonical t qs → ps ≡ qs }
+{}
+
+/// The order of keys: by the tenant's bytes, then by those of the labels' canonical text.
+pub fn order_of_keys(one: &StreamKey, other: &StreamKey) -> Ordering
+    ensures { result ≡ key_cmp one.now other.now }
+{
+    one.cmp(other)
+}

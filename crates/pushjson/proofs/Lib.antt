@@ -1,0 +1,4 @@
+pub mod Fronts
+pub mod OneAnswer
+pub mod OneQuery
+pub mod Trees

@@ -1,0 +1,6 @@
+use Rattle.pushjson.proofs.OneAnswer.{one_answer}
+use Rattle.pushjson.proofs.OneQuery.{one_query, one_trim}
+use Rattle.pushjson.proofs.laws.one_answer.Goals as goal
+
+pub returns : goal.returns
+returns c = record { push = one_answer; query = one_query; trim = one_trim }

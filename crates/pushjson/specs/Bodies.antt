@@ -1,0 +1,72 @@
+-- The JSON tree that a push body of given streams is.
+use Rattle.std.specs.Prelude.{◌≡◌, ℕ, ◌<◌, List, [], ◌∷◌, length, map, take, codes, sum_by, Some, IsUtf8, HoldsAt, All}
+use Rattle.std.specs.Ordering.{nat_cmp}
+use Rattle.std.specs.Cmp.Lexicographic.{slice_cmp}
+use Rattle.std.specs.List.Sorted.{IsStrictlySortedBy}
+use Rattle.std.specs.Str.Parse.{digits_value}
+use Rattle.serde_json.specs.Data.{Data, string, array, object, Members, no_members, member}
+use Rattle.serde_json.specs.Read.{read}
+use Rattle.serde_json.specs.View.{items_of}
+use Rattle.labels.specs.Labels.{Label}
+use Rattle.accept.specs.declared.entry.Entry.{Entry}
+use Rattle.pushjson.specs.Times.{IsTime}
+use Rattle.pushjson.specs.declared.push.RawBatch.{RawBatch}
+
+-- the text of a time, and a line
+abbrev pub TimedLine : Type 0
+TimedLine = List ℕ × List ℕ
+
+-- a stream as a body writes it: its labels, and its values
+pub record Stream : Type 0 where
+  pub pairs : List Label
+  pub values : List TimedLine
+
+abbrev pub labels_tree : List Label → Members
+labels_tree [] = no_members
+labels_tree (p ∷ ps) = member p.0 (string p.1) (labels_tree ps)
+
+abbrev pub value_tree : TimedLine → Data
+value_tree v = array (items_of (string v.0 ∷ string v.1 ∷ []))
+
+abbrev pub stream_tree : Stream → Data
+stream_tree s =
+    object (member (codes "stream") (object (labels_tree s.pairs))
+    (member (codes "values") (array (items_of (map value_tree s.values))) no_members))
+
+abbrev pub body_tree : List Stream → Data
+body_tree streams = object (member (codes "streams") (array (items_of (map stream_tree streams))) no_members)
+
+-- the names stand in strictly rising byte order
+abbrev pub HaveRisingNames : List Label → Type 0
+HaveRisingNames pairs = IsStrictlySortedBy (slice_cmp nat_cmp) (map (λ p. p.0) pairs)
+
+-- the bytes are a JSON text of this tree
+abbrev pub IsJson : List ℕ → Data → Type 0
+IsJson bytes d = IsUtf8 bytes × (read bytes ≡ Some d)
+
+abbrev pub AreTimes : List TimedLine → Type 0
+AreTimes values = All (λ v. IsTime v.0) values
+
+abbrev pub HaveTimes : List Stream → Type 0
+HaveTimes streams = All (λ s. AreTimes s.values) streams
+
+-- the time at j is none, and those before it are
+pub record IsFirstBad (values : List TimedLine) (j : ℕ) : Type 0 where
+  pub within : j < length values
+  pub here : HoldsAt (λ v. ¬ IsTime v.0) values j
+  pub earlier : AreTimes (take j values)
+
+-- the time at j of the stream at i is none, and those before it are
+pub record IsFirstBadTime (streams : List Stream) (i j : ℕ) : Type 0 where
+  pub within : i < length streams
+  pub here : HoldsAt (λ s. IsFirstBad s.values j) streams i
+  pub earlier : HaveTimes (take i streams)
+
+abbrev pub entry_count : List Stream → ℕ
+entry_count streams = sum_by (λ s. length s.values) streams
+
+abbrev pub entry_of : TimedLine → Entry
+entry_of v = record { time = digits_value 10 v.0; line = v.1 }
+
+abbrev pub batch_of : Stream → RawBatch
+batch_of s = record { pairs = s.pairs; entries = map entry_of s.values }

@@ -1,0 +1,5 @@
+pub mod Bodies
+pub mod Queries
+pub mod Reads
+pub mod Shape
+pub mod Times

@@ -1,0 +1,45 @@
+-- What the readers of a tree's parts answer; for private clauses.
+use Rattle.std.specs.Prelude.{◌≡◌, ◌≢◌, ⊤, ℕ, List, map, string_bytes, Result, Ok, Err}
+use Rattle.serde_json.specs.Data.{Data}
+use Rattle.serde_json.specs.View.{view}
+use Rattle.serde_json.specs.declared.value.Value.{Value}
+use Rattle.labels.specs.Labels.{label_of}
+use Rattle.pushjson.specs.Bodies.{Stream, IsJson}
+use Rattle.pushjson.specs.declared.fault.PushFault.{PushFault}
+use Rattle.pushjson.specs.declared.fault.PushFault.TheVariants.{NotJson, WrongShape, BadTime, TooManyEntries, Memory}
+use Rattle.pushjson.specs.Queries.{Query, Trim}
+use Rattle.pushjson.specs.declared.shape.StreamTexts.{StreamTexts}
+use Rattle.pushjson.specs.declared.shape.QueryTexts.{QueryTexts}
+use Rattle.pushjson.specs.declared.shape.TrimTexts.{TrimTexts}
+
+-- why the tree d is refused where what is wanted prints as `tree`
+abbrev pub IsFaultOf : {Y : Type 0} → (Y → Data) → Data → PushFault → Type 0
+IsFaultOf {Y} tree d WrongShape = (y : Y) → d ≢ tree y
+IsFaultOf tree d Memory = ⊤
+IsFaultOf tree d NotJson = ⊥
+IsFaultOf tree d (BadTime i j) = ⊥
+IsFaultOf tree d TooManyEntries = ⊥
+
+-- the tree is that of what was read, as `of` sees it, or of nothing that could be
+abbrev pub ReadsTree : {X Y : Type 0} → (X → Y) → (Y → Data) → Data → Result X PushFault → Type 0
+ReadsTree of tree d (Ok x) = d ≡ tree (of x)
+ReadsTree of tree d (Err e) = IsFaultOf tree d e
+
+-- the tree of the bytes
+abbrev pub ReadsData : List ℕ → Result Value PushFault → Type 0
+ReadsData bytes (Ok tree) = IsJson bytes (view tree)
+ReadsData bytes (Err NotJson) = (d : Data) → ¬ IsJson bytes d
+ReadsData bytes (Err Memory) = ⊤
+ReadsData bytes (Err WrongShape) = ⊥
+ReadsData bytes (Err (BadTime i j)) = ⊥
+ReadsData bytes (Err TooManyEntries) = ⊥
+
+-- the texts, without where they lie in memory
+abbrev pub stream_of : StreamTexts → Stream
+stream_of s = record { pairs = map label_of s.pairs.items; values = map label_of s.values.items }
+
+abbrev pub query_of : QueryTexts → Query
+query_of q = record { pairs = map label_of q.pairs.items; from = string_bytes q.from; to = string_bytes q.to }
+
+abbrev pub trim_texts_of : TrimTexts → Trim
+trim_texts_of t = record { pairs = map label_of t.pairs.items; bound = string_bytes t.bound }

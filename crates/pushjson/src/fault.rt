@@ -1,0 +1,23 @@
+use thiserror::Error;
+
+/// Why a body is refused. A wrong shape anywhere is answered before a bad time, and a bad time before
+/// too many entries. `Memory` may come at any point.
+#[derive(Clone, Copy, Debug, PartialEq, Eq, Error)]
+pub enum PushFault {
+    /// The bytes are not UTF-8, are no JSON text, or nest arrays and objects deeper than 127.
+    #[error("body is not JSON")]
+    NotJson,
+    /// A JSON text that is not a body of the kind asked for.
+    #[error("wrong shape")]
+    WrongShape,
+    /// A text that is no time, at a stream of the body and an entry of this stream, both counted
+    /// from 0; the first such in the body's order.
+    #[error("bad time at stream {stream} entry {entry}")]
+    BadTime { stream: usize, entry: usize },
+    /// The streams have more than `MAX_ENTRIES` entries together.
+    #[error("more than 10000 entries")]
+    TooManyEntries,
+    /// The allocator gave no memory.
+    #[error("out of memory")]
+    Memory,
+}

@@ -1,0 +1,18 @@
+//! Bodies of push, query and trim requests, from JSON bytes to batches.
+#![tactic(auto)]
+
+mod fault;
+mod laws;
+mod push;
+mod query;
+mod shape;
+mod time;
+
+pub use fault::PushFault;
+pub use laws::one_answer;
+pub use push::{MAX_ENTRIES, RawBatch, read_push};
+pub use query::{RawRead, RawTrim, read_query, read_trim};
+pub use time::time_of;
+
+#[cfg(test)]
+mod tests;

@@ -1,0 +1,96 @@
+ghost use Rattle.std.specs.Prelude.{◌≡◌, ◌↔◌, ◌<◌, ◌^◌, IsTrue, IfOk, All, map, length, sum_by};
+ghost use Rattle.labels.specs.Labels.{label_of};
+ghost use Rattle.pushjson.specs.Bodies.{HaveRisingNames};
+ghost use Rattle.pushjson.specs.Reads.{ReadsPush, GivesEntries, GivesBatches};
+ghost use Rattle.pushjson.specs.Shape.{stream_of};
+
+use crate::fault::PushFault;
+use crate::shape::{StreamTexts, body_texts, read_tree};
+use crate::time::time_of;
+use accept::{Entry, EntryList, Line};
+use labels::LabelPairs;
+use std::alloc::Global;
+
+/// The most entries that the streams of a push body have together.
+pub const MAX_ENTRIES: usize = 10_000;
+
+/// A stream of a push body: its labels, not yet tested, and its entries.
+#[derive(Debug, Drop)]
+pub struct RawBatch {
+    /// Names and values of the labels, in rising byte order of the names.
+    pub pairs: LabelPairs,
+    /// The entries in the order of the body.
+    pub entries: EntryList,
+}
+
+/// The batches of a push body as Loki's push API writes it in JSON: an object with the one key
+/// `streams`, an array of objects with just the keys `stream`, an object of texts, and `values`, an
+/// array of arrays of just two texts, a time and a line. A key that stands twice counts once, with its
+/// last value. A time is 1 to 19 decimal digits of at most 2^63 - 1, in nanoseconds since 1970.
+///
+/// # Errors
+///
+/// See `PushFault`.
+pub fn read_push(alloc: Global, bytes: &[u8]) -> Result<Vec<RawBatch>, PushFault>
+    ensures reads { ReadsPush bytes.now result }
+    ensures sorted { IfOk result (λ batches. All (λ b. HaveRisingNames b.pairs) batches.items) }
+    ensures range { IfOk result (λ batches. All (λ b. All (λ e. e.time < 2 ^ 63) b.entries) batches.items) }
+{
+    let streams = body_texts(alloc, read_tree(alloc, bytes)?)?;
+    let batches = batches_of(alloc, streams)?;
+    if is_too_many(&batches) {
+        return Err(PushFault::TooManyEntries);
+    }
+    Ok(batches)
+}
+
+fn batches_of(alloc: Global, streams: Vec<StreamTexts>) -> Result<Vec<RawBatch>, PushFault>
+    ensures { GivesBatches (map stream_of streams.items) result }
+{
+    let mut batches = Vec::with_capacity(alloc, streams.len()).map_err(|_| PushFault::Memory)?;
+    for StreamTexts { pairs, values } in streams {
+        let entries = entries_of(alloc, batches.len(), values)?;
+        let batch = RawBatch {
+            pairs: LabelPairs::new(pairs),
+            entries: EntryList::new(entries),
+        };
+        batches.push(batch).map_err(|_| PushFault::Memory)?;
+    }
+    Ok(batches)
+}
+
+// The entries of the stream at this place of the body.
+fn entries_of(
+    alloc: Global,
+    stream: usize,
+    values: Vec<(String, String)>,
+) -> Result<Vec<Entry>, PushFault>
+    ensures { GivesEntries stream (map label_of values.items) result }
+{
+    let mut entries = Vec::with_capacity(alloc, values.len()).map_err(|_| PushFault::Memory)?;
+    for (text, line) in values {
+        let Some(time) = time_of(text.as_str()) else {
+            let entry = entries.len();
+            return Err(PushFault::BadTime { stream, entry });
+        };
+        let line = Line::new(line);
+        entries
+            .push(Entry { time, line })
+            .map_err(|_| PushFault::Memory)?;
+    }
+    Ok(entries)
+}
+
+fn is_too_many(batches: &[RawBatch]) -> bool
+    ensures { IsTrue result ↔ (MAX_ENTRIES < sum_by (λ b. length b.entries) batches.now) }
+{
+    let mut room = MAX_ENTRIES;
+    for batch in batches {
+        let count = batch.entries.as_slice().len();
+        if count > room {
+            return true;
+        }
+        room -= count;
+    }
+    false
+}

@@ -1,0 +1,227 @@
+// A body's tree taken apart by value: the texts are those that the tree held.
+ghost use Rattle.std.specs.Prelude.{◌≡◌, map, string_bytes, IfOk, All};
+ghost use Rattle.labels.specs.Labels.{label_of};
+ghost use Rattle.serde_json.specs.Data.{Data, string, array, object, no_members, member};
+ghost use Rattle.serde_json.specs.View.{view, items_of};
+ghost use Rattle.pushjson.specs.Bodies.{labels_tree, value_tree, stream_tree, body_tree, HaveRisingNames};
+ghost use Rattle.pushjson.specs.Queries.{query_tree, trim_tree};
+ghost use Rattle.pushjson.specs.Shape.{ReadsTree, ReadsData, stream_of, query_of, trim_texts_of};
+
+use crate::fault::PushFault;
+use serde_json::Value;
+use std::alloc::Global;
+
+// A stream whose times are not read yet.
+#[derive(Drop)]
+pub(crate) struct StreamTexts {
+    // Names and values.
+    pub(crate) pairs: Vec<(String, String)>,
+    // Texts of times, and lines.
+    pub(crate) values: Vec<(String, String)>,
+}
+
+// A query whose times are not read yet.
+#[derive(Drop)]
+pub(crate) struct QueryTexts {
+    pub(crate) pairs: Vec<(String, String)>,
+    pub(crate) from: String,
+    pub(crate) to: String,
+}
+
+// A trim whose bound is not read yet.
+#[derive(Drop)]
+pub(crate) struct TrimTexts {
+    pub(crate) pairs: Vec<(String, String)>,
+    pub(crate) bound: String,
+}
+
+pub(crate) fn read_tree(alloc: Global, bytes: &[u8]) -> Result<Value, PushFault>
+    ensures { ReadsData bytes.now result }
+{
+    Value::from_slice(alloc, bytes).map_err(|fault| {
+        if fault.is_memory() {
+            PushFault::Memory
+        } else {
+            PushFault::NotJson
+        }
+    })
+}
+
+fn text_of(value: Value) -> Result<String, PushFault>
+    ensures { ReadsTree string_bytes string (view value) result }
+{
+    match value {
+        Value::String(text) => Ok(text),
+        _ => Err(PushFault::WrongShape),
+    }
+}
+
+// The items of an array.
+fn items_in(value: Value) -> Result<Vec<Value>, PushFault>
+    ensures { ReadsTree (λ items. map view items.items) (λ ds. array (items_of ds)) (view value) result }
+{
+    match value {
+        Value::Array(items) => Ok(items),
+        _ => Err(PushFault::WrongShape),
+    }
+}
+
+// The value of an object with this one key.
+fn only_member(value: Value, key: &str) -> Result<Value, PushFault>
+    ensures { ReadsTree view (λ d. object (member key.now d no_members)) (view value) result }
+{
+    let Value::Object(members) = value else {
+        return Err(PushFault::WrongShape);
+    };
+    let mut members = members.into_iter();
+    let Some((name, inner)) = members.next() else {
+        return Err(PushFault::WrongShape);
+    };
+    if name.as_str() != key || members.next().is_some() {
+        return Err(PushFault::WrongShape);
+    }
+    Ok(inner)
+}
+
+// The values of an object with these two keys, which rise.
+fn two_members(value: Value, first: &str, second: &str) -> Result<(Value, Value), PushFault>
+    ensures { ReadsTree (λ p. (view p.0, view p.1)) (λ (p : Data × Data). object (member first.now p.0 (member second.now p.1 no_members))) (view value) result }
+{
+    let Value::Object(members) = value else {
+        return Err(PushFault::WrongShape);
+    };
+    let mut members = members.into_iter();
+    let Some((first_name, first_value)) = members.next() else {
+        return Err(PushFault::WrongShape);
+    };
+    let Some((second_name, second_value)) = members.next() else {
+        return Err(PushFault::WrongShape);
+    };
+    if first_name.as_str() != first || second_name.as_str() != second || members.next().is_some() {
+        return Err(PushFault::WrongShape);
+    }
+    Ok((first_value, second_value))
+}
+
+// The values of an object with these three keys, which rise.
+fn three_members(
+    value: Value,
+    first: &str,
+    second: &str,
+    third: &str,
+) -> Result<(Value, Value, Value), PushFault>
+    ensures { ReadsTree (λ p. (view p.0, view p.1, view p.2)) (λ (p : Data × Data × Data). object (member first.now p.0 (member second.now p.1 (member third.now p.2 no_members)))) (view value) result }
+{
+    let Value::Object(members) = value else {
+        return Err(PushFault::WrongShape);
+    };
+    let mut members = members.into_iter();
+    let Some((first_name, first_value)) = members.next() else {
+        return Err(PushFault::WrongShape);
+    };
+    let Some((second_name, second_value)) = members.next() else {
+        return Err(PushFault::WrongShape);
+    };
+    let Some((third_name, third_value)) = members.next() else {
+        return Err(PushFault::WrongShape);
+    };
+    if first_name.as_str() != first || second_name.as_str() != second {
+        return Err(PushFault::WrongShape);
+    }
+    if third_name.as_str() != third || members.next().is_some() {
+        return Err(PushFault::WrongShape);
+    }
+    Ok((first_value, second_value, third_value))
+}
+
+// The names and values of an object of texts.
+fn label_texts(alloc: Global, value: Value) -> Result<Vec<(String, String)>, PushFault>
+    ensures tree { ReadsTree (λ pairs. map label_of pairs.items) (λ ps. object (labels_tree ps)) (view value) result }
+    ensures sorted { IfOk result (λ pairs. HaveRisingNames (map label_of pairs.items)) }
+{
+    let Value::Object(members) = value else {
+        return Err(PushFault::WrongShape);
+    };
+    let mut pairs = Vec::with_capacity(alloc, members.len()).map_err(|_| PushFault::Memory)?;
+    for (name, value) in members {
+        let text = text_of(value)?;
+        pairs.push((name, text)).map_err(|_| PushFault::Memory)?;
+    }
+    Ok(pairs)
+}
+
+// The text of a time, and a line.
+fn value_texts(value: Value) -> Result<(String, String), PushFault>
+    ensures { ReadsTree label_of value_tree (view value) result }
+{
+    let mut items = items_in(value)?.into_iter();
+    let Some(time) = items.next() else {
+        return Err(PushFault::WrongShape);
+    };
+    let Some(line) = items.next() else {
+        return Err(PushFault::WrongShape);
+    };
+    if items.next().is_some() {
+        return Err(PushFault::WrongShape);
+    }
+    Ok((text_of(time)?, text_of(line)?))
+}
+
+fn values_texts(alloc: Global, value: Value) -> Result<Vec<(String, String)>, PushFault>
+    ensures { ReadsTree (λ values. map label_of values.items) (λ vs. array (items_of (map value_tree vs))) (view value) result }
+{
+    let items = items_in(value)?;
+    let mut values = Vec::with_capacity(alloc, items.len()).map_err(|_| PushFault::Memory)?;
+    for item in items {
+        values
+            .push(value_texts(item)?)
+            .map_err(|_| PushFault::Memory)?;
+    }
+    Ok(values)
+}
+
+fn stream_texts(alloc: Global, value: Value) -> Result<StreamTexts, PushFault>
+    ensures tree { ReadsTree stream_of stream_tree (view value) result }
+    ensures sorted { IfOk result (λ s. HaveRisingNames (map label_of s.pairs.items)) }
+{
+    let (labels, values) = two_members(value, "stream", "values")?;
+    let pairs = label_texts(alloc, labels)?;
+    let values = values_texts(alloc, values)?;
+    Ok(StreamTexts { pairs, values })
+}
+
+// The streams of a push body.
+pub(crate) fn body_texts(alloc: Global, value: Value) -> Result<Vec<StreamTexts>, PushFault>
+    ensures tree { ReadsTree (λ streams. map stream_of streams.items) body_tree (view value) result }
+    ensures sorted { IfOk result (λ streams. All (λ s. HaveRisingNames s.pairs) (map stream_of streams.items)) }
+{
+    let items = items_in(only_member(value, "streams")?)?;
+    let mut streams = Vec::with_capacity(alloc, items.len()).map_err(|_| PushFault::Memory)?;
+    for item in items {
+        streams
+            .push(stream_texts(alloc, item)?)
+            .map_err(|_| PushFault::Memory)?;
+    }
+    Ok(streams)
+}
+
+pub(crate) fn query_texts(alloc: Global, value: Value) -> Result<QueryTexts, PushFault>
+    ensures tree { ReadsTree query_of query_tree (view value) result }
+    ensures sorted { IfOk result (λ q. HaveRisingNames (map label_of q.pairs.items)) }
+{
+    let (from, labels, to) = three_members(value, "from", "stream", "to")?;
+    let from = text_of(from)?;
+    let to = text_of(to)?;
+    let pairs = label_texts(alloc, labels)?;
+    Ok(QueryTexts { pairs, from, to })
+}
+
+pub(crate) fn trim_texts(alloc: Global, value: Value) -> Result<TrimTexts, PushFault>
+    ensures tree { ReadsTree trim_texts_of trim_tree (view value) result }
+    ensures sorted { IfOk result (λ t. HaveRisingNames (map label_of t.pairs.items)) }
+{
+    let (bound, labels) = two_members(value, "bound", "stream")?;
+    let bound = text_of(bound)?;
+    let pairs = label_texts(alloc, labels)?;
+    Ok(TrimTexts { pairs, bound })
+}

@@ -1,0 +1,24 @@
+ghost use Rattle.std.specs.Prelude.{◌≡◌, ◌<◌, ◌^◌, MatchOption};
+ghost use Rattle.std.specs.Str.Parse.{digits_value};
+ghost use Rattle.pushjson.specs.Times.{IsTime};
+
+// The most digits that a time has.
+const MAX_DIGITS: usize = 19;
+
+/// The time that a text writes, in nanoseconds: 1 to 19 decimal digits, leading zeros among them, of a value
+/// below 2^63. `None` where it writes none.
+#[tactic(auto, unfolding(crate::specs::Times::IsTime))]
+pub fn time_of(text: &str) -> Option<u64>
+    ensures { MatchOption result (¬ IsTime text.now) (λ time. IsTime text.now × (time ≡ digits_value 10 text.now) × (time < 2 ^ 63)) }
+{
+    if text.len() > MAX_DIGITS {
+        return None;
+    }
+    if text.starts_with('+') {
+        return None;
+    }
+    match text.parse::<u64>() {
+        Ok(time) if time < 1 << 63 => Some(time),
+        _ => None,
+    }
+}
