@@ -142,8 +142,9 @@ fn push_body(
     batches.reverse();
     let mut stream = 0;
     while let Some(batch) = batches.pop() {
-        push_batch(alloc, ingester, now, stream, batch, &mut pushed)
-            .map_err(|_| PushFault::Memory)?;
+        push_batch(alloc, ingester, now, stream, batch, &mut pushed).map_err(
+            |_| PushFault::Memory,
+        )?;
         stream += 1;
     }
     Ok(pushed)

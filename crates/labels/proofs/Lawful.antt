@@ -1,5 +1,5 @@
 -- What labels without a fault are.
-use Rattle.std.proofs.Common.{◌≡◌, ℕ, ◌+◌, ◌<◌, ◌≤◌, Bool, true, false, Option, Some, None, List, [], ◌∷◌, length, get_or, map, refl, sym, ap, ◌∙◌, arith, IsTrue, String, string_bytes}
+use Rattle.std.proofs.Common.{◌≡◌, ℕ, ◌+◌, ◌<◌, ◌≤◌, true, false, Option, Some, None, List, [], ◌∷◌, length, get_or, map, refl, sym, ap, ◌∙◌, arith, String, string_bytes}
 use Rattle.std.specs.declared.alloc.Global.{Global}
 use Rattle.std.specs.List.{AllByRecursion, AllAdjacentBelow}
 use Rattle.std.specs.Ordering.{nat_cmp, is_lt}
@@ -7,17 +7,15 @@ use Rattle.std.specs.Cmp.Lexicographic.{slice_cmp}
 use Rattle.std.proofs.lemmas.List.{length-map}
 use Rattle.std.specs.List.Sorted.{IsPermutation, IsSorted}
 use Rattle.std.specs.Option.{option_or}
-use Rattle.std.specs.Str.{IsUtf8}
 use Rattle.std.proofs.lemmas.Str.{IsUtf8-string_bytes}
 use Rattle.std.proofs.lemmas.List.Elements.{recursion_from_All, All-from_recursion}
 use Rattle.std.proofs.lemmas.List.Sorted.{All-permutation, IsPermutation-map, length_permutation}
-use Rattle.std.proofs.lemmas.Grind.{common_steps}
 use Rattle.std.proofs.lemmas.Bool.Decides.{nat_tests}
 use Rattle.labels.specs.Labels.{Label, label_of}
 use Rattle.labels.specs.declared.fault.LabelFault.{LabelFault}
 use Rattle.labels.specs.declared.fault.LabelFault.TheVariants.{NameTwice}
 use Rattle.labels.specs.Faults.{label_fault, each_fault, repeats_name, first_fault}
-use Rattle.labels.specs.Canonical.{IsLabel, NamesRise, IsCanonical, IsTextOf, set_text}
+use Rattle.labels.specs.Canonical.{IsLabel, NamesRise, IsTextOf, set_text}
 use Rattle.labels.proofs.Order.{pair_cmp, repeats_permuted, rise_once, rise_from_adjacent, stuck_repeats}
 
 no_option : (o p : Option LabelFault) → option_or o p ≡ None → (o ≡ None) × (p ≡ None)

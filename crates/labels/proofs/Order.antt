@@ -1,21 +1,21 @@
 -- Sorted names, and names that stand twice.
-use Rattle.std.proofs.Common.{◌≡◌, ◌≢◌, ℕ, ◌+◌, ◌<◌, ◌≤◌, Bool, true, false, cond, List, [], ◌∷◌, length, get_or, map, refl, sym, ap, ◌∙◌, arith, zero, suc, add-one, zero-add, ltb, Decides, String, string_bytes}
+use Rattle.std.proofs.Common.{◌≡◌, ℕ, ◌+◌, ◌<◌, ◌≤◌, true, false, cond, List, [], ◌∷◌, length, get_or, map, refl, sym, ap, ◌∙◌, arith, zero, suc, add-one, zero-add, ltb, String, string_bytes}
 use Rattle.std.specs.declared.cmp.Ordering.{Ordering}
 use Rattle.std.specs.declared.cmp.Ordering.TheVariants.{Less, Equal, Greater}
 use Rattle.std.specs.declared.alloc.Global.{Global}
 use Rattle.std.specs.Ordering.{nat_cmp, is_lt, is_eq, ordering_then, ordering_reverse}
 use Rattle.std.specs.Cmp.Lexicographic.{slice_cmp}
-use Rattle.std.specs.List.{AllByRecursion, All, AllAdjacentBelow, list_any}
+use Rattle.std.specs.List.{AllByRecursion, AllAdjacentBelow, list_any}
 use Rattle.std.specs.List.Sorted.{IsPermutation, IsSorted}
 use Rattle.std.specs.Str.{bytes_eq}
 use Rattle.std.proofs.lemmas.Cmp.{nat_list_cmp_total}
 use Rattle.std.proofs.lemmas.Map.Text.{is_eq-slice_cmp}
 use Rattle.std.proofs.lemmas.Map.Lookups.{exact_bytes}
 use Rattle.std.proofs.lemmas.Slice.Eq.{bytes_eq-Decides}
-use Rattle.std.proofs.lemmas.List.Elements.{recursion_from_All, All-from_recursion}
+use Rattle.std.proofs.lemmas.List.Elements.{All-from_recursion}
 use Rattle.std.proofs.lemmas.List.Sums.{sum_by-cons}
 use Rattle.std.proofs.lemmas.List.Folds.{list_any_none, list_any_at}
-use Rattle.std.proofs.lemmas.List.Sorted.{list_any-IsPermutation, sum_by-IsPermutation, All-permutation}
+use Rattle.std.proofs.lemmas.List.Sorted.{list_any-IsPermutation, sum_by-IsPermutation}
 use Rattle.std.proofs.lemmas.Bool.Decides.{nat_tests}
 use Rattle.std.proofs.lemmas.List.{get_or-map, length-map}
 use Rattle.labels.specs.Labels.{Label, label_of}
@@ -53,11 +53,11 @@ rise_from_adjacent (x ∷ y ∷ ys) n = (
 named_cons : (name : List ℕ) (p : Label) (ps : List Label) → times_named name (p ∷ ps) ≡ cond (bytes_eq name p.0) 1 0 + times_named name ps
 named_cons name p ps = sum_by-cons (λ (q : Label). cond (bytes_eq name q.0) 1 0) p ps
 
-same_name : (name : List ℕ) → bytes_eq name name ≡ true
+pub same_name : (name : List ℕ) → bytes_eq name name ≡ true
 same_name name = (bytes_eq-Decides name name).1 refl
 
 -- names in order differ
-other_name : (a b : List ℕ) → slice_cmp nat_cmp a b ≡ Less → bytes_eq a b ≡ false
+pub other_name : (a b : List ℕ) → slice_cmp nat_cmp a b ≡ Less → bytes_eq a b ≡ false
 other_name a b h = sym (is_eq-slice_cmp a b) ∙ ap is_eq h
 
 other_name_back : (a b : List ℕ) → slice_cmp nat_cmp a b ≡ Less → bytes_eq b a ≡ false
@@ -88,7 +88,7 @@ once_more p ps (q ∷ qs) u h =
     let e : times_named q.0 (p ∷ ps) ≡ times_named q.0 ps = named_cons q.0 p ps ∙ ap (λ b. cond b 1 0 + times_named q.0 ps) (other_name_back p.0 q.0 u.0) ∙ zero-add (times_named q.0 ps) in
     (omega (arith, e, h.0), once_more p ps qs u.1 h.1)
 
-rise_tail : (p : Label) (ps : List Label) → NamesRise (p ∷ ps) → NamesRise ps
+pub rise_tail : (p : Label) (ps : List Label) → NamesRise (p ∷ ps) → NamesRise ps
 rise_tail p [] h = tt
 rise_tail p (q ∷ qs) h = h.1
 

@@ -1,14 +1,12 @@
 -- A text is that of one list of labels.
-use Rattle.std.proofs.Common.{◌≡◌, ◌≢◌, ℕ, ◌≤◌, Bool, true, false, ◌&&◌, ◌||◌, not, cond, Option, Some, None, List, [], ◌∷◌, ◌++◌, length, refl, sym, ap, ◌∙◌, arith, append_assoc}
+use Rattle.std.proofs.Common.{◌≡◌, ◌≢◌, ℕ, Bool, true, false, ◌&&◌, ◌||◌, not, cond, Option, Some, None, List, [], ◌∷◌, ◌++◌, refl, sym, ap, ◌∙◌, arith, append_assoc}
 use Rattle.std.specs.List.{flat_map, AllByRecursion, list_all}
-use Rattle.std.proofs.lemmas.Bool.Decides.{nat_tests}
-use Rattle.std.proofs.lemmas.Grind.{common_steps}
 use Rattle.std.specs.Int.{is_in_range}
 use Rattle.labels.specs.Labels.{Label}
 use Rattle.labels.specs.declared.fault.LabelFault.{LabelFault}
 use Rattle.labels.specs.Faults.{label_fault, is_name, continues_name, begins_name}
 use Rattle.labels.specs.Canonical.{escape, label_text, tail_text, set_text, IsLabel, IsCanonical}
-use Rattle.labels.proofs.Reading.{read_from, read_again}
+use Rattle.labels.proofs.Reading.{one_value}
 
 or_more : (d r s e : Bool) → ((r || s) || e) ≡ true → (((d || r) || s) || e) ≡ true
 or_more true r s e h = refl
@@ -35,34 +33,37 @@ named : (p : Label) → label_fault p ≡ None → is_name p.0 ≡ true
 unfolding label_fault
 named p h = passed (is_name p.0) _ _ h
 
--- a lawful name has the bytes of one
-pub lawful_name : (p : Label) → IsLabel p → list_all continues_name p.0 ≡ true
-lawful_name p h = is_continued p.0 (named p h.lawful)
+-- no byte is a `=`
+abbrev pub NoEquals : List ℕ → Type 0
+NoEquals name = AllByRecursion (λ b. b ≢ 61) name
 
-no_equals : (c : ℕ) → c ≡ 61 → continues_name c ≡ true → ⊥
-no_equals c e h =
+continues_differs : (c : ℕ) → continues_name c ≡ true → c ≢ 61
+continues_differs c h e =
     let k : continues_name 61 ≡ true = rw e at h in
     cc
 
+continued_no_equals : (a : List ℕ) → list_all continues_name a ≡ true → NoEquals a
+continued_no_equals [] h = tt
+continued_no_equals (b ∷ bs) h =
+    let parts = both_true (continues_name b) (list_all continues_name bs) h in
+    (continues_differs b parts.0, continued_no_equals bs parts.1)
+
+-- a lawful name has the bytes of one
+pub lawful_name : (p : Label) → IsLabel p → NoEquals p.0
+lawful_name p h = continued_no_equals p.0 (is_continued p.0 (named p h.lawful))
+
 -- two names before a `=`
-pub one_name : (a b xs ys : List ℕ) → list_all continues_name a ≡ true → list_all continues_name b ≡ true → a ++ 61 ∷ xs ≡ b ++ 61 ∷ ys → (a ≡ b) × (xs ≡ ys)
+pub one_name : (a b xs ys : List ℕ) → NoEquals a → NoEquals b → a ++ 61 ∷ xs ≡ b ++ 61 ∷ ys → (a ≡ b) × (xs ≡ ys)
 one_name [] [] xs ys g h e = (refl, cc)
-one_name [] (c ∷ b) xs ys g h e = (let k : c ≡ 61 = cc in absurd (no_equals c k (both_true (continues_name c) _ h).0))
-one_name (c ∷ a) [] xs ys g h e = (let k : c ≡ 61 = cc in absurd (no_equals c k (both_true (continues_name c) _ g).0))
+one_name [] (c ∷ b) xs ys g h e = (let k : c ≡ 61 = cc in absurd (h.0 k))
+one_name (c ∷ a) [] xs ys g h e = (let k : c ≡ 61 = cc in absurd (g.0 k))
 one_name (c ∷ a) (d ∷ b) xs ys g h e =
     let first : c ≡ d = cc in
     let more : a ++ 61 ∷ xs ≡ b ++ 61 ∷ ys = cc in
-    let rest = one_name a b xs ys (both_true (continues_name c) _ g).1 (both_true (continues_name d) _ h).1 more in
+    let rest = one_name a b xs ys g.1 h.1 more in
     (λ i. first i ∷ rest.0 i, rest.1)
 
--- two values before a quote
-one_value : (v w xs ys : List ℕ) → flat_map escape v ++ 34 ∷ xs ≡ flat_map escape w ++ 34 ∷ ys → (v ≡ w) × (xs ≡ ys)
-one_value v w xs ys e =
-    let s : Some (v, xs) ≡ Some (w, ys) = sym (read_again v xs) ∙ ap (read_from false) e ∙ read_again w ys in
-    let pair : (v, xs) ≡ (w, ys) = cc in
-    (ap (λ (r : List ℕ × List ℕ). r.0) pair, ap (λ (r : List ℕ × List ℕ). r.1) pair)
-
-regroup : (p : Label) (xs : List ℕ) → label_text p ++ xs ≡ p.0 ++ 61 ∷ 34 ∷ (flat_map escape p.1 ++ 34 ∷ xs)
+pub regroup : (p : Label) (xs : List ℕ) → label_text p ++ xs ≡ p.0 ++ 61 ∷ 34 ∷ (flat_map escape p.1 ++ 34 ∷ xs)
 regroup p xs = simp append_assoc
 
 -- two labels before whatever follows

@@ -52,3 +52,7 @@ IsCanonicalText text = ∥ ((ps : List Label) × IsCanonical text ps) ∥₁
 -- the text is that of the given labels, in whatever order they are given
 abbrev pub IsTextOf : List ℕ → List Label → Type 0
 IsTextOf text pairs = (ps : List Label) × IsPermutation pairs ps × IsCanonical text ps
+
+-- the text is what follows a label of this name, with at most so many labels more
+abbrev pub EndsSet : List ℕ → ℕ → List ℕ → Type 0
+EndsSet name most text = (qs : List Label) × (length qs ≤ most) × AllByRecursion IsLabel qs × NamesRise ((name, []) ∷ qs) × (text ≡ tail_text qs)

@@ -1,5 +1,5 @@
 -- The fault that is answered for labels that are not lawful.
-use Rattle.std.specs.Prelude.{ℕ, Bool, true, false, ◌&&◌, ◌||◌, List, [], ◌∷◌, Option, Some, None, length, nat_lt, not, ◌==◌, if◌then◌else◌}
+use Rattle.std.specs.Prelude.{ℕ, Bool, false, ◌&&◌, ◌||◌, List, [], ◌∷◌, Option, Some, None, length, nat_lt, not, ◌==◌, if◌then◌else◌}
 use Rattle.std.specs.List.{list_all, list_any, count_by}
 use Rattle.std.specs.Option.{option_or}
 use Rattle.std.specs.Char.{is_ascii_alphabetic, is_ascii_alphanumeric}

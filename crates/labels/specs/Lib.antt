@@ -2,4 +2,5 @@ pub mod Canonical
 pub mod Faults
 pub mod Keys
 pub mod Labels
+pub mod Shards
 pub mod Tenants

@@ -1,4 +1,4 @@
-ghost use Rattle.std.specs.Prelude.{◌≡◌, List, map, Some, None, IfSome, IfNone, length, ◌≤◌};
+ghost use Rattle.std.specs.Prelude.{◌≡◌, ℕ, List, map, Some, None, IfSome, IfNone, length, ◌≤◌};
 ghost use Rattle.std.specs.List.{list_all};
 ghost use Rattle.labels.specs.Labels.{label_of};
 ghost use Rattle.labels.specs.Faults.{begins_name, continues_name, is_name, label_fault, each_fault, first_fault};
@@ -6,11 +6,11 @@ ghost use Rattle.labels.specs.Faults.{begins_name, continues_name, is_name, labe
 use crate::fault::LabelFault;
 
 /// The most labels of a stream.
-const MAX_LABELS: usize = 15;
+pub const MAX_LABELS: usize = 15;
 /// The longest name, in bytes.
 const MAX_NAME: usize = 1_024;
 /// The longest value, in bytes.
-const MAX_VALUE: usize = 2_048;
+pub const MAX_VALUE: usize = 2_048;
 
 fn begins_name(byte: u8) -> bool
     ensures { result ≡ begins_name byte }
@@ -39,18 +39,18 @@ fn is_name(name: &str) -> bool
     }
 }
 
-/// What is wrong with one label.
+/// What is wrong with a label of this name and a value of this length.
 #[tactic(auto, unfolding(crate::specs::Faults::label_fault))]
-pub fn label_fault(name: &str, value: &str) -> Option<LabelFault>
-    ensures { result ≡ label_fault (name.now, value.now) }
+pub fn label_fault(name: &str, value_len: usize) -> Option<LabelFault>
+    ensures { (value : List ℕ) → length value ≡ value_len → result ≡ label_fault (name.now, value) }
 {
     if !is_name(name) {
         Some(LabelFault::BadName)
     } else if name.len() > MAX_NAME {
         Some(LabelFault::NameTooLong)
-    } else if value.is_empty() {
+    } else if value_len == 0 {
         Some(LabelFault::EmptyValue)
-    } else if value.len() > MAX_VALUE {
+    } else if value_len > MAX_VALUE {
         Some(LabelFault::ValueTooLong)
     } else {
         None
@@ -62,7 +62,7 @@ pub fn each_fault(pairs: &[(String, String)]) -> Option<LabelFault>
     ensures { result ≡ each_fault (map label_of pairs.now) }
 {
     for (name, value) in pairs {
-        let fault = label_fault(name.as_str(), value.as_str());
+        let fault = label_fault(name.as_str(), value.len());
         if fault.is_some() {
             return fault;
         }

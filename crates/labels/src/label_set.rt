@@ -1,13 +1,14 @@
-ghost use Rattle.std.specs.Prelude.{◌≡◌, string_bytes};
+ghost use Rattle.std.specs.Prelude.{◌≡◌, string_bytes, ◌==◌, ◌⊎◌, ◌↔◌, List, None, Some, refl, IfOk, IfErr, IsErrOf};
 ghost use Rattle.std.specs.Cmp as order;
 ghost use Rattle.std.specs.Cmp.Lexicographic.{pointwise, slice_cmp, nat_list_eq_equiv, nat_list_cmp_total, texts_ties, texts_po};
 ghost use Rattle.std.specs.Ordering.{nat_cmp};
-ghost use Rattle.std.specs.Prelude.{◌==◌, ◌⊎◌, List, None, Some, refl, IfOk, IfErr};
 ghost use Rattle.labels.specs.Faults.{first_fault};
-ghost use Rattle.labels.specs.Canonical.{IsTextOf, IsCanonicalText};
+ghost use Rattle.labels.specs.Canonical.{IsTextOf, IsCanonical, IsCanonicalText};
+ghost use Rattle.labels.specs.Labels.{Label};
 
 use crate::fault::LabelFault;
 use crate::pairs::LabelPairs;
+use crate::parsing::is_canonical;
 use crate::writing::canonical_text;
 use std::alloc::{AllocError, Global};
 use std::cmp::Ordering;
@@ -41,6 +42,19 @@ impl LabelSet {
         ensures cause { IfErr result (λ e. (e ≡ LabelFault.Memory) ⊎ (first_fault pairs ≡ Some e)) }
     {
         let text = canonical_text(alloc, pairs.into_vec())?;
+        Ok(LabelSet { text })
+    }
+
+    /// The label set whose canonical text this is: `NotCanonical` exactly where it is none's.
+    pub fn parse_text(alloc: Global, text: &str) -> Result<LabelSet, LabelFault>
+        ensures ok { IfOk result (λ set. (set ≡ text.now) × IsCanonicalText text.now) }
+        ensures none { IsErrOf result LabelFault.NotCanonical ↔ ((ps : List Label) → ¬ (IsCanonical text.now ps)) }
+        ensures cause { IfErr result (λ e. (e ≡ LabelFault.Memory) ⊎ (e ≡ LabelFault.NotCanonical)) }
+    {
+        if !is_canonical(text) {
+            return Err(LabelFault::NotCanonical);
+        }
+        let text = String::from_str(alloc, text)?;
         Ok(LabelSet { text })
     }
 

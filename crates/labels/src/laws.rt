@@ -1,20 +1,23 @@
 ghost use Rattle.std.specs.Prelude.{◌≡◌, ℕ, List};
+ghost use Rattle.std.specs.List.Sorted.{IsPermutation};
 ghost use Rattle.labels.specs.Labels.{Label};
-ghost use Rattle.labels.specs.Canonical.{IsCanonical};
+ghost use Rattle.labels.specs.Canonical.{IsCanonical, IsTextOf};
 ghost use Rattle.labels.specs.Keys.{key_cmp};
 
 use crate::key::StreamKey;
 use std::cmp::Ordering;
 
-/// The law that labels have one canonical text.
+/// The law that labels have one canonical text, in whatever order they are given.
 pub fn one_text()
-    ensures { (t u : List ℕ) (ps : List Label) → IsCanonical t ps → IsCanonical u ps → t ≡ u }
+    ensures list { (t u : List ℕ) (ps : List Label) → IsCanonical t ps → IsCanonical u ps → t ≡ u }
+    ensures set { (t u : List ℕ) (pairs others : List Label) → IsPermutation pairs others → IsTextOf t pairs → IsTextOf u others → t ≡ u }
 {}
 
 /// The law that no two label sets share a canonical text.
 #[tactic(auto, using(crate::proofs::Unique::one_set))]
 pub fn one_set()
-    ensures { (t : List ℕ) (ps qs : List Label) → IsCanonical t ps → IsCanonical t qs → ps ≡ qs }
+    ensures list { (t : List ℕ) (ps qs : List Label) → IsCanonical t ps → IsCanonical t qs → ps ≡ qs }
+    ensures set { (t : List ℕ) (pairs others : List Label) → IsTextOf t pairs → IsTextOf t others → IsPermutation pairs others }
 {}
 
 /// The order of keys: by the tenant's bytes, then by those of the labels' canonical text.

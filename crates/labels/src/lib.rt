@@ -1,4 +1,8 @@
 //! Keys of streams: a tenant, and a label set as its canonical text.
+//!
+//! From Loki's documentation: a stream is the set of entries of one tenant, whom the header `X-Scope-OrgID`
+//! names, with one exact label set of at least one label, and the order of labels does not matter. The
+//! limits, the canonical text, the order of faults and the shards are this project's profile.
 #![tactic(auto)]
 
 mod checks;
@@ -7,6 +11,8 @@ mod key;
 mod label_set;
 mod laws;
 mod pairs;
+mod parsing;
+mod shards;
 mod tenant;
 mod writing;
 
@@ -15,6 +21,7 @@ pub use key::StreamKey;
 pub use label_set::LabelSet;
 pub use laws::{one_set, one_text, order_of_keys};
 pub use pairs::LabelPairs;
+pub use shards::shard_of;
 pub use tenant::Tenant;
 
 #[cfg(test)]

@@ -1,8 +1,7 @@
-ghost use Rattle.std.specs.Prelude.{◌≡◌, string_bytes};
+ghost use Rattle.std.specs.Prelude.{◌≡◌, string_bytes, ◌==◌, ◌⊎◌, ◌↔◌, List, Some, refl, false, IsTrue, IfOk, IfErr, IsErrOf};
 ghost use Rattle.std.specs.Cmp as order;
 ghost use Rattle.std.specs.Cmp.Lexicographic.{pointwise, slice_cmp, nat_list_eq_equiv, nat_list_cmp_total, texts_ties, texts_po};
 ghost use Rattle.std.specs.Ordering.{nat_cmp};
-ghost use Rattle.std.specs.Prelude.{◌==◌, ◌⊎◌, ◌↔◌, List, Some, refl, false, IsTrue, IfOk, IfErr, IsErrOf};
 ghost use Rattle.std.specs.List.{list_all};
 ghost use Rattle.labels.specs.Tenants.{is_tenant, is_tenant_byte};
 

@@ -1,6 +1,8 @@
 ghost use Rattle.std.specs.Prelude.{◌≡◌, IfOk};
 
 mod label_sets;
+mod parsing;
+mod shards;
 mod tenants;
 
 use crate::{LabelFault, LabelPairs, LabelSet, StreamKey, Tenant};

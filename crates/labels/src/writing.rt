@@ -57,6 +57,16 @@ fn room_for(pairs: &[(String, String)]) -> usize {
     room
 }
 
+fn push_rest(out: &mut String, pairs: &[(String, String)]) -> Result<(), AllocError>
+    ensures { OnOk result (string_bytes out.new ≡ string_bytes out.old ++ tail_text (map label_of pairs.now)) }
+{
+    for (name, value) in pairs {
+        out.push_str(", ")?;
+        push_label(out, name.as_str(), value.as_str())?;
+    }
+    out.push('}')
+}
+
 /// The text of these labels, as they stand.
 pub fn set_text(alloc: Global, pairs: &[(String, String)]) -> Result<String, AllocError>
     requires { 0 < length pairs.now }
@@ -68,16 +78,6 @@ pub fn set_text(alloc: Global, pairs: &[(String, String)]) -> Result<String, All
     push_label(&mut out, name.as_str(), value.as_str())?;
     push_rest(&mut out, &pairs[1..])?;
     Ok(out)
-}
-
-fn push_rest(out: &mut String, pairs: &[(String, String)]) -> Result<(), AllocError>
-    ensures { OnOk result (string_bytes out.new ≡ string_bytes out.old ++ tail_text (map label_of pairs.now)) }
-{
-    for (name, value) in pairs {
-        out.push_str(", ")?;
-        push_label(out, name.as_str(), value.as_str())?;
-    }
-    out.push('}')
 }
 
 fn sort(pairs: &mut Vec<(String, String)>)

@@ -83,11 +83,11 @@ fn reads(
         return Err(Fail::from("a read has no entries"));
     };
     let entries = entries.as_slice();
-    Ok(entries.len() == wanted.len()
-        && entries
-            .iter()
-            .zip(wanted)
-            .all(|(entry, (time, text))| entry.time == *time && entry.line.as_str() == *text))
+    Ok(
+        entries.len() == wanted.len()
+            && entries.iter().zip(wanted).all(|(entry, (time, text))| entry.time == *time
+                && entry.line.as_str() == *text),
+    )
 }
 
 const ALL: (u64, u64) = (0, 1 << 63);
@@ -163,7 +163,10 @@ fn longest_line_is_stored(rt: HostRuntime) -> Result<(), Fail> {
     let long = "x".repeat(alloc, 262_145)?;
     let batch = [(10, fits.as_str()), (11, long.as_str())];
     let outcomes = push(alloc, &mut ingester, 20, &batch)?;
-    assert_eq!(rt; outcomes.as_slice(), [Outcome::Stored, Outcome::TooLong].as_slice());
+    assert_eq!(rt;
+        outcomes.as_slice(),
+        [Outcome::Stored, Outcome::TooLong].as_slice()
+    );
     assert!(rt; reads(alloc, &mut ingester, "1", ALL, &[(10, fits.as_str())])?);
     Ok(())
 }
@@ -187,7 +190,10 @@ fn clock_bounds_the_times(rt: HostRuntime) -> Result<(), Fail> {
     assert_eq!(rt; outcomes.as_slice(), wanted.as_slice());
     let mut old = open(alloc, Limits::PROFILE)?;
     let outcomes = push(alloc, &mut old, 604_800_000_000_010, &[(10, "a"), (9, "b")])?;
-    assert_eq!(rt; outcomes.as_slice(), [Outcome::Stored, Outcome::TooOld].as_slice());
+    assert_eq!(rt;
+        outcomes.as_slice(),
+        [Outcome::Stored, Outcome::TooOld].as_slice()
+    );
     Ok(())
 }
 
@@ -199,7 +205,12 @@ fn trim_stays_below_the_oldest(rt: HostRuntime) -> Result<(), Fail> {
         ..Limits::PROFILE
     };
     let mut ingester = open(alloc, limits)?;
-    push(alloc, &mut ingester, 2 * HOUR, &[(5_400_000_000_000, "b"), (2 * HOUR, "a")])?;
+    push(
+        alloc,
+        &mut ingester,
+        2 * HOUR,
+        &[(5_400_000_000_000, "b"), (2 * HOUR, "a")],
+    )?;
     let mut replies = Vec::new(alloc);
     for bound in [5_400_000_000_001, 5_400_000_000_000] {
         let key = key(alloc, "1")?;
@@ -214,7 +225,15 @@ fn trim_stays_below_the_oldest(rt: HostRuntime) -> Result<(), Fail> {
         bound: 5_400_000_000_001,
     };
     assert!(rt; matches!(&call(alloc, &mut ingester, trim)?, Reply::Trimmed(1)));
-    assert!(rt; reads(alloc, &mut ingester, "1", ALL, &[(2 * HOUR, "a"), (3 * HOUR, "c")])?);
+    assert!(rt;
+        reads(
+            alloc,
+            &mut ingester,
+            "1",
+            ALL,
+            &[(2 * HOUR, "a"), (3 * HOUR, "c")]
+        )?
+    );
     Ok(())
 }
 

@@ -2,7 +2,7 @@ use super::{fault_of, pairs_of, repeated, set_of};
 use crate::{LabelFault, LabelSet};
 use std::test::Fail;
 
-const SIXTEEN: [(&str, &str); 16] = [
+pub const SIXTEEN: [(&str, &str); 16] = [
     ("a", "1"),
     ("b", "1"),
     ("c", "1"),
