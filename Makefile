@@ -1,15 +1,20 @@
 # rt is the command of the Rattle toolchain.
 RT ?= rt
 
-.PHONY: run test check fmt bench
+.PHONY: run test faults check fmt bench
 
 # the main job: one push body, judged and read back
 run:
 	@cd crates/ingest1 && $(RT) run -- 20 < stdin
 
 # the merge gate
-test:
+test: faults
 	$(RT) ci
+
+# each request for memory of the program refused in turn
+faults:
+	@cd crates/ingest1 && $(RT) run -- 20 < stdin > /dev/null
+	tests/each_allocation_fails
 
 # every crate, lowest first, over the work of earlier checks
 check:

@@ -1,0 +1,10 @@
+pub mod Acts
+pub mod Crash
+pub mod Records
+pub mod Lists
+pub mod FrontLemmas
+pub mod ImageLemmas
+pub mod CopyLemmas
+pub mod MaskLemmas
+pub mod CountLemmas
+pub mod FileLemmas

@@ -1,0 +1,4 @@
+use Rattle.disk.proofs.calls.NotedFile.new.Given as goal
+
+abbrev pub ghost-new : goal.ghost-new
+ghost-new g a = g.start

@@ -1,0 +1,33 @@
+use Rattle.std.proofs.Common.{Err, ap}
+use Rattle.std.proofs.lemmas.List.{take_rest}
+use Rattle.disk.proofs.FileLemmas.{length-rest, write-loop-on, write-loop-again, write-loop-broke, write-loop-so-far, write-loop-whole}
+use Rattle.disk.proofs.file.FileDiskDisk.write_at.Goals as goal
+use Rattle.disk.proofs.file.FileDiskDisk.write_at.Goals.{in-Ok, in-Err-Interrupted}
+
+pub returns-then-from-bytes-clause-written : goal.returns-then-from-bytes-clause-written
+returns-then-from-bytes-clause-written c follows le =
+    write-loop-whole c.args.self.now.calls.noted c.loop.self.calls.noted c.args.at c.loop.from c.args.bytes.now c.loop.invariant.writes c.if-from-bytes.true follows le
+
+pub returns-then-from-bytes-clause-writes : goal.returns-then-from-bytes-clause-writes
+returns-then-from-bytes-clause-writes c follows le =
+    write-loop-so-far c.args.self.now.calls.noted c.loop.self.calls.noted c.args.at c.loop.from _ _ c.args.bytes.now c.loop.invariant.writes follows le
+
+pub returns-clause-writes : goal.returns-clause-writes
+returns-clause-writes c follows le =
+    write-loop-so-far c.args.self.now.calls.noted c.loop.self.calls.noted c.args.at c.loop.from _ _ c.args.bytes.now c.loop.invariant.writes follows le
+
+pub returns-in-Err-Failed-clause-writes : goal.returns-in-Err-Failed-clause-writes
+returns-in-Err-Failed-clause-writes c follows le =
+    write-loop-broke c.args.self.now.calls.noted c.loop.self.calls.noted c.write_some.new.self.noted c.args.at c.loop.from _ _ c.args.bytes.now _ c.loop.invariant.writes
+    (length-rest c.args.bytes.now c.loop.from) c.write_some.ensures.before c.in-Err-Failed.ensures.broke follows le
+
+pub loop-preserved : goal.loop-preserved
+loop-preserved c = record {
+  writes = elim c.match-write_some.branch [
+    | in-Ok w ↦ rw w.from-is (write-loop-on c.args.self.now.calls.noted c.loop.self.calls.noted c.write_some.new.self.noted c.args.at c.loop.from w.in-Ok.n c.args.bytes.now _
+        c.loop.invariant.writes (take_rest c.args.bytes.now c.loop.from) w.in-Ok.ensures.within.1 c.write_some.ensures.before w.in-Ok.ensures.holds w.in-Ok.ensures.goes)
+    | in-Err-Interrupted w ↦ rw w.from-is (write-loop-again c.args.self.now.calls.noted c.loop.self.calls.noted c.write_some.new.self.noted c.args.at c.loop.from c.args.bytes.now
+        c.loop.invariant.writes (w.in-Err-Interrupted.ensures.interrupted (ap Err w.in-Err-Interrupted.field-0-is)))
+  ];
+  count = c.loop.invariant.count;
+}

@@ -1,0 +1,91 @@
+use Rattle.std.proofs.Common.{arith, refl, sym, ap, subst, ◌∙◌, ◌≡◌, ◌≤◌, ◌<◌, ◌+◌, ◌-◌, [], ℕ, List, length, take, drop, Bool, Contains, AllPairs, ◌≢◌, ◌↔◌, ◌^◌}
+use Rattle.std.proofs.lemmas.List.{take_rest}
+use Rattle.disk.specs.declared.memory.Step.{Step}
+use Rattle.disk.specs.declared.memory.MemDisk.{MemDisk}
+use Rattle.disk.specs.State.{IsImage, nothing}
+use Rattle.disk.specs.Laws.{always_sound, sound_nothing}
+use Rattle.disk.specs.Memory.{acts, ranges_after, AreWithin}
+use Rattle.disk.specs.MemDisk.{state_of}
+use Rattle.disk.specs.Images.{Lists, IsImageOf, contents}
+use Rattle.disk.specs.Fronts.{IsMarked, open_bytes, of_lengths}
+use Rattle.disk.proofs.MaskLemmas.{within-after}
+use Rattle.disk.proofs.ImageLemmas.{all-listed}
+use Rattle.disk.proofs.memory.MemDisk.images.Goals as goal
+
+sound_of : (m : MemDisk) → IsImage (state_of m) (state_of m).now
+sound_of m = always_sound nothing sound_nothing (acts m.steps.items m.written.items)
+
+synced_fits : (m : MemDisk) → m.synced_len ≤ length m.bytes.items
+synced_fits m = omega (arith, (sound_of m).no_shorter, m.synced, ap length m.same)
+
+within_of : (m : MemDisk) → AreWithin (ranges_after [] (drop m.synced_steps m.steps.items)) (length m.bytes.items)
+within_of m = rw (← m.since, ← m.same) (within-after nothing (acts m.steps.items m.written.items) tt)
+
+-- the steps since the last sync, as the slice of them has it
+since_of : (m : MemDisk) (steps : List Step) → steps ≡ m.steps.items
+    → take (length steps - m.synced_steps) (drop m.synced_steps steps) ≡ drop m.synced_steps m.steps.items
+since_of m steps e = take_rest steps m.synced_steps ∙ ap (λ (xs : List Step). drop m.synced_steps xs) e
+
+-- what the mask and the values list
+listed_by : (m : MemDisk) (values unique : List ℕ) (mask : List Bool) (steps : List Step) (len : ℕ) → steps ≡ m.steps.items → len ≡ length m.bytes.items
+    → (length mask ≡ len) × IsMarked m.synced_len (ranges_after [] (take (length steps - m.synced_steps) (drop m.synced_steps steps))) mask
+    → ((v : ℕ) → (Contains unique v) ↔ (Contains values v)) → AllPairs (λ x y. x ≢ y) unique
+    → Lists (IsImageOf (state_of m) values) (of_lengths (open_bytes mask m.bytes.items unique) m.synced_len (length m.bytes.items - m.synced_len + 1))
+listed_by m values unique mask steps len es el mark same once =
+    all-listed (state_of m) mask values unique m.bytes.items (ranges_after [] (drop m.synced_steps m.steps.items)) m.synced_len (sound_of m)
+    m.same m.synced m.since (mark.0 ∙ el)
+    (subst (λ (xs : List Step). IsMarked m.synced_len (ranges_after [] xs) mask) (since_of m steps es) mark.1)
+    (record { none_new = λ v. (same v).0; none_lost = λ v. (same v).1; once = once })
+
+-- where those listed are more than the cap
+too_many : (m : MemDisk) (values unique : List ℕ) (mask : List Bool) (steps : List Step) (len cap : ℕ) → steps ≡ m.steps.items → len ≡ length m.bytes.items
+    → (length mask ≡ len) × IsMarked m.synced_len (ranges_after [] (take (length steps - m.synced_steps) (drop m.synced_steps steps))) mask
+    → ((v : ℕ) → (Contains unique v) ↔ (Contains values v)) → AllPairs (λ x y. x ≢ y) unique
+    → cap < length (of_lengths (open_bytes mask m.bytes.items unique) m.synced_len (length mask - m.synced_len + 1))
+    → (all : List (List ℕ)) × Lists (IsImageOf (state_of m) values) all × (cap < length all)
+too_many m values unique mask steps len cap es el mark same once more =
+    let all : ℕ → List (List ℕ) = λ (n : ℕ). of_lengths (open_bytes mask m.bytes.items unique) m.synced_len (n - m.synced_len + 1) in (
+      all (length m.bytes.items),
+      listed_by m values unique mask steps len es el mark same once,
+      subst (λ (n : ℕ). cap < length (all n)) (mark.0 ∙ el) more,
+    )
+
+pub unsynced-requires-clause-synced : goal.unsynced-requires-clause-synced
+unsynced-requires-clause-synced c = omega (arith, synced_fits c.args.self.now)
+
+pub unsynced-requires-clause-within : goal.unsynced-requires-clause-within
+unsynced-requires-clause-within c =
+    let size : c.len-len.result ≡ length c.args.self.now.bytes.items = omega arith in
+    rw (since_of c.args.self.now c.deref.result.now c.deref.ensures.value, size) (within_of c.args.self.now)
+
+pub number_of-requires : goal.number_of-requires
+number_of-requires c = omega (arith, synced_fits c.args.self.now, ap length c.deref-2.ensures.value, c.in_ok-mask.ensures.0)
+
+pub all_contents-requires-clause-low : goal.all_contents-requires-clause-low
+all_contents-requires-clause-low c = omega (arith, synced_fits c.args.self.now, ap length c.deref-in-Some-2.ensures.value)
+
+pub returns-clause-listed : goal.returns-clause-listed
+returns-clause-listed c =
+    let m : MemDisk = c.args.self.now in
+    let found : contents c.in_ok-all_contents-in-Some-2.field-0.items
+    ≡ of_lengths (open_bytes c.in_ok-mask.mask.items m.bytes.items c.in_ok-values.values.items) m.synced_len (length m.bytes.items - m.synced_len + 1)
+    = rw (c.deref-in-Some-2.ensures.value, c.deref-in-Some-2-2.ensures.value, c.deref-in-Some-2-3.ensures.value) at c.in_ok-all_contents-in-Some-2.ensures in
+    subst (λ (xs : List (List ℕ)). Lists (IsImageOf (state_of m) c.args.values.now) xs) (sym found)
+    (listed_by m c.args.values.now c.in_ok-values.values.items c.in_ok-mask.mask.items c.deref.result.now c.len-len.result c.deref.ensures.value (omega arith)
+    c.in_ok-mask.ensures c.in_ok-values.ensures.same c.in_ok-values.ensures.once)
+
+pub returns-in-Some-clause-too_many : goal.returns-in-Some-clause-too_many
+returns-in-Some-clause-too_many c is =
+    let number : c.in-Some.number ≡ length (of_lengths (open_bytes c.in_ok-mask.mask.items c.args.self.now.bytes.items c.in_ok-values.values.items)
+    c.args.self.now.synced_len (length c.in_ok-mask.mask.items - c.args.self.now.synced_len + 1))
+    = rw (c.deref-2.ensures.value, c.deref-3.ensures.value) at (c.in-Some.ensures.exact c.args.self.now.bytes.items) in
+    too_many c.args.self.now c.args.values.now c.in_ok-values.values.items c.in_ok-mask.mask.items c.deref.result.now c.len-len.result c.args.cap
+    c.deref.ensures.value (omega arith) c.in_ok-mask.ensures c.in_ok-values.ensures.same c.in_ok-values.ensures.once (omega (arith, number, c.if-number-cap.true))
+
+pub returns-in-None-clause-too_many : goal.returns-in-None-clause-too_many
+returns-in-None-clause-too_many c is =
+    let many : 2 ^ 64 ≤ length (of_lengths (open_bytes c.in_ok-mask.mask.items c.args.self.now.bytes.items c.in_ok-values.values.items)
+    c.args.self.now.synced_len (length c.in_ok-mask.mask.items - c.args.self.now.synced_len + 1))
+    = rw (c.deref-2.ensures.value, c.deref-3.ensures.value) at (c.in-None.ensures.none refl c.args.self.now.bytes.items) in
+    too_many c.args.self.now c.args.values.now c.in_ok-values.values.items c.in_ok-mask.mask.items c.deref.result.now c.len-len.result c.args.cap
+    c.deref.ensures.value (omega arith) c.in_ok-mask.ensures c.in_ok-values.ensures.same c.in_ok-values.ensures.once (omega (arith, many))

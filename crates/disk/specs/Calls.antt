@@ -1,0 +1,66 @@
+-- The calls of the system on a file, and what the model says that they answer.
+use Rattle.std.specs.Prelude.{◌≡◌, ◌≤◌, ℕ, ◌-◌, min, List, [], ◌∷◌, ◌++◌, length, take, drop, ◌==◌, if◌then◌else◌, slice_index, Some, None}
+use Rattle.disk.specs.State.{Act, State, state_after, IsImage}
+
+pub data Call : Type 0 where
+  -- these bytes were read at this place into a buffer of this length
+  Read : ℕ → ℕ → List ℕ → Call
+  -- so many of these bytes were written at this place
+  Wrote : ℕ → ℕ → List ℕ → Call
+  -- a write of these bytes at this place failed
+  Broke : ℕ → List ℕ → Call
+  -- a sync was done
+  Synced : Call
+  -- the length was asked for
+  Measured : ℕ → Call
+  -- another call failed, or one was interrupted before it did anything
+  Refused : Call
+
+-- A note's numbers are its kind, its place and a count.
+abbrev pub call_of : List ℕ → List ℕ → Call
+call_of numbers bytes =
+    if slice_index numbers 0 == 0 then Read (slice_index numbers 1) (slice_index numbers 2) bytes
+    else (if slice_index numbers 0 == 1 then Wrote (slice_index numbers 1) (slice_index numbers 2) bytes
+    else (if slice_index numbers 0 == 2 then Broke (slice_index numbers 1) bytes
+    else (if slice_index numbers 0 == 3 then Synced
+    else (if slice_index numbers 0 == 4 then Measured (slice_index numbers 1)
+    else Refused))))
+
+-- what a call did: a write that failed counts as done, in any form until a sync
+abbrev pub acts_by : Call → List Act
+acts_by (Read at n bytes) = []
+acts_by (Wrote at n bytes) = Some (at, take n bytes) ∷ []
+acts_by (Broke at bytes) = Some (at, bytes) ∷ []
+acts_by Synced = None ∷ []
+acts_by (Measured n) = []
+acts_by Refused = []
+
+-- of calls, the last of them first
+abbrev pub acts_of : List Call → List Act
+acts_of [] = []
+acts_of (call ∷ calls) = acts_of calls ++ acts_by call
+
+-- Bytes of a file that a read of n gives: those at its place, none only where there are none.
+pub record IsRead (file : List ℕ) (at n : ℕ) (bytes : List ℕ) : Type 0 where
+  pub same : bytes ≡ take (length bytes) (drop at file)
+  pub within : length bytes ≤ length file - at
+  pub ends : length bytes ≡ 0 → min n (length file - at) ≡ 0
+
+-- what a call answers at a file
+abbrev pub IsAnswer : List ℕ → Call → Type 0
+IsAnswer file (Read at n bytes) = IsRead file at n bytes
+IsAnswer file (Wrote at n bytes) = Unit {0}
+IsAnswer file (Broke at bytes) = Unit {0}
+IsAnswer file Synced = Unit {0}
+IsAnswer file (Measured n) = n ≡ length file
+IsAnswer file Refused = Unit {0}
+
+-- Each call answered what the model gives, from the state at the start on. The last call is first.
+abbrev pub AreAnswers : State → List Call → Type 0
+AreAnswers start [] = IsImage start start.now
+AreAnswers start (call ∷ calls) = AreAnswers start calls × IsAnswer (state_after start (acts_of calls)).now call
+
+-- the state at the start is one that there can be
+pub start_sound : (start : State) (calls : List Call) → AreAnswers start calls → IsImage start start.now
+start_sound start [] sound = sound
+start_sound start (call ∷ calls) answers = start_sound start calls answers.0

@@ -1,0 +1,65 @@
+-- What a disk in memory shows.
+use Rattle.std.specs.Prelude.{◌≡◌, ◌↔◌, ◌<◌, ◌≤◌, ℕ, List, ◌+◌, ◌-◌, ◌^◌, min, vec_len}
+use Rattle.std.specs.Vec.{vec_capacity}
+use Rattle.disk.specs.declared.memory.MemDisk.{MemDisk}
+use Rattle.disk.specs.Sight.{Sight}
+use Rattle.disk.specs.State.{State, nothing, sight_of}
+use Rattle.disk.specs.Laws.{now_counts, just_now, always_sound, sound_nothing}
+use Rattle.disk.specs.Memory.{acts, replayed}
+use Rattle.disk.specs.Plan.{IsAsked}
+
+-- what the recorded calls made of an empty disk
+abbrev pub state_of : MemDisk → State
+state_of m = replayed m.steps.items m.written.items
+
+-- the disk at this moment, with a count of failures
+abbrev pub sight_at : MemDisk → ℕ → Sight
+sight_at m failures = sight_of nothing (acts m.steps.items m.written.items) failures
+
+abbrev pub memory_sight : MemDisk → Sight
+memory_sight m = sight_at m m.failures
+
+-- how many calls of `write_at` and `sync` were made, as far as its type goes
+abbrev pub calls_of : MemDisk → ℕ
+calls_of m = m.calls
+
+-- the trait call with this number is to fail; the next one has number 1
+abbrev pub WillFail : MemDisk → ℕ → Type 0
+WillFail m k = IsAsked m.plan k
+
+-- it can grow to a length, record so many more calls and so many more written bytes, and takes no memory for it
+abbrev pub HasRoom : MemDisk → ℕ → ℕ → ℕ → Type 0
+HasRoom m room calls written =
+    (room ≤ vec_capacity m.bytes) × (vec_len m.steps + calls ≤ vec_capacity m.steps) × (vec_len m.written + written ≤ vec_capacity m.written)
+
+-- what is left of the room after so many recorded calls and written bytes
+abbrev pub KeepsRoom : ℕ → ℕ → MemDisk → MemDisk → Type 0
+KeepsRoom calls written old new = (room more_calls more_written : ℕ) → HasRoom old room (calls + more_calls) (written + more_written)
+    → HasRoom new room more_calls more_written
+
+-- one trait call was made of those that were counted from the old disk on
+abbrev pub GoesOn : MemDisk → MemDisk → Type 0
+GoesOn old new = (k : ℕ) → 0 < k → (WillFail new k ↔ WillFail old (k + 1))
+
+-- the disk counts one more call of `write_at` or `sync`
+abbrev pub CountsCall : MemDisk → MemDisk → Type 0
+CountsCall old new = calls_of new ≡ min (calls_of old + 1) (2 ^ 64 - 1)
+
+-- what counts calls and failures is the same
+pub record SameOthers (old new : MemDisk) : Type 0 where
+  pub calls : new.calls ≡ old.calls
+  pub failures : new.failures ≡ old.failures
+  pub plan : new.plan ≡ old.plan
+
+-- all but what was asked to fail is the same
+abbrev pub IsSameDisk : MemDisk → MemDisk → Type 0
+IsSameDisk old new = new ≡ record old { plan = new.plan }
+
+pub memory_counts_now : (m : MemDisk) (t : ℕ) (c : List ℕ) → t ≤ (memory_sight m).moment → (memory_sight m).may_leave c → (memory_sight m).left_since t c
+memory_counts_now m t c le image = now_counts nothing (acts m.steps.items m.written.items) m.failures t c le image
+
+pub memory_only_now : (m : MemDisk) (c : List ℕ) → (memory_sight m).left_since (memory_sight m).moment c → (memory_sight m).may_leave c
+memory_only_now m c left = just_now nothing (acts m.steps.items m.written.items) m.failures c left
+
+pub memory_seen_may_stay : (m : MemDisk) → (memory_sight m).may_leave (memory_sight m).seen
+memory_seen_may_stay m = always_sound nothing sound_nothing (acts m.steps.items m.written.items)

@@ -1,0 +1,184 @@
+//! The four calls of the system on a file, each with its note. What a reader has to trust stands here: that
+//! `read_some`, `write_some`, `sync_once` and `measure` note the call that they made, with its place, count and bytes.
+ghost use Rattle.std.specs.Prelude.{◌≡◌, ◌≤◌, ◌<◌, ◌+◌, ℕ, List, [], ◌∷◌, length, take, IfOk, OnOk, OnErr, IsErrOf};
+ghost use Rattle.std.specs.Borrow.{ftrue};
+ghost use Rattle.disk.specs.State.{State};
+ghost use Rattle.disk.specs.Calls.{Call, call_of, IsRead};
+
+use std::fs::File;
+use std::io;
+use std::io::ErrorKind;
+use std::marker::{Model, PhantomData};
+use std::os::unix::fs::FileExt;
+
+const READ: u64 = 0;
+
+const WROTE: u64 = 1;
+
+const BROKE: u64 = 2;
+
+const SYNCED: u64 = 3;
+
+const MEASURED: u64 = 4;
+
+const REFUSED: u64 = 5;
+
+/// The calls that were made on a file, the last first, and the state that the file was in before them. It holds no
+/// byte: only clauses read it.
+#[derive(Drop)]
+pub struct Record {
+    marker: PhantomData<u8>,
+    pub ghost start: { State },
+    pub ghost calls: { List Call },
+}
+
+impl Model for Record {
+    ghost also_owns = { λ _. ftrue };
+}
+
+// It owns nothing.
+unsafe impl Send for Record {}
+
+impl Record {
+    // A record with no call, from any state.
+    fn new() -> Record
+        ghost start: { State }
+        ensures { (result.start ≡ start) × (result.calls ≡ []) }
+    {
+        Record {
+            marker: PhantomData,
+        }
+    }
+
+    // Notes a call. The numbers are its kind, its place and a count.
+    fn note(&mut self, _numbers: &[u64], _bytes: &[u8])
+        ensures { (self.new.start ≡ self.old.start)
+            × (self.new.calls ≡ call_of _numbers.now _bytes.now ∷ self.old.calls) }
+    {}
+}
+
+/// Why a read or a write gave nothing.
+pub enum Stop {
+    /// It did nothing, and is tried again.
+    Interrupted,
+    Failed,
+}
+
+/// A file with the record of its calls.
+#[derive(Drop)]
+pub struct NotedFile {
+    file: File,
+    pub noted: Record,
+}
+
+impl NotedFile {
+    ghost use Rattle.disk.specs.Record.{HasFollowed, OnlyAsks, Goes, sight_by};
+    ghost use Rattle.disk.specs.Sight.{Holds, IsSynced, Looks};
+
+    /// A file that was in this state. No call was made on it.
+    pub fn new(file: File) -> NotedFile
+        ghost start: { State }
+        ensures { (result.noted.start ≡ start) × (result.noted.calls ≡ []) }
+    {
+        NotedFile {
+            file,
+            noted: Record::new(),
+        }
+    }
+
+    /// Reads at a place, fewer bytes than fit if the system likes, none only at the end.
+    pub fn read_some(&mut self, at: u64, buf: &mut [u8]) -> Result<usize, Stop>
+        ensures noted { length self.new.noted.calls ≡ length self.old.noted.calls + 1 }
+        ensures within { IfOk result (λ n. n ≤ length buf.old) }
+        ensures bytes { IfOk result (λ n. HasFollowed self.new.noted
+            → IsRead (sight_by self.old.noted 0).seen at (length buf.old) (take n buf.new)) }
+        ensures asks { OnlyAsks self.old.noted self.new.noted }
+    {
+        match self.file.read_at(buf, at) {
+            Ok(n) => {
+                self.noted.note(&[READ, at, buf.len() as u64], &buf[..n]);
+                Ok(n)
+            }
+            Err(error) => {
+                self.noted.note(&[REFUSED, 0, 0], &[]);
+                Err(if error.kind() == ErrorKind::Interrupted {
+                    Stop::Interrupted
+                } else {
+                    Stop::Failed
+                })
+            }
+        }
+    }
+
+    /// Writes at a place, fewer bytes than there are if the system likes, but some.
+    pub fn write_some(&mut self, at: u64, bytes: &[u8]) -> Result<usize, Stop>
+        ensures noted { length self.new.noted.calls ≡ length self.old.noted.calls + 1 }
+        ensures before { HasFollowed self.new.noted → HasFollowed self.old.noted }
+        ensures within { IfOk result (λ n. (0 < n) × (n ≤ length bytes.now)) }
+        ensures holds { IfOk result (λ n. HasFollowed self.new.noted
+            → at ≤ length (sight_by self.old.noted 0).seen
+            → Holds (sight_by self.old.noted 0).seen at (take n bytes.now) (sight_by self.new.noted 0).seen) }
+        ensures goes { IfOk result (λ n. (old new : ℕ) → HasFollowed self.new.noted
+            → at ≤ length (sight_by self.old.noted 0).seen
+            → Goes at n (sight_by self.old.noted old) (sight_by self.new.noted new)) }
+        ensures interrupted { IsErrOf result Stop.Interrupted → OnlyAsks self.old.noted self.new.noted }
+        ensures broke { OnErr result ((old new : ℕ) → HasFollowed self.new.noted
+            → at ≤ length (sight_by self.old.noted 0).seen
+            → Goes at (length bytes.now) (sight_by self.old.noted old) (sight_by self.new.noted new)) }
+    {
+        match self.file.write_at(bytes, at) {
+            Ok(n) if n > 0 => {
+                self.noted.note(&[WROTE, at, n as u64], bytes);
+                Ok(n)
+            }
+            Err(error) if error.kind() == ErrorKind::Interrupted => {
+                self.noted.note(&[REFUSED, 0, 0], &[]);
+                Err(Stop::Interrupted)
+            }
+            _ => {
+                self.noted.note(&[BROKE, at, 0], bytes);
+                Err(Stop::Failed)
+            }
+        }
+    }
+
+    /// Syncs the file's bytes and its length.
+    pub fn sync_once(&mut self) -> io::Result<()>
+        ensures noted { length self.new.noted.calls ≡ length self.old.noted.calls + 1 }
+        ensures before { HasFollowed self.new.noted → HasFollowed self.old.noted }
+        ensures synced { OnOk result ((failures : ℕ) → IsSynced (sight_by self.new.noted failures)) }
+        ensures looks { (old new : ℕ) → HasFollowed self.new.noted
+            → Looks (sight_by self.old.noted old) (sight_by self.new.noted new) }
+    {
+        match self.file.sync_data() {
+            Ok(()) => {
+                self.noted.note(&[SYNCED, 0, 0], &[]);
+                Ok(())
+            }
+            Err(error) => {
+                self.noted.note(&[REFUSED, 0, 0], &[]);
+                Err(error)
+            }
+        }
+    }
+
+    /// Asks for the length.
+    pub fn measure(&mut self) -> io::Result<u64>
+        ensures noted { length self.new.noted.calls ≡ length self.old.noted.calls + 1 }
+        ensures length { IfOk result (λ n. HasFollowed self.new.noted
+            → n ≡ length (sight_by self.old.noted 0).seen) }
+        ensures asks { OnlyAsks self.old.noted self.new.noted }
+    {
+        match self.file.metadata() {
+            Ok(metadata) => {
+                let len = metadata.len();
+                self.noted.note(&[MEASURED, len, 0], &[]);
+                Ok(len)
+            }
+            Err(error) => {
+                self.noted.note(&[REFUSED, 0, 0], &[]);
+                Err(error)
+            }
+        }
+    }
+}

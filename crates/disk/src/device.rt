@@ -1,0 +1,73 @@
+ghost use Rattle.std.specs.Prelude.{◌≡◌, ◌≢◌, ◌≤◌, ℕ, List, length, IfOk, OnOk};
+ghost use Rattle.disk.specs.Sight.{Sight, Holds, Reads, IsSynced, Looks, Writes, Counts};
+
+use thiserror::Error;
+
+/// The device failed. A write that failed may have done any part of its work.
+#[derive(Clone, Copy, Debug, PartialEq, Eq, Error)]
+#[error("device failed")]
+pub struct DeviceFault;
+
+// Counts a failure.
+pub(crate) fn failed(failures: &mut u64) -> DeviceFault
+    ensures { failures.new ≢ failures.old }
+{
+    *failures = failures.wrapping_add(1);
+    DeviceFault
+}
+
+/// A device that holds bytes, from place 0 on without a gap.
+///
+/// What its calls say of the bytes stands under the premise that the disk has followed the model so far. That an
+/// error comes exactly where the count of failures changes stands without it. The count changes, and needn't rise,
+/// since one that a machine holds can't rise for ever.
+pub trait Disk {
+    /// So far this disk has followed the model.
+    ghost follows: { Self → Type 0 };
+
+    /// What the disk is at this moment.
+    ghost sight: { Self → Sight };
+
+    /// Reads the bytes from place `at` on that fit into `buf`, and returns how many: fewer only at the end.
+    fn read(&mut self, at: u64, buf: &mut [u8]) -> Result<usize, DeviceFault>
+        ensures before { follows self.new → follows self.old }
+        ensures bytes { IfOk result (λ n. follows self.new
+            → Reads (sight self.old).seen at n buf.old buf.new) }
+        ensures looks { follows self.new → Looks (sight self.old) (sight self.new) }
+        ensures counts { Counts result (sight self.old).failures (sight self.new).failures };
+
+    /// Writes over what is there, and past the end. A write that fails may have done any of it.
+    /// Of a write that begins past the end nothing is said.
+    fn write_at(&mut self, at: u64, bytes: &[u8]) -> Result<(), DeviceFault>
+        ensures before { follows self.new → follows self.old }
+        ensures written { OnOk result (follows self.new → at ≤ length (sight self.old).seen
+            → Holds (sight self.old).seen at bytes.now (sight self.new).seen) }
+        ensures writes { follows self.new → at ≤ length (sight self.old).seen
+            → Writes at (length bytes.now) (sight self.old) (sight self.new) }
+        ensures counts { Counts result (sight self.old).failures (sight self.new).failures };
+
+    /// After it, a crash leaves what a read gives. After one that fails, it leaves what it could before.
+    fn sync(&mut self) -> Result<(), DeviceFault>
+        ensures before { follows self.new → follows self.old }
+        ensures synced { OnOk result (follows self.new → IsSynced (sight self.new)) }
+        ensures looks { follows self.new → Looks (sight self.old) (sight self.new) }
+        ensures counts { Counts result (sight self.old).failures (sight self.new).failures };
+
+    /// How many bytes there are.
+    fn len(&mut self) -> Result<u64, DeviceFault>
+        ensures before { follows self.new → follows self.old }
+        ensures length { IfOk result (λ n. follows self.new → n ≡ length (sight self.old).seen) }
+        ensures looks { follows self.new → Looks (sight self.old) (sight self.new) }
+        ensures counts { Counts result (sight self.old).failures (sight self.new).failures };
+
+    /// What may be left now might have been left since any earlier moment.
+    ghost counts_now: { (disk : Self) (t : ℕ) (c : List ℕ) → follows disk
+        → t ≤ (sight disk).moment → (sight disk).may_leave c → (sight disk).left_since t c };
+
+    /// Since this moment only that.
+    ghost only_now: { (disk : Self) (c : List ℕ) → follows disk
+        → (sight disk).left_since (sight disk).moment c → (sight disk).may_leave c };
+
+    /// What a read gives is one of the contents that a crash may leave.
+    ghost seen_may_stay: { (disk : Self) → follows disk → (sight disk).may_leave (sight disk).seen };
+}

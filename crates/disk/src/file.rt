@@ -1,0 +1,159 @@
+ghost use Rattle.disk.specs.State.{State};
+
+use crate::calls::{NotedFile, Stop};
+use crate::device::failed;
+use crate::{DeviceFault, Disk};
+use std::fs::{File, OpenOptions, TryLockError};
+use std::io;
+use std::os::fd::AsRawFd;
+use std::path::Path;
+use std::rt::Files;
+use thiserror::Error;
+
+/// Why a file is not opened as a disk.
+#[derive(Debug, Drop, Error)]
+pub enum FileFault {
+    /// Another process, or another disk of this one, has the file.
+    #[error("the file is in use")]
+    InUse,
+    /// What stands at the path is a folder, a device or the like.
+    #[error("not a regular file")]
+    NotAFile,
+    #[error(transparent)]
+    Io(#[from] io::Error),
+}
+
+/// A disk over a file. A short read or write is finished, and an interrupted one is tried again. Every other error
+/// of the system is a `DeviceFault`; after a failed sync nothing is assumed of what was written.
+///
+/// It has a record of its calls, which takes no memory and which only contracts see. What `Disk` says of it stands
+/// under the premise that each recorded call answered what the model gives.
+#[derive(Drop)]
+pub struct FileDisk {
+    calls: NotedFile,
+    failures: u64,
+}
+
+impl FileDisk {
+    ghost use Rattle.disk.specs.FileDisk.{IsFresh};
+
+    /// A disk over a file, for all states that the file may have been in.
+    pub fn new(file: LockedFile) -> FileDisk
+        ghost start: { State }
+        ensures { IsFresh start result }
+    {
+        let LockedFile { file } = file;
+        FileDisk {
+            calls: NotedFile::new(file),
+            failures: 0,
+        }
+    }
+}
+
+/// A file that is open for reading and writing, and whose advisory lock is held.
+#[derive(Drop)]
+pub struct LockedFile {
+    file: File,
+}
+
+impl LockedFile {
+    /// Opens the file at a path, and makes an empty one where none is. The file and its folder are synced, so that
+    /// a file that was made survives a crash. The lock keeps others out until the file is dropped: those that open
+    /// it by this call, in this process too, or that ask for the lock.
+    pub fn open<R: Files<File = File>>(rt: &R, path: &str) -> Result<LockedFile, FileFault> {
+        let mut file = OpenOptions::new()
+            .read(true)
+            .write(true)
+            .create(true)
+            .truncate(false)
+            .open(rt, path)?;
+        // What is meant for a standard stream that was closed must not land in the file.
+        if file.as_raw_fd() <= 2 {
+            file = file.try_clone()?;
+        }
+        if !file.metadata()?.is_file() {
+            return Err(FileFault::NotAFile);
+        }
+        match file.try_lock() {
+            Ok(()) => {}
+            Err(TryLockError::WouldBlock) => return Err(FileFault::InUse),
+            Err(TryLockError::Error(error)) => return Err(FileFault::Io(error)),
+        }
+        file.sync_all()?;
+        File::open(rt, folder_of(path))?.sync_all()?;
+        Ok(LockedFile { file })
+    }
+}
+
+// The folder in which a path's last name stands.
+fn folder_of(path: &str) -> &str {
+    match Path::new(path).parent() {
+        Some(parent) if !parent.as_str().is_empty() => parent.as_str(),
+        _ => ".",
+    }
+}
+
+impl Disk for FileDisk {
+    ghost use Rattle.disk.specs.FileDisk.{FileFollows, file_sight, file_counts_now, file_only_now, file_seen_may_stay};
+
+    ghost follows = { FileFollows };
+
+    ghost sight = { file_sight };
+
+    ghost counts_now = { file_counts_now };
+
+    ghost only_now = { file_only_now };
+
+    ghost seen_may_stay = { file_seen_may_stay };
+
+    fn read(&mut self, at: u64, buf: &mut [u8]) -> Result<usize, DeviceFault> {
+        if at > u64::MAX - buf.len() as u64 {
+            return Err(failed(&mut self.failures));
+        }
+        let mut from = 0;
+        for _ in 0..u64::MAX {
+            if from == buf.len() {
+                return Ok(from);
+            }
+            match self.calls.read_some(at + from as u64, &mut buf[from..]) {
+                Ok(0) => return Ok(from),
+                Ok(n) => from += n,
+                Err(Stop::Interrupted) => {}
+                Err(Stop::Failed) => return Err(failed(&mut self.failures)),
+            }
+        }
+        Err(failed(&mut self.failures))
+    }
+
+    fn write_at(&mut self, at: u64, bytes: &[u8]) -> Result<(), DeviceFault> {
+        if at > u64::MAX - bytes.len() as u64 {
+            return Err(failed(&mut self.failures));
+        }
+        let mut from = 0;
+        for _ in 0..u64::MAX {
+            if from == bytes.len() {
+                return Ok(());
+            }
+            match self.calls.write_some(at + from as u64, &bytes[from..]) {
+                Ok(n) => from += n,
+                Err(Stop::Interrupted) => {}
+                Err(Stop::Failed) => return Err(failed(&mut self.failures)),
+            }
+        }
+        Err(failed(&mut self.failures))
+    }
+
+    fn sync(&mut self) -> Result<(), DeviceFault> {
+        match self.calls.sync_once() {
+            Ok(()) => Ok(()),
+            Err(_) => Err(failed(&mut self.failures)),
+        }
+    }
+
+    fn len(&mut self) -> Result<u64, DeviceFault> {
+        match self.calls.measure() {
+            Ok(len) => Ok(len),
+            Err(_) => Err(failed(&mut self.failures)),
+        }
+    }
+}

@@ -1,0 +1,22 @@
+//! A disk, and what a crash may leave of it.
+//!
+//! Between two syncs each written range, and all past the old end, may hold any bytes after a crash. Bytes outside
+//! stay, and the length is from that at the last sync to the greatest since. After a sync a crash leaves what a
+//! read gives.
+#![tactic(auto)]
+
+mod calls;
+mod device;
+mod file;
+mod gate;
+mod images;
+mod memory;
+mod plan;
+#[cfg(test)]
+mod tests;
+
+pub use device::{DeviceFault, Disk};
+pub use file::{FileDisk, FileFault, LockedFile};
+pub use gate::{Gate, GateDisk};
+pub use images::ImagesFault;
+pub use memory::MemDisk;

@@ -1,0 +1,15 @@
+pub mod Lists
+pub mod Past
+pub mod Sharding
+pub mod Accounts
+pub mod Seats
+pub mod HandOvers
+pub mod Calls
+pub mod Looking
+pub mod Books
+pub mod Marks
+pub mod Starts
+pub mod Fits
+pub mod Tickets
+pub mod Meeting
+pub mod Trial

@@ -1,0 +1,155 @@
+-- Looks at a shard's word keep the rule.
+use Rattle.std.proofs.Common.{◌≡◌, ℕ, ◌<◌, [], refl, sym, ◌∙◌, subst, arith}
+use mathlib.Core.Option.{some, none}
+use lib.ListN.{get_elem?}
+use Rattle.atomic_table.specs.Table.{Me, Allows, step, keeps}
+use Rattle.atomic_table.proofs.Lists.{set_again}
+use Rattle.history.specs.declared.views.About.{About}
+use Rattle.history.specs.declared.views.Caller.{Caller}
+use Rattle.history.specs.declared.views.Shelf.{Shelf}
+use Rattle.history.specs.declared.views.View.{View}
+use Rattle.history.specs.declared.views.Role.TheVariants.{Nobody, Keeps, Calls}
+use Rattle.history.specs.declared.views.Token.{Token}
+use Rattle.history.specs.declared.views.Token.TheVariants.{Nothing, Open, Done}
+use Rattle.history.specs.Histories.{Begins, IsLegalAt}
+use Rattle.history.specs.Rule.{alone, Contents, Seating, AccountOk, IsHand, Holds}
+use Rattle.history.specs.Plays.{seen_at, look_to, looked, met, settled, HasStepsOf}
+use Rattle.history.proofs.Lists.{put, put_at, put_else, put_other}
+use Rattle.history.proofs.Accounts.{looked_ok, steps_of}
+use Rattle.history.proofs.Seats.{Frame, seats_set, account_at, with_caller, good_caller, words_same, pass_of, book_of}
+
+-- what is known of a pass alone changes
+caller_frame : (about : About) (x : Contents) (seats : Seating) (p id : ℕ) (c' : Caller) → seats.passes p ≡ id → Frame about x seats id (with_caller x p c') seats
+caller_frame about x seats p id c' mine = record {
+  books = λ k j n e. (e, refl);
+  passes = λ q j n e. (e, put_other x.callers p c' seats.passes id q j mine e n);
+  hands = λ j t n h. same j t h;
+  doubts = λ a j n e o. o;
+}
+  where
+    same : (j : ℕ) (t : Token) → IsHand about x seats j t → IsHand about (with_caller x p c') seats j t
+    same j Nothing h = h
+    same j (Open a f) h = h
+    same j (Done s upto at) h = h
+
+looks : (slots id k : ℕ) (c : Caller) → k < c.about.shards → Allows Holds slots id (alone (Calls c) Nothing, []) k (λ n. n) (looked (step slots k 0 0 none) (alone (Calls c) Nothing, []))
+looks slots id k c lt s h wide e fits =
+    let r = pass_of s id c Nobody Nothing h e in
+    let x = r.contents in
+    let mine = (r.seats id (alone (Calls c) Nothing) e).role in
+    let t : Token = x.tokens c.pass in
+    let ok = account_at c.about x c.pass c t r.good mine.1 mine.3 refl in
+    let c' : Caller = look_to c k (x.items k) in (
+      alone (Calls c') Nothing,
+      keeps,
+      tt,
+      (
+        c.about,
+        record {
+          contents = with_caller x c.pass c';
+          seating = r.seating;
+          words = words_same c.about (with_caller x c.pass c') s.words k (record { any = r.words.any; few = r.words.few; wide = r.words.wide; lengths = r.words.lengths; numbers = r.words.numbers });
+          good = good_caller c.about x c.pass c' r.good (looked_ok c.about x.items c.pass c k t ok);
+          seats = seats_set c.about x r.seating id (with_caller x c.pass c') r.seating (caller_frame c.about x r.seating c.pass id c' mine.2)
+              s.views (alone (Calls c') Nothing) r.seats
+              (record { role = (mine.0, mine.1, mine.2, put_at x.callers c.pass c' c.pass refl); guest = tt; two = tt; hand = tt });
+        },
+      ),
+      ((x.items k, refl, ok.seen k, r.good.legal k, sym (r.words.lengths k lt), steps_of x.items c t k ok, (let w = ok.wide in omega arith)), refl),
+    )
+
+pub looks_as : (slots id k : ℕ) (c : Caller) (m : Me Unit View) → m ≡ (alone (Calls c) Nothing, []) → k < c.about.shards → Allows Holds slots id m k (λ n. n) (looked (step slots k 0 0 none) m)
+looks_as slots id k c m is lt = subst (λ (u : Me Unit View). Allows Holds slots id u k (λ n. n) (looked (step slots k 0 0 none) u)) (sym is) (looks slots id k c lt)
+
+both_frame : (about : About) (x : Contents) (seats : Seating) (p q id : ℕ) (c' d' : Caller) → seats.passes p ≡ id → seats.passes q ≡ id → Frame about x seats id (with_caller (with_caller x p c') q d') seats
+both_frame about x seats p q id c' d' mine its = record {
+  books = λ k j n e. (e, refl);
+  passes = λ o j n e. (e, put_other (put x.callers p c') q d' seats.passes id o j its e n ∙ put_other x.callers p c' seats.passes id o j mine e n);
+  hands = λ j t n h. same j t h;
+  doubts = λ a j n e o. o;
+}
+  where
+    same : (j : ℕ) (t : Token) → IsHand about x seats j t → IsHand about (with_caller (with_caller x p c') q d') seats j t
+    same j Nothing h = h
+    same j (Open a f) h = h
+    same j (Done s upto at) h = h
+
+meets : (slots id k : ℕ) (c d : Caller) → k < c.about.shards
+    → Allows Holds slots id (record { role = Calls c; guest = Calls d; hand = Nothing }, []) k (λ n. n) (met (step slots k 0 0 none) (record { role = Calls c; guest = Calls d; hand = Nothing }, []))
+meets slots id k c d lt s h wide e fits =
+    let v : View = record { role = Calls c; guest = Calls d; hand = Nothing } in
+    let r = pass_of s id c (Calls d) Nothing h e in
+    let x = r.contents in
+    let seat = r.seats id v e in
+    let mine = seat.role in
+    let its = seat.guest in
+    let t : Token = x.tokens c.pass in
+    let u : Token = x.tokens d.pass in
+    let ok = account_at c.about x c.pass c t r.good mine.1 mine.3 refl in
+    let okay = account_at c.about x d.pass d u r.good its.1 its.3 refl in
+    let okayed = subst (λ (b : About). AccountOk b x.items d.pass d u) (sym its.0) okay in
+    let c' : Caller = look_to c k (x.items k) in
+    let d' : Caller = look_to d k (x.items k) in
+    let x' : Contents = with_caller (with_caller x c.pass c') d.pass d' in
+    let w : View = record { role = Calls c'; guest = Calls d'; hand = Nothing } in (
+      w,
+      keeps,
+      tt,
+      (
+        c.about,
+        record {
+          contents = x';
+          seating = r.seating;
+          words = words_same c.about x' s.words k (record { any = r.words.any; few = r.words.few; wide = r.words.wide; lengths = r.words.lengths; numbers = r.words.numbers });
+          good = good_caller c.about (with_caller x c.pass c') d.pass d' (good_caller c.about x c.pass c' r.good (looked_ok c.about x.items c.pass c k t ok)) (looked_ok c.about x.items d.pass d k u okay);
+          seats = seats_set c.about x r.seating id x' r.seating (both_frame c.about x r.seating c.pass d.pass id c' d' mine.2 its.2) s.views w r.seats
+              (record {
+                role = (mine.0, mine.1, mine.2, put_else (put x.callers c.pass c') d.pass d' c.pass (λ q. seat.two (sym q)) ∙ put_at x.callers c.pass c' c.pass refl);
+                guest = (its.0, its.1, its.2, put_at (put x.callers c.pass c') d.pass d' d.pass refl);
+                two = seat.two;
+                hand = tt;
+              });
+        },
+      ),
+      ((x.items k, refl, (ok.seen k, okay.seen k, r.good.legal k, steps_of x.items c t k ok, steps_of x.items d u k okayed, its.0), (let o = ok.wide in omega arith), (let o = okay.wide in omega arith)), refl),
+    )
+
+pub meets_as : (slots id k : ℕ) (c d : Caller) (m : Me Unit View) → m ≡ (record { role = Calls c; guest = Calls d; hand = Nothing }, []) → k < c.about.shards → Allows Holds slots id m k (λ n. n) (met (step slots k 0 0 none) m)
+meets_as slots id k c d m is lt = subst (λ (u : Me Unit View). Allows Holds slots id u k (λ n. n) (met (step slots k 0 0 none) u)) (sym is) (meets slots id k c d lt)
+
+settles : (slots id k : ℕ) (shelf : Shelf) (c : Caller) → Allows Holds slots id (record { role = Keeps shelf; guest = Calls c; hand = Nothing }, []) k (λ n. n) (settled (step slots k 0 0 none) (record { role = Keeps shelf; guest = Calls c; hand = Nothing }, []))
+settles slots id k shelf c s h wide e fits =
+    let v : View = record { role = Keeps shelf; guest = Calls c; hand = Nothing } in
+    let r = book_of s id shelf (Calls c) Nothing h e in
+    let x = r.contents in
+    let seat = r.seats id v e in
+    let mine = seat.role in
+    let its = seat.guest in
+    let t : Token = x.tokens c.pass in
+    let ok = subst (λ (b : About). AccountOk b x.items c.pass c t) (sym its.0) (account_at shelf.about x c.pass c t r.good its.1 its.3 refl) in (
+      v,
+      keeps,
+      tt,
+      (
+        shelf.about,
+        record {
+          contents = x;
+          seating = r.seating;
+          words = words_same shelf.about x s.words k r.words;
+          good = r.good;
+          seats = λ j u q. r.seats j u (subst (λ l. get_elem? l j ≡ some u) (set_again s.views id v e) q);
+        },
+      ),
+      (
+        refl,
+        (
+          subst (λ l. Begins (seen_at c shelf.shard) l) mine.3 (ok.seen shelf.shard),
+          subst (λ l. IsLegalAt shelf.about shelf.shard l) mine.3 (r.good.legal shelf.shard),
+          subst (λ l. HasStepsOf c shelf.shard l) mine.3 (steps_of x.items c t shelf.shard ok),
+          its.0,
+        ),
+      ),
+    )
+
+pub settles_as : (slots id k : ℕ) (shelf : Shelf) (c : Caller) (m : Me Unit View) → m ≡ (record { role = Keeps shelf; guest = Calls c; hand = Nothing }, []) → Allows Holds slots id m k (λ n. n) (settled (step slots k 0 0 none) m)
+settles_as slots id k shelf c m is = subst (λ (u : Me Unit View). Allows Holds slots id u k (λ n. n) (settled (step slots k 0 0 none) u)) (sym is) (settles slots id k shelf c)

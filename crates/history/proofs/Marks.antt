@@ -1,0 +1,187 @@
+-- Calls in doubt, and the failure mark, keep the rule.
+use Rattle.std.proofs.Common.{◌≡◌, ◌≢◌, ℕ, ◌+◌, ◌%◌, ◌^◌, ◌<◌, ◌≤◌, List, [], ◌∷◌, ◌++◌, length, Bool, true, false, cond, eqb, not, ◌&&◌, refl, sym, ap, ◌∙◌, subst, inr, ⊎_elim, arith, append-nil, eq-eqb, ne_eqb, length-append}
+use Rattle.std.specs.Prelude.{IsTrue}
+use Rattle.std.specs.List.{list_any, list_all}
+use Rattle.std.proofs.lemmas.Bool.{cases_eq}
+use mathlib.Core.Option.{none}
+use Rattle.atomic_table.specs.Table.{Me, Allows, Joins, step, keeps}
+use Rattle.accept.specs.declared.history.Ask.{Ask}
+use Rattle.accept.specs.declared.history.Step.{Step}
+use Rattle.accept.specs.declared.history.Item.{Item}
+use Rattle.accept.specs.declared.history.Item.TheVariants.{Failed}
+use Rattle.accept.specs.Histories.{MayFollow, is_marked, is_step_of, key_of}
+use Rattle.history.specs.declared.views.About.{About}
+use Rattle.history.specs.declared.views.Shelf.{Shelf}
+use Rattle.history.specs.declared.views.View.{View}
+use Rattle.history.specs.declared.views.Role.{Role}
+use Rattle.history.specs.declared.views.Role.TheVariants.{Nobody, Keeps}
+use Rattle.history.specs.declared.views.Token.{Token}
+use Rattle.history.specs.declared.views.Token.TheVariants.{Nothing, Open, Done}
+use Rattle.history.specs.Shards.{is_of_shard}
+use Rattle.history.specs.Histories.{IsLegalAt, terms_of, history_of, shard_in, steps_by, of_pass, asks_by, AllBelow}
+use Rattle.history.specs.Rule.{alone, Contents, Seating, AccountOk, IsGood, AreWords, AreOpen, AreTold, IsHand, HoldsFor, Holds, total, number_of}
+use Rattle.history.specs.Plays.{loose, keeper, in_doubt, marked}
+use Rattle.history.proofs.Lists.{put, put_at, put_all, put_other}
+use Rattle.history.proofs.Past.{asks_append, steps_mark, below_on, no_step, legal_more, marked_mark, total_mark}
+use Rattle.history.proofs.Accounts.{told_append, grown_ok, doubted_ok}
+use Rattle.history.proofs.Seats.{Frame, role_kept, seats_set, seats_join, still_there, hand_put, doubt_put, account_at, held_by, book_of}
+use Rattle.history.proofs.Books.{room, words_longer, longer_begins}
+
+open_append : (about : About) (x : Contents) (k : ℕ) (d e : List Ask) → AreOpen about x k d → AreOpen about x k e → AreOpen about x k (d ++ e)
+open_append about x k [] e h g = g
+open_append about x k (a ∷ d) e h g = (h.0, h.1, h.2, open_append about x k d e h.3 g)
+
+one_call : (a b : Ask) (f : Bool) → Open a f ≡ Open b true → Open a true ≡ Open b true
+one_call a b f e = let same : a ≡ b = cc in ap (λ (c : Ask). Open c true) same
+
+-- an open call comes into the book's hand, and goes into doubt
+doubts : (id : ℕ) (shelf : Shelf) (other : ℕ) (role : Role) (a : Ask) (f : Bool) → shard_in shelf.about a ≡ shelf.shard
+    → Joins Holds id (alone (Keeps shelf) Nothing) other (alone role (Open a f)) (in_doubt (alone (Keeps shelf) Nothing) (alone role (Open a f))) loose
+doubts id shelf other role a f here s h e n there =
+    let w : View = alone role (Open a f) in
+    let both : View = in_doubt (alone (Keeps shelf) Nothing) w in
+    let r = book_of s id shelf Nobody Nothing h e in
+    let about : About = shelf.about in
+    let x = r.contents in
+    let mine = r.seats id (alone (Keeps shelf) Nothing) e in
+    let hand = (r.seats other w (still_there s.views id other both w n there)).hand in
+    let t' : Token = Open a true in
+    let x' : Contents = record { items = x.items; callers = x.callers; tokens = put x.tokens a.pass t' } in
+    let seats = held_by r.seating a.pass id in
+    let frame : Frame about x r.seating other x' seats = record {
+      books = λ i j m q. (q, refl);
+      passes = λ p j m q. (q, refl);
+      hands = hand_put about x r.seating a.pass other t' id (inr hand.1) x.items x.callers r.seating.books r.seating.passes;
+      doubts = λ b j m q o. doubt_put x.tokens a.pass (Open a f) t' b hand.2 (one_call a b f) o;
+    } in
+    let kept = role_kept about x r.seating other x' seats frame id (Keeps shelf) (λ q. n (sym q)) mine.role in (
+      about,
+      record {
+        contents = x';
+        seating = seats;
+        words = record {
+          any = r.words.any;
+          few = r.words.few;
+          wide = r.words.wide;
+          lengths = r.words.lengths;
+          numbers = λ p l. r.words.numbers p l ∙ put_all x.tokens a.pass t' (λ q u. number_of (x.tokens q) ≡ number_of u) (ap number_of hand.2) (λ q m. refl) p;
+        };
+        good = record {
+          legal = r.good.legal;
+          counted = r.good.counted;
+          passes = put_all x.tokens a.pass t' (λ q u. q < about.passes → AccountOk about x.items q (x.callers q) u)
+              (λ l. doubted_ok about x.items a.pass (x.callers a.pass) a f (account_at about x a.pass (x.callers a.pass) (Open a f) r.good l refl hand.2))
+              (λ q m. r.good.passes q);
+        };
+        seats = seats_join about x r.seating other x' seats frame s.views id both r.seats
+            (record {
+              role = (kept.0, kept.1, kept.2, kept.3, open_append about x' shelf.shard shelf.doubt (a ∷ []) kept.4 (hand.0, here, put_at x.tokens a.pass t' a.pass refl, tt));
+              guest = tt;
+              two = tt;
+              hand = (hand.0, put_at r.seating.holders a.pass id a.pass refl, put_at x.tokens a.pass t' a.pass refl);
+            });
+      },
+    )
+
+pub doubts_as : (id : ℕ) (v : View) (other : ℕ) (w : View) (shelf : Shelf) (role : Role) (a : Ask) (f : Bool) → v ≡ alone (Keeps shelf) Nothing → w ≡ alone role (Open a f) → shard_in shelf.about a ≡ shelf.shard
+    → Joins Holds id v other w (in_doubt v w) loose
+doubts_as id v other w shelf role a f is its here = subst (λ (z : View × View). Joins Holds id z.0 other z.1 (in_doubt z.0 z.1) loose) (λ i. (sym is i, sym its i)) (doubts id shelf other role a f here)
+
+cond_told : (made : List Step) (t : Token) (b : Bool) (a : Ask) (asks : List Ask) → (b ≡ true → t ≡ Open a true) → AreTold made t asks → AreTold made t (cond b (a ∷ asks) asks)
+cond_told made t true a asks f h = (inr (out t a (f refl)), h)
+  where
+    out : (t : Token) (a : Ask) → t ≡ Open a true → Rattle.history.specs.Rule.IsOut a t
+    out t a e = subst (λ u. Rattle.history.specs.Rule.IsOut a u) (sym e) (refl, refl)
+cond_told made t false a asks f h = h
+
+told_doubt : (about : About) (x : Contents) (k q : ℕ) (made : List Step) (asks : List Ask) → AreOpen about x k asks → AreTold made (x.tokens q) (of_pass q asks)
+told_doubt about x k q made [] h = tt
+told_doubt about x k q made (a ∷ asks) h = cond_told made (x.tokens q) (eqb q a.pass) a (of_pass q asks) (λ e. ap x.tokens (eqb_same q a.pass e) ∙ h.2) (told_doubt about x k q made asks h.3)
+  where
+    clash : true ≡ false → ⊥
+    clash e = cc
+
+    eqb_same : (a b : ℕ) → eqb a b ≡ true → a ≡ b
+    eqb_same a b e = ⊎_elim (λ (same : a ≡ b). same) (λ (n : a ≢ b). absurd (clash (sym e ∙ ne_eqb a b n))) (cases_eq a b)
+
+-- calls that are open may stand in a mark's list
+may_doubt : (about : About) (x : Contents) (k : ℕ) → IsGood about x → (asks : List Ask) → AreOpen about x k asks
+    → IsTrue (list_all (λ a. not (list_any (is_step_of a) (x.items k)) && is_of_shard about.shards k (key_of a.call)) asks)
+may_doubt about x k good [] h = refl
+may_doubt about x k good (a ∷ asks) h =
+    let ok = account_at about x a.pass (x.callers a.pass) (Open a true) good h.0 refl h.2 in
+    let below : AllBelow a.number (steps_by a.pass (x.items k)) = subst (AllBelow a.number) (sym (ok.own k)) (below_on about k a.number (x.callers a.pass).made ok.rises) in
+    both (list_any (is_step_of a) (x.items k)) (is_of_shard about.shards k (key_of a.call)) _ (no_step a (x.items k) below) (eq-eqb k (shard_in about a) (sym h.1)) (may_doubt about x k good asks h.3)
+  where
+    both : (b c d : Bool) → b ≡ false → c ≡ true → d ≡ true → ((not b && c) && d) ≡ true
+    both b c d p q r = λ i. (not (p i) && q i) && r i
+
+-- the histories and the passes after a mark
+good_mark : (about : About) (x : Contents) (k : ℕ) (now : List Item) (asks : List Ask) → IsGood about x → AreOpen about x k asks → is_marked (x.items k) ≡ false → now ≡ x.items k ++ Failed asks ∷ []
+    → IsGood about (record { items = put x.items k now; callers = x.callers; tokens = x.tokens })
+good_mark about x k now asks good open_calls unmarked is =
+    let may : MayFollow (terms_of about k) (history_of about k (x.items k)) (Failed asks) = (ap not unmarked, may_doubt about x k good asks open_calls) in record {
+      legal = put_all x.items k now (λ j l. IsLegalAt about j l) (subst (λ l. IsLegalAt about k l) (sym is) (legal_more about k (x.items k) (Failed asks) (good.legal k) may)) (λ j n. good.legal j);
+      counted = put_all x.items k now (λ j l. length l ≤ total about.passes l + cond (is_marked l) 1 0)
+          (subst (λ l. length l ≤ total about.passes l + cond (is_marked l) 1 0) (sym is)
+          (let n : length (x.items k) ≤ total about.passes (x.items k) + cond {A = ℕ} (is_marked (x.items k)) 1 0 = good.counted k in
+          let e = length-append (x.items k) (Failed asks ∷ []) in
+          let t : total about.passes (x.items k ++ Failed asks ∷ []) ≡ total about.passes (x.items k) = total_mark about.passes (x.items k) asks in
+          let m : cond {A = ℕ} (is_marked (x.items k ++ Failed asks ∷ [])) 1 0 ≡ 1 = ap (λ b. cond b 1 0) (marked_mark (x.items k) asks) in
+          let o : cond {A = ℕ} (is_marked (x.items k)) 1 0 ≡ 0 = ap (λ b. cond b 1 0) unmarked in
+          omega arith))
+          (λ j n. good.counted j);
+      passes = λ q l. grown_ok about x.items (put x.items k now) q (x.callers q) (x.tokens q) (longer_begins x k now (Failed asks) is)
+          (put_all x.items k now (λ j y. steps_by q y ≡ steps_by q (x.items j)) (ap (steps_by q) is ∙ steps_mark q (x.items k) asks) (λ j m. refl))
+          (put_all x.items k now (λ j y. AreTold (x.callers q).made (x.tokens q) (asks_by q y))
+          (subst (λ y. AreTold (x.callers q).made (x.tokens q) y) (sym (ap (asks_by q) is ∙ asks_append q (x.items k) (Failed asks ∷ [])))
+          (told_append (x.callers q).made (x.tokens q) (asks_by q (x.items k)) (of_pass q asks ++ []) ((good.passes q l).told k)
+          (subst (λ y. AreTold (x.callers q).made (x.tokens q) y) (sym (append-nil (of_pass q asks))) (told_doubt about x k q (x.callers q).made asks open_calls))))
+          (λ j m. (good.passes q l).told j))
+          (good.passes q l);
+    }
+
+-- a book adds a failure mark
+marks : (slots id k : ℕ) (about : About) (items : List Item) (asks : List Ask) → is_marked items ≡ false
+    → Allows Holds slots id (keeper about k items asks Nothing, []) k (λ n. (n + 1) % 2 ^ 64) (marked (step slots k 1 0 none) (keeper about k items asks Nothing, []))
+marks slots id k about items asks unmarked s h wide e fits =
+    let r = book_of s id (record { about = about; shard = k; items = items; doubt = asks }) Nobody Nothing h e in
+    let x = r.contents in
+    let mine = (r.seats id (keeper about k items asks Nothing) e).role in
+    let now : List Item = items ++ Failed asks ∷ [] in
+    let is : now ≡ x.items k ++ Failed asks ∷ [] = ap (λ l. l ++ Failed asks ∷ []) (sym mine.3) in
+    let x' : Contents = record { items = put x.items k now; callers = x.callers; tokens = x.tokens } in (
+      keeper about k now [] Nothing,
+      keeps,
+      tt,
+      (
+        about,
+        record {
+          contents = x';
+          seating = r.seating;
+          words = words_longer about x s.words k now (Failed asks) x.callers x.tokens r.words mine.1 is (room about x k r.good r.words.few) (λ p. refl);
+          good = good_mark about x k now asks r.good mine.4 (ap is_marked mine.3 ∙ unmarked) is;
+          seats = seats_set about x r.seating id x' r.seating
+              (record {
+                books = λ i j n q. (q, put_other x.items k now r.seating.books id i j mine.2 q n);
+                passes = λ p j n q. (q, refl);
+                hands = λ j t n q. same about x x' r.seating refl j t q;
+                doubts = λ b j n q o. o;
+              })
+              s.views (keeper about k now [] Nothing) r.seats
+              (record { role = (mine.0, mine.1, mine.2, put_at x.items k now k refl, tt); guest = tt; two = tt; hand = tt });
+        },
+      ),
+      refl,
+    )
+  where
+    same : (about : About) (x x' : Contents) (seats : Seating) → x'.tokens ≡ x.tokens → (j : ℕ) (t : Token) → IsHand about x seats j t → IsHand about x' seats j t
+    same about x x' seats e j Nothing h = h
+    same about x x' seats e j (Open a f) h = (h.0, h.1, (λ i. e i a.pass) ∙ h.2)
+    same about x x' seats e j (Done d upto at) h = (h.0, h.1, (λ i. e i d.ask.pass) ∙ h.2)
+
+pub marks_as : (slots id shard : ℕ) (shelf : Shelf) (m : Me Unit View) → m ≡ (alone (Keeps shelf) Nothing, []) → shelf.shard ≡ shard → is_marked shelf.items ≡ false
+    → Allows Holds slots id m shard (λ n. (n + 1) % 2 ^ 64) (marked (step slots shard 1 0 none) m)
+marks_as slots id shard shelf m is at_shard unmarked =
+    let same : m ≡ (keeper shelf.about shard shelf.items shelf.doubt Nothing, []) = is ∙ ap (λ (z : ℕ). (keeper shelf.about z shelf.items shelf.doubt Nothing, [])) at_shard in
+    subst (λ (u : Me Unit View). Allows Holds slots id u shard (λ n. (n + 1) % 2 ^ 64) (marked (step slots shard 1 0 none) u)) (sym same) (marks slots id shard shelf.about shelf.items shelf.doubt unmarked)

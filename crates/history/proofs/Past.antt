@@ -1,0 +1,221 @@
+-- Laws of histories, and of the steps that a pass has in them.
+use Rattle.std.proofs.Common.{◌≡◌, ◌≢◌, ◌⊎◌, ℕ, zero, suc, ◌+◌, ◌*◌, ◌<◌, ◌≤◌, List, [], ◌∷◌, ◌++◌, length, take, Bool, true, false, cond, eqb, not, ◌&&◌, ◌||◌, refl, sym, ap, ◌∙◌, subst, inl, inr, ⊎_elim, append_assoc, append-nil, eq-eqb, ne_eqb, arith, length-append, Some, None}
+use Rattle.std.specs.Prelude.{slice_get, nat_lt, IsTrue}
+use Rattle.std.specs.List.{list_any, list_all}
+use Rattle.std.proofs.lemmas.Bool.{cases_eq}
+use borrow.Author.Tests.{lt-ltb}
+use Rattle.accept.specs.declared.history.Ask.{Ask}
+use Rattle.accept.specs.declared.history.Step.{Step}
+use Rattle.accept.specs.declared.history.Item.{Item}
+use Rattle.accept.specs.declared.history.Item.TheVariants.{Answered, Failed}
+use Rattle.accept.specs.Histories.{MayFollow, is_marked, is_new, is_step_of}
+use Rattle.history.specs.declared.views.About.{About}
+use Rattle.history.specs.Histories.{Begins, IsLegalAt, terms_of, base_at, history_of, shard_in, steps_by, on, of_pass, asks_by, AllBelow, AreUnder, IsUnused, AreUnused, IsMade, bound}
+use Rattle.history.specs.Rule.{total}
+
+cond_append : {A : Type 0} (b : Bool) (x : A) (xs ys : List A) → cond b (x ∷ (xs ++ ys)) (xs ++ ys) ≡ cond b (x ∷ xs) xs ++ ys
+cond_append true x xs ys = refl
+cond_append false x xs ys = refl
+
+pub steps_append : (p : ℕ) (xs ys : List Item) → steps_by p (xs ++ ys) ≡ steps_by p xs ++ steps_by p ys
+steps_append p [] ys = refl
+steps_append p (Answered s ∷ xs) ys = ap (λ l. cond (eqb p s.ask.pass) (s ∷ l) l) (steps_append p xs ys) ∙ cond_append (eqb p s.ask.pass) s (steps_by p xs) (steps_by p ys)
+steps_append p (Failed asks ∷ xs) ys = steps_append p xs ys
+
+pub asks_append : (p : ℕ) (xs ys : List Item) → asks_by p (xs ++ ys) ≡ asks_by p xs ++ asks_by p ys
+asks_append p [] ys = refl
+asks_append p (Answered s ∷ xs) ys = asks_append p xs ys
+asks_append p (Failed asks ∷ xs) ys = ap (λ l. of_pass p asks ++ l) (asks_append p xs ys) ∙ sym (append_assoc (of_pass p asks) (asks_by p xs) (asks_by p ys))
+
+-- a step more is no call in doubt more
+pub asks_step : (p : ℕ) (xs : List Item) (s : Step) → asks_by p (xs ++ Answered s ∷ []) ≡ asks_by p xs
+asks_step p xs s = asks_append p xs (Answered s ∷ []) ∙ append-nil (asks_by p xs)
+
+-- a mark more is no step more
+pub steps_mark : (p : ℕ) (xs : List Item) (asks : List Ask) → steps_by p (xs ++ Failed asks ∷ []) ≡ steps_by p xs
+steps_mark p xs asks = steps_append p xs (Failed asks ∷ []) ∙ append-nil (steps_by p xs)
+
+pub steps_mine : (p : ℕ) (xs : List Item) (s : Step) → p ≡ s.ask.pass → steps_by p (xs ++ Answered s ∷ []) ≡ steps_by p xs ++ s ∷ []
+steps_mine p xs s e = steps_append p xs (Answered s ∷ []) ∙ ap (λ b. steps_by p xs ++ cond b (s ∷ []) []) (eq-eqb p s.ask.pass e)
+
+pub steps_else : (p : ℕ) (xs : List Item) (s : Step) → p ≢ s.ask.pass → steps_by p (xs ++ Answered s ∷ []) ≡ steps_by p xs
+steps_else p xs s n = steps_append p xs (Answered s ∷ []) ∙ ap (λ b. steps_by p xs ++ cond b (s ∷ []) []) (ne_eqb p s.ask.pass n) ∙ append-nil (steps_by p xs)
+
+-- where one history begins the other, so do the steps of a pass
+pub steps_begin : (p : ℕ) (a b : List Item) → Begins a b → Begins (steps_by p a) (steps_by p b)
+steps_begin p a b h = record { rest = steps_by p h.rest; is = ap (steps_by p) h.is ∙ steps_append p a h.rest }
+
+module _ (about : About) (k : ℕ) where
+  pub on_append : (xs ys : List Step) → on about k (xs ++ ys) ≡ on about k xs ++ on about k ys
+  on_append [] ys = refl
+  on_append (s ∷ xs) ys = ap (λ l. cond (eqb k (shard_in about s.ask)) (s ∷ l) l) (on_append xs ys) ∙ cond_append (eqb k (shard_in about s.ask)) s (on about k xs) (on about k ys)
+
+  pub on_here : (xs : List Step) (s : Step) → k ≡ shard_in about s.ask → on about k (xs ++ s ∷ []) ≡ on about k xs ++ s ∷ []
+  on_here xs s e = on_append xs (s ∷ []) ∙ ap (λ b. on about k xs ++ cond b (s ∷ []) []) (eq-eqb k (shard_in about s.ask) e)
+
+  pub on_else : (xs : List Step) (s : Step) → k ≢ shard_in about s.ask → on about k (xs ++ s ∷ []) ≡ on about k xs
+  on_else xs s n = on_append xs (s ∷ []) ∙ ap (λ b. on about k xs ++ cond b (s ∷ []) []) (ne_eqb k (shard_in about s.ask) n) ∙ append-nil (on about k xs)
+
+  length_cond : (b : Bool) (s : Step) (xs : List Step) (n : ℕ) → length xs ≤ n → length (cond b (s ∷ xs) xs) ≤ suc n
+  length_cond true s xs n h = omega arith
+  length_cond false s xs n h = omega arith
+
+  pub length_on : (xs : List Step) → length (on about k xs) ≤ length xs
+  length_on [] = omega arith
+  length_on (s ∷ xs) = length_cond (eqb k (shard_in about s.ask)) s (on about k xs) (length xs) (length_on xs)
+
+  below_cond : (n : ℕ) (b : Bool) (s : Step) (xs : List Step) → s.ask.number < n → AllBelow n xs → AllBelow n (cond b (s ∷ xs) xs)
+  below_cond n true s xs h t = (h, t)
+  below_cond n false s xs h t = t
+
+  pub below_on : (n : ℕ) (xs : List Step) → AllBelow n xs → AllBelow n (on about k xs)
+  below_on n [] h = tt
+  below_on n (s ∷ xs) h = below_cond n (eqb k (shard_in about s.ask)) s (on about k xs) h.0 (below_on n xs h.1)
+
+pub below_more : (n m : ℕ) (xs : List Step) → n ≤ m → AllBelow n xs → AllBelow m xs
+below_more n m [] le h = tt
+below_more n m (s ∷ xs) le h = ((let l = h.0 in omega arith), below_more n m xs le h.1)
+
+pub below_last : (n : ℕ) (xs : List Step) (s : Step) → AllBelow n xs → s.ask.number < n → AllBelow n (xs ++ s ∷ [])
+below_last n [] s h l = (l, tt)
+below_last n (x ∷ xs) s h l = (h.0, below_last n xs s h.1 l)
+
+-- a step in the middle of steps below n
+pub below_middle : (n : ℕ) (xs : List Step) (s : Step) (rest : List Step) → AllBelow n ((xs ++ s ∷ []) ++ rest) → s.ask.number < n
+below_middle n [] s rest h = h.0
+below_middle n (x ∷ xs) s rest h = below_middle n xs s rest h.1
+
+pub under_more : (n m : ℕ) (ns : List ℕ) → n ≤ m → AreUnder n ns → AreUnder m ns
+under_more n m [] le h = tt
+under_more n m (x ∷ xs) le h = ((let l = h.0 in omega arith), under_more n m xs le h.1)
+
+pub under_last : (n m : ℕ) (ns : List ℕ) → AreUnder n ns → m < n → AreUnder n (ns ++ m ∷ [])
+under_last n m [] h l = (l, tt)
+under_last n m (x ∷ xs) h l = (h.0, under_last n m xs h.1 l)
+
+pub unused_below : (n : ℕ) (xs : List Step) → AllBelow n xs → IsUnused n xs
+unused_below n [] h = tt
+unused_below n (s ∷ xs) h = ((λ e. let l = h.0 in omega arith), unused_below n xs h.1)
+
+pub unused_number : (n : ℕ) (ns : List ℕ) (xs : List Step) → AreUnused ns xs → IsUnused n xs → AreUnused (ns ++ n ∷ []) xs
+unused_number n [] xs h u = (u, tt)
+unused_number n (m ∷ ns) xs h u = (h.0, unused_number n ns xs h.1 u)
+
+one_unused : (n : ℕ) (xs : List Step) (s : Step) → IsUnused n xs → s.ask.number ≢ n → IsUnused n (xs ++ s ∷ [])
+one_unused n [] s h e = (e, tt)
+one_unused n (x ∷ xs) s h e = (h.0, one_unused n xs s h.1 e)
+
+-- one more step, of a number above all these
+pub unused_step : (ns : List ℕ) (xs : List Step) (s : Step) → AreUnder s.ask.number ns → AreUnused ns xs → AreUnused ns (xs ++ s ∷ [])
+unused_step [] xs s u h = tt
+unused_step (n ∷ ns) xs s u h = (one_unused n xs s h.0 (λ e. let l = u.0 in omega arith), unused_step ns xs s u.1 h.1)
+
+pub made_left : (a : Ask) (xs ys : List Step) → IsMade a xs → IsMade a (xs ++ ys)
+made_left a [] ys h = absurd h
+made_left a (s ∷ xs) ys h = ⊎_elim (λ (e : s.ask ≡ a). inl e) (λ (t : IsMade a xs). inr (made_left a xs ys t)) h
+
+pub made_last : (a : Ask) (xs : List Step) (s : Step) → s.ask ≡ a → IsMade a (xs ++ s ∷ [])
+made_last a [] s e = inl e
+made_last a (x ∷ xs) s e = inr (made_last a xs s e)
+
+new_one : (b : Bool) (n : ℕ) (s : Step) (xs : List Step) (more : Bool) → AllBelow n (cond b (s ∷ xs) xs) → (AllBelow n xs → more ≡ true) → ((not b || nat_lt s.ask.number n) && more) ≡ true
+new_one true n s xs more h t = ap (λ c. c && more) (lt-ltb s.ask.number n h.0) ∙ t h.1
+new_one false n s xs more h t = t h
+
+-- a call whose number is above those of its pass may follow
+pub all_new : (a : Ask) (items : List Item) → AllBelow a.number (steps_by a.pass items) → IsTrue (list_all (is_new a) items)
+all_new a [] h = refl
+all_new a (Answered s ∷ items) h = new_one (eqb a.pass s.ask.pass) a.number s (steps_by a.pass items) (list_all (is_new a) items) h (all_new a items)
+all_new a (Failed asks ∷ items) h = all_new a items h
+
+old_one : (b : Bool) (n : ℕ) (s : Step) (xs : List Step) (more : Bool) → AllBelow n (cond b (s ∷ xs) xs) → (AllBelow n xs → more ≡ false) → ((b && eqb n s.ask.number) || more) ≡ false
+old_one true n s xs more h t = ap (λ c. c || more) (ne_eqb n s.ask.number (λ e. let l = h.0 in omega arith)) ∙ t h.1
+old_one false n s xs more h t = t h
+
+-- and it has no step
+pub no_step : (a : Ask) (items : List Item) → AllBelow a.number (steps_by a.pass items) → list_any (is_step_of a) items ≡ false
+no_step a [] h = refl
+no_step a (Answered s ∷ items) h = old_one (eqb a.pass s.ask.pass) a.number s (steps_by a.pass items) (list_any (is_step_of a) items) h (no_step a items)
+no_step a (Failed asks ∷ items) h = no_step a items h
+
+get_last : (xs : List Item) (x y : Item) (n : ℕ) → slice_get (xs ++ x ∷ []) n ≡ Some y
+    → ((slice_get xs n ≡ Some y) × (take n (xs ++ x ∷ []) ≡ take n xs)) ⊎ ((x ≡ y) × (take n (xs ++ x ∷ []) ≡ xs))
+get_last [] x y zero e = let f : Some x ≡ Some y = e in inr ((cc), refl)
+get_last [] x y (suc n) e = let f : None ≡ Some y = e in absurd (cc)
+get_last (z ∷ xs) x y zero e = inl (e, refl)
+get_last (z ∷ xs) x y (suc n) e = ⊎_elim
+    (λ (t : (slice_get xs n ≡ Some y) × (take n (xs ++ x ∷ []) ≡ take n xs)). inl (t.0, ap (λ l. z ∷ l) t.1))
+    (λ (t : (x ≡ y) × (take n (xs ++ x ∷ []) ≡ xs)). inr (t.0, ap (λ l. z ∷ l) t.1))
+    (get_last xs x y n e)
+
+get_front : (xs ys : List Item) (y : Item) (n : ℕ) → slice_get xs n ≡ Some y → (slice_get (xs ++ ys) n ≡ Some y) × (take n (xs ++ ys) ≡ take n xs)
+get_front [] ys y n e = let f : None ≡ Some y = e in absurd (cc)
+get_front (x ∷ xs) ys y zero e = (e, refl)
+get_front (x ∷ xs) ys y (suc n) e = let t = get_front xs ys y n e in (t.0, ap (λ l. x ∷ l) t.1)
+
+-- a beginning of a legal history is legal
+pub legal_front : (about : About) (k : ℕ) (a b : List Item) → Begins a b → IsLegalAt about k b → IsLegalAt about k a
+legal_front about k a b h legal = record {
+  is = λ n i e.
+      let t = get_front a h.rest i n e in
+      subst (λ l. MayFollow (terms_of about k) (record { base = base_at about k; items = l }) i) (ap (take n) h.is ∙ t.1) (legal.is n i (subst (λ l. slice_get l n ≡ Some i) (sym h.is) t.0));
+}
+
+-- a legal history with an item more that may follow is legal
+pub legal_more : (about : About) (k : ℕ) (items : List Item) (x : Item) → IsLegalAt about k items → MayFollow (terms_of about k) (history_of about k items) x → IsLegalAt about k (items ++ x ∷ [])
+legal_more about k items x legal may = record {
+  is = λ n i e.
+      let P : List Item → Type 0 = λ l. MayFollow (terms_of about k) (record { base = base_at about k; items = l }) i in
+      ⊎_elim
+      (λ (t : (slice_get items n ≡ Some i) × (take n (items ++ x ∷ []) ≡ take n items)). subst P (sym t.1) (legal.is n i t.0))
+      (λ (t : (x ≡ i) × (take n (items ++ x ∷ []) ≡ items)). subst P (sym t.1) (subst (λ y. MayFollow (terms_of about k) (history_of about k items) y) t.0 may))
+      (get_last items x i n e);
+}
+
+pub legal_none : (about : About) (k : ℕ) → IsLegalAt about k []
+legal_none about k = record { is = λ n i e. let f : None ≡ Some i = e in absurd (cc) }
+
+pub marked_step : (xs : List Item) (s : Step) → is_marked (xs ++ Answered s ∷ []) ≡ is_marked xs
+marked_step [] s = refl
+marked_step (Answered t ∷ xs) s = marked_step xs s
+marked_step (Failed asks ∷ xs) s = refl
+
+pub marked_mark : (xs : List Item) (asks : List Ask) → is_marked (xs ++ Failed asks ∷ []) ≡ true
+marked_mark [] asks = refl
+marked_mark (Answered t ∷ xs) asks = marked_mark xs asks
+marked_mark (Failed more ∷ xs) asks = refl
+
+-- one more step of a pass below n is one more in the total
+total_past : (n : ℕ) (xs : List Item) (s : Step) → n ≤ s.ask.pass → total n (xs ++ Answered s ∷ []) ≡ total n xs
+total_past zero xs s h = refl
+total_past (suc n) xs s h =
+    let a : total n (xs ++ Answered s ∷ []) ≡ total n xs = total_past n xs s (omega arith) in
+    let b : length (steps_by n (xs ++ Answered s ∷ [])) ≡ length (steps_by n xs) = ap length (steps_else n xs s (λ e. omega arith)) in
+    omega arith
+
+pub total_step : (n : ℕ) (xs : List Item) (s : Step) → s.ask.pass < n → total n (xs ++ Answered s ∷ []) ≡ total n xs + 1
+total_step zero xs s h = absurd (omega arith)
+total_step (suc n) xs s h = ⊎_elim
+    (λ (e : n ≡ s.ask.pass).
+    let a : total n (xs ++ Answered s ∷ []) ≡ total n xs = total_past n xs s (omega arith) in
+    let b : length (steps_by n (xs ++ Answered s ∷ [])) ≡ length (steps_by n xs) + 1 = ap length (steps_mine n xs s e) ∙ length-append (steps_by n xs) (s ∷ []) in
+    omega arith)
+    (λ (e : n ≢ s.ask.pass).
+    let a : total n (xs ++ Answered s ∷ []) ≡ total n xs + 1 = total_step n xs s (omega arith) in
+    let b : length (steps_by n (xs ++ Answered s ∷ [])) ≡ length (steps_by n xs) = ap length (steps_else n xs s e) in
+    omega arith)
+    (cases_eq n s.ask.pass)
+
+pub total_mark : (n : ℕ) (xs : List Item) (asks : List Ask) → total n (xs ++ Failed asks ∷ []) ≡ total n xs
+total_mark zero xs asks = refl
+total_mark (suc n) xs asks =
+    let a : total n (xs ++ Failed asks ∷ []) ≡ total n xs = total_mark n xs asks in
+    let b : length (steps_by n (xs ++ Failed asks ∷ [])) ≡ length (steps_by n xs) = ap length (steps_mark n xs asks) in
+    omega arith
+
+pub total_least : (n : ℕ) (xs : List Item) → ((p : ℕ) → p < n → length (steps_by p xs) ≤ bound) → total n xs ≤ n * bound
+total_least zero xs h = omega arith
+total_least (suc n) xs h =
+    let a : total n xs ≤ n * bound = total_least n xs (λ p l. h p (omega arith)) in
+    let b : length (steps_by n xs) ≤ bound = h n (omega arith) in
+    omega arith

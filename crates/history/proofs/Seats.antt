@@ -1,0 +1,163 @@
+-- What a step of one seat leaves of what the others know.
+use Rattle.std.proofs.Common.{◌≡◌, ◌≢◌, ◌⊎◌, ℕ, zero, suc, ◌+◌, ◌<◌, List, [], ◌∷◌, ◌++◌, length, Bool, true, refl, sym, ap, ◌∙◌, subst, inl, inr, ⊎_elim, arith}
+use Rattle.std.specs.Prelude.{slice_set, slice_index}
+use Rattle.std.proofs.lemmas.Bool.{cases_eq}
+use Rattle.std.proofs.lemmas.List.{get_or-set_same, get_or-set_other, set-get_or}
+use mathlib.Core.Option.{some, some-injective, some-ne-none}
+use lib.ListN.{get_elem?}
+use Rattle.atomic_table.specs.Table.{State}
+use Rattle.atomic_table.proofs.Lists.{at_set, set_else}
+use Rattle.std.proofs.Common.{length-set}
+use Rattle.accept.specs.declared.history.Ask.{Ask}
+use Rattle.accept.specs.declared.history.Step.{Step}
+use Rattle.accept.specs.declared.history.Item.{Item}
+use Rattle.history.specs.declared.views.About.{About}
+use Rattle.history.specs.declared.views.Caller.{Caller}
+use Rattle.history.specs.declared.views.Shelf.{Shelf}
+use Rattle.history.specs.declared.views.View.{View}
+use Rattle.history.specs.declared.views.Role.{Role}
+use Rattle.history.specs.declared.views.Role.TheVariants.{Nobody, Opener, Keeps, Calls}
+use Rattle.history.specs.declared.views.Token.{Token}
+use Rattle.history.specs.declared.views.Token.TheVariants.{Nothing, Open, Done}
+use Rattle.history.specs.Histories.{shard_in}
+use Rattle.history.specs.Rule.{Contents, Seating, number_of, AccountOk, IsGood, AreWords, AreOpen, IsRole, IsHand, IsSeat, HoldsFor, Holds}
+use Rattle.history.specs.Plays.{loose}
+use Rattle.history.proofs.Lists.{put, put_at, put_else, put_all, put_both}
+
+-- what the seats other than b have is as it was
+pub record Frame (about : About) (x : Contents) (seats : Seating) (b : ℕ) (x' : Contents) (seats' : Seating) : Type 0 where
+  pub books : (k j : ℕ) → j ≢ b → seats.books k ≡ j → (seats'.books k ≡ j) × (x'.items k ≡ x.items k)
+  pub passes : (p j : ℕ) → j ≢ b → seats.passes p ≡ j → (seats'.passes p ≡ j) × (x'.callers p ≡ x.callers p)
+  pub hands : (j : ℕ) (t : Token) → j ≢ b → IsHand about x seats j t → IsHand about x' seats' j t
+  pub doubts : (a : Ask) (j : ℕ) → j ≢ b → seats.books (shard_in about a) ≡ j → x.tokens a.pass ≡ Open a true → x'.tokens a.pass ≡ Open a true
+
+open_kept : (about : About) (x x' : Contents) (k : ℕ) → ((a : Ask) → shard_in about a ≡ k → x.tokens a.pass ≡ Open a true → x'.tokens a.pass ≡ Open a true) → (asks : List Ask) → AreOpen about x k asks → AreOpen about x' k asks
+open_kept about x x' k f [] h = tt
+open_kept about x x' k f (a ∷ asks) h = (h.0, h.1, f a h.1 h.2, open_kept about x x' k f asks h.3)
+
+module _ (about : About) (x : Contents) (seats : Seating) (b : ℕ) (x' : Contents) (seats' : Seating) (f : Frame about x seats b x' seats') where
+  pub role_kept : (j : ℕ) (role : Role) → j ≢ b → IsRole about x seats j role → IsRole about x' seats' j role
+  role_kept j Nobody n h = tt
+  role_kept j (Opener known c d) n h =
+      (h.0, (λ k le. let m = h.1 k le in let t = f.books k j n m.0 in (t.0, t.1 ∙ m.1)), (λ p le. let m = h.2 p le in let t = f.passes p j n m.0 in (t.0, t.1 ∙ m.1)))
+  role_kept j (Keeps shelf) n h =
+      let t = f.books shelf.shard j n h.2 in
+      (h.0, h.1, t.0, t.1 ∙ h.3, open_kept about x x' shelf.shard (λ a e o. f.doubts a j n (ap seats.books e ∙ h.2) o) shelf.doubt h.4)
+  role_kept j (Calls c) n h = let t = f.passes c.pass j n h.2 in (h.0, h.1, t.0, t.1 ∙ h.3)
+
+  pub seat_kept : (j : ℕ) (v : View) → j ≢ b → IsSeat about x seats j v → IsSeat about x' seats' j v
+  seat_kept j v n h = record { role = role_kept j v.role n h.role; guest = role_kept j v.guest n h.guest; two = h.two; hand = f.hands j v.hand n h.hand }
+
+  -- after a step of seat b
+  pub seats_set : (views : List View) (w : View) → ((j : ℕ) (v : View) → get_elem? views j ≡ some v → IsSeat about x seats j v) → IsSeat about x' seats' b w
+      → (j : ℕ) (v : View) → get_elem? (slice_set views b w) j ≡ some v → IsSeat about x' seats' j v
+  seats_set views w all mine j v e = ⊎_elim
+      (λ (t : (j ≡ b) × (w ≡ v)). subst (λ (z : ℕ × View). IsSeat about x' seats' z.0 z.1) (λ i. (sym t.0 i, t.1 i)) mine)
+      (λ (t : (j ≢ b) × (get_elem? views j ≡ some v)). seat_kept j v t.0 (all j v t.1))
+      (at_set views b j w v e)
+
+  -- after seat b gave something to a new seat
+  pub seats_split : (views : List View) (left right : View) → ((j : ℕ) (v : View) → get_elem? views j ≡ some v → IsSeat about x seats j v) → IsSeat about x' seats' b left → IsSeat about x' seats' (length views) right
+      → (j : ℕ) (v : View) → get_elem? (slice_set views b left ++ right ∷ []) j ≡ some v → IsSeat about x' seats' j v
+  seats_split views left right all mine new j v e = ⊎_elim
+      (λ (t : get_elem? (slice_set views b left) j ≡ some v). seats_set views left all mine j v t)
+      (λ (t : (j ≡ length (slice_set views b left)) × (right ≡ v)). subst (λ (z : ℕ × View). IsSeat about x' seats' z.0 z.1) (λ i. (sym (t.0 ∙ length-set views b left) i, t.1 i)) new)
+      (at_new (slice_set views b left) right v j e)
+    where
+      at_new : {A : Type 0} (l : List A) (a b : A) (j : ℕ) → get_elem? (l ++ a ∷ []) j ≡ some b → (get_elem? l j ≡ some b) ⊎ ((j ≡ length l) × (a ≡ b))
+      at_new [] a b zero e = inr (refl, some-injective a b e)
+      at_new [] a b (suc j) e = absurd (some-ne-none b (sym e))
+      at_new (x ∷ l) a b zero e = inl e
+      at_new (x ∷ l) a b (suc j) e = ⊎_elim (λ (t : get_elem? l j ≡ some b). inl t) (λ (t : (j ≡ length l) × (a ≡ b)). inr (ap suc t.0, t.1)) (at_new l a b j e)
+
+  -- after seat b gave something to seat id, and was left with nothing
+  pub seats_join : (views : List View) (id : ℕ) (both : View) → ((j : ℕ) (v : View) → get_elem? views j ≡ some v → IsSeat about x seats j v) → IsSeat about x' seats' id both
+      → (j : ℕ) (v : View) → get_elem? (slice_set (slice_set views id both) b loose) j ≡ some v → IsSeat about x' seats' j v
+  seats_join views id both all mine j v e = ⊎_elim
+      (λ (t : (j ≡ b) × (loose ≡ v)). subst (λ (z : View). IsSeat about x' seats' j z) t.1 (record { role = tt; guest = tt; two = tt; hand = tt }))
+      (λ (t : (j ≢ b) × (get_elem? (slice_set views id both) j ≡ some v)). ⊎_elim
+      (λ (u : (j ≡ id) × (both ≡ v)). subst (λ (z : ℕ × View). IsSeat about x' seats' z.0 z.1) (λ i. (sym u.0 i, u.1 i)) mine)
+      (λ (u : (j ≢ id) × (get_elem? views j ≡ some v)). seat_kept j v t.0 (all j v u.1))
+      (at_set views id j both v t.1))
+      (at_set (slice_set views id both) b j loose v e)
+
+-- a seat that another was not
+pub still_there : (views : List View) (id other : ℕ) (both w : View) → other ≢ id → get_elem? (slice_set views id both) other ≡ some w → get_elem? views other ≡ some w
+still_there views id other both w n e = sym (set_else views id other both n) ∙ e
+
+-- a hand that has nothing of pass p
+pub hand_put : (about : About) (x : Contents) (seats : Seating) (p b : ℕ) (t' : Token) (i' : ℕ) → (x.tokens p ≡ Nothing) ⊎ (seats.holders p ≡ b)
+    → (items : ℕ → List Item) (callers : ℕ → Caller) (books passes : ℕ → ℕ) (j : ℕ) (t : Token) → j ≢ b → IsHand about x seats j t
+    → IsHand about (record { items = items; callers = callers; tokens = put x.tokens p t' }) (record { books = books; passes = passes; holders = put seats.holders p i' }) j t
+hand_put about x seats p b t' i' free items callers books passes j Nothing n h = tt
+hand_put about x seats p b t' i' free items callers books passes j (Open a f) n h =
+    let apart : p ≢ a.pass = λ e. ⊎_elim (λ (z : x.tokens p ≡ Nothing). clash_open a f (sym z ∙ ap x.tokens e ∙ h.2)) (λ (z : seats.holders p ≡ b). n (sym h.1 ∙ ap seats.holders (sym e) ∙ z)) free in
+    (h.0, put_else seats.holders p i' a.pass apart ∙ h.1, put_else x.tokens p t' a.pass apart ∙ h.2)
+  where
+    clash_open : (a : Ask) (f : Bool) → Nothing ≡ Open a f → ⊥
+    clash_open a f e = cc
+hand_put about x seats p b t' i' free items callers books passes j (Done s upto at) n h =
+    let apart : p ≢ s.ask.pass = λ e. ⊎_elim (λ (z : x.tokens p ≡ Nothing). clash_done s upto at (sym z ∙ ap x.tokens e ∙ h.2)) (λ (z : seats.holders p ≡ b). n (sym h.1 ∙ ap seats.holders (sym e) ∙ z)) free in
+    (h.0, put_else seats.holders p i' s.ask.pass apart ∙ h.1, put_else x.tokens p t' s.ask.pass apart ∙ h.2)
+  where
+    clash_done : (s : Step) (upto : List Item) (at : ℕ × ℕ) → Nothing ≡ Done s upto at → ⊥
+    clash_done s upto at e = cc
+
+-- a call in doubt that is not the changed one, or stays as it is
+pub doubt_put : (tokens : ℕ → Token) (p : ℕ) (t t' : Token) (a : Ask) → tokens p ≡ t → (t ≡ Open a true → t' ≡ Open a true) → tokens a.pass ≡ Open a true → put tokens p t' a.pass ≡ Open a true
+doubt_put tokens p t t' a was f o = ⊎_elim
+    (λ (e : p ≡ a.pass). put_at tokens p t' a.pass e ∙ f (sym was ∙ ap tokens e ∙ o))
+    (λ (n : p ≢ a.pass). put_else tokens p t' a.pass n ∙ o)
+    (cases_eq p a.pass)
+
+-- what is said of a pass, where the rule has its parts
+pub account_at : (about : About) (x : Contents) (p : ℕ) (c : Caller) (t : Token) → IsGood about x → p < about.passes → x.callers p ≡ c → x.tokens p ≡ t → AccountOk about x.items p c t
+account_at about x p c t good lt is has = subst (λ (z : Token). AccountOk about x.items p c z) has (subst (λ (z : Caller). AccountOk about x.items p z (x.tokens p)) is (good.passes p lt))
+
+-- contents with another pass p
+abbrev pub with_pass : Contents → ℕ → Caller → Token → Contents
+with_pass x p c t = record { items = x.items; callers = put x.callers p c; tokens = put x.tokens p t }
+
+abbrev pub with_caller : Contents → ℕ → Caller → Contents
+with_caller x p c = record { items = x.items; callers = put x.callers p c; tokens = x.tokens }
+
+abbrev pub held_by : Seating → ℕ → ℕ → Seating
+held_by seats p j = record { books = seats.books; passes = seats.passes; holders = put seats.holders p j }
+
+pub good_pass : (about : About) (x : Contents) (p : ℕ) (c : Caller) (t : Token) → IsGood about x → AccountOk about x.items p c t → IsGood about (with_pass x p c t)
+good_pass about x p c t good ok = record {
+  legal = good.legal;
+  counted = good.counted;
+  passes = put_both x.callers x.tokens p c t (λ q d u. q < about.passes → AccountOk about x.items q d u) (λ _. ok) (λ q n. good.passes q);
+}
+
+pub good_caller : (about : About) (x : Contents) (p : ℕ) (c : Caller) → IsGood about x → AccountOk about x.items p c (x.tokens p) → IsGood about (with_caller x p c)
+good_caller about x p c good ok = record {
+  legal = good.legal;
+  counted = good.counted;
+  passes = put_all x.callers p c (λ q d. q < about.passes → AccountOk about x.items q d (x.tokens q)) (λ _. ok) (λ q n. good.passes q);
+}
+
+-- the pass's word gets the number of its call
+pub words_pass : (about : About) (x : Contents) (words : List ℕ) (p : ℕ) (callers : ℕ → Caller) (t : Token) → AreWords about x words → p < about.passes
+    → AreWords about (record { items = x.items; callers = callers; tokens = put x.tokens p t }) (slice_set words (about.shards + p) (number_of t))
+words_pass about x words p callers t h lt = record {
+  any = h.any;
+  few = h.few;
+  wide = length-set words (about.shards + p) (number_of t) ∙ h.wide;
+  lengths = λ k l. get_or-set_other words (about.shards + p) k (number_of t) 0 (λ e. omega arith) ∙ h.lengths k l;
+  numbers = put_all x.tokens p t (λ q u. q < about.passes → slice_index (slice_set words (about.shards + p) (number_of t)) (about.shards + q) ≡ number_of u)
+      (λ _. get_or-set_same words (about.shards + p) (number_of t) 0 (let w = h.wide in omega arith))
+      (λ q n l. get_or-set_other words (about.shards + p) (about.shards + q) (number_of t) 0 (λ e. n (omega arith)) ∙ h.numbers q l);
+}
+
+-- the words do not change
+pub words_same : (about : About) (x : Contents) (words : List ℕ) (i : ℕ) → AreWords about x words → AreWords about x (slice_set words i (slice_index words i))
+words_same about x words i h = subst (λ ws. AreWords about x ws) (sym (set-get_or words i 0)) h
+
+-- the rule, of the opening that a seat knows
+pub pass_of : (s : State Unit View) (id : ℕ) (c : Caller) (guest : Role) (hand : Token) → Holds s → get_elem? s.views id ≡ some (record { role = Calls c; guest = guest; hand = hand }) → HoldsFor c.about s
+pass_of s id c guest hand h e = subst (λ b. HoldsFor b s) (sym (h.1.seats id (record { role = Calls c; guest = guest; hand = hand }) e).role.0) h.1
+
+pub book_of : (s : State Unit View) (id : ℕ) (shelf : Shelf) (guest : Role) (hand : Token) → Holds s → get_elem? s.views id ≡ some (record { role = Keeps shelf; guest = guest; hand = hand }) → HoldsFor shelf.about s
+book_of s id shelf guest hand h e = subst (λ b. HoldsFor b s) (sym (h.1.seats id (record { role = Keeps shelf; guest = guest; hand = hand }) e).role.0) h.1

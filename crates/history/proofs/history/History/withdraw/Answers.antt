@@ -1,0 +1,35 @@
+use Rattle.std.proofs.Common.{◌+◌, ◌<◌, [], sym, ap, ◌∙◌, subst}
+use Rattle.history.specs.declared.views.Role.TheVariants.{Calls}
+use Rattle.history.specs.declared.views.Token.TheVariants.{Open}
+use Rattle.history.specs.Rule.{alone}
+use Rattle.history.specs.Plays.{taken}
+use Rattle.history.specs.Handles.{caller_in, ask_in}
+use Rattle.history.proofs.HandOvers.{takes}
+use Rattle.history.proofs.Calls.{withdraws_as}
+use Rattle.history.proofs.Fits.{pass_fits}
+use Rattle.history.proofs.history.History.withdraw.Goals as goal
+
+pub join_seat-requires : goal.join_seat-requires
+join_seat-requires c =
+    let there = ap (λ t. t.shared.table_id) (sym c.deref.ensures) in
+    let at_table = ap (λ p. p.table) c.pass.view_is ∙ c.requires.table.0 ∙ sym c.self.view_is ∙ there in (
+      at_table,
+      ap (λ t. t.table) c.ticket.view_is ∙ c.requires.table.1 ∙ sym c.self.view_is ∙ there,
+      ap (λ m. m.1) c.ticket.invariant.0,
+      subst (λ z. 0 < z.words) at_table (pass_fits c.pass.inside.seat _ _ _ c.pass.invariant).0,
+      takes _ _ _ _,
+    )
+
+pub store-requires : goal.store-requires
+store-requires c =
+    let pass = c.pass.invariant in
+    let at_table = ap (λ p. p.table) c.pass.view_is ∙ c.requires.table.0 ∙ sym c.self.view_is ∙ ap (λ t. t.shared.table_id) (sym c.deref.ensures) in
+    let k = caller_in c.pass.inside.seat.me.0.role in
+    let a = ask_in c.ticket.inside.seat.me.0.hand in (
+      c.join_seat.ensures.0 ∙ at_table,
+      subst (λ z. c.pass.inside.word < z.words) at_table (pass_fits c.pass.inside.seat _ _ _ pass).1,
+      withdraws_as _ _ _ k a _
+          (c.join_seat.ensures.2 ∙ (λ i. (taken (pass.0 i).0 (c.ticket.invariant.0 i).0, (pass.0 i).1)) ∙ ap (λ f. (alone (Calls k) (Open a f), [])) (ap (λ t. t.doubted) c.ticket.view_is ∙ c.requires.pass.1))
+          (ap (λ n. n + k.pass) pass.2 ∙ pass.3)
+          (ap (λ t. t.ask.pass) c.ticket.view_is ∙ c.requires.pass.0 ∙ ap (λ p. p.caller.pass) (sym c.pass.view_is)),
+    )

@@ -1,0 +1,102 @@
+-- Histories of the shards of one opening, and what stands in them of a pass.
+use Rattle.std.specs.Prelude.{◌≡◌, ◌≢◌, ◌⊎◌, ℕ, ◌<◌, ◌==◌, List, [], ◌∷◌, ◌++◌, if◌then◌else◌, slice_index_or}
+use Rattle.std.specs.FinMap as finite
+use Rattle.accept.specs.declared.call.Call.{Call}
+use Rattle.accept.specs.declared.call.Reply.{Reply}
+use Rattle.accept.specs.declared.history.Ask.{Ask}
+use Rattle.accept.specs.declared.history.Step.{Step}
+use Rattle.accept.specs.declared.history.Item.{Item}
+use Rattle.accept.specs.declared.history.Item.TheVariants.{Answered, Failed}
+use Rattle.accept.specs.declared.history.History.{History}
+use Rattle.accept.specs.Rooms.{Streams}
+use Rattle.accept.specs.Histories.{Terms, IsLegal, key_of, reply_to}
+use Rattle.history.specs.declared.views.About.{About}
+use Rattle.history.specs.Shards.{shard_of, is_of_shard}
+
+-- `front` is a beginning of `all`
+pub record Begins {A : Type 0} (front all : List A) : Type 0 where
+  pub rest : List A
+  pub is : all ≡ front ++ rest
+
+-- what shard k of the opening answers by
+abbrev pub terms_of : About → ℕ → Terms
+terms_of about k = record { limits = about.limits; capacity = about.capacity; is_here = is_of_shard about.shards k }
+
+abbrev pub base_at : About → ℕ → Streams
+base_at about k = slice_index_or about.bases k finite.empty
+
+-- these items of shard k, over what the opening found there
+abbrev pub history_of : About → ℕ → List Item → History
+history_of about k items = record { base = base_at about k; items = items }
+
+-- these items of shard k are a legal history
+pub record IsLegalAt (about : About) (k : ℕ) (items : List Item) : Type 0 where
+  pub is : IsLegal (terms_of about k) (history_of about k items)
+
+-- what shard k replies to a call after these items
+unfoldable pub reply_of : About → ℕ → List Item → Call → Reply
+reply_of about k items call = reply_to (terms_of about k) (history_of about k items) call
+
+-- the shard of a call
+abbrev pub shard_in : About → Ask → ℕ
+shard_in about a = shard_of (key_of a.call) about.shards
+
+abbrev pub step_of : Ask → Reply → Step
+step_of a r = record { ask = a; reply = r }
+
+-- the calls in doubt by the mark, if there is one
+abbrev pub doubt_of : List Item → List Ask
+doubt_of [] = []
+doubt_of (Answered s ∷ items) = doubt_of items
+doubt_of (Failed asks ∷ items) = asks
+
+-- the steps of a pass
+abbrev pub steps_by : ℕ → List Item → List Step
+steps_by p [] = []
+steps_by p (Answered s ∷ items) = if p == s.ask.pass then s ∷ steps_by p items else steps_by p items
+steps_by p (Failed asks ∷ items) = steps_by p items
+
+-- those of these steps whose call is shard k's
+abbrev pub on : About → ℕ → List Step → List Step
+on about k [] = []
+on about k (s ∷ steps) = if k == shard_in about s.ask then s ∷ on about k steps else on about k steps
+
+-- those of these calls that are of a pass
+abbrev pub of_pass : ℕ → List Ask → List Ask
+of_pass p [] = []
+of_pass p (a ∷ asks) = if p == a.pass then a ∷ of_pass p asks else of_pass p asks
+
+-- the calls of a pass in the mark's list
+abbrev pub asks_by : ℕ → List Item → List Ask
+asks_by p [] = []
+asks_by p (Answered s ∷ items) = asks_by p items
+asks_by p (Failed asks ∷ items) = of_pass p asks ++ asks_by p items
+
+-- the numbers of these steps are below n
+abbrev pub AllBelow : ℕ → List Step → Type 0
+AllBelow n [] = Unit {0}
+AllBelow n (s ∷ steps) = (s.ask.number < n) × AllBelow n steps
+
+-- these numbers are below n
+abbrev pub AreUnder : ℕ → List ℕ → Type 0
+AreUnder n [] = Unit {0}
+AreUnder n (m ∷ ms) = (m < n) × AreUnder n ms
+
+-- no step has the number n
+abbrev pub IsUnused : ℕ → List Step → Type 0
+IsUnused n [] = Unit {0}
+IsUnused n (s ∷ steps) = (s.ask.number ≢ n) × IsUnused n steps
+
+-- none of the numbers is a step's
+abbrev pub AreUnused : List ℕ → List Step → Type 0
+AreUnused [] steps = Unit {0}
+AreUnused (n ∷ ns) steps = IsUnused n steps × AreUnused ns steps
+
+-- the call has one of these steps
+abbrev pub IsMade : Ask → List Step → Type 0
+IsMade a [] = ⊥
+IsMade a (s ∷ steps) = (s.ask ≡ a) ⊎ IsMade a steps
+
+-- numbers of calls are below this: 2^56
+abbrev pub bound : ℕ
+bound = 72057594037927936

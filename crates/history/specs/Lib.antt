@@ -1,0 +1,6 @@
+pub mod Shards
+pub mod Histories
+pub mod Rule
+pub mod Plays
+pub mod Handles
+pub mod Trial

@@ -1,0 +1,242 @@
+-- What each step of a seat leaves it with, and tells it.
+use Rattle.std.specs.Prelude.{◌≡◌, ◌⊎◌, ℕ, ◌+◌, ◌<◌, List, [], ◌∷◌, ◌++◌, true, false, length, slice_index_or, slice_set, Option, None, Some}
+use Rattle.atomic_table.specs.Table.{Step as TableStep, Me}
+use Rattle.accept.specs.declared.call.Call.{Call}
+use Rattle.accept.specs.declared.history.Ask.{Ask}
+use Rattle.accept.specs.declared.history.Step.{Step}
+use Rattle.accept.specs.declared.history.Item.{Item}
+use Rattle.accept.specs.declared.history.Item.TheVariants.{Answered, Failed}
+use Rattle.history.specs.declared.views.About.{About}
+use Rattle.history.specs.declared.views.Caller.{Caller}
+use Rattle.history.specs.declared.views.View.{View}
+use Rattle.history.specs.declared.views.Role.{Role}
+use Rattle.history.specs.declared.views.Role.TheVariants.{Nobody, Opener, Keeps, Calls}
+use Rattle.history.specs.declared.views.Token.{Token}
+use Rattle.history.specs.declared.views.Token.TheVariants.{Nothing, Open, Done}
+use Rattle.history.specs.Histories.{Begins, IsLegalAt, reply_of, shard_in, step_of, steps_by, on, asks_by, IsMade}
+use Rattle.history.specs.Rule.{alone, opener, newcomer}
+
+-- a seat that knows nothing
+abbrev pub loose : View
+loose = alone Nobody Nothing
+
+-- the call in hand goes to a seat of its own
+abbrev pub kept_back : View → View
+kept_back v = record { role = v.role; guest = v.guest; hand = Nothing }
+
+-- and that seat has nothing else
+abbrev pub given : View → View
+given v = alone Nobody v.hand
+
+-- another seat's call comes into hand
+abbrev pub taken : View → View → View
+taken v w = record { role = v.role; guest = v.guest; hand = w.hand }
+
+-- a pass sits with a book, or with another pass
+abbrev pub seated : View → View → View
+seated v w = record { role = v.role; guest = w.role; hand = v.hand }
+
+-- the guest leaves
+abbrev pub host : View → View
+host v = alone v.role v.hand
+
+-- to a seat of its own
+abbrev pub visitor : View → View
+visitor v = alone v.guest Nothing
+
+-- the opening learns what it is of
+abbrev pub NamesAs : About → Role → View → Type 0
+NamesAs about (Opener known a b) w = w ≡ opener about a b
+NamesAs about role w = Unit {0}
+
+-- a load by which it learns that
+abbrev pub named : About → TableStep Unit → Me Unit View → ℕ → Me Unit View → Type 0
+named about st m found m' = NamesAs about m.0.role m'.0 × (m'.1 ≡ m.1)
+
+-- the book of shard k
+abbrev pub keeper : About → ℕ → List Item → List Ask → Token → View
+keeper about k items doubt hand = alone (Keeps (record { about = about; shard = k; items = items; doubt = doubt })) hand
+
+-- the next book and the next pass go to seats of their own
+abbrev pub after_book : Role → View
+after_book (Opener about a b) = opener about (a + 1) b
+after_book role = alone role Nothing
+
+abbrev pub next_book : Role → View
+next_book (Opener about a b) = keeper about a [] [] Nothing
+next_book role = loose
+
+abbrev pub after_pass : Role → View
+after_pass (Opener about a b) = opener about a (b + 1)
+after_pass role = alone role Nothing
+
+abbrev pub next_pass : Role → View
+next_pass (Opener about a b) = alone (Calls (newcomer about b)) Nothing
+next_pass role = loose
+
+-- the step of a call after these items
+abbrev pub answered : About → ℕ → List Item → Ask → Step
+answered about k items a = step_of a (reply_of about k items a.call)
+
+abbrev pub commit_with : ℕ × ℕ → Role → Token → View
+commit_with moment (Keeps shelf) (Open a f) =
+    let s : Step = answered shelf.about shelf.shard shelf.items a in
+    let now : List Item = shelf.items ++ Answered s ∷ [] in
+    keeper shelf.about shelf.shard now [] (Done s now moment)
+commit_with moment role hand = alone role hand
+
+-- the step stands behind the history, and the call in hand has it
+abbrev pub committed_at : ℕ × ℕ → TableStep Unit → Me Unit View → ℕ → Me Unit View → Type 0
+committed_at moment st m found m' = m' ≡ (commit_with moment m.0.role m.0.hand, m.1)
+
+-- an open call comes into hand, and is in doubt from now on
+abbrev pub doubting : Role → Token → View
+doubting (Keeps shelf) (Open a f) = keeper shelf.about shelf.shard shelf.items (shelf.doubt ++ a ∷ []) (Open a true)
+doubting role hand = alone role hand
+
+-- by a join of two seats
+abbrev pub in_doubt : View → View → View
+in_doubt v w = doubting v.role w.hand
+
+abbrev pub mark_with : Role → View
+mark_with (Keeps shelf) = keeper shelf.about shelf.shard (shelf.items ++ Failed shelf.doubt ∷ []) [] Nothing
+mark_with role = alone role Nothing
+
+-- a mark with the calls in doubt stands behind the history
+abbrev pub marked : TableStep Unit → Me Unit View → ℕ → Me Unit View → Type 0
+marked st m found m' = m' ≡ (mark_with m.0.role, m.1)
+
+-- what a pass has seen of shard k
+abbrev pub seen_at : Caller → ℕ → List Item
+seen_at c k = slice_index_or c.seen k []
+
+-- a call of the pass under a number
+abbrev pub ask_of : Caller → ℕ → Call → Ask
+ask_of c n call = record { pass = c.pass; number = n; call = call }
+
+-- the pass with this call pending
+abbrev pub announce_to : Caller → ℕ → Call → Caller
+announce_to c n call = record {
+  about = c.about;
+  pass = c.pass;
+  last = n;
+  seen = c.seen;
+  made = c.made;
+  withdrawn = c.withdrawn;
+  pending = Some (ask_of c n call);
+}
+
+-- the steps of a pass in what it has seen are just those that it made
+abbrev pub IsRested : Caller → Type 0
+IsRested c = (k : ℕ) → steps_by c.pass (seen_at c k) ≡ on c.about k c.made
+
+abbrev pub Announces : Call → ℕ → Role → View → Type 0
+Announces call n (Calls c) w = (w ≡ alone (Calls (announce_to c n call)) (Open (ask_of c n call) false)) × IsRested c
+Announces call n role w = Unit {0}
+
+-- a pass announces the call, under the number that it stores
+abbrev pub announced_as : Call → TableStep Unit → Me Unit View → ℕ → Me Unit View → Type 0
+announced_as call st m found m' = Announces call st.first m.0.role m'.0 × (m'.1 ≡ m.1)
+
+-- the pass with no call pending, and this number withdrawn
+abbrev pub withdraw_to : Caller → ℕ → Caller
+withdraw_to c n = record {
+  about = c.about;
+  pass = c.pass;
+  last = c.last;
+  seen = c.seen;
+  made = c.made;
+  withdrawn = c.withdrawn ++ n ∷ [];
+  pending = None;
+}
+
+abbrev pub withdraw_with : Role → Token → View
+withdraw_with (Calls c) (Open a f) = alone (Calls (withdraw_to c a.number)) Nothing
+withdraw_with role hand = alone role hand
+
+-- a pass takes a call back
+abbrev pub withdrew : TableStep Unit → Me Unit View → ℕ → Me Unit View → Type 0
+withdrew st m found m' = m' ≡ (withdraw_with m.0.role m.0.hand, m.1)
+
+-- the pass with this step answered, up to which it has seen the shard's history
+abbrev pub collect_to : Caller → Step → List Item → Caller
+collect_to c s new = record {
+  about = c.about;
+  pass = c.pass;
+  last = c.last;
+  seen = slice_set c.seen (shard_in c.about s.ask) new;
+  made = c.made ++ s ∷ [];
+  withdrawn = c.withdrawn;
+  pending = None;
+}
+
+-- `new` is `old`, then items in which pass p has no step, then the step s
+pub record Extends (p : ℕ) (old : List Item) (s : Step) (new : List Item) : Type 0 where
+  pub between : List Item
+  pub is : new ≡ (old ++ between) ++ Answered s ∷ []
+  pub none : steps_by p between ≡ []
+
+abbrev pub Collects : Role → Token → View → Type 0
+Collects (Calls c) (Done s upto at) w =
+    let k : ℕ = shard_in c.about s.ask in
+    (w ≡ alone (Calls (collect_to c s upto)) Nothing) × IsLegalAt c.about k upto × Extends c.pass (seen_at c k) s upto × (k < length c.seen)
+Collects role hand w = Unit {0}
+
+-- a pass takes an answer in
+abbrev pub collected : TableStep Unit → Me Unit View → ℕ → Me Unit View → Type 0
+collected st m found m' = Collects m.0.role m.0.hand m'.0 × (m'.1 ≡ m.1)
+
+-- the pass with this seen of shard k
+abbrev pub look_to : Caller → ℕ → List Item → Caller
+look_to c k new = record {
+  about = c.about;
+  pass = c.pass;
+  last = c.last;
+  seen = slice_set c.seen k new;
+  made = c.made;
+  withdrawn = c.withdrawn;
+  pending = c.pending;
+}
+
+-- each of these calls was made, or is pending
+abbrev pub AreHis : List Step → Option Ask → List Ask → Type 0
+AreHis made pending [] = Unit {0}
+AreHis made pending (a ∷ asks) = (IsMade a made ⊎ (pending ≡ Some a)) × AreHis made pending asks
+
+-- in these items of shard k the steps of a pass are those that it made, and possibly its pending call, and so are its calls in the mark's list
+pub record HasStepsOf (c : Caller) (k : ℕ) (items : List Item) : Type 0 where
+  pub rest : List Step
+  pub is : steps_by c.pass items ≡ on c.about k c.made ++ rest
+  pub one : (rest ≡ []) ⊎ ((s : Step) × (rest ≡ s ∷ []) × (c.pending ≡ Some s.ask))
+  pub told : AreHis c.made c.pending (asks_by c.pass items)
+
+abbrev pub Looks : ℕ → ℕ → Role → View → Type 0
+Looks k found (Calls c) w =
+    (new : List Item) × (w ≡ alone (Calls (look_to c k new)) Nothing) × Begins (seen_at c k) new × IsLegalAt c.about k new × (length new ≡ found) × HasStepsOf c k new × (k < length c.seen)
+Looks k found role w = Unit {0}
+
+-- a pass sees the history of a shard
+abbrev pub looked : TableStep Unit → Me Unit View → ℕ → Me Unit View → Type 0
+looked st m found m' = Looks st.word found m.0.role m'.0 × (m'.1 ≡ m.1)
+
+-- what two passes see of shard k begins with what each had seen, is legal, and has of each the steps that it made
+abbrev pub IsMeeting : Caller → Caller → ℕ → List Item → Type 0
+IsMeeting c d k new = Begins (seen_at c k) new × Begins (seen_at d k) new × IsLegalAt c.about k new × HasStepsOf c k new × HasStepsOf d k new × (d.about ≡ c.about)
+
+abbrev pub Meets : ℕ → Role → Role → View → Type 0
+Meets k (Calls c) (Calls d) w =
+    (new : List Item) × (w ≡ record { role = Calls (look_to c k new); guest = Calls (look_to d k new); hand = Nothing }) × IsMeeting c d k new × (k < length c.seen) × (k < length d.seen)
+Meets k role guest w = Unit {0}
+
+-- two passes see one history of a shard
+abbrev pub met : TableStep Unit → Me Unit View → ℕ → Me Unit View → Type 0
+met st m found m' = Meets st.word m.0.role m.0.guest m'.0 × (m'.1 ≡ m.1)
+
+-- the book's history begins with what the pass has seen, and has just its steps
+abbrev pub IsSettled : Role → Role → Type 0
+IsSettled (Keeps shelf) (Calls c) = Begins (seen_at c shelf.shard) shelf.items × IsLegalAt shelf.about shelf.shard shelf.items × HasStepsOf c shelf.shard shelf.items × (c.about ≡ shelf.about)
+IsSettled role guest = Unit {0}
+
+-- a look that compares a book with a pass, and changes neither
+abbrev pub settled : TableStep Unit → Me Unit View → ℕ → Me Unit View → Type 0
+settled st m found m' = (m' ≡ m) × IsSettled m.0.role m.0.guest

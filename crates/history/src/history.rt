@@ -1,0 +1,154 @@
+ghost use Rattle.std.specs.Prelude.{◌≡◌, ◌≢◌, ◌↔◌, ℕ, ◌+◌, ◌<◌, ◌≤◌, ◌==◌, [], true, false, length, None, IfOk, OnOk, OnErr, IsOk};
+ghost use Rattle.history.specs.Histories.{Begins, IsLegalAt, shard_in, on, steps_by, bound};
+ghost use Rattle.history.specs.Plays.{seen_at, ask_of, announce_to, withdraw_to, collect_to, look_to, IsRested, Extends, HasStepsOf};
+ghost use Rattle.history.specs.Handles.{is_closed, caller_in, pair_of, with_seen, HaveMet};
+
+use crate::handles::{Pass, PassSpent, Receipt, Ticket};
+use crate::table::{
+    Announces, Board, Collects, Gives, Leaves, Looks, Meets, Place, Saying, Sits, Steps, Takes,
+    Withdraws,
+};
+use accept::Call;
+use std::marker::{Brand, Model};
+use std::mem;
+use std::sync::Arc;
+
+/// The histories of all shards, as each pass can look at them. Contracts see which table it is.
+#[derive(Drop)]
+pub struct History {
+    pub(crate) table: Arc<Board>,
+}
+
+impl Model for History {
+    ghost use Rattle.atomic_table.specs.Seated.{TableId, table_id_coded};
+
+    ghost Value = { TableId };
+
+    ghost coded = { table_id_coded };
+
+    ghost use Rattle.std.specs.Arc.{arc_value};
+
+    ghost view = { λ h. (arc_value h.table).shared.table_id };
+}
+
+impl History {
+    /// Announces a call under the next number of the pass.
+    pub fn announce(&self, pass: &mut Pass, call: &Call) -> Result<Ticket, PassSpent>
+        requires table { pass.old.table ≡ self.now }
+        requires idle { pass.old.caller.pending ≡ None }
+        ensures ticket { IfOk result (λ t. t ≡ record { table = self.now; ask = ask_of pass.old.caller (pass.old.caller.last + 1) call.now; doubted = false }) }
+        ensures pass { OnOk result (pass.new ≡ record pass.old { caller = announce_to pass.old.caller (pass.old.caller.last + 1) call.now }) }
+        ensures rested { OnOk result (IsRested pass.old.caller) }
+        ensures err { OnErr result (pass.new ≡ pass.old) }
+        ensures open { IsOk result ↔ (is_closed pass.old ≡ false) }
+    {
+        if pass.is_closed() {
+            return Err(PassSpent);
+        }
+        Ok(self.announced::<Brand>(pass, call))
+    }
+
+    fn announced<J: Saying>(&self, pass: &mut Pass, call: &Call) -> Ticket
+        requires table { pass.old.table ≡ self.now }
+        requires idle { pass.old.caller.pending ≡ None }
+        requires open { is_closed pass.old ≡ false }
+        requires call { call.now ≡ J.call }
+        ensures ticket { result ≡ record { table = self.now; ask = ask_of pass.old.caller (pass.old.caller.last + 1) call.now; doubted = false } }
+        ensures pass { pass.new ≡ record pass.old { caller = announce_to pass.old.caller (pass.old.caller.last + 1) call.now } }
+        ensures rested { IsRested pass.old.caller }
+    {
+        let _ = call;
+        let number = pass.next_number();
+        self.announce_under::<J>(pass, number)
+    }
+
+    // Announces the call under a number above all that the pass has used.
+    pub(crate) fn announce_under<J: Saying>(&self, pass: &mut Pass, number: u64) -> Ticket
+        requires table { pass.old.table ≡ self.now }
+        requires idle { pass.old.caller.pending ≡ None }
+        requires number { (pass.old.caller.last < number) × (number < bound) }
+        ensures ticket { result ≡ record { table = self.now; ask = ask_of pass.old.caller number J.call; doubted = false } }
+        ensures pass { pass.new ≡ record pass.old { caller = announce_to pass.old.caller number J.call } }
+        ensures rested { IsRested pass.old.caller }
+    {
+        let shared = &self.table.shared;
+        shared.store::<Announces<J>>(&mut pass.seat, pass.word, number);
+        pass.last = number;
+        Ticket {
+            number,
+            seat: shared.split_seat::<Gives>(&mut pass.seat),
+        }
+    }
+
+    /// Takes an answer in: what the pass has seen of the shard is then what it had seen, items of others, and this step.
+    pub fn collect(&self, pass: &mut Pass, receipt: Receipt)
+        requires table { (pass.old.table ≡ self.now) × (receipt.table ≡ self.now) }
+        requires pass { receipt.step.ask.pass ≡ pass.old.caller.pass }
+        requires rested { steps_by pass.old.caller.pass (seen_at pass.old.caller (shard_in pass.old.caller.about receipt.step.ask)) ≡ on pass.old.caller.about (shard_in pass.old.caller.about receipt.step.ask) pass.old.caller.made }
+        ensures pass { pass.new ≡ record pass.old { caller = collect_to pass.old.caller receipt.step receipt.upto } }
+        ensures seen { seen_at pass.new.caller (shard_in pass.old.caller.about receipt.step.ask) ≡ receipt.upto }
+        ensures others { (k : ℕ) → k ≢ shard_in pass.old.caller.about receipt.step.ask → seen_at pass.new.caller k ≡ seen_at pass.old.caller k }
+        ensures legal { IsLegalAt pass.old.caller.about (shard_in pass.old.caller.about receipt.step.ask) receipt.upto }
+        ensures extends { Extends pass.old.caller.pass (seen_at pass.old.caller (shard_in pass.old.caller.about receipt.step.ask)) receipt.step receipt.upto }
+    {
+        let Receipt { seat } = receipt;
+        let shared = &self.table.shared;
+        shared.join_seat::<Takes>(&mut pass.seat, seat);
+        shared.store::<Collects>(&mut pass.seat, pass.word, 0);
+    }
+
+    /// Takes a call back that has no step and is not in doubt. Its number is not used again.
+    pub fn withdraw(&self, pass: &mut Pass, ticket: Ticket)
+        requires table { (pass.old.table ≡ self.now) × (ticket.table ≡ self.now) }
+        requires pass { (ticket.ask.pass ≡ pass.old.caller.pass) × (ticket.doubted ≡ false) }
+        ensures { pass.new ≡ record pass.old { caller = withdraw_to pass.old.caller ticket.ask.number } }
+    {
+        let Ticket { number: _, seat } = ticket;
+        let shared = &self.table.shared;
+        shared.join_seat::<Takes>(&mut pass.seat, seat);
+        shared.store::<Withdraws>(&mut pass.seat, pass.word, 0);
+    }
+
+    /// Sees the history of a shard as it is, and answers its length.
+    pub fn observe(&self, pass: &mut Pass, shard: usize) -> u64
+        requires table { pass.old.table ≡ self.now }
+        requires shard { shard < pass.old.caller.about.shards }
+        ensures pass { pass.new ≡ record pass.old { caller = look_to pass.old.caller shard (seen_at pass.new.caller shard) } }
+        ensures others { (k : ℕ) → k ≢ shard → seen_at pass.new.caller k ≡ seen_at pass.old.caller k }
+        ensures begins { Begins (seen_at pass.old.caller shard) (seen_at pass.new.caller shard) }
+        ensures legal { IsLegalAt pass.old.caller.about shard (seen_at pass.new.caller shard) }
+        ensures length { result ≡ length (seen_at pass.new.caller shard) }
+        ensures steps { HasStepsOf pass.old.caller shard (seen_at pass.new.caller shard) }
+    {
+        self.table.shared.load::<Looks>(&mut pass.seat, shard)
+    }
+
+    /// Two passes see the histories of all shards together: both then hold one and the same history of each.
+    pub fn meet(&self, one: &mut Pass, two: &mut Pass)
+        requires table { (one.old.table ≡ self.now) × (two.old.table ≡ self.now) }
+        ensures one { one.new ≡ record one.old { caller = with_seen one.old.caller one.new.caller.seen } }
+        ensures two { two.new ≡ record two.old { caller = with_seen two.old.caller two.new.caller.seen } }
+        ensures met { HaveMet one.old.caller two.old.caller one.old.caller.about.shards one.new.caller.seen two.new.caller.seen }
+    {
+        let shared = &self.table.shared;
+        let blank = shared.split_seat::<Gives>(&mut one.seat);
+        let guest = mem::replace(&mut two.seat, blank);
+        shared.join_seat::<Sits>(&mut one.seat, guest);
+        look_together(shared, &mut one.seat, one.shards);
+        two.seat = shared.split_seat::<Leaves>(&mut one.seat);
+    }
+}
+
+// Two passes in one seat see each shard's history.
+fn look_together(shared: &Steps, seat: &mut Place, shards: usize)
+    requires seat { seat.old.table_id ≡ shared.now.table_id }
+    requires passes { seat.old.me ≡ (pair_of (caller_in seat.old.me.0.role) (caller_in seat.old.me.0.guest), []) }
+    requires shards { ((caller_in seat.old.me.0.role).about.shards ≡ shards) × (shards ≤ shared.now.table_id.words) }
+    ensures table { seat.new.table_id ≡ seat.old.table_id }
+    ensures passes { seat.new.me ≡ (pair_of (with_seen (caller_in seat.old.me.0.role) (caller_in seat.new.me.0.role).seen) (with_seen (caller_in seat.old.me.0.guest) (caller_in seat.new.me.0.guest).seen), []) }
+    ensures met { HaveMet (caller_in seat.old.me.0.role) (caller_in seat.old.me.0.guest) shards (caller_in seat.new.me.0.role).seen (caller_in seat.new.me.0.guest).seen }
+{
+    for shard in 0..shards {
+        shared.load::<Meets>(seat, shard);
+    }
+}

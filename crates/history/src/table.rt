@@ -1,0 +1,225 @@
+//! The table that all threads share, its rule, and what its steps tell.
+//! Word k is the length of shard k's history. Behind the shards' words each pass has one: 0, or the number of its call on its way.
+
+use crate::views::{Sizes, View};
+use atomic_table::{Join, Play, Seat, Shared, Split, Table, TableRule};
+use std::alloc::Global;
+use std::marker::{Brand, PhantomData};
+
+/// The rule of the table.
+pub struct Rules;
+
+impl TableRule<(), View, Sizes> for Rules {
+    ghost use Rattle.history.specs.Rule.{Holds, opener, unnamed};
+
+    ghost holds = { λ _. Holds };
+
+    ghost first = { λ key. opener (unnamed key) 0 0 };
+}
+
+pub(crate) type Board = Table<(), View, Sizes, Rules, Global>;
+
+pub(crate) type Steps = Shared<(), View, Sizes, Rules>;
+
+pub(crate) type Place = Seat<(), View>;
+
+/// What an opening is of. The call that opens picks it.
+pub trait Naming {
+    ghost use Rattle.history.specs.declared.views.About.{About};
+
+    ghost about: { About };
+}
+
+impl Naming for Brand {
+    ghost use Rattle.history.specs.Handles.{no_about};
+
+    ghost about = { no_about };
+}
+
+/// The call that is announced. The call that announces picks it.
+pub trait Saying {
+    ghost use Rattle.accept.specs.declared.call.Call.{Call};
+
+    ghost call: { Call };
+}
+
+impl Saying for Brand {
+    ghost use Rattle.history.specs.Handles.{no_ask};
+
+    ghost call = { no_ask.call };
+}
+
+/// When a step is committed: what the clocks of the shard's two slots say. The call that commits picks it.
+pub trait At {
+    ghost use Rattle.std.specs.Prelude.{ℕ};
+
+    ghost moment: { ℕ × ℕ };
+}
+
+impl At for Brand {
+    ghost moment = { (0, 0) };
+}
+
+/// The opening learns what it is of.
+pub struct Names<J> {
+    of: PhantomData<J>,
+}
+
+impl<J: Naming> Play<(), View> for Names<J> {
+    ghost use Rattle.history.specs.Plays.{named};
+
+    ghost then = { named J.about };
+}
+
+/// A pass announces a call.
+pub struct Announces<J> {
+    of: PhantomData<J>,
+}
+
+impl<J: Saying> Play<(), View> for Announces<J> {
+    ghost use Rattle.history.specs.Plays.{announced_as};
+
+    ghost then = { announced_as J.call };
+}
+
+/// A book adds a step.
+pub struct Commits<J> {
+    of: PhantomData<J>,
+}
+
+impl<J: At> Play<(), View> for Commits<J> {
+    ghost use Rattle.history.specs.Plays.{committed_at};
+
+    ghost then = { committed_at J.moment };
+}
+
+/// A book adds a failure mark.
+pub struct Marks;
+
+impl Play<(), View> for Marks {
+    ghost use Rattle.history.specs.Plays.{marked};
+
+    ghost then = { marked };
+}
+
+/// A pass takes a call back.
+pub struct Withdraws;
+
+impl Play<(), View> for Withdraws {
+    ghost use Rattle.history.specs.Plays.{withdrew};
+
+    ghost then = { withdrew };
+}
+
+/// A pass takes an answer in.
+pub struct Collects;
+
+impl Play<(), View> for Collects {
+    ghost use Rattle.history.specs.Plays.{collected};
+
+    ghost then = { collected };
+}
+
+/// A pass sees a shard's history.
+pub struct Looks;
+
+impl Play<(), View> for Looks {
+    ghost use Rattle.history.specs.Plays.{looked};
+
+    ghost then = { looked };
+}
+
+/// Two passes see a shard's history.
+pub struct Meets;
+
+impl Play<(), View> for Meets {
+    ghost use Rattle.history.specs.Plays.{met};
+
+    ghost then = { met };
+}
+
+/// A book and a pass compare what they know.
+pub struct Settles;
+
+impl Play<(), View> for Settles {
+    ghost use Rattle.history.specs.Plays.{settled};
+
+    ghost then = { settled };
+}
+
+/// The opening gives the next book out.
+pub struct NextBook;
+
+impl Split<View> for NextBook {
+    ghost use Rattle.history.specs.Plays.{after_book, next_book};
+
+    ghost left = { λ v. after_book v.role };
+
+    ghost right = { λ v. next_book v.role };
+}
+
+/// The opening gives the next pass out.
+pub struct NextPass;
+
+impl Split<View> for NextPass {
+    ghost use Rattle.history.specs.Plays.{after_pass, next_pass};
+
+    ghost left = { λ v. after_pass v.role };
+
+    ghost right = { λ v. next_pass v.role };
+}
+
+/// The call in hand goes to a seat of its own.
+pub struct Gives;
+
+impl Split<View> for Gives {
+    ghost use Rattle.history.specs.Plays.{kept_back, given};
+
+    ghost left = { kept_back };
+
+    ghost right = { given };
+}
+
+/// A guest leaves.
+pub struct Leaves;
+
+impl Split<View> for Leaves {
+    ghost use Rattle.history.specs.Plays.{host, visitor};
+
+    ghost left = { host };
+
+    ghost right = { visitor };
+}
+
+/// Another seat's call comes into hand.
+pub struct Takes;
+
+impl Join<View> for Takes {
+    ghost use Rattle.history.specs.Plays.{taken, loose};
+
+    ghost both = { taken };
+
+    ghost spent = { loose };
+}
+
+/// A pass sits with a book or with another pass.
+pub struct Sits;
+
+impl Join<View> for Sits {
+    ghost use Rattle.history.specs.Plays.{seated, loose};
+
+    ghost both = { seated };
+
+    ghost spent = { loose };
+}
+
+/// A book puts a call in doubt.
+pub struct Doubts;
+
+impl Join<View> for Doubts {
+    ghost use Rattle.history.specs.Plays.{in_doubt, loose};
+
+    ghost both = { in_doubt };
+
+    ghost spent = { loose };
+}
