@@ -17,3 +17,4 @@ pub mod Running
 pub mod Sorting
 pub mod Storing
 pub mod Views
+pub mod ImageMaps

@@ -1,4 +1,5 @@
 pub mod Codes
+pub mod StreamMaps
 pub mod Streams
 pub mod Rooms
 pub mod Histories

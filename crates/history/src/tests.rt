@@ -7,7 +7,8 @@ ghost use Rattle.history.specs.Trial.{small, reads_nothing};
 use super::*;
 use crate::opening::deal;
 use crate::table::{Naming, Saying};
-use accept::{EntryList, Reply};
+use accept::{Call, EntryList, Image, Limits, Reply};
+use labels::{LabelPairs, LabelSet, StreamKey, Tenant};
 use std::alloc::Global;
 use std::marker::{Brand, Model, PhantomData};
 use std::process::Abort;
@@ -212,5 +213,30 @@ fn last_number_closes(rt: HostRuntime) -> Result<(), Fail> {
     assert!(rt; pass.is_closed());
     history.withdraw(&mut pass, ticket);
     assert!(rt; pass.is_closed());
+    Ok(())
+}
+
+#[test]
+fn announced_call_is_withdrawn(rt: HostRuntime) -> Result<(), Fail> {
+    let alloc = rt.alloc();
+    let bases = vec![in alloc; Image::new(alloc), Image::new(alloc)]?;
+    let (history, books, mut passes) = History::new(alloc, &bases, 3, Limits::PROFILE, 4_096)?;
+    assert_eq!(rt; (books.len(), passes.len()), (2, 3));
+    let mut pass = passes.pop().ok_or("a pass")?;
+    let mut pairs = Vec::new(alloc);
+    pairs.push(("a".to_string(alloc)?, "1".to_string(alloc)?))?;
+    let call = Call::Read {
+        key: StreamKey {
+            tenant: Tenant::new(alloc, "t")?,
+            labels: LabelSet::new(alloc, LabelPairs::new(pairs))?,
+        },
+        from: 0,
+        to: 1,
+    };
+    let ticket = history.announce(&mut pass, &call)?;
+    history.withdraw(&mut pass, ticket);
+    assert_eq!(rt; history.observe(&mut pass, 1), 0);
+    pass.close();
+    assert!(rt; history.announce(&mut pass, &call).is_err());
     Ok(())
 }
