@@ -11,9 +11,10 @@ run:
 test: faults
 	$(RT) ci
 
-# each request for memory of the program refused in turn
+# each request for memory of the programs refused in turn
 faults:
 	@cd crates/ingest1 && $(RT) run -- 20 < stdin > /dev/null
+	@cd crates/bench && $(RT) run -- check > /dev/null
 	tests/each_allocation_fails
 
 # every crate, lowest first, over the work of earlier checks

@@ -1,9 +1,10 @@
-//! `bench time` prints how fast push bodies are read; `bench check` only what the bodies hold.
+//! `bench time` prints how fast push bodies are read; `bench check` reads a label text, a query and a trim body.
 #![tactic(auto)]
 
 use anyhow::{Result, bail};
 use ingester::run_ingest1;
-use pushjson::read_push;
+use labels::LabelSet;
+use pushjson::{read_push, read_query, read_trim};
 use serde_json::Value;
 use std::alloc::Global;
 use std::env;
@@ -22,21 +23,34 @@ const BODIES: [(u64, usize); 2] = [(4_600, 200), (9_600, 400)];
 
 fn main(rt: HostRuntime) -> Result<()> {
     let words: Vec<String> = env::args(&rt)?.skip(1).collect(rt.alloc())?;
-    let timed = match words.as_slice() {
-        [word] if word.as_str() == "time" => true,
-        [word] if word.as_str() == "check" => false,
+    match words.as_slice() {
+        [word] if word.as_str() == "time" => time_bodies(&rt),
+        [word] if word.as_str() == "check" => check(&rt),
         _ => bail!("usage: bench time|check"),
-    };
+    }
+}
+
+fn time_bodies<R: Clock + Print + AllocGlobal>(rt: &R) -> Result<()> {
     for (entries, line) in BODIES {
         let body = body_of(rt.alloc(), entries, line)?;
         let size = body.len();
-        let batches = read_push(rt.alloc(), &body)?;
-        let streams = batches.len();
-        println!(rt; "{size} bytes: {entries} lines of {line} bytes, {streams} stream")?;
-        if timed {
-            report(&rt, &body)?;
-        }
+        rt.println(format_args!("{size} bytes: {entries} lines of {line} bytes"))?;
+        report(rt, &body)?;
     }
+    Ok(())
+}
+
+/// Calls what no other program calls yet.
+fn check<R: Print + AllocGlobal>(rt: &R) -> Result<()> {
+    let labels = LabelSet::parse_text(rt.alloc(), r#"{a="1", b="2"}"#)?;
+    let text = labels.text(rt.alloc())?;
+    rt.println(format_args!("labels {text}"))?;
+    let query = read_query(rt.alloc(), br#"{"stream":{"a":"1"},"from":"1","to":"2"}"#)?;
+    let (from, to) = (query.from, query.to);
+    rt.println(format_args!("query from {from} to {to}"))?;
+    let trim = read_trim(rt.alloc(), br#"{"stream":{"a":"1"},"bound":"3"}"#)?;
+    let bound = trim.bound;
+    rt.println(format_args!("trim bound {bound}"))?;
     Ok(())
 }
 
