@@ -1,3 +1,4 @@
 pub mod Updates
 pub mod Standing
 pub mod Clock
+pub mod Bodies

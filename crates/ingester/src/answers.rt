@@ -1,4 +1,8 @@
 //! The texts that are answered to a push and to a read.
+ghost use Rattle.std.specs.Prelude.{◌≡◌, [], IfOk, map, string_bytes};
+ghost use Rattle.serde_json.specs.View.{view};
+ghost use Rattle.serde_json.specs.Written.{compact_text};
+ghost use Rattle.ingester.specs.Answers.{code_of, entry_tree, read_tree};
 
 use accept::{Entry, EntryList, Outcome, Reply};
 use labels::LabelFault;
@@ -21,7 +25,9 @@ pub enum PushStatus {
 
 impl PushStatus {
     /// The status of HTTP.
-    pub fn code(self) -> u16 {
+    pub fn code(self) -> u16
+        ensures { result ≡ code_of self }
+    {
         match self {
             PushStatus::Done => 204,
             PushStatus::Refused => 400,
@@ -41,7 +47,10 @@ pub struct PushAnswer {
 
 impl PushAnswer {
     /// The answer before the first stream. It takes no memory.
-    pub fn new(alloc: Global) -> PushAnswer {
+    pub fn new(alloc: Global) -> PushAnswer
+        ensures status { result.status ≡ PushStatus.Done }
+        ensures lines { string_bytes result.lines ≡ [] }
+    {
         PushAnswer {
             status: PushStatus::Done,
             lines: String::new(alloc),
@@ -49,12 +58,16 @@ impl PushAnswer {
     }
 
     /// How the push went.
-    pub fn status(&self) -> PushStatus {
+    pub fn status(&self) -> PushStatus
+        ensures { result ≡ self.now.status }
+    {
         self.status
     }
 
     /// The lines so far, each ended by a newline.
-    pub fn lines(&self) -> &str {
+    pub fn lines(&self) -> &str
+        ensures { result.now ≡ string_bytes self.now.lines }
+    {
         self.lines.as_str()
     }
 
@@ -114,18 +127,34 @@ fn is_refusal(outcome: &Outcome) -> bool {
 }
 
 /// The body of the answer to a read: the compact text of `{"values":[[time, line], ..]}`.
-pub fn read_body(alloc: Global, entries: EntryList) -> Result<String, AllocError> {
-    let entries = entries.into_vec();
+pub fn read_body(alloc: Global, entries: EntryList) -> Result<String, AllocError>
+    ensures { IfOk result (λ body. string_bytes body ≡ compact_text (read_tree entries)) }
+{
+    read_value(alloc, entries)?.to_string(alloc)
+}
+
+fn read_value(alloc: Global, entries: EntryList) -> Result<Value, AllocError>
+    ensures { IfOk result (λ v. view v ≡ read_tree entries) }
+{
+    let mut members = Map::new(alloc);
+    let values = values_of(alloc, entries.into_vec())?;
+    members.insert("values".to_string(alloc)?, Value::Array(values))?;
+    Ok(Value::Object(members))
+}
+
+fn values_of(alloc: Global, entries: Vec<Entry>) -> Result<Vec<Value>, AllocError>
+    ensures { IfOk result (λ values. map view values.items ≡ map entry_tree entries.items) }
+{
     let mut values = Vec::with_capacity(alloc, entries.len())?;
     for entry in entries {
         values.push(value_of(alloc, entry)?)?;
     }
-    let mut members = Map::new(alloc);
-    members.insert("values".to_string(alloc)?, Value::Array(values))?;
-    Value::Object(members).to_string(alloc)
+    Ok(values)
 }
 
-fn value_of(alloc: Global, entry: Entry) -> Result<Value, AllocError> {
+fn value_of(alloc: Global, entry: Entry) -> Result<Value, AllocError>
+    ensures { IfOk result (λ v. view v ≡ entry_tree entry) }
+{
     let Entry { time, line } = entry;
     let mut pair = Vec::with_capacity(alloc, 2)?;
     pair.push(Value::String(time.to_string(alloc)?))?;

@@ -1,6 +1,7 @@
 //! The program `ingest1`: a push body on standard input, judged on an empty shard and read back.
 ghost use Rattle.std.specs.Prelude.{◌≡◌, ◌↔◌, ◌≤◌, ◌^◌, ◌<◌, MatchOption};
 ghost use Rattle.ingester.specs.Words.{GiveClock};
+ghost use Rattle.ingester.specs.declared.ingest1.Stop.TheVariants.{Memory};
 ghost use Rattle.accept.specs.Streams.{AreTimes};
 
 use crate::answers::{PushAnswer, read_body};
@@ -34,6 +35,8 @@ enum Stop {
 }
 
 impl From<AllocError> for Stop {
+    ghost from_gives = { λ _ stop. stop ≡ Memory };
+
     fn from(_error: AllocError) -> Stop {
         Stop::Memory
     }
