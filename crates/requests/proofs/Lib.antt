@@ -1,0 +1,7 @@
+pub mod Digits
+pub mod Failures
+pub mod Messages
+pub mod Names
+pub mod Streams
+pub mod Values
+pub mod Unique

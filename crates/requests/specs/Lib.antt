@@ -1,0 +1,9 @@
+pub mod Answers
+pub mod Fields
+pub mod Finding
+pub mod Framings
+pub mod Judging
+pub mod Laws
+pub mod Streams
+pub mod Verdicts
+pub mod Writing

@@ -1,0 +1,116 @@
+-- Which request stands at the front of the bytes of a connection, and what else may stand there.
+use Rattle.std.specs.Prelude.{◌≡◌, ◌≢◌, ◌⊎◌, ⊤, ℕ, ◌<◌, ◌≤◌, List, [], ◌∷◌, ◌++◌, length, drop, slice_range, Option, Result, Ok, Err}
+use Rattle.std.specs.Io.KnownBytes.{Consumes, IsAtEnd}
+use Rattle.httparse.specs.Grammar.{RequestHead, print_request, ReadsRequest, HasNoRequest, MayBecomeRequest}
+use Rattle.httparse.specs.Spans.{RequestOverflows, IsRequestOf, IsRequestWithin}
+use Rattle.httparse.specs.declared.spans.HeaderSpan.{HeaderSpan}
+use Rattle.requests.specs.Fields.{fields_of}
+use Rattle.requests.specs.Framings.{framing_of}
+use Rattle.requests.specs.Verdicts.{IsVerdict, asks_close}
+use Rattle.requests.specs.declared.framing.Framing.TheVariants.{Length, Refused}
+use Rattle.requests.specs.declared.fault.ServeFault.{ServeFault}
+use Rattle.requests.specs.declared.fault.ServeFault.TheVariants as Fault
+use Rattle.requests.specs.declared.fixed.FixedAnswer.{FixedAnswer}
+use Rattle.requests.specs.declared.fixed.FixedAnswer.TheVariants.{BadRequest, HeadTooLarge}
+use Rattle.requests.specs.declared.heads.Head.{Head}
+use Rattle.requests.specs.declared.heads.Head.TheVariants as Came
+use Rattle.requests.specs.declared.incoming.Message.{Message}
+use Rattle.requests.specs.declared.incoming.Next.{Next}
+use Rattle.requests.specs.declared.incoming.Next.TheVariants as Is
+
+pub record Request : Type 0 where
+  pub head : RequestHead
+  pub body : List ℕ
+
+-- the bytes are this head, of at most 64 fields and 16,384 bytes, and then rest
+pub record ReadsHead (bytes : List ℕ) (h : RequestHead) (rest : List ℕ) : Type 0 where
+  pub reads : ReadsRequest bytes h rest
+  pub few : length h.fields ≤ 64
+  pub short : length (print_request h) ≤ 16384
+
+-- the bytes are this request, and then rest
+pub record ReadsMessage (bytes : List ℕ) (r : Request) (rest : List ℕ) : Type 0 where
+  pub head : ReadsHead bytes r.head (r.body ++ rest)
+  pub framing : framing_of r.head.method (fields_of r.head) ≡ Length (length r.body)
+
+-- no beginning of the bytes is a head, and more bytes may make one
+abbrev pub IsUnfinished : List ℕ → Type 0
+IsUnfinished bytes = HasNoRequest bytes × MayBecomeRequest bytes
+
+-- a head, and fewer bytes behind it than its body has
+abbrev pub IsCutInBody : List ℕ → Type 0
+IsCutInBody bytes =
+    (h : RequestHead) × (rest : List ℕ) × (n : ℕ) × ReadsHead bytes h rest
+    × (framing_of h.method (fields_of h) ≡ Length n) × (length rest < n)
+
+-- the bytes end inside a request's head or body
+abbrev pub IsCut : List ℕ → Type 0
+IsCut bytes = ((bytes ≢ []) × (length bytes < 16384) × IsUnfinished bytes) ⊎ IsCutInBody bytes
+
+-- a head that says no lawful length of its body
+abbrev pub IsRefusedBody : List ℕ → FixedAnswer → Type 0
+IsRefusedBody bytes why =
+    (h : RequestHead) × (rest : List ℕ) × ReadsHead bytes h rest
+    × (framing_of h.method (fields_of h) ≡ Refused why)
+
+-- the bytes begin with what is refused so: no head of at most 64 fields, whatever may follow; 16,384
+-- bytes that are still no head; or a head of no lawful length
+abbrev pub IsRefused : List ℕ → FixedAnswer → Type 0
+IsRefused bytes why =
+    ((why ≡ BadRequest) × (length bytes ≤ 16384) × RequestOverflows 64 bytes)
+    ⊎ ((why ≡ HeadTooLarge) × (length bytes ≡ 16384) × IsUnfinished bytes)
+    ⊎ IsRefusedBody bytes why
+
+-- the reader gave these bytes, and the buffer has them behind what it had
+abbrev pub Grows : Option (List ℕ) → Option (List ℕ) → List ℕ → List ℕ → Type 0
+Grows known left old new = (bytes : List ℕ) × Consumes known left bytes × (new ≡ old ++ bytes)
+
+-- the message is this request, whose text stands at the front of the buffer
+pub record IsMessage (buffer : List ℕ) (r : Request) (m : Message) : Type 0 where
+  pub verdict : IsVerdict r.head.method r.head.target (fields_of r.head) m.verdict
+  pub closes : m.closes ≡ asks_close r.head.minor (fields_of r.head)
+  pub body : slice_range buffer m.start m.end ≡ r.body
+  pub ordered : m.start ≤ m.end
+  pub within : m.end ≤ length buffer
+
+-- what an answer says of the bytes that the buffer then has, where left is what the reader may still give
+abbrev pub IsNext : List ℕ → Option (List ℕ) → Result Next ServeFault → Type 0
+IsNext buffer left (Ok (Is.Whole m)) =
+    (r : Request) × ReadsMessage buffer r (drop m.end buffer) × IsMessage buffer r m × (length (drop m.end buffer) ≤ 16384)
+IsNext buffer left (Ok (Is.Refused why)) = IsRefused buffer why
+IsNext buffer left (Ok Is.Ended) = (buffer ≡ []) × IsAtEnd left
+IsNext buffer left (Err Fault.CutShort) = IsCut buffer × IsAtEnd left
+IsNext buffer left (Err Fault.Read) = (buffer ≡ []) ⊎ IsCut buffer
+IsNext buffer left (Err Fault.Memory) = (buffer ≡ []) ⊎ IsCut buffer
+IsNext buffer left (Err Fault.Write) = ⊥
+
+-- a whole request lies in the buffer, and little behind it; what `body`, `finish` and the next `next` ask for
+abbrev pub Fits : List ℕ → Result Next ServeFault → Type 0
+Fits buffer (Ok (Is.Whole m)) = (m.start ≤ m.end) × (m.end ≤ length buffer) × (length (drop m.end buffer) ≤ 16384)
+Fits buffer (Ok (Is.Refused why)) = ⊤
+Fits buffer (Ok Is.Ended) = ⊤
+Fits buffer (Err fault) = ⊤
+
+-- for private clauses: what reading a head says of the bytes that the buffer then has
+abbrev pub StopsAt : List ℕ → Option (List ℕ) → List HeaderSpan → Result Head ServeFault → Type 0
+StopsAt buffer left headers (Ok (Came.Whole spans)) = IsRequestOf buffer headers spans × IsRequestWithin buffer headers spans
+StopsAt buffer left headers (Ok Came.Refused) = RequestOverflows 64 buffer
+StopsAt buffer left headers (Ok Came.TooLarge) = (length buffer ≡ 16384) × IsUnfinished buffer
+StopsAt buffer left headers (Ok Came.Ended) = (buffer ≡ []) × IsAtEnd left
+StopsAt buffer left headers (Err Fault.CutShort) = (buffer ≢ []) × (length buffer < 16384) × IsUnfinished buffer × IsAtEnd left
+StopsAt buffer left headers (Err Fault.Read) = (length buffer < 16384) × IsUnfinished buffer
+StopsAt buffer left headers (Err Fault.Memory) = (length buffer < 16384) × IsUnfinished buffer
+StopsAt buffer left headers (Err Fault.Write) = ⊥
+
+-- the bytes are these requests, one behind another, and then rest
+abbrev pub ReadsRequests : List ℕ → List Request → List ℕ → Type 0
+ReadsRequests bytes [] rest = rest ≡ bytes
+ReadsRequests bytes (r ∷ rs) rest = (mid : List ℕ) × ReadsMessage bytes r mid × ReadsRequests mid rs rest
+
+-- no request stands at the front
+abbrev pub HoldsNone : List ℕ → Type 0
+HoldsNone bytes = (r : Request) (rest : List ℕ) → ¬ ReadsMessage bytes r rest
+
+-- all requests at the front of the bytes, and the rest
+abbrev pub AreRequests : List ℕ → List Request → List ℕ → Type 0
+AreRequests bytes rs rest = ReadsRequests bytes rs rest × HoldsNone rest

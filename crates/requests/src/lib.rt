@@ -1,0 +1,36 @@
+//! Requests and answers of HTTP/1.1 as bytes: which request stands at the front of a connection's bytes,
+//! what it is, and the text of an answer. No call is made here.
+//!
+//! A head is what `httparse` reads, of at most 64 fields and 16,384 bytes; a body is as long as its
+//! Content-Length says, at most 4,194,304 bytes.
+#![tactic(auto)]
+
+mod answer;
+mod failure;
+mod fault;
+mod fields;
+mod fixed;
+mod framing;
+mod heads;
+mod incoming;
+mod laws;
+mod outgoing;
+mod reading;
+mod route;
+mod verdict;
+mod writing;
+
+pub use answer::{Answer, Content};
+pub use failure::{Failure, write_failure};
+pub use fault::{ServeFault, Served};
+pub use fixed::{FixedAnswer, Method};
+pub use framing::MAX_BODY;
+pub use heads::{MAX_FIELDS, MAX_HEAD};
+pub use incoming::{Incoming, Message, Next};
+pub use laws::{one_request, one_split};
+pub use outgoing::Outgoing;
+pub use route::Route;
+pub use verdict::Verdict;
+
+#[cfg(test)]
+mod tests;

@@ -1,0 +1,211 @@
+//! Answers as bytes.
+ghost use Rattle.std.specs.Prelude.{◌≡◌, ◌++◌, length, decimal, None, OnOk};
+ghost use Rattle.requests.specs.Answers.{reason_of, rarer_reason_of, status_line, type_line, length_line, allow_line, last_lines, answer_text, fixed_text};
+ghost use Rattle.requests.specs.Writing.{Writes};
+
+use crate::answer::{Answer, Content};
+use crate::fault::ServeFault;
+use crate::fixed::{FixedAnswer, Method};
+use crate::writing::write_text;
+use std::alloc::{AllocError, Global};
+use std::io::Write;
+
+fn reason_of(status: u16) -> &'static [u8]
+    ensures { result.now ≡ reason_of status }
+{
+    if status == 200 {
+        return b"OK";
+    }
+    if status == 204 {
+        return b"No Content";
+    }
+    if status == 400 {
+        return b"Bad Request";
+    }
+    if status == 401 {
+        return b"Unauthorized";
+    }
+    if status == 404 {
+        return b"Not Found";
+    }
+    if status == 405 {
+        return b"Method Not Allowed";
+    }
+    if status == 411 {
+        return b"Length Required";
+    }
+    if status == 413 {
+        return b"Content Too Large";
+    }
+    if status == 415 {
+        return b"Unsupported Media Type";
+    }
+    rarer_reason_of(status)
+}
+
+fn rarer_reason_of(status: u16) -> &'static [u8]
+    ensures { result.now ≡ rarer_reason_of status }
+{
+    if status == 431 {
+        return b"Request Header Fields Too Large";
+    }
+    if status == 500 {
+        return b"Internal Server Error";
+    }
+    if status == 501 {
+        return b"Not Implemented";
+    }
+    if status == 503 {
+        return b"Service Unavailable";
+    }
+    if status == 507 {
+        return b"Insufficient Storage";
+    }
+    b""
+}
+
+fn push_number(text: &mut Vec<u8>, number: u64) -> Result<(), AllocError>
+    ensures { OnOk result (text.new.items ≡ text.old.items ++ decimal number) }
+{
+    write!(text, "{number}").map_err(|_| AllocError)
+}
+
+#[tactic(auto, unfolding(crate::specs::Answers::status_line))]
+fn push_status(text: &mut Vec<u8>, status: u16) -> Result<(), AllocError>
+    ensures { OnOk result (text.new.items ≡ text.old.items ++ status_line status) }
+{
+    text.extend_from_slice(b"HTTP/1.1 ")?;
+    push_number(text, u64::from(status))?;
+    text.extend_from_slice(b" ")?;
+    text.extend_from_slice(reason_of(status))?;
+    text.extend_from_slice(b"\r\n")
+}
+
+#[tactic(auto, unfolding(crate::specs::Answers::type_line))]
+fn push_type(text: &mut Vec<u8>, content: Content) -> Result<(), AllocError>
+    ensures { OnOk result (text.new.items ≡ text.old.items ++ type_line content) }
+{
+    match content {
+        Content::Text => text.extend_from_slice(b"Content-Type: text/plain; charset=utf-8\r\n"),
+        Content::Json => text.extend_from_slice(b"Content-Type: application/json\r\n"),
+    }
+}
+
+#[tactic(auto, unfolding(crate::specs::Answers::length_line))]
+fn push_length(text: &mut Vec<u8>, length: usize) -> Result<(), AllocError>
+    ensures { OnOk result (text.new.items ≡ text.old.items ++ length_line length) }
+{
+    text.extend_from_slice(b"Content-Length: ")?;
+    push_number(text, length as u64)?;
+    text.extend_from_slice(b"\r\n")
+}
+
+#[tactic(auto, unfolding(crate::specs::Answers::allow_line))]
+fn push_allow(text: &mut Vec<u8>, allow: Option<Method>) -> Result<(), AllocError>
+    ensures { OnOk result (text.new.items ≡ text.old.items ++ allow_line allow) }
+{
+    let Some(method) = allow else {
+        return Ok(());
+    };
+    text.extend_from_slice(b"Allow: ")?;
+    text.extend_from_slice(method.text())?;
+    text.extend_from_slice(b"\r\n")
+}
+
+#[tactic(auto, unfolding(crate::specs::Answers::last_lines))]
+fn push_last(text: &mut Vec<u8>, closes: bool) -> Result<(), AllocError>
+    ensures { OnOk result (text.new.items ≡ text.old.items ++ last_lines closes) }
+{
+    if closes {
+        text.extend_from_slice(b"Connection: close\r\n")?;
+    }
+    text.extend_from_slice(b"\r\n")
+}
+
+fn push_answer(
+    text: &mut Vec<u8>,
+    status: u16,
+    content: Content,
+    allow: Option<Method>,
+    closes: bool,
+    body: &[u8],
+) -> Result<(), AllocError>
+    ensures { OnOk result (text.new.items ≡ text.old.items ++ answer_text status content allow closes body.now) }
+{
+    push_status(text, status)?;
+    if status == 204 {
+        return push_last(text, closes);
+    }
+    push_type(text, content)?;
+    push_length(text, body.len())?;
+    push_allow(text, allow)?;
+    push_last(text, closes)?;
+    text.extend_from_slice(body)
+}
+
+/// Where answers are put together, so that each goes out in one write. It keeps its memory from answer to answer.
+#[derive(Debug, Drop)]
+pub struct Outgoing {
+    text: Vec<u8>,
+}
+
+impl Outgoing {
+    /// Takes no memory.
+    pub fn new(alloc: Global) -> Outgoing {
+        Outgoing {
+            text: Vec::new(alloc),
+        }
+    }
+
+    /// Writes an answer: its head and its body, or with status 204 its head alone.
+    ///
+    /// # Errors
+    ///
+    /// `Write`, with a beginning of the text out; `Memory`, with nothing out.
+    pub fn answer<W: Write>(
+        &mut self,
+        writer: &mut W,
+        answer: &Answer,
+        content: Content,
+        closes: bool,
+    ) -> Result<(), ServeFault>
+        ensures { Writes (W.contents writer.old) (W.contents writer.new)
+            (answer_text answer.now.status content None closes answer.now.body.items) result }
+    {
+        self.text.clear();
+        push_answer(
+            &mut self.text,
+            answer.status,
+            content,
+            None,
+            closes,
+            answer.body.as_slice(),
+        )?;
+        write_text(writer, self.text.as_slice())
+    }
+
+    /// Writes a fixed answer to a request that asks that the connection ends, or not.
+    ///
+    /// # Errors
+    ///
+    /// As `answer`.
+    pub fn fixed<W: Write>(
+        &mut self,
+        writer: &mut W,
+        answer: FixedAnswer,
+        closes: bool,
+    ) -> Result<(), ServeFault>
+        ensures { Writes (W.contents writer.old) (W.contents writer.new) (fixed_text answer closes) result }
+    {
+        self.text.clear();
+        push_answer(
+            &mut self.text,
+            answer.status(),
+            Content::Text,
+            answer.allow(),
+            answer.always_closes() || closes,
+            answer.body(),
+        )?;
+        write_text(writer, self.text.as_slice())
+    }
+}

@@ -1,0 +1,96 @@
+//! Bytes from a reader into the buffer.
+ghost use Rattle.std.specs.Prelude.{◌≡◌, ◌⊎◌, ◌+◌, ◌<◌, ◌≤◌, length, max, take, vec_len, IfOk, OnOk, OnErr, IfErr};
+ghost use Rattle.std.specs.Io.{ReadsAtMost};
+ghost use Rattle.std.specs.Io.KnownBytes.{IsAtEnd, ReadConsumes};
+ghost use Rattle.requests.specs.Streams.{Grows};
+
+use crate::fault::ServeFault;
+use std::io::{ErrorKind, Read};
+
+/// The most bytes that are read at once while a head is read.
+pub(crate) const CHUNK: usize = 4_096;
+
+/// One read, tried again where it is interrupted.
+fn read_some<R: Read>(reader: &mut R, space: &mut [u8]) -> Result<usize, ServeFault>
+    ensures bound { ReadsAtMost result space.new }
+    ensures bytes { ReadConsumes (R.remaining reader.old) (R.remaining reader.new) result space.new }
+    ensures cause { IfErr result (λ e. e ≡ ServeFault.Read) }
+{
+    for _turn in 0..u64::MAX {
+        match reader.read(space) {
+            Ok(count) => return Ok(count),
+            Err(error) => {
+                if error.kind() != ErrorKind::Interrupted {
+                    return Err(ServeFault::Read);
+                }
+            }
+        }
+    }
+    Err(ServeFault::Read)
+}
+
+/// One read of at most so many bytes, put behind those of the buffer. None only at the end.
+pub(crate) fn fill<R: Read>(
+    buffer: &mut Vec<u8>,
+    reader: &mut R,
+    most: usize,
+) -> Result<usize, ServeFault>
+    requires some { 0 < most }
+    requires chunk { most ≤ CHUNK }
+    ensures grows { Grows (R.remaining reader.old) (R.remaining reader.new) buffer.old.items buffer.new.items }
+    ensures len { IfOk result (λ n. (vec_len buffer.new ≡ vec_len buffer.old + n) × (n ≤ most)) }
+    ensures none { IfOk result (λ n. n ≡ 0 → IsAtEnd (R.remaining reader.new)) }
+    ensures err { OnErr result (buffer.new.items ≡ buffer.old.items) }
+    ensures cause { IfErr result (λ e. (e ≡ ServeFault.Read) ⊎ (e ≡ ServeFault.Memory)) }
+{
+    buffer.reserve(most)?;
+    let mut chunk = [0u8; CHUNK];
+    let count = read_some(reader, &mut chunk[..most])?;
+    buffer.extend_from_slice(&chunk[..count])?;
+    Ok(count)
+}
+
+/// Fills the space from this place to its end. Returns where it came to.
+fn fill_rest<R: Read>(
+    reader: &mut R,
+    space: &mut [u8],
+    from: usize,
+) -> (usize, Result<(), ServeFault>)
+    requires { from ≤ length space.old }
+    ensures within { result.0 ≤ length space.new }
+    ensures grows { Grows (R.remaining reader.old) (R.remaining reader.new) (take from space.old) (take result.0 space.new) }
+    ensures ok { OnOk result.1 (result.0 ≡ length space.new) }
+    ensures err { OnErr result.1 (result.0 < length space.new) }
+    ensures cause { IfErr result.1 (λ e. (e ≡ ServeFault.Read) ⊎ ((e ≡ ServeFault.CutShort) × IsAtEnd (R.remaining reader.new))) }
+{
+    let mut at = from;
+    while at < space.len() {
+        match read_some(reader, &mut space[at..]) {
+            Ok(0) => return (at, Err(ServeFault::CutShort)),
+            Ok(count) => at += count,
+            Err(fault) => return (at, Err(fault)),
+        }
+    }
+    (at, Ok(()))
+}
+
+/// Reads until the buffer has this many bytes, straight into it, unless it has them.
+pub(crate) fn fill_to<R: Read>(
+    buffer: &mut Vec<u8>,
+    reader: &mut R,
+    end: usize,
+) -> Result<(), ServeFault>
+    ensures grows { Grows (R.remaining reader.old) (R.remaining reader.new) buffer.old.items buffer.new.items }
+    ensures ok { OnOk result (vec_len buffer.new ≡ max (vec_len buffer.old) end) }
+    ensures err { OnErr result (vec_len buffer.new < end) }
+    ensures cause { IfErr result (λ e. (e ≡ ServeFault.Read) ⊎ (e ≡ ServeFault.Memory) ⊎ ((e ≡ ServeFault.CutShort) × IsAtEnd (R.remaining reader.new))) }
+{
+    let from = buffer.len();
+    if end <= from {
+        return Ok(());
+    }
+    buffer.resize(end, 0)?;
+    let (filled, result) = fill_rest(reader, buffer.as_mut_slice(), from);
+    buffer.truncate(filled);
+    result
+}

@@ -1,0 +1,27 @@
+ghost use Rattle.std.specs.Prelude.{◌≡◌};
+ghost use Rattle.requests.specs.Writing.{Writes};
+
+use crate::fault::ServeFault;
+use std::io::{ErrorKind, Write};
+
+/// Writes all the bytes, in one write where the writer takes them.
+pub(crate) fn write_text<W: Write>(writer: &mut W, text: &[u8]) -> Result<(), ServeFault>
+    ensures { Writes (W.contents writer.old) (W.contents writer.new) text.now result }
+{
+    let mut done = 0;
+    for _turn in 0..u64::MAX {
+        if done >= text.len() {
+            return Ok(());
+        }
+        match writer.write(&text[done..]) {
+            Ok(0) => return Err(ServeFault::Write),
+            Ok(count) => done += count,
+            Err(error) => {
+                if error.kind() != ErrorKind::Interrupted {
+                    return Err(ServeFault::Write);
+                }
+            }
+        }
+    }
+    Err(ServeFault::Write)
+}
