@@ -1,0 +1,9 @@
+pub mod Bytes
+pub mod Written
+pub mod Growing
+pub mod Replies
+pub mod Slots
+pub mod Shards
+pub mod Applied
+pub mod Stored
+pub mod Ends

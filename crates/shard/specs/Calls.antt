@@ -1,0 +1,64 @@
+-- What a call is to a book, and what becomes of both.
+use Rattle.std.specs.Prelude.{◌≡◌, ◌⊎◌, ◌≤◌, ◌+◌, ℕ, List, [], ◌∷◌, length, Bool, true, false, Option, Some, None}
+use Rattle.accept.specs.declared.call.Call.{Call}
+use Rattle.accept.specs.declared.call.Reply.{Reply}
+use Rattle.accept.specs.declared.call.Reply.TheVariants.{NoRoom, Unavailable}
+use Rattle.accept.specs.declared.history.Item.TheVariants.{Answered, Failed}
+use Rattle.accept.specs.Rooms.{Streams, room}
+use Rattle.accept.specs.Histories.{answer, after, meaning, changes, is_marked}
+use Rattle.segment.specs.declared.record.Record.{Record}
+use Rattle.segment.specs.Spelling.{frame}
+use Rattle.wal.specs.declared.log.Wal.{Wal}
+use Rattle.wal.specs.Recovery.{Recovers}
+use Rattle.wal.specs.Moments.{Pair, HasFailed, HasNoFailure}
+use Rattle.wal.specs.Logs.{Fits}
+use Rattle.history.specs.Histories.{doubt_of, reply_of, step_of}
+use Rattle.history.specs.Handles.{Booked, Announced, history_in, longer}
+use Rattle.streams.specs.Changes.{change_of}
+use Rattle.shard.specs.Keeping.{owner_in, IsAllowed}
+
+-- what is answered to the call, what all streams have once it is answered, and what is replied
+abbrev pub answer_in : Booked → Call → Reply
+answer_in book call = answer book.about.limits (history_in book) call
+
+abbrev pub after_in : Booked → Call → Streams
+after_in book call = after book.about.limits (history_in book) call
+
+abbrev pub reply_in : Booked → Call → Reply
+reply_in book call = reply_of book.about book.shard book.items call
+
+-- the call is answered, its answer changes something, and there is room for that
+pub record Writes (book : Booked) (call : Call) : Type 0 where
+  pub unmarked : is_marked book.items ≡ false
+  pub changing : changes (answer_in book call) ≡ true
+  pub has_room : room (after_in book call) ≤ book.about.capacity
+
+-- the call is refused, or changes nothing
+abbrev pub IsQuiet : Booked → Call → Type 0
+IsQuiet book call = (reply_in book call ≡ Unavailable) ⊎ ((reply_in book call ≡ NoRoom) ⊎ (after_in book call ≡ meaning (history_in book)))
+
+-- how many bytes a change takes as a block with its closing gate
+abbrev pub block_length : Option Record → ℕ
+block_length None = 0
+block_length (Some record_of_change) = length (frame (record_of_change ∷ [])) + 1
+
+-- the call's change, as a block, fits behind the segment in use
+abbrev pub FitsBehind : {D : Type 0} → Wal D → Booked → Call → Type 0
+FitsBehind log book call = Fits log (block_length (change_of call (answer_in book call)))
+
+-- The call has its step, and no device call failed.
+pub record IsMade (old new : Pair) (before : Booked) (ticket : Announced) (behind : Booked) (reply : Reply) : Type 0 where
+  pub no_failure : HasNoFailure old new
+  pub replied : reply ≡ reply_in before ticket.ask.call
+  pub book : behind ≡ longer before (Answered (step_of ticket.ask reply))
+
+-- A device call failed: a mark with this one call stands before its step.
+pub record IsLost (old new : Pair) (before : Booked) (ticket : Announced) (behind : Booked) (reply : Reply) : Type 0 where
+  pub failure : HasFailed old new
+  pub unmarked : is_marked before.items ≡ false
+  pub replied : reply ≡ Unavailable
+  pub book : behind ≡ longer (longer before (Failed (ticket.ask ∷ []))) (Answered (step_of ticket.ask Unavailable))
+
+-- What a crash may leave while the call is on its way: what was allowed at its start, or, where it writes, what stands for the streams after it.
+abbrev pub MayLeave : Booked → Call → List ℕ → List ℕ → Type 0
+MayLeave book call a b = IsAllowed book (doubt_of book.items) a b ⊎ (Writes book call × Recovers (owner_in book) a b (after_in book call))

@@ -1,0 +1,5 @@
+pub mod Keeping
+pub mod Calls
+pub mod Shards
+pub mod Readies
+pub mod Parts

@@ -1,0 +1,52 @@
+-- The parts of a shard, and what a call makes of them.
+use Rattle.std.specs.Prelude.{◌≡◌, ◌⊎◌, ◌+◌, List, [], Bool, false, None}
+use Rattle.accept.specs.declared.call.Call.{Call}
+use Rattle.accept.specs.declared.call.Reply.{Reply}
+use Rattle.accept.specs.declared.history.Ask.{Ask}
+use Rattle.disk.specs.Sight.{Sight}
+use Rattle.wal.specs.Moments.{PairLeavesOnly, HasNoFailure}
+use Rattle.wal.specs.Logs.{Follow, slots}
+use Rattle.history.specs.Histories.{doubt_of, step_of}
+use Rattle.history.specs.Handles.{Announced, Received}
+use Rattle.shard.specs.declared.parts.Parts.{Parts}
+use Rattle.shard.specs.declared.ready.Place.{Place}
+use Rattle.streams.specs.Changes.{change_of}
+use Rattle.streams.specs.Mapped.{Mapped}
+use Rattle.shard.specs.Keeping.{moments, LeavesSince, IsAllowed}
+use Rattle.shard.specs.Calls.{answer_in, after_in, Writes, IsQuiet, block_length, FitsBehind, IsMade, IsLost, MayLeave}
+use Rattle.shard.specs.Shards.{Sharded, IsShard}
+use Rattle.shard.specs.Readies.{IsWritten}
+
+-- what contracts see of them
+abbrev pub seen_of : {D : Type 0} → Parts D → Sharded D
+seen_of p = record { log = p.log.wal; book = p.book; opened = p.opened.value }
+
+-- the parts are those of a shard
+abbrev pub ArePartsOf : {D : Type 0} → (D → Sight) → (D → Type 0) → Parts D → Type 0
+ArePartsOf sight follows p = IsShard sight follows p.log.wal p.book p.opened.value p.states p.is_marked p.limits
+
+-- The change of a call is stored in memory, and its bytes are ready: all else is as before.
+pub record IsStored {D : Type 0} (sight : D → Sight) (follows : D → Type 0) (p : Parts D) (ask : Ask) (reply : Reply) (place : Place) : Type 0 where
+  pub before : Mapped
+  pub shard : IsShard sight follows p.log.wal p.book p.opened.value before false p.limits
+  pub unmarked : p.is_marked ≡ false
+  pub writes : Writes p.book ask.call
+  pub replied : reply ≡ answer_in p.book ask.call
+  pub owner_is : p.states.owner ≡ before.owner
+  pub no_change : p.states.change ≡ None
+  pub streams_are : p.states.streams ≡ after_in p.book ask.call
+  pub written_at : IsWritten p.log.wal place p.buffer.items (block_length (change_of ask.call reply)) before.streams p.states.streams
+
+-- The call has its step.
+pub record IsApplied {D : Type 0} (sight : D → Sight) (follows : D → Type 0) (old new : Sharded D) (ticket : Announced) (reply : Reply) (receipt : Received) : Type 0 where
+  pub step : IsMade (slots sight old.log) (slots sight new.log) old.book ticket new.book reply
+      ⊎ IsLost (slots sight old.log) (slots sight new.log) old.book ticket new.book reply
+  pub quiet : IsQuiet old.book ticket.ask.call → new.log ≡ old.log
+  pub before : Follow follows new.log → Follow follows old.log
+  pub any_moment : Follow follows new.log → PairLeavesOnly (slots sight old.log) (slots sight new.log) (MayLeave old.book ticket.ask.call)
+  pub receipt_is : receipt ≡ record { table = ticket.table; step = step_of ticket.ask reply; upto = new.book.items; moment = moments (slots sight new.log) }
+  pub since : Follow follows new.log → LeavesSince (moments (slots sight new.log)) (slots sight new.log) (IsAllowed new.book (doubt_of new.book.items))
+  pub appended : FitsBehind old.log old.book ticket.ask.call → new.log.generation ≡ old.log.generation
+  pub rolled : Writes old.book ticket.ask.call → ¬ FitsBehind old.log old.book ticket.ask.call → HasNoFailure (slots sight old.log) (slots sight new.log)
+      → new.log.generation ≡ old.log.generation + 1
+  pub opened : new.opened ≡ old.opened

@@ -1,0 +1,24 @@
+ghost use Rattle.std.specs.Prelude.{◌≡◌};
+ghost use Rattle.shard.specs.declared.fault.ApplyFault.TheVariants as faults;
+
+use std::alloc::AllocError;
+use thiserror::Error;
+
+/// Why a call has no step. Then history, streams, slots and clocks are as they were.
+#[derive(Clone, Copy, Debug, Drop, PartialEq, Eq, Error)]
+pub enum ApplyFault {
+    /// The allocator gave no memory.
+    #[error("out of memory")]
+    Memory,
+    /// The generations are used up: the change does not fit behind the segment in use, which has generation 2^63 - 1.
+    #[error("generation spent")]
+    GenerationSpent,
+}
+
+impl From<AllocError> for ApplyFault {
+    ghost from_gives = { λ _ e. e ≡ faults.Memory };
+
+    fn from(_refused: AllocError) -> ApplyFault {
+        ApplyFault::Memory
+    }
+}

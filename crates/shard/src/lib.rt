@@ -1,0 +1,14 @@
+//! One shard: the states of its streams, its log over two slots, and its book, in which each call is one step.
+//!
+//! A change is written to the log before its step is added to the book, so that nothing is seen that a crash could take.
+#![tactic(auto)]
+
+mod fault;
+mod keeping;
+mod parts;
+mod ready;
+mod shard;
+mod writing;
+
+pub use fault::ApplyFault;
+pub use shard::Shard;
