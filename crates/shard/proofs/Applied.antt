@@ -1,12 +1,10 @@
 -- What is shown of a call that has its step.
-use Rattle.std.proofs.Common.{◌≡◌, ◌⊎◌, ℕ, ◌+◌, ◌≤◌, inl, inr, Bool, true, false, List, [], ◌∷◌, None, refl, sym, ap, ◌∙◌, subst, arith}
+use Rattle.std.proofs.Common.{◌≡◌, ℕ, ◌+◌, inl, inr, Bool, true, false, List, [], ◌∷◌, refl, sym, ◌∙◌, subst, arith}
 use Rattle.accept.specs.declared.limits.Limits.{Limits}
 use Rattle.accept.specs.declared.call.Call.{Call}
 use Rattle.accept.specs.declared.call.Reply.{Reply}
 use Rattle.accept.specs.declared.call.Reply.TheVariants.{Unavailable}
-use Rattle.accept.specs.declared.history.Ask.{Ask}
 use Rattle.accept.specs.declared.history.Item.TheVariants.{Answered, Failed}
-use Rattle.accept.specs.Rooms.{Streams}
 use Rattle.accept.specs.Histories.{meaning}
 use Rattle.disk.specs.Sight.{Sight}
 use Rattle.segment.specs.declared.owner.Owner.{Owner}
@@ -21,8 +19,8 @@ use Rattle.shard.specs.declared.ready.Place.TheVariants.{Behind, Next}
 use Rattle.streams.specs.Changes.{change_of}
 use Rattle.streams.specs.Mapped.{Mapped}
 use Rattle.shard.specs.Keeping.{moments, LeavesSince, owner_in, IsAllowed}
-use Rattle.shard.specs.Calls.{answer_in, after_in, reply_in, Writes, IsQuiet, block_length, FitsBehind, MayLeave}
-use Rattle.shard.specs.Shards.{Sharded, IsShard}
+use Rattle.shard.specs.Calls.{answer_in, after_in, reply_in, Writes, block_length, MayLeave}
+use Rattle.shard.specs.Shards.{IsShard}
 use Rattle.shard.specs.Readies.{IsPlaced}
 use Rattle.shard.specs.Parts.{IsApplied}
 use Rattle.shard.proofs.Replies.{due_written, writes_not_quiet}

@@ -1,5 +1,5 @@
 -- What an item more is to the mark, the doubt and the meaning of a book.
-use Rattle.std.proofs.Common.{◌≡◌, true, false, List, [], ◌∷◌, ◌++◌, refl}
+use Rattle.std.proofs.Common.{◌≡◌, false, List, [], ◌∷◌, ◌++◌, refl}
 use Rattle.accept.specs.declared.history.Ask.{Ask}
 use Rattle.accept.specs.declared.history.Step.{Step}
 use Rattle.accept.specs.declared.history.Item.{Item}

@@ -1,24 +1,21 @@
 -- Which reply is due, and what a map that stands for a book's history says of it.
-use Rattle.std.proofs.Common.{◌≡◌, ◌⊎◌, ℕ, ◌<◌, ◌≤◌, inl, inr, Bool, true, false, cond, ◌&&◌, nat_lt, Option, Some, None, refl, sym, ap, ◌∙◌, subst, arith}
-use Rattle.std.specs.FinMap as finite
+use Rattle.std.proofs.Common.{◌≡◌, ℕ, ◌<◌, ◌≤◌, inl, inr, Bool, true, false, cond, ◌&&◌, nat_lt, refl, sym, ap, ◌∙◌, subst, arith}
 use Rattle.std.proofs.lemmas.Bool.Decides.{nat_tests}
 use Rattle.accept.specs.declared.limits.Limits.{Limits}
 use Rattle.accept.specs.declared.call.Call.{Call}
 use Rattle.accept.specs.declared.call.Reply.{Reply}
 use Rattle.accept.specs.declared.call.Reply.TheVariants.{NoRoom, Unavailable}
 use Rattle.accept.specs.declared.history.Ask.{Ask}
-use Rattle.accept.specs.declared.history.History.{History}
 use Rattle.accept.specs.declared.history.Item.TheVariants.{Answered}
 use Rattle.accept.specs.Rooms.{Streams, room}
 use Rattle.accept.specs.Histories.{key_of, meaning, changes, is_marked, IsWithin, then_step}
 use Rattle.accept.proofs.Maps.{stands}
 use Rattle.accept.proofs.Meanings.{meaning-answered, meaning-NoRoom, meaning-Unavailable}
-use Rattle.accept.proofs.Growing.{within-answer, within-NoRoom, within-Unavailable}
 use Rattle.accept.proofs.Legal.{within-reply_to}
 use Rattle.accept.proofs.Unchanged.{after-unchanged, changes-same}
 use Rattle.segment.specs.Spelling.{IsHere}
 use Rattle.history.specs.Shards.{shard_of}
-use Rattle.history.specs.Histories.{terms_of, history_of, reply_of, shard_in, step_of}
+use Rattle.history.specs.Histories.{terms_of, reply_of, shard_in, step_of}
 use Rattle.history.specs.Handles.{Booked, history_in, longer}
 use Rattle.history.proofs.Books.{refuses}
 use Rattle.shard.specs.Keeping.{owner_in}

@@ -1,12 +1,12 @@
 -- What a shard is after a step, after a written change, and after a failure.
-use Rattle.std.proofs.Common.{◌≡◌, ◌⊎◌, ℕ, ◌≤◌, inl, inr, Bool, true, false, List, [], ◌∷◌, take, length, None, refl, sym, ap, ◌∙◌, subst, arith}
+use Rattle.std.proofs.Common.{◌≡◌, ℕ, inl, inr, Bool, true, false, List, [], ◌∷◌, take, None, refl, sym, ap, ◌∙◌, subst, arith}
 use Rattle.accept.specs.declared.limits.Limits.{Limits}
 use Rattle.accept.specs.declared.call.Reply.{Reply}
 use Rattle.accept.specs.declared.history.Ask.{Ask}
 use Rattle.accept.specs.declared.history.Item.{Item}
 use Rattle.accept.specs.declared.history.Item.TheVariants.{Answered, Failed}
 use Rattle.accept.specs.Rooms.{Streams}
-use Rattle.accept.specs.Histories.{meaning, after, is_marked, IsWithin, then_step, then_item}
+use Rattle.accept.specs.Histories.{meaning, after, is_marked, IsWithin, then_step}
 use Rattle.accept.proofs.Meanings.{meaning-answered, meaning-answered_to, meaning-Failed, equal_after}
 use Rattle.accept.proofs.Growing.{within-Failed}
 use Rattle.disk.specs.Sight.{Sight}

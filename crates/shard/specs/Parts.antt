@@ -1,6 +1,5 @@
 -- The parts of a shard, and what a call makes of them.
-use Rattle.std.specs.Prelude.{◌≡◌, ◌⊎◌, ◌+◌, List, [], Bool, false, None}
-use Rattle.accept.specs.declared.call.Call.{Call}
+use Rattle.std.specs.Prelude.{◌≡◌, ◌⊎◌, ◌+◌, false, None}
 use Rattle.accept.specs.declared.call.Reply.{Reply}
 use Rattle.accept.specs.declared.history.Ask.{Ask}
 use Rattle.disk.specs.Sight.{Sight}

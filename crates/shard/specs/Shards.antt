@@ -1,5 +1,5 @@
 -- What a shard is.
-use Rattle.std.specs.Prelude.{◌≡◌, ◌≤◌, ◌^◌, Bool, true, false, Option, None}
+use Rattle.std.specs.Prelude.{◌≡◌, ◌≤◌, ◌^◌, Bool, true, false, None}
 use Rattle.accept.specs.declared.limits.Limits.{Limits}
 use Rattle.accept.specs.Streams.{AreLimits}
 use Rattle.accept.specs.Histories.{meaning, is_marked, IsWithin}
