@@ -1,5 +1,8 @@
-//! `bench time` prints how fast push bodies are read; `bench check` reads a label text, a query and a trim body.
+//! `bench time` prints how fast push bodies are read, and how fast the log is; `bench check` reads a label text, a
+//! query and a trim body, and appends to a log in memory.
 #![tactic(auto)]
+
+mod write_ahead;
 
 use anyhow::{Result, bail};
 use ingester::run_ingest1;
@@ -8,7 +11,8 @@ use pushjson::{read_push, read_query, read_trim};
 use serde_json::Value;
 use std::alloc::Global;
 use std::env;
-use std::rt::Clock;
+use std::fs::File;
+use std::rt::{Clock, Env, Files};
 use std::time::{Duration, Instant};
 
 /// How often each thing is timed; the best run counts.
@@ -24,10 +28,15 @@ const BODIES: [(u64, usize); 2] = [(4_600, 200), (9_600, 400)];
 fn main(rt: HostRuntime) -> Result<()> {
     let words: Vec<String> = env::args(&rt)?.skip(1).collect(rt.alloc())?;
     match words.as_slice() {
-        [word] if word.as_str() == "time" => time_bodies(&rt),
+        [word] if word.as_str() == "time" => time(&rt),
         [word] if word.as_str() == "check" => check(&rt),
         _ => bail!("usage: bench time|check"),
     }
+}
+
+fn time<R: Clock + Print + Env + Files<File = File> + AllocGlobal>(rt: &R) -> Result<()> {
+    time_bodies(rt)?;
+    write_ahead::time(rt)
 }
 
 fn time_bodies<R: Clock + Print + AllocGlobal>(rt: &R) -> Result<()> {
@@ -51,7 +60,7 @@ fn check<R: Print + AllocGlobal>(rt: &R) -> Result<()> {
     let trim = read_trim(rt.alloc(), br#"{"stream":{"a":"1"},"bound":"3"}"#)?;
     let bound = trim.bound;
     rt.println(format_args!("trim bound {bound}"))?;
-    Ok(())
+    write_ahead::check(rt)
 }
 
 /// A push body of one stream.
