@@ -1,7 +1,8 @@
-//! `bench time` prints how fast push bodies are read, and how fast the log is; `bench check` reads a label text, a
-//! query and a trim body, and appends to a log in memory.
+//! `bench time` prints how fast push bodies and segments are read, and how fast the log is; `bench check` reads a label
+//! text, a query, a trim body and a segment, and appends to a log in memory.
 #![tactic(auto)]
 
+mod slots;
 mod write_ahead;
 
 use anyhow::{Result, bail};
@@ -36,6 +37,7 @@ fn main(rt: HostRuntime) -> Result<()> {
 
 fn time<R: Clock + Print + Env + Files<File = File> + AllocGlobal>(rt: &R) -> Result<()> {
     time_bodies(rt)?;
+    slots::time_slot(rt)?;
     write_ahead::time(rt)
 }
 
@@ -60,6 +62,7 @@ fn check<R: Print + AllocGlobal>(rt: &R) -> Result<()> {
     let trim = read_trim(rt.alloc(), br#"{"stream":{"a":"1"},"bound":"3"}"#)?;
     let bound = trim.bound;
     rt.println(format_args!("trim bound {bound}"))?;
+    slots::check_slot(rt)?;
     write_ahead::check(rt)
 }
 
