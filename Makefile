@@ -1,21 +1,33 @@
 # rt is the command of the Rattle toolchain.
 RT ?= rt
 
-.PHONY: run test faults check fmt bench
+.PHONY: run demo sample test faults faults1 check fmt bench
 
-# the main job: one push body, judged and read back
+# the main job: the server, with its log in the folder data
 run:
+	@cd crates/server && $(RT) run -- "$(CURDIR)/data" 3100 4 8
+
+# pushes a line to the server, and reads it back
+demo:
+	@tests/demo 3100
+
+# one push body, judged on an empty shard in memory and read back
+sample:
 	@cd crates/ingest1 && $(RT) run -- 20 < stdin
 
 # the merge gate
 test: faults
 	$(RT) ci
 
-# each request for memory of the programs refused in turn
+# each request for memory of the lower calls refused in turn
 faults:
-	@cd crates/ingest1 && $(RT) run -- 20 < stdin > /dev/null
 	@cd crates/bench && $(RT) run -- check > /dev/null
-	tests/each_allocation_fails
+	tests/each_allocation_fails bench
+
+# and of ingest1, which stands on nearly every crate
+faults1:
+	@cd crates/ingest1 && $(RT) run -- 20 < stdin > /dev/null
+	tests/each_allocation_fails ingest1
 
 # every crate, lowest first, over the work of earlier checks
 check:

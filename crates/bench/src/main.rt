@@ -6,7 +6,6 @@ mod slots;
 mod write_ahead;
 
 use anyhow::{Result, bail};
-use ingester::run_ingest1;
 use labels::LabelSet;
 use pushjson::{read_push, read_query, read_trim};
 use serde_json::Value;
@@ -88,9 +87,6 @@ fn body_of(alloc: Global, entries: u64, line: usize) -> Result<Vec<u8>> {
 fn report<R: Clock + Print + AllocGlobal>(rt: &R, body: &[u8]) -> Result<()> {
     let mut json = Duration::MAX;
     let mut push = Duration::MAX;
-    let mut whole = Duration::MAX;
-    let word = START.to_string(rt.alloc())?;
-    let words = vec![in rt.alloc(); word]?;
     for _ in 0..RUNS {
         let start = Instant::now(rt)?;
         drop(Value::from_slice(rt.alloc(), body)?);
@@ -98,18 +94,9 @@ fn report<R: Clock + Print + AllocGlobal>(rt: &R, body: &[u8]) -> Result<()> {
         let start = Instant::now(rt)?;
         drop(read_push(rt.alloc(), body)?);
         push = push.min(start.elapsed(rt)?);
-        let start = Instant::now(rt)?;
-        let mut output = Vec::new(rt.alloc());
-        let mut errors = Vec::new(rt.alloc());
-        let _status = run_ingest1(rt.alloc(), &words, &mut &*body, &mut output, &mut errors);
-        whole = whole.min(start.elapsed(rt)?);
     }
     let size = body.len();
-    for (name, time) in [
-        ("serde_json", json),
-        ("read_push", push),
-        ("run_ingest1", whole),
-    ] {
+    for (name, time) in [("serde_json", json), ("read_push", push)] {
         let micros = time.as_micros().max(1);
         let speed = size as u128 / micros;
         rt.println(format_args!("  {name}: {micros} us, {speed} MB/s"))?;

@@ -1,7 +1,7 @@
 //! `ingest1 NOW`: judges the push body on standard input on an empty shard, and reads it back.
 #![tactic(auto)]
 
-use ingester::run_ingest1;
+use ingesterd::run_ingest1;
 use std::process::ExitCode;
 use std::rt::Env;
 use std::{env, io};
@@ -16,13 +16,9 @@ fn main(rt: HostRuntime) -> ExitCode {
         // Words that are no text are no number either.
         Err(_) => Vec::new(rt.alloc()),
     };
-    let status = run_ingest1(
-        rt.alloc(),
-        &words,
-        &mut rt.stdin(),
-        &mut rt.stdout(),
-        &mut rt.stderr(),
-    );
+    let (alloc, mut input) = (rt.alloc(), rt.stdin());
+    let (mut output, mut errors) = (rt.stdout(), rt.stderr());
+    let status = run_ingest1(&rt, alloc, &words, &mut input, &mut output, &mut errors);
     ExitCode::from(status)
 }
 

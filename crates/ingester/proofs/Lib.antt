@@ -1,4 +1,10 @@
-pub mod Updates
-pub mod Standing
-pub mod Clock
-pub mod Bodies
+pub mod Comparing
+pub mod Finding
+pub mod Grounding
+pub mod Keeping
+pub mod Lasting
+pub mod Listing
+pub mod Making
+pub mod Returning
+pub mod Routing
+pub mod Sent

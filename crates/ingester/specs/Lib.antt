@@ -1,3 +1,7 @@
-pub mod Answers
-pub mod Held
-pub mod Words
+pub mod Faults
+pub mod Openings
+pub mod Places
+pub mod Calls
+pub mod Closings
+pub mod Findings
+pub mod Makings

@@ -1,21 +1,42 @@
+//! Why a call has no step.
 ghost use Rattle.std.specs.Prelude.{◌≡◌};
-ghost use Rattle.ingester.specs.declared.fault.CallFault.TheVariants.{Memory};
+ghost use Rattle.shard.specs.declared.fault.ApplyFault.{ApplyFault};
+ghost use Rattle.ingester.specs.declared.fault.CallFault.TheVariants as faults;
+ghost use Rattle.ingester.specs.Faults.{fault_of};
 
-use std::alloc::AllocError;
+use history::PassSpent;
+use shard::ApplyFault;
 use thiserror::Error;
 
-/// Why a call was not made. The streams are as they were.
-#[derive(Clone, Copy, Debug, PartialEq, Eq, Error)]
+/// Why a call has no step. What its pass has seen is as it was.
+#[derive(Clone, Copy, Debug, Drop, PartialEq, Eq, Error)]
 pub enum CallFault {
     /// The allocator gave no memory.
     #[error("out of memory")]
     Memory,
+    /// The pass announces no call any more.
+    #[error("pass closed")]
+    PassClosed,
+    /// The shard's log has used its last generation, 2^63 - 1, and the call needs another.
+    #[error("log spent")]
+    LogSpent,
 }
 
-impl From<AllocError> for CallFault {
-    ghost from_gives = { λ _ fault. fault ≡ Memory };
+impl From<PassSpent> for CallFault {
+    ghost from_gives = { λ _ fault. fault ≡ faults.PassClosed };
 
-    fn from(_error: AllocError) -> CallFault {
-        CallFault::Memory
+    fn from(_spent: PassSpent) -> CallFault {
+        CallFault::PassClosed
+    }
+}
+
+impl From<ApplyFault> for CallFault {
+    ghost from_gives = { λ cause fault. fault ≡ fault_of cause };
+
+    fn from(cause: ApplyFault) -> CallFault {
+        match cause {
+            ApplyFault::Memory => CallFault::Memory,
+            ApplyFault::GenerationSpent => CallFault::LogSpent,
+        }
     }
 }

@@ -1,14 +1,19 @@
-//! The streams of one shard in memory, and `ingest1`, the program that judges one push body over them.
+//! Calls over many shards: up to 64 shards, each with its log under a lock of its own, called by up to 64 passes; how they are
+//! opened, and what closing hands out.
 #![tactic(auto)]
 
-mod answers;
+mod calls;
+mod closing;
 mod fault;
-mod ingest1;
-mod memory;
-mod states;
+mod locking;
+mod opened;
+mod opening;
+mod places;
+mod refusal;
 #[cfg(test)]
 mod tests;
 
+pub use closing::Closed;
 pub use fault::CallFault;
-pub use ingest1::run_ingest1;
-pub use memory::Ingester;
+pub use opened::Ingester;
+pub use refusal::OpenFault;

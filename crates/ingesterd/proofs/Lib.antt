@@ -1,1 +1,6 @@
-pub mod Places
+mod Listed
+mod Places
+mod Clocks
+mod Servers
+mod Calls
+mod Sent

@@ -1,14 +1,8 @@
 -- The place that words give.
-use Rattle.std.proofs.Common.{Bool, IsTrue, is_some, true≢false, ◌↔◌, ◌≡◌, ℕ, ◌<◌, ◌≤◌, List, [], ◌∷◌, length, get_or, Option, Some, None, MatchOption, String, Global, string_bytes, sym, subst, ap, ◌∙◌, arith}
+use Rattle.std.proofs.Common.{Bool, IsTrue, is_some, true≢false, ◌↔◌, ◌≡◌, ℕ, ◌<◌, ◌≤◌, List, [], ◌∷◌, length, get_or, Option, Some, None, MatchOption, String, Global, string_bytes, sym, subst, ap, ◌∙◌}
 use Rattle.ingesterd.specs.Words.{value, NameShard, GiveShard}
 use Rattle.ingesterd.specs.declared.words.Place.{Place}
-
-three : {A : Type 0} (xs : List A) (x y z : A) → 3 ≤ length xs → length xs < 4 → x ≡ get_or xs 0 x → y ≡ get_or xs 1 y → z ≡ get_or xs 2 z → xs ≡ x ∷ y ∷ z ∷ []
-three [] x y z some few a b c = absurd (omega arith)
-three (u ∷ []) x y z some few a b c = absurd (omega arith)
-three (u ∷ v ∷ []) x y z some few a b c = absurd (omega arith)
-three (u ∷ v ∷ w ∷ []) x y z some few a b c = λ i. sym a i ∷ sym b i ∷ sym c i ∷ []
-three (u ∷ v ∷ w ∷ t ∷ ts) x y z some few a b c = absurd (omega arith)
+use Rattle.ingesterd.proofs.Listed.{listed_3}
 
 same_shard : (words : List (String Global)) (f s c g t d : String Global) → words ≡ f ∷ s ∷ c ∷ [] → words ≡ g ∷ t ∷ d ∷ [] → t ≡ s
 same_shard words f s c g t d first second = cc
@@ -29,7 +23,7 @@ gives_shard words f s c shard count (Some p) e a b h = record { file = f; shard 
 
 -- what was read of the three words
 pub place_of_three : (words : List (String Global)) (f s c : String Global) (shard count : List ℕ) (found : Option Place) → 3 ≤ length words → length words < 4 → f ≡ get_or words 0 f → s ≡ get_or words 1 s → c ≡ get_or words 2 c → shard ≡ string_bytes s → count ≡ string_bytes c → MatchOption found (¬ NameShard shard count) (λ p. NameShard shard count × (p.shard ≡ value shard) × (p.count ≡ value count)) → MatchOption found (¬ GiveShard words) (λ _. GiveShard words)
-place_of_three words f s c shard count found some few x y z a b h = gives_shard words f s c shard count found (three words f s c some few x y z) a b h
+place_of_three words f s c shard count found some few x y z a b h = gives_shard words f s c shard count found (listed_3 words f s c some few x y z) a b h
 
 -- whether a place was read
 pub place_or_not : {A : Type 0} (words : List (String Global)) (found : Option A) (b : Bool) → b ≡ is_some found → MatchOption found (¬ GiveShard words) (λ _. GiveShard words) → IsTrue b ↔ GiveShard words

@@ -1,9 +1,24 @@
-//! The calls behind the programs: each over its words, a reader and two writers, so that tests can run them.
+//! The calls behind the programs: each over its words, readers and writers, so that tests can run them.
 #![tactic(auto)]
 
+mod body;
+mod clock;
+mod ctl;
+mod ingest1;
+mod opening;
+mod server;
+mod serving;
+mod slots;
+mod stopped;
 #[cfg(test)]
 mod tests;
 mod walcat;
 mod words;
 
+pub use clock::SystemClock;
+pub use ctl::run_ctl;
+pub use ingest1::run_ingest1;
+pub use server::run_server;
+pub use serving::serve_listener;
+pub use stopped::Stopped;
 pub use walcat::{are_walcat_words, run_walcat};

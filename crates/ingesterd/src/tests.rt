@@ -1,1 +1,4 @@
+mod calls;
+mod ingest1;
 mod walcat;
+mod words;

@@ -1,3 +1,4 @@
+pub mod Sent
 pub mod Bytes
 pub mod Written
 pub mod Growing

@@ -1,0 +1,71 @@
+-- What a pass has made behind the calls of requests.
+use Rattle.std.proofs.Common.{◌≡◌, ℕ, List, [], ◌∷◌, ◌++◌, Result, Ok, Err, refl, sym, ap, ◌∙◌, subst, inl, inr, append_assoc}
+use Rattle.std.proofs.lemmas.List.{append-nil}
+use Rattle.accept.specs.declared.call.Call.{Call as Asking}
+use Rattle.accept.specs.declared.call.Reply.{Reply}
+use Rattle.accept.specs.declared.history.Step.{Step}
+use Rattle.history.specs.Handles.{Passed}
+use Rattle.ingester.specs.Calls.{next_step}
+use Rattle.ingester.specs.declared.fault.CallFault.{CallFault}
+use Rattle.pushjson.specs.declared.fault.PushFault.{PushFault}
+use Rattle.requests.specs.declared.failure.Failure.{Failure}
+use Rattle.requests.specs.declared.verdict.Verdict.{Verdict}
+use Rattle.requests.specs.declared.verdict.Verdict.TheVariants.{Fixed, Call, NoMemory}
+use Rattle.front.specs.declared.calling.Asked.{Asked}
+use Rattle.front.specs.declared.calling.Came.{Came}
+use Rattle.front.specs.declared.calling.Came.TheVariants.{Refused, Replied}
+use Rattle.front.specs.Calls.{CallGives}
+use Rattle.front.specs.Courses.{Course, Unread, Whole, Broken, Comes, Each, Fails, Goes}
+use Rattle.front.specs.Serving.{Exchange, Serves, Handles, IsExchange}
+use Rattle.front.specs.Laws.{AreSteps, AreStepsOf, AreStepsBy, AreTheirSteps, Gains, MakesTheirCalls, MakesItsCalls}
+
+none : (h h' : Passed) → h' ≡ h → Gains h [] h'
+none h h' same = ap (λ p. p.caller.made) same ∙ sym (append-nil h.caller.made)
+
+one : (h h' : Passed) (call : Asking) (reply : Reply) → CallGives h call (Ok reply) h' → Gains h (next_step h.caller call reply ∷ []) h'
+one h h' call reply given = ap (λ p. p.caller.made) given.answered.pass
+
+kept : (h h' : Passed) (call : Asking) (fault : CallFault) → CallGives h call (Err fault) h' → Gains h [] h'
+kept h h' call fault given = ap (λ p. p.caller.made) given.refused.pass ∙ sym (append-nil h.caller.made)
+
+both : (h m h' : Passed) (first others : List Step) → Gains h first m → Gains m others h' → Gains h (first ++ others) h'
+both h m h' first others a b = b ∙ ap (λ l. l ++ others) a ∙ append_assoc h.caller.made first others
+
+each : (tenant : List ℕ) (h h' : Passed) (all : List Asked) (cames : List Came) → Each CallGives tenant h all cames h' → (steps : List Step) × Gains h steps h' × AreSteps tenant all cames steps
+each tenant h h' [] [] same = ([], none h h' same, refl)
+each tenant h h' [] (c ∷ cs) never = absurd never
+each tenant h h' (a ∷ more) [] never = absurd never
+each tenant h h' (a ∷ more) (Refused fault ∷ cs) (mid, (why, same), others) =
+    let (steps, gains, are) = each tenant mid h' more cs others in
+    (steps, both h mid h' [] steps (none h mid same) gains, are)
+each tenant h h' (a ∷ more) (Replied reply ∷ cs) (mid, (call, is, given), others) =
+    let (steps, gains, are) = each tenant mid h' more cs others in
+    (next_step h.caller call reply ∷ steps, both h mid h' (next_step h.caller call reply ∷ []) steps (one h mid call reply given) gains, (is, refl, are))
+
+fails : (tenant : List ℕ) (h h' : Passed) (a : Asked) (failure : Failure) → Fails CallGives tenant h a failure h' → Gains h [] h'
+fails tenant h h' a failure (inl (memory, same)) = none h h' same
+fails tenant h h' a failure (inr (call, fault, is, given, cause)) = kept h h' call fault given
+
+goes : (tenant : List ℕ) (h h' : Passed) (asked : Result (List Asked) PushFault) (course : Course) → Goes CallGives tenant h asked course h' → (steps : List Step) × Gains h steps h' × AreStepsOf tenant asked course steps
+goes tenant h h' asked (Unread fault) (why, same) = ([], none h h' same, refl)
+goes tenant h h' asked (Whole cames) (all, is, went) = let (steps, gains, are) = each tenant h h' all cames went in (steps, gains, (all, is, are))
+goes tenant h h' asked (Broken cames failure) (all, is, ends) =
+    let (steps, gains, are) = each tenant h ends.mid ends.done cames ends.each in
+    (steps, subst (λ l. Gains h l h') (append-nil steps) (both h ends.mid h' steps [] gains (fails tenant ends.mid h' ends.asked failure ends.fails)), (ends.done, ends.asked ∷ ends.more, is ∙ ap (λ l. Ok l) ends.split, are))
+
+handled : (now : ℕ) (body : List ℕ) (h h' : Passed) (verdict : Verdict) (course : Course) → Handles CallGives now body verdict h course h' → (steps : List Step) × Gains h steps h' × AreStepsBy now body verdict course steps
+handled now body h h' (Fixed answer) course (what, same) = ([], none h h' same, refl)
+handled now body h h' (Call route tenant) course takes =
+    let (steps, gains, are) = goes tenant h h' takes.asked course takes.goes in (steps, gains, (takes.asked, takes.asks, are))
+handled now body h h' NoMemory course (what, same) = ([], none h h' same, refl)
+
+module _ {C : Type 0} (ticks : C → ℕ → C → Type 0) where
+  pub its_calls : (bytes : List ℕ) (h : Passed) (c : C) (e : Exchange) (rest : List ℕ) (h' : Passed) (c' : C) → MakesItsCalls ticks bytes h c e rest h' c'
+  its_calls bytes h c e rest h' c' x = handled e.now e.request.body h h' e.verdict e.course x.calls
+
+  pub their_calls : (bytes : List ℕ) (h : Passed) (c : C) (es : List Exchange) (rest : List ℕ) (h' : Passed) (c' : C) → MakesTheirCalls ticks bytes h c es rest h' c'
+  their_calls bytes h c [] rest h' c' (same, still, clock) = ([], none h h' still, refl)
+  their_calls bytes h c (e ∷ es) rest h' c' (mid, hm, cm, x, stays, others) =
+      let (first, gains, are) = handled e.now e.request.body h hm e.verdict e.course x.calls in
+      let (more, gains_more, are_more) = their_calls mid hm cm es rest h' c' others in
+      (first ++ more, both h hm h' first more gains gains_more, (first, more, refl, are, are_more))

@@ -1,0 +1,5 @@
+pub mod Bodies
+pub mod Gaining
+pub mod Going
+pub mod Noting
+pub mod Turning

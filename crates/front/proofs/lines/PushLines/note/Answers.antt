@@ -1,0 +1,12 @@
+use Rattle.std.proofs.Common.{◌++◌, ap, sym, ◌∙◌}
+use Rattle.std.proofs.Math.Bool.{or-false}
+use Rattle.front.specs.declared.calling.Came.TheVariants.{Refused}
+use Rattle.front.specs.Lines.{stream_line}
+use Rattle.front.proofs.Noting.{noted, on_ok}
+use Rattle.front.proofs.lines.PushLines.note.Goals as goal
+
+pub returns-in-Refused : goal.returns-in-Refused
+returns-in-Refused c cames tells count =
+    let old = c.args.self.now in
+    rw c.in-Refused.is (on_ok c.push_stream_line.result _ _ (λ text. noted cames (Refused c.in-Refused.fault) c.args.stream old _ tells count
+    (text ∙ ap (λ w. old.text.items ++ stream_line c.args.stream w) c.label_words.ensures) (sym (or-false old.no_room)) (sym (or-false old.unavailable))) c.push_stream_line.ensures)

@@ -1,0 +1,91 @@
+-- What comes of the streams that a request asks for, one call each in the order of the body.
+use Rattle.std.specs.Prelude.{◌≡◌, ◌⊎◌, ℕ, List, [], ◌∷◌, ◌++◌, Result, Ok, Err, Some}
+use Rattle.labels.specs.Faults.{first_fault}
+use Rattle.accept.specs.declared.call.Call.{Call}
+use Rattle.accept.specs.declared.call.Reply.{Reply}
+use Rattle.pushjson.specs.declared.fault.PushFault.{PushFault}
+use Rattle.ingester.specs.declared.fault.CallFault.{CallFault}
+use Rattle.ingester.specs.declared.fault.CallFault.TheVariants as faults
+use Rattle.requests.specs.declared.failure.Failure.{Failure}
+use Rattle.requests.specs.declared.failure.Failure.TheVariants.{OutOfMemory, PassClosed, LogSpent}
+use Rattle.requests.specs.declared.route.Route.{Route}
+use Rattle.front.specs.declared.calling.Asked.{Asked}
+use Rattle.front.specs.declared.calling.Came.{Came}
+use Rattle.front.specs.declared.calling.Came.TheVariants.{Refused, Replied}
+use Rattle.front.specs.Asking.{AsksFor, IsCallOf}
+
+abbrev pub failure_of : CallFault → Failure
+failure_of faults.Memory = OutOfMemory
+failure_of faults.PassClosed = PassClosed
+failure_of faults.LogSpent = LogSpent
+
+-- how the calls of a request went: its body was refused at its form; or this came of each stream; or
+-- the calls ended at a failure, behind streams of which this came
+pub data Course : Type 0 where
+  Unread : PushFault → Course
+  Whole : List Came → Course
+  Broken : List Came → Failure → Course
+
+module _ {H : Type 0} (gives : H → Call → Result Reply CallFault → H → Type 0) (tenant : List ℕ) where
+  -- this came of a stream: a refusal of its labels without a call, or the reply to its one call
+  abbrev pub Comes : H → Asked → Came → H → Type 0
+  Comes h asked (Refused fault) h' = (first_fault asked.pairs ≡ Some fault) × (h' ≡ h)
+  Comes h asked (Replied reply) h' = (call : Call) × IsCallOf tenant asked call × gives h call (Ok reply) h'
+
+  -- this came of each stream, in order
+  abbrev pub Each : H → List Asked → List Came → H → Type 0
+  Each h [] [] h' = h' ≡ h
+  Each h [] (c ∷ cs) h' = ⊥
+  Each h (a ∷ more) [] h' = ⊥
+  Each h (a ∷ more) (c ∷ cs) h' = (mid : H) × Comes h a c mid × Each mid more cs h'
+
+  -- a stream failed: no memory before its call, or its one call
+  abbrev pub Fails : H → Asked → Failure → H → Type 0
+  Fails h asked failure h' =
+      ((failure ≡ OutOfMemory) × (h' ≡ h))
+      ⊎ ((call : Call) × (fault : CallFault) × IsCallOf tenant asked call × gives h call (Err fault) h' × (failure ≡ failure_of fault))
+
+  -- the stream behind these failed
+  pub record EndsAt (h : H) (all : List Asked) (cames : List Came) (failure : Failure) (h' : H) : Type 0 where
+    pub done : List Asked
+    pub asked : Asked
+    pub more : List Asked
+    pub mid : H
+    pub split : all ≡ done ++ asked ∷ more
+    pub each : Each h done cames mid
+    pub fails : Fails mid asked failure h'
+
+  -- of a beginning of these streams this came
+  pub record StopsIn (h : H) (all : List Asked) (cames : List Came) (h' : H) : Type 0 where
+    pub done : List Asked
+    pub more : List Asked
+    pub split : all ≡ done ++ more
+    pub each : Each h done cames h'
+
+  -- what was asked for went so
+  abbrev pub Goes : H → Result (List Asked) PushFault → Course → H → Type 0
+  Goes h asked (Unread fault) h' = (asked ≡ Err fault) × (h' ≡ h)
+  Goes h asked (Whole cames) h' = (all : List Asked) × (asked ≡ Ok all) × Each h all cames h'
+  Goes h asked (Broken cames failure) h' = (all : List Asked) × (asked ≡ Ok all) × EndsAt h all cames failure h'
+
+  -- it was given up between two calls, or before the first
+  abbrev pub GivesUp : H → Result (List Asked) PushFault → H → Type 0
+  GivesUp h (Err fault) h' = h' ≡ h
+  GivesUp h (Ok all) h' = (cames : List Came) × StopsIn h all cames h'
+
+  -- for private clauses: the one stream went so
+  abbrev pub StreamGoes : H → Asked → Result Came Failure → H → Type 0
+  StreamGoes h asked (Ok came) h' = Comes h asked came h'
+  StreamGoes h asked (Err failure) h' = Fails h asked failure h'
+
+-- the calls of a request with this route, clock, tenant and body went so
+pub record Takes {H : Type 0} (gives : H → Call → Result Reply CallFault → H → Type 0) (route : Route) (now : ℕ) (tenant body : List ℕ) (h : H) (course : Course) (h' : H) : Type 0 where
+  pub asked : Result (List Asked) PushFault
+  pub asks : AsksFor route now body asked
+  pub goes : Goes gives tenant h asked course h'
+
+-- and so where they were given up for want of memory
+pub record IsLeft {H : Type 0} (gives : H → Call → Result Reply CallFault → H → Type 0) (route : Route) (now : ℕ) (tenant body : List ℕ) (h h' : H) : Type 0 where
+  pub asked : Result (List Asked) PushFault
+  pub asks : AsksFor route now body asked
+  pub left : GivesUp gives tenant h asked h'

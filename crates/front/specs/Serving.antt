@@ -1,0 +1,147 @@
+-- What a connection is answered with: the responses to the requests in the bytes read, up to the first that closes.
+use Rattle.std.specs.Prelude.{◌≡◌, ◌⊎◌, ℕ, ◌||◌, Bool, true, false, List, [], ◌∷◌, ◌++◌, take, Option, None, Some, Result, Ok, Err}
+use Rattle.std.specs.List.{flat_map}
+use Rattle.std.specs.Io.KnownBytes.{Appends, Consumes, IsAtEnd}
+use Rattle.accept.specs.declared.call.Call.{Call as Asking}
+use Rattle.accept.specs.declared.call.Reply.{Reply}
+use Rattle.ingester.specs.declared.fault.CallFault.{CallFault}
+use Rattle.pushjson.specs.declared.fault.PushFault.TheVariants as bodies
+use Rattle.requests.specs.Answers.{answer_text, fixed_text, failure_text, always_closes}
+use Rattle.requests.specs.Fields.{fields_of}
+use Rattle.requests.specs.Streams.{Request, ReadsMessage, IsCut, IsRefused}
+use Rattle.requests.specs.Verdicts.{IsVerdict, asks_close}
+use Rattle.requests.specs.declared.failure.Failure.{Failure}
+use Rattle.requests.specs.declared.failure.Failure.TheVariants.{OutOfMemory}
+use Rattle.requests.specs.declared.fault.ServeFault.{ServeFault}
+use Rattle.requests.specs.declared.fault.ServeFault.TheVariants as faults
+use Rattle.requests.specs.declared.fault.Served.{Served}
+use Rattle.requests.specs.declared.fault.Served.TheVariants.{Ended, Closed}
+use Rattle.requests.specs.declared.fixed.FixedAnswer.{FixedAnswer}
+use Rattle.requests.specs.declared.route.Route.{Route}
+use Rattle.requests.specs.declared.verdict.Verdict.{Verdict}
+use Rattle.requests.specs.declared.verdict.Verdict.TheVariants.{Fixed, Call, NoMemory}
+use Rattle.front.specs.Courses.{Course, Unread, Whole, Takes, IsLeft}
+use Rattle.front.specs.Responses.{status_for, text_for, content_for, failure_in}
+
+-- a request, what it is, the time that the clock told for it, and how its calls went
+pub record Exchange : Type 0 where
+  pub request : Request
+  pub verdict : Verdict
+  pub now : ℕ
+  pub course : Course
+
+abbrev pub is_failed : Option Failure → Bool
+is_failed None = false
+is_failed (Some failure) = true
+
+-- the answer to calls that went so, or that ended at this failure
+abbrev pub called_text : Route → Bool → Course → Option Failure → List ℕ
+called_text route close course None = answer_text (status_for route course) (content_for (status_for route course)) None close (text_for route course)
+called_text route close course (Some failure) = failure_text failure
+
+abbrev pub response_text : Verdict → Bool → Course → List ℕ
+response_text (Fixed answer) close course = fixed_text answer close
+response_text (Call route tenant) close course = called_text route close course (failure_in course)
+response_text NoMemory close course = failure_text OutOfMemory
+
+-- whether the connection ends behind the response, to a request that asks for it or not
+abbrev pub ends_behind : Verdict → Bool → Course → Bool
+ends_behind (Fixed answer) close course = always_closes answer || close
+ends_behind (Call route tenant) close course = is_failed (failure_in course) || close
+ends_behind NoMemory close course = true
+
+abbrev pub asked_to_close : Request → Bool
+asked_to_close r = asks_close r.head.minor (fields_of r.head)
+
+-- the exact bytes of the response
+abbrev pub response : Exchange → List ℕ
+response e = response_text e.verdict (asked_to_close e.request) e.course
+
+abbrev pub closes : Exchange → Bool
+closes e = ends_behind e.verdict (asked_to_close e.request) e.course
+
+module _ {H : Type 0} (gives : H → Asking → Result Reply CallFault → H → Type 0) (now : ℕ) (body : List ℕ) where
+  -- how the calls of a request went; one with a fixed answer makes none, nor one for whose tenant there was no memory
+  abbrev pub Handles : Verdict → H → Course → H → Type 0
+  Handles (Fixed answer) h course h' = (course ≡ Whole []) × (h' ≡ h)
+  Handles (Call route tenant) h course h' = Takes gives route now tenant body h course h'
+  Handles NoMemory h course h' = (course ≡ Unread bodies.Memory) × (h' ≡ h)
+
+  -- its calls were given up
+  abbrev pub Abandons : Verdict → H → H → Type 0
+  Abandons (Fixed answer) h h' = ⊥
+  Abandons (Call route tenant) h h' = IsLeft gives route now tenant body h h'
+  Abandons NoMemory h h' = ⊥
+
+module _ {H C : Type 0} (gives : H → Asking → Result Reply CallFault → H → Type 0) (ticks : C → ℕ → C → Type 0) where
+  -- the bytes begin with this request, whose calls went so from h to h', at the time of the clock
+  pub record IsExchange (bytes : List ℕ) (h : H) (c : C) (e : Exchange) (rest : List ℕ) (h' : H) (c' : C) : Type 0 where
+    pub message : ReadsMessage bytes e.request rest
+    pub verdict : IsVerdict e.request.head.method e.request.head.target (fields_of e.request.head) e.verdict
+    pub clock : ticks c e.now c'
+    pub calls : Handles gives e.now e.request.body e.verdict h e.course h'
+
+  -- the bytes begin with this request, whose calls were given up
+  pub record IsAbandoned (bytes : List ℕ) (h : H) (c : C) (h' : H) (c' : C) : Type 0 where
+    pub request : Request
+    pub verdict : Verdict
+    pub now : ℕ
+    pub rest : List ℕ
+    pub message : ReadsMessage bytes request rest
+    pub is : IsVerdict request.head.method request.head.target (fields_of request.head) verdict
+    pub clock : ticks c now c'
+    pub calls : Abandons gives now request.body verdict h h'
+
+  -- the bytes are these requests, none of which closes, and then rest
+  abbrev pub Serves : List ℕ → H → C → List Exchange → List ℕ → H → C → Type 0
+  Serves bytes h c [] rest h' c' = (rest ≡ bytes) × (h' ≡ h) × (c' ≡ c)
+  Serves bytes h c (e ∷ es) rest h' c' =
+      (mid : List ℕ) × (hm : H) × (cm : C) × IsExchange bytes h c e mid hm cm × (closes e ≡ false) × Serves mid hm cm es rest h' c'
+
+  -- the bytes begin with what is refused, and nothing else happened
+  abbrev pub IsTurnedAway : List ℕ → H → C → List ℕ → H → C → Type 0
+  IsTurnedAway bytes h c text h' c' = (why : FixedAnswer) × IsRefused bytes why × (text ≡ fixed_text why true) × (h' ≡ h) × (c' ≡ c)
+
+  -- the bytes begin with a request, or with what is refused, and this is the response
+  abbrev pub IsNextResponse : List ℕ → H → C → List ℕ → H → C → Type 0
+  IsNextResponse bytes h c text h' c' =
+      ((e : Exchange) × (rest : List ℕ) × IsExchange bytes h c e rest h' c' × (text ≡ response e)) ⊎ IsTurnedAway bytes h c text h' c'
+
+  -- and it closes
+  abbrev pub IsLastResponse : List ℕ → H → C → List ℕ → H → C → Type 0
+  IsLastResponse bytes h c text h' c' =
+      ((e : Exchange) × (rest : List ℕ) × IsExchange bytes h c e rest h' c' × (closes e ≡ true) × (text ≡ response e)) ⊎ IsTurnedAway bytes h c text h' c'
+
+  -- nothing happened behind the last response
+  abbrev pub IsIdle : H → C → List ℕ → H → C → Type 0
+  IsIdle h c text h' c' = (text ≡ []) × (h' ≡ h) × (c' ≡ c)
+
+  -- how the connection ended, where no further request was answered with the connection kept: text is what is written of
+  -- the last response, and left what the reader may still give
+  abbrev pub Finishes : List ℕ → Option (List ℕ) → H → C → List ℕ → H → C → Result Served ServeFault → Type 0
+  Finishes rest left h c text h' c' (Ok Ended) = (rest ≡ []) × IsAtEnd left × IsIdle h c text h' c'
+  Finishes rest left h c text h' c' (Ok Closed) = IsLastResponse rest h c text h' c'
+  Finishes rest left h c text h' c' (Err faults.CutShort) = IsCut rest × IsAtEnd left × IsIdle h c text h' c'
+  Finishes rest left h c text h' c' (Err faults.Read) = ((rest ≡ []) ⊎ IsCut rest) × IsIdle h c text h' c'
+  Finishes rest left h c text h' c' (Err faults.Write) = (n : ℕ) × (all : List ℕ) × IsNextResponse rest h c all h' c' × (text ≡ take n all)
+  Finishes rest left h c text h' c' (Err faults.Memory) =
+      (text ≡ []) × ((((rest ≡ []) ⊎ IsCut rest) × IsIdle h c text h' c') ⊎ ((all : List ℕ) × IsNextResponse rest h c all h' c') ⊎ IsAbandoned rest h c h' c')
+
+  -- from the bytes read to the text written
+  pub record IsServed (bytes : List ℕ) (left : Option (List ℕ)) (h : H) (c : C) (text : List ℕ) (h' : H) (c' : C) (result : Result Served ServeFault) : Type 0 where
+    pub exchanges : List Exchange
+    pub rest : List ℕ
+    pub h_mid : H
+    pub c_mid : C
+    pub last : List ℕ
+    pub serves : Serves bytes h c exchanges rest h_mid c_mid
+    pub finishes : Finishes rest left h_mid c_mid last h' c' result
+    pub written : text ≡ flat_map response exchanges ++ last
+
+  -- the reader gave bytes, the writer took a text, and that is what the connection was served
+  pub record ServesBytes (known left before after : Option (List ℕ)) (h : H) (c : C) (h' : H) (c' : C) (result : Result Served ServeFault) : Type 0 where
+    pub bytes : List ℕ
+    pub text : List ℕ
+    pub consumes : Consumes known left bytes
+    pub appends : Appends before after text
+    pub served : IsServed bytes left h c text h' c' result

@@ -1,0 +1,103 @@
+//! One stream that a request asks for: its call, and what came of it.
+ghost use Rattle.std.specs.Prelude.{◌≡◌, ◌⊎◌, None, Some, IfOk, IfErr};
+ghost use Rattle.labels.specs.Canonical.{IsTextOf};
+ghost use Rattle.labels.specs.Faults.{first_fault};
+ghost use Rattle.ingester.specs.Calls.{IsPassOf};
+ghost use Rattle.front.specs.Asking.{IsLawful, call_on};
+ghost use Rattle.front.specs.Calls.{CallGives};
+ghost use Rattle.front.specs.Courses.{failure_of, StreamGoes};
+
+use accept::{Call, EntryList, Reply};
+use disk::Disk;
+use history::Pass;
+use ingester::{CallFault, Ingester};
+use labels::{LabelFault, LabelPairs, LabelSet, StreamKey, Tenant};
+use requests::Failure;
+use std::alloc::Global;
+use std::sync::Wait;
+
+/// What is asked of a stream.
+#[derive(Debug, Drop)]
+pub(crate) enum Want {
+    Push { now: u64, entries: EntryList },
+    Read { from: u64, to: u64 },
+    Trim { bound: u64 },
+}
+
+impl Want {
+    /// The call on the stream of this key.
+    fn call(self, key: StreamKey) -> Call
+        ensures { result ≡ call_on key self }
+    {
+        match self {
+            Want::Push { now, entries } => Call::Push { key, now, entries },
+            Want::Read { from, to } => Call::Read { key, from, to },
+            Want::Trim { bound } => Call::Trim { key, bound },
+        }
+    }
+}
+
+/// A stream by its labels, not yet tested, and what is asked of it.
+#[derive(Debug, Drop)]
+pub(crate) struct Asked {
+    pub(crate) pairs: LabelPairs,
+    pub(crate) want: Want,
+}
+
+/// What came of a stream.
+#[derive(Debug, Drop)]
+pub(crate) enum Came {
+    /// Its labels were refused, and no call was made.
+    Refused(LabelFault),
+    /// The reply to its call.
+    Replied(Reply),
+}
+
+fn key_of(alloc: Global, tenant: &Tenant, pairs: LabelPairs) -> Result<StreamKey, LabelFault>
+    ensures ok { IfOk result (λ key. (first_fault pairs ≡ None) × IsTextOf key.labels pairs × (key.tenant ≡ tenant.now)) }
+    ensures cause { IfErr result (λ e. (e ≡ LabelFault.Memory) ⊎ (first_fault pairs ≡ Some e)) }
+{
+    let labels = LabelSet::new(alloc, pairs)?;
+    let tenant = tenant.clone()?;
+    Ok(StreamKey { tenant, labels })
+}
+
+fn failure_of(fault: CallFault) -> Failure
+    ensures { result ≡ failure_of fault }
+{
+    match fault {
+        CallFault::Memory => Failure::OutOfMemory,
+        CallFault::PassClosed => Failure::PassClosed,
+        CallFault::LogSpent => Failure::LogSpent,
+    }
+}
+
+/// Makes the call of a stream, unless its labels are refused.
+///
+/// # Errors
+///
+/// Why the calls of the request end here.
+pub(crate) fn take_stream<D: Disk + Drop, R: Wait>(
+    rt: &R,
+    alloc: Global,
+    ingester: &Ingester<D>,
+    pass: &mut Pass,
+    tenant: &Tenant,
+    asked: Asked,
+) -> Result<Came, Failure>
+    requires pass { IsPassOf ingester.now pass.old }
+    requires lawful { IsLawful asked.want }
+    ensures pass { IsPassOf ingester.now pass.new }
+    ensures goes { StreamGoes CallGives tenant.now pass.old asked result pass.new }
+{
+    let Asked { pairs, want } = asked;
+    let key = match key_of(alloc, tenant, pairs) {
+        Ok(key) => key,
+        Err(LabelFault::Memory) => return Err(Failure::OutOfMemory),
+        Err(fault) => return Ok(Came::Refused(fault)),
+    };
+    match ingester.call(rt, alloc, pass, want.call(key)) {
+        Ok(reply) => Ok(Came::Replied(reply)),
+        Err(fault) => Err(failure_of(fault)),
+    }
+}

@@ -1,0 +1,12 @@
+ghost use Rattle.std.specs.Prelude.{◌<◌, ◌^◌, ℕ};
+
+/// What tells the time of each request.
+pub trait Clock {
+    /// From the clock, the time that it tells, to the clock afterwards.
+    ghost ticks: { Self → ℕ → Self → Type 0 };
+
+    /// The time in nanoseconds: below 2^63.
+    fn now(&mut self) -> u64
+        ensures ticks { ticks self.old result self.new }
+        ensures range { result < 2 ^ 63 };
+}

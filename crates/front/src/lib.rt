@@ -1,0 +1,20 @@
+//! HTTP/1.1 over an ingester: from the bytes of a connection to calls, and from their replies to bytes.
+#![tactic(auto)]
+
+mod calling;
+mod clock;
+mod laws;
+mod lines;
+mod replies;
+mod responding;
+mod serving;
+
+pub use clock::Clock;
+pub use laws::one_step_a_call;
+pub use replies::read_answer;
+pub use requests::{Answer, Route, ServeFault, Served};
+pub use responding::answer;
+pub use serving::serve;
+
+#[cfg(test)]
+mod tests;

@@ -1,0 +1,270 @@
+//! The answer to a request behind its head: its body, its calls in body order, status and body of its answer.
+ghost use Rattle.std.specs.Prelude.{◌≡◌, ◌<◌, ◌≤◌, ◌^◌, All, IfOk, map, sum_by, length};
+ghost use Rattle.accept.specs.Streams.{AreTimes};
+ghost use Rattle.ingester.specs.Calls.{IsPassOf};
+ghost use Rattle.requests.specs.Answers.{failure_body};
+ghost use Rattle.front.specs.Asking.{IsLawful, asked_push};
+ghost use Rattle.front.specs.Calls.{CallGives};
+ghost use Rattle.front.specs.Parts.{Refuses, OneGoes, PushGoes, NextGoes};
+ghost use Rattle.front.specs.Responses.{Answers, Responds, bad_time_text};
+ghost use Rattle.front.specs.Showing.{Shows};
+ghost use Rattle.front.specs.declared.responding.Halt.TheVariants.{Failed, GivenUp};
+
+use crate::calling::{Asked, Want, take_stream};
+use crate::lines::{PushLines, push_number};
+use crate::replies::{answer_one, answer_text};
+use disk::Disk;
+use history::Pass;
+use ingester::Ingester;
+use labels::Tenant;
+use pushjson::{PushFault, RawBatch, read_push, read_query, read_trim};
+use requests::{Answer, Failure, Route, ServeFault};
+use std::alloc::{AllocError, Global};
+use std::sync::Wait;
+
+/// Why a request has no answer of its own.
+#[derive(Clone, Copy, Debug)]
+pub(crate) enum Halt {
+    /// Its calls ended at a failure, which is answered by a status 500.
+    Failed(Failure),
+    /// There was no memory for its answer.
+    GivenUp,
+}
+
+impl From<Failure> for Halt {
+    ghost from_gives = { λ failure halt. halt ≡ Failed failure };
+
+    fn from(failure: Failure) -> Halt {
+        Halt::Failed(failure)
+    }
+}
+
+impl From<AllocError> for Halt {
+    ghost from_gives = { λ _ halt. halt ≡ GivenUp };
+
+    fn from(_refused: AllocError) -> Halt {
+        Halt::GivenUp
+    }
+}
+
+fn answer_bad_time(alloc: Global, stream: usize, entry: usize) -> Result<Answer, AllocError>
+    ensures { IfOk result (λ answer. Shows 400 (bad_time_text stream entry) answer) }
+{
+    let mut body = Vec::new(alloc);
+    body.extend_from_slice(b"bad time at stream ")?;
+    push_number(&mut body, stream as u64)?;
+    body.extend_from_slice(b" entry ")?;
+    push_number(&mut body, entry as u64)?;
+    Ok(Answer { status: 400, body })
+}
+
+/// The answer to a body that is refused at its form.
+fn refuse(alloc: Global, fault: PushFault) -> Result<Answer, Halt>
+    ensures { Refuses fault result }
+{
+    let answer = match fault {
+        PushFault::NotJson => answer_text(alloc, 400, b"body is not JSON"),
+        PushFault::WrongShape => answer_text(alloc, 400, b"wrong shape"),
+        PushFault::BadTime { stream, entry } => answer_bad_time(alloc, stream, entry),
+        PushFault::TooManyEntries => answer_text(alloc, 400, b"more than 10000 entries"),
+        PushFault::Memory => return Err(Halt::Failed(Failure::OutOfMemory)),
+    };
+    Ok(answer?)
+}
+
+/// Makes the call of the next stream of a push, and takes in what came of it.
+fn take_next<D: Disk + Drop, R: Wait>(
+    rt: &R,
+    alloc: Global,
+    ingester: &Ingester<D>,
+    pass: &mut Pass,
+    tenant: &Tenant,
+    asked: Asked,
+    stream: usize,
+    lines: &mut PushLines,
+) -> Result<(), Halt>
+    requires pass { IsPassOf ingester.now pass.old }
+    requires lawful { IsLawful asked.want }
+    ensures pass { IsPassOf ingester.now pass.new }
+    ensures goes { NextGoes CallGives tenant.now pass.old asked stream lines.old result pass.new lines.new }
+{
+    let came = take_stream(rt, alloc, ingester, pass, tenant, asked)?;
+    lines.note(stream, &came)?;
+    Ok(())
+}
+
+/// Makes the call of each stream of a push, in body order.
+fn push_streams<D: Disk + Drop, R: Wait>(
+    rt: &R,
+    alloc: Global,
+    ingester: &Ingester<D>,
+    pass: &mut Pass,
+    tenant: &Tenant,
+    now: u64,
+    batches: Vec<RawBatch>,
+) -> Result<Answer, Halt>
+    requires pass { IsPassOf ingester.now pass.old }
+    requires lawful { All (λ b. IsLawful (asked_push now b).want) batches.items }
+    ensures pass { IsPassOf ingester.now pass.new }
+    ensures goes { PushGoes CallGives tenant.now pass.old (map (asked_push now) batches.items) result pass.new }
+{
+    let mut lines = PushLines::new(alloc);
+    let mut stream = 0;
+    for RawBatch { pairs, entries } in batches {
+        let want = Want::Push { now, entries };
+        let asked = Asked { pairs, want };
+        take_next(rt, alloc, ingester, pass, tenant, asked, stream, &mut lines)?;
+        stream += 1;
+    }
+    Ok(lines.into_answer())
+}
+
+/// Makes the call of the one stream of a read or a trim.
+fn take_one<D: Disk + Drop, R: Wait>(
+    rt: &R,
+    alloc: Global,
+    ingester: &Ingester<D>,
+    pass: &mut Pass,
+    tenant: &Tenant,
+    asked: Asked,
+) -> Result<Answer, Halt>
+    requires pass { IsPassOf ingester.now pass.old }
+    requires lawful { IsLawful asked.want }
+    ensures pass { IsPassOf ingester.now pass.new }
+    ensures goes { OneGoes CallGives tenant.now pass.old asked result pass.new }
+{
+    let came = take_stream(rt, alloc, ingester, pass, tenant, asked)?;
+    Ok(answer_one(alloc, came)?)
+}
+
+fn push<D: Disk + Drop, R: Wait>(
+    rt: &R,
+    alloc: Global,
+    ingester: &Ingester<D>,
+    pass: &mut Pass,
+    now: u64,
+    tenant: &Tenant,
+    body: &[u8],
+) -> Result<Answer, Halt>
+    requires pass { IsPassOf ingester.now pass.old }
+    requires clock { now < 2 ^ 63 }
+    ensures pass { IsPassOf ingester.now pass.new }
+    ensures responds { Responds CallGives Route.Push now tenant.now body.now pass.old result pass.new }
+{
+    match read_push(alloc, body) {
+        Ok(batches) => push_streams(rt, alloc, ingester, pass, tenant, now, batches),
+        Err(fault) => refuse(alloc, fault),
+    }
+}
+
+fn read<D: Disk + Drop, R: Wait>(
+    rt: &R,
+    alloc: Global,
+    ingester: &Ingester<D>,
+    pass: &mut Pass,
+    now: u64,
+    tenant: &Tenant,
+    body: &[u8],
+) -> Result<Answer, Halt>
+    requires pass { IsPassOf ingester.now pass.old }
+    ensures pass { IsPassOf ingester.now pass.new }
+    ensures responds { Responds CallGives Route.Read now tenant.now body.now pass.old result pass.new }
+{
+    match read_query(alloc, body) {
+        Ok(query) => {
+            let want = Want::Read {
+                from: query.from,
+                to: query.to,
+            };
+            let pairs = query.pairs;
+            take_one(rt, alloc, ingester, pass, tenant, Asked { pairs, want })
+        }
+        Err(fault) => refuse(alloc, fault),
+    }
+}
+
+fn trim<D: Disk + Drop, R: Wait>(
+    rt: &R,
+    alloc: Global,
+    ingester: &Ingester<D>,
+    pass: &mut Pass,
+    now: u64,
+    tenant: &Tenant,
+    body: &[u8],
+) -> Result<Answer, Halt>
+    requires pass { IsPassOf ingester.now pass.old }
+    ensures pass { IsPassOf ingester.now pass.new }
+    ensures responds { Responds CallGives Route.Trim now tenant.now body.now pass.old result pass.new }
+{
+    match read_trim(alloc, body) {
+        Ok(trim) => {
+            let want = Want::Trim { bound: trim.bound };
+            let pairs = trim.pairs;
+            take_one(rt, alloc, ingester, pass, tenant, Asked { pairs, want })
+        }
+        Err(fault) => refuse(alloc, fault),
+    }
+}
+
+/// The answer of a request, unless it failed.
+pub(crate) fn respond<D: Disk + Drop, R: Wait>(
+    rt: &R,
+    alloc: Global,
+    ingester: &Ingester<D>,
+    pass: &mut Pass,
+    now: u64,
+    route: Route,
+    tenant: &Tenant,
+    body: &[u8],
+) -> Result<Answer, Halt>
+    requires pass { IsPassOf ingester.now pass.old }
+    requires clock { now < 2 ^ 63 }
+    ensures pass { IsPassOf ingester.now pass.new }
+    ensures responds { Responds CallGives route now tenant.now body.now pass.old result pass.new }
+{
+    match route {
+        Route::Push => push(rt, alloc, ingester, pass, now, tenant, body),
+        Route::Read => read(rt, alloc, ingester, pass, now, tenant, body),
+        Route::Trim => trim(rt, alloc, ingester, pass, now, tenant, body),
+    }
+}
+
+fn failure_body(failure: Failure) -> &'static [u8]
+    ensures { result.now ≡ failure_body failure }
+{
+    match failure {
+        Failure::OutOfMemory => b"out of memory",
+        Failure::PassClosed => b"pass closed",
+        Failure::InDoubt => b"call in doubt",
+        Failure::LogSpent => b"log spent",
+    }
+}
+
+/// Makes the calls that a request asks for, in the order of its body, and gives status and body of its
+/// answer. A refused stream does not stop the rest of a push. `now` is the clock in nanoseconds, below
+/// 2^63. Behind an answer of status 500 no further call was made; calls made before stand.
+///
+/// # Errors
+///
+/// `Memory`, where there was none for the answer. Calls made before stand.
+pub fn answer<D: Disk + Drop, R: Wait>(
+    rt: &R,
+    alloc: Global,
+    ingester: &Ingester<D>,
+    pass: &mut Pass,
+    now: u64,
+    route: Route,
+    tenant: &Tenant,
+    body: &[u8],
+) -> Result<Answer, ServeFault>
+    requires pass { IsPassOf ingester.now pass.old }
+    requires clock { now < 2 ^ 63 }
+    ensures pass { IsPassOf ingester.now pass.new }
+    ensures answers { Answers CallGives route now tenant.now body.now pass.old result pass.new }
+{
+    match respond(rt, alloc, ingester, pass, now, route, tenant, body) {
+        Ok(answer) => Ok(answer),
+        Err(Halt::Failed(failure)) => Ok(answer_text(alloc, 500, failure_body(failure))?),
+        Err(Halt::GivenUp) => Err(ServeFault::Memory),
+    }
+}

@@ -1,0 +1,111 @@
+use Rattle.std.proofs.Common.{rules, ◌≡◌, ◌+◌, ◌<◌, ◌≤◌, ◌++◌, [], ◌∷◌, length, map, refl, ap, sym, ◌∙◌, subst, arith, vec_len}
+use Rattle.std.specs.VecDeque.{deque_len, deque_capacity}
+use Rattle.wal.specs.Opening.{disks}
+use Rattle.ingester.specs.Makings.{AreMade, AreThere, logs_in}
+use Rattle.ingester.proofs.Grounding.{partly_none, partly_more, partly_all, partly_back, made_there, ground_popped, none_left}
+use Rattle.ingester.proofs.locking.make_shards.Goals as goal
+
+pub loop-log-init : goal.loop-log-init
+loop-log-init g c = record {
+  ground = c.requires.ground;
+  images = c.requires.lens.0;
+  books = c.requires.lens.1;
+  partly = partly_none c.args.shards.items c.args.logs.items c.args.books.items c.requires.shards.0;
+  slots = refl;
+  made = let none = c.requires.shards.1 in omega arith;
+  room = c.requires.shards.2;
+}
+
+pub make_one-requires-clause-ground : goal.make_one-requires-clause-ground
+make_one-requires-clause-ground g c =
+    let inv = c.loop-log.invariant in
+    let logs = c.in-Some.ensures.len in
+    let images = c.in-Some-pop.ensures.len in
+    let books = c.in-Some-pop-2.ensures.len in
+    let images_as = inv.images in
+    let books_as = inv.books in
+    (ground_popped g.D.Disk.sight g.D.Disk.follows c.args.limits _ c.pop.new.self.items _ c.pop-in-Some.new.self.items _ c.pop-in-Some-2.new.self.items c.in-Some.log c.in-Some-pop.image c.in-Some-pop-2.book inv.ground
+    c.in-Some.ensures.items c.in-Some-pop.ensures.items c.in-Some-pop-2.ensures.items (omega arith) (omega arith)).0
+
+pub return_shards-requires : goal.return_shards-requires
+return_shards-requires g c =
+    let inv = c.loop-log.invariant in
+    let same = c.in-Err.ensures.err.1 in
+    let made = inv.made in
+    let room = c.requires.slots in
+    let len : vec_len c.into_vec.result ≡ deque_len c.loop-log.shards = c.into_vec.ensures.len ∙ ap (λ d. deque_len d) same in
+    let slots : deque_len c.loop-log.slots ≡ deque_len c.args.slots.now = ap (λ d. deque_len d) inv.slots in
+    let capacity : deque_capacity c.loop-log.slots ≡ deque_capacity c.args.slots.now = ap (λ d. deque_capacity d) inv.slots in
+    (search rules, (omega arith, subst AreThere (sym (c.into_vec.ensures.items ∙ ap (λ d. d.items) same)) (made_there _ _ _ inv.partly.made).0))
+
+pub put_front-requires : goal.put_front-requires
+put_front-requires g c =
+    let inv = c.loop-log.invariant in
+    let same = c.in-Err.ensures.err.1 in
+    let made = inv.made in
+    let room = c.requires.slots in
+    let popped = c.in-Some.ensures.len in
+    let len : vec_len c.into_vec.result ≡ deque_len c.loop-log.shards = c.into_vec.ensures.len ∙ ap (λ d. deque_len d) same in
+    let slots : deque_len c.loop-log.slots ≡ deque_len c.args.slots.now = ap (λ d. deque_len d) inv.slots in
+    let capacity : deque_capacity c.loop-log.slots ≡ deque_capacity c.args.slots.now = ap (λ d. deque_capacity d) inv.slots in
+    let now = c.return_shards.ensures.len in
+    let now_capacity = c.return_shards.ensures.capacity in
+    omega arith
+
+pub give_back-requires : goal.give_back-requires
+give_back-requires g c =
+    let inv = c.loop-log.invariant in
+    let same = c.in-Err.ensures.err.1 in
+    let made = inv.made in
+    let room = c.requires.slots in
+    let popped = c.in-Some.ensures.len in
+    let len : vec_len c.into_vec.result ≡ deque_len c.loop-log.shards = c.into_vec.ensures.len ∙ ap (λ d. deque_len d) same in
+    let slots : deque_len c.loop-log.slots ≡ deque_len c.args.slots.now = ap (λ d. deque_len d) inv.slots in
+    let capacity : deque_capacity c.loop-log.slots ≡ deque_capacity c.args.slots.now = ap (λ d. deque_capacity d) inv.slots in
+    let now = c.return_shards.ensures.len in
+    let now_capacity = c.return_shards.ensures.capacity in
+    let front = c.put_front.ensures.len in
+    let front_capacity = c.put_front.ensures.capacity in
+    (search rules, omega arith)
+
+pub returns-in-Err-clause-unmade : goal.returns-in-Err-clause-unmade
+returns-in-Err-clause-unmade g c =
+    let inv = c.loop-log.invariant in
+    let err = c.in-Err.ensures.err in
+    let shards = c.into_vec.ensures.items ∙ ap (λ d. d.items) err.1 in
+    let slots = ap (λ d. d.items) inv.slots in
+    partly_back c.loop-log.shards.items c.loop-log.logs.items c.pop.new.self.items c.args.logs.items c.loop-log.books.items c.args.books.items c.in-Some.log c.in-Err.log c.args.slots.now.items _ _ _ inv.partly c.in-Some.ensures.items err.0
+    (c.return_shards.ensures.items ∙ (λ i. map disks (logs_in (shards i)) ++ slots i)) (c.put_front.ensures.items ∙ ap (λ s. s ∷ c.return_shards.new.slots.items) c.into_slots.ensures) c.give_back.ensures.items
+
+pub loop-log-preserved : goal.loop-log-preserved
+loop-log-preserved g c =
+    let inv = c.loop-log.invariant in
+    let logs = c.in-Some.ensures.len in
+    let images = c.in-Some-pop.ensures.len in
+    let books = c.in-Some-pop-2.ensures.len in
+    let images_as = inv.images in
+    let books_as = inv.books in
+    let made = inv.made in
+    let did = c.in_default-make_one.ensures in
+    let more = did.len in
+    record {
+      ground = (ground_popped g.D.Disk.sight g.D.Disk.follows c.args.limits _ c.pop.new.self.items _ c.pop-in-Some.new.self.items _ c.pop-in-Some-2.new.self.items c.in-Some.log c.in-Some-pop.image c.in-Some-pop-2.book inv.ground
+          c.in-Some.ensures.items c.in-Some-pop.ensures.items c.in-Some-pop-2.ensures.items (omega arith) (omega arith)).1;
+      images = omega arith;
+      books = omega arith;
+      partly = partly_more c.loop-log.shards.items c.make_one.new.shards.items c.loop-log.logs.items c.pop.new.self.items c.args.logs.items c.loop-log.books.items c.pop-in-Some-2.new.self.items c.args.books.items c.in-Some.log c.in-Some-pop-2.book
+          inv.partly c.in-Some.ensures.items c.in-Some-pop-2.ensures.items did.made;
+      slots = inv.slots;
+      made = omega arith;
+      room = subst (λ n. vec_len c.args.logs ≤ n) (sym did.capacity) inv.room;
+    }
+
+pub returns-clause-made : goal.returns-clause-made
+returns-clause-made g c =
+    let inv = c.loop-log.invariant in
+    let none = c.in_default.ensures.cases.0 in
+    let books_as = inv.books in
+    let no_logs : length c.loop-log.logs.items ≡ 0 = omega arith in
+    let no_books : length c.loop-log.books.items ≡ 0 = omega arith in
+    subst (λ s. AreMade s c.args.logs.items c.args.books.items) (sym c.into_vec-2.ensures.items)
+    (partly_all c.loop-log.shards.items c.loop-log.logs.items c.args.logs.items c.loop-log.books.items c.args.books.items inv.partly (none_left _ no_logs) (none_left _ no_books))

@@ -1,0 +1,16 @@
+use Rattle.ingester.proofs.Keeping.{still_of, receipted, given_back}
+use Rattle.ingester.proofs.opened.Ingester.apply.Goals as goal
+
+pub give-requires-clause-value : goal.give-requires-clause-value
+give-requires-clause-value g c =
+    let did = c.apply-applied.ensures in
+    still_of g.D.Disk.sight _ _ c.args.shard _ _ _ c.args.ticket _ c.take-state.ensures.value c.take-state.ensures.grip.lock did.step did.err did.opened
+
+pub returns-clause-step : goal.returns-clause-step
+returns-clause-step g c = (receipted _ _ c.args.ticket _ c.apply-applied.ensures.receipt).0
+
+pub returns-clause-table : goal.returns-clause-table
+returns-clause-table g c = (receipted _ _ c.args.ticket _ c.apply-applied.ensures.receipt).1
+
+pub returns-clause-refused : goal.returns-clause-refused
+returns-clause-refused g c = given_back c.take-state.result.0 c.apply-applied.new.self c.args.ticket _ c.apply-applied.ensures.err

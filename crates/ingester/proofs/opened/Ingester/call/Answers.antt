@@ -1,0 +1,12 @@
+use Rattle.std.proofs.Common.{◌<◌, sym, ap, ◌∙◌, subst}
+use Rattle.labels.specs.Shards.{shard}
+use Rattle.ingester.proofs.Routing.{routed}
+use Rattle.ingester.proofs.opened.Ingester.call.Goals as goal
+
+pub apply-requires-clause-shard : goal.apply-requires-clause-shard
+apply-requires-clause-shard g c =
+    let shards = ap (λ o. o.about.shards) (sym c.self.view_is) ∙ c.self.invariant.0.shards in (
+      routed c.args.self.now.about c.in_ok-ticket.ticket.ask c.args.call c.self.inside.count c.shard_of-shard.result (ap (λ t. t.ask.call) c.in_ok-ticket.ensures.ticket) shards
+          (c.shard_of-shard.ensures.shard ∙ ap (λ k. shard k c.self.inside.count) c.key.ensures),
+      subst (λ n. c.shard_of-shard.result < n) (sym shards) c.shard_of-shard.ensures.within,
+    )

@@ -1,0 +1,48 @@
+-- What a call, a look and a meeting leave of what passes know.
+use Rattle.std.specs.Prelude.{◌≡◌, ◌≢◌, ℕ, ◌+◌, ◌≤◌, None}
+use Rattle.atomic_table.specs.Seated.{TableId}
+use Rattle.accept.specs.declared.call.Call.{Call}
+use Rattle.accept.specs.declared.call.Reply.{Reply}
+use Rattle.accept.specs.declared.history.Step.{Step}
+use Rattle.history.specs.declared.views.About.{About}
+use Rattle.history.specs.declared.views.Caller.{Caller}
+use Rattle.history.specs.Histories.{IsLegalAt, shard_in, step_of}
+use Rattle.history.specs.Plays.{seen_at, ask_of, announce_to, collect_to, Extends}
+use Rattle.history.specs.Handles.{Passed}
+use Rattle.ingester.specs.Openings.{Opening}
+
+-- the pass is of this opening, and waits for no answer
+pub record IsPassOf {D : Type 0} (opening : Opening D) (pass : Passed) : Type 0 where
+  pub table : pass.table ≡ opening.table
+  pub about : pass.caller.about ≡ opening.about
+  pub idle : pass.caller.pending ≡ None
+
+-- the step of the next call of a pass
+abbrev pub next_step : Caller → Call → Reply → Step
+next_step c call reply = step_of (ask_of c (c.last + 1) call) reply
+
+-- the shard of the next call of a pass
+abbrev pub shard_for : Caller → Call → ℕ
+shard_for c call = shard_in c.about (ask_of c (c.last + 1) call)
+
+-- The call is answered. Of its shard the pass has seen what it had seen, items of others, and the call's step. Nothing else has changed.
+pub record IsAnswered (old new : Passed) (call : Call) (reply : Reply) : Type 0 where
+  pub pass : new ≡ record old { caller = collect_to (announce_to old.caller (old.caller.last + 1) call) (next_step old.caller call reply) (seen_at new.caller (shard_for old.caller call)) }
+  pub extends : Extends old.caller.pass (seen_at old.caller (shard_for old.caller call)) (next_step old.caller call reply) (seen_at new.caller (shard_for old.caller call))
+  pub legal : IsLegalAt old.caller.about (shard_for old.caller call) (seen_at new.caller (shard_for old.caller call))
+  pub others : (k : ℕ) → k ≢ shard_for old.caller call → seen_at new.caller k ≡ seen_at old.caller k
+
+-- The call has no step. What the pass has seen and made is as it was, and a number that it used is not used again.
+pub record IsRefused (old new : Passed) : Type 0 where
+  pub pass : new ≡ record old {
+    caller = record {
+      about = old.caller.about;
+      pass = old.caller.pass;
+      last = new.caller.last;
+      seen = old.caller.seen;
+      made = old.caller.made;
+      withdrawn = new.caller.withdrawn;
+      pending = None;
+    };
+  }
+  pub rises : old.caller.last ≤ new.caller.last

@@ -1,0 +1,28 @@
+-- What an ingester is, and the passes of its opening.
+use Rattle.std.specs.Prelude.{◌≡◌, ℕ, ◌≤◌, List, Some, length, slice_get}
+use Rattle.atomic_table.specs.Seated.{TableId}
+use Rattle.wal.specs.declared.log.Wal.{Wal}
+use Rattle.history.specs.declared.views.About.{About}
+use Rattle.history.specs.Handles.{Booked, Passed, fresh_pass}
+
+-- an ingester as contracts see it: the table of its histories, what was opened, and each shard's log as it was then
+pub record Opening (D : Type 0) : Type 0 where
+  pub table : TableId
+  pub about : About
+  pub logs : List (Wal D)
+
+abbrev pub opening_of : {D : Type 0} → Booked → List (Wal D) → Opening D
+opening_of first logs = record { table = first.table; about = first.about; logs = logs }
+
+-- so many shards and locks, with histories in this table
+pub record IsOpening (table : TableId) (first : Booked) (count locks : ℕ) : Type 0 where
+  pub same_table : first.table ≡ table
+  pub shards : first.about.shards ≡ count
+  pub locked : locks ≡ count
+  pub some_shard : 1 ≤ count
+  pub few : count ≤ 64
+
+-- so many passes of the opening, in the order of their numbers, which have seen and made nothing
+pub record AreFresh {D : Type 0} (opening : Opening D) (count : ℕ) (passes : List Passed) : Type 0 where
+  pub count_is : length passes ≡ count
+  pub fresh : (p : ℕ) (pass : Passed) → slice_get passes p ≡ Some pass → pass ≡ fresh_pass opening.table opening.about p

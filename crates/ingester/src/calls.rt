@@ -1,0 +1,105 @@
+//! Calls, looks and meetings.
+ghost use Rattle.std.specs.Prelude.{◌≡◌, ◌≢◌, ◌↔◌, ◌<◌, ℕ, true, false, length, IfOk, IfErr, OnErr};
+ghost use Rattle.std.specs.Result.{IsErrOf};
+ghost use Rattle.accept.specs.Steps.{AreNumbers};
+ghost use Rattle.history.specs.Histories.{Begins, IsLegalAt, shard_in, step_of};
+ghost use Rattle.history.specs.Plays.{seen_at, look_to, HasStepsOf};
+ghost use Rattle.history.specs.Handles.{is_closed, with_seen, HaveMet};
+ghost use Rattle.streams.specs.Changes.{HasFewEntries};
+ghost use Rattle.ingester.specs.Calls.{IsPassOf, IsAnswered, IsRefused};
+ghost use Rattle.ingester.specs.declared.fault.CallFault.TheVariants as faults;
+
+use crate::fault::CallFault;
+use crate::opened::Ingester;
+use accept::{Call, Reply};
+use disk::Disk;
+use history::{Pass, Receipt, Ticket};
+use labels::shard_of;
+use shard::ApplyFault;
+use std::alloc::Global;
+use std::sync::Wait;
+
+impl<D: Disk + Drop> Ingester<D> {
+    /// Makes a call. It waits for the lock of the shard of its key alone.
+    ///
+    /// # Errors
+    ///
+    /// `Memory`; `PassClosed` exactly for a pass that is closed; `LogSpent`. Then the call has no step.
+    pub fn call<R: Wait>(
+        &self,
+        rt: &R,
+        alloc: Global,
+        pass: &mut Pass,
+        call: Call,
+    ) -> Result<Reply, CallFault>
+        requires pass { IsPassOf self.now pass.old }
+        requires numbers { AreNumbers call }
+        requires few { HasFewEntries call }
+        ensures pass { IsPassOf self.now pass.new }
+        ensures answered { IfOk result (λ reply. IsAnswered pass.old pass.new call reply) }
+        ensures refused { OnErr result (IsRefused pass.old pass.new) }
+        ensures closed { IsErrOf result faults.PassClosed ↔ (is_closed pass.old ≡ true) }
+    {
+        let shard = shard_of(call.key(), self.count) as usize;
+        let ticket = self.history.announce(pass, &call)?;
+        match self.apply(rt, alloc, shard, ticket, &call) {
+            Ok((reply, receipt)) => {
+                self.history.collect(pass, receipt);
+                Ok(reply)
+            }
+            Err((fault, ticket)) => {
+                self.history.withdraw(pass, ticket);
+                Err(CallFault::from(fault))
+            }
+        }
+    }
+
+    // Applies an announced call to its shard, under the shard's lock.
+    fn apply<R: Wait>(
+        &self,
+        rt: &R,
+        alloc: Global,
+        shard: usize,
+        ticket: Ticket,
+        call: &Call,
+    ) -> Result<(Reply, Receipt), (ApplyFault, Ticket)>
+        requires table { ticket.table ≡ self.now.table }
+        requires shard { (shard_in self.now.about ticket.ask ≡ shard) × (shard < self.now.about.shards) }
+        requires call { ticket.ask.call ≡ call.now }
+        requires numbers { AreNumbers call.now }
+        requires few { HasFewEntries call.now }
+        ensures step { IfOk result (λ it. it.1.step ≡ step_of ticket.ask it.0) }
+        ensures table { IfOk result (λ it. it.1.table ≡ ticket.table) }
+        ensures refused { IfErr result (λ e. e.1 ≡ ticket) }
+    {
+        let (mut state, grip) = self.shards.take(rt, shard);
+        let applied = state.apply(alloc, ticket, call);
+        self.shards.give(state, grip);
+        applied
+    }
+
+    /// Sees the history of a shard as it is, and answers its length, a failure mark included. It waits for no lock.
+    pub fn look(&self, pass: &mut Pass, shard: u32) -> u64
+        requires pass { IsPassOf self.now pass.old }
+        requires shard { shard < self.now.about.shards }
+        ensures pass { IsPassOf self.now pass.new × (pass.new ≡ record pass.old { caller = look_to pass.old.caller shard (seen_at pass.new.caller shard) }) }
+        ensures others { (k : ℕ) → k ≢ shard → seen_at pass.new.caller k ≡ seen_at pass.old.caller k }
+        ensures begins { Begins (seen_at pass.old.caller shard) (seen_at pass.new.caller shard) }
+        ensures legal { IsLegalAt pass.old.caller.about shard (seen_at pass.new.caller shard) }
+        ensures length { result ≡ length (seen_at pass.new.caller shard) }
+        ensures steps { HasStepsOf pass.old.caller shard (seen_at pass.new.caller shard) }
+    {
+        self.history.observe(pass, shard as usize)
+    }
+
+    /// Two passes see the histories of all shards together: both then hold one and the same history of each. It waits for no lock.
+    pub fn meet(&self, one: &mut Pass, two: &mut Pass)
+        requires one { IsPassOf self.now one.old }
+        requires two { IsPassOf self.now two.old }
+        ensures one { IsPassOf self.now one.new × (one.new ≡ record one.old { caller = with_seen one.old.caller one.new.caller.seen }) }
+        ensures two { IsPassOf self.now two.new × (two.new ≡ record two.old { caller = with_seen two.old.caller two.new.caller.seen }) }
+        ensures met { HaveMet one.old.caller two.old.caller self.now.about.shards one.new.caller.seen two.new.caller.seen }
+    {
+        self.history.meet(one, two);
+    }
+}

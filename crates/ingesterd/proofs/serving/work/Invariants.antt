@@ -1,0 +1,8 @@
+use Rattle.std.proofs.Common.{◌≡◌}
+use Rattle.ingester.specs.Calls.{IsPassOf}
+use Rattle.ingesterd.proofs.serving.work.Given as goal
+
+abbrev pub invariant-loop-stream : goal.invariant-loop-stream
+invariant-loop-stream g l =
+    (goal.iterator-loop-stream g).can_next l.stream-iterator ×
+    (goal.iterator-loop-stream g).is_finite l.stream-iterator × IsPassOf l.ingester l.pass

@@ -1,0 +1,40 @@
+//! Bodies that programs read, and answers that they write.
+
+use crate::stopped::Stopped;
+use front::Answer;
+use std::alloc::Global;
+use std::io::{ErrorKind, Read, Write};
+
+/// The greatest length of a body, in bytes.
+const MAX_BODY: u64 = 4_194_304;
+
+/// The whole input, where it is no longer than a body may be.
+pub fn read_body<I: Read>(alloc: Global, input: &mut I) -> Result<Vec<u8>, Stopped> {
+    let mut body = Vec::new(alloc);
+    if let Err(error) = input.take(MAX_BODY + 1).read_to_end(&mut body) {
+        return Err(match error.kind() {
+            ErrorKind::OutOfMemory => Stopped::Memory,
+            _ => Stopped::Body,
+        });
+    }
+    if body.len() as u64 > MAX_BODY {
+        return Err(Stopped::Body);
+    }
+    Ok(body)
+}
+
+/// Writes all of these bytes.
+pub fn write_bytes<W: Write>(output: &mut W, bytes: &[u8]) -> Result<(), Stopped> {
+    output.write_all(bytes).map_err(|_| Stopped::Output)
+}
+
+/// Writes an answer's status, a newline and its body.
+pub fn write_answer<W: Write>(
+    alloc: Global,
+    output: &mut W,
+    answer: &Answer,
+) -> Result<(), Stopped> {
+    let status = answer.status;
+    write_bytes(output, format!(in alloc; "{status}\n")?.as_bytes())?;
+    write_bytes(output, answer.body.as_slice())
+}

@@ -1,0 +1,85 @@
+//! The program `ingestctl`: one request on the slots of a folder.
+ghost use Rattle.std.specs.Prelude.{◌≡◌, ◌↔◌, ◌≤◌, IfOk};
+ghost use Rattle.ingesterd.specs.Words.{GiveCall};
+
+use crate::body::{read_body, write_answer};
+use crate::opening::open_for_one;
+use crate::slots::open_slots;
+use crate::stopped::Stopped;
+use crate::words::{CallWords, call_in};
+use front::{Answer, answer};
+use std::alloc::Global;
+use std::fs::{File, Files};
+use std::io::{Read, Write};
+use std::sync::Wait;
+
+/// Runs `ingestctl push|read|trim DIR SHARDS TENANT NOW` on the body that is read from `input`, and gives its exit status.
+///
+/// The slots of DIR are opened, which no server may have open meanwhile; the answer's status, a newline and its body are
+/// written. Status 0: answered 200 or 204. 1: answered otherwise, or a fault while running. 2: wrong words. 3: a refused
+/// opening. A fault stands on one line of `errors`.
+pub fn run_ctl<R: Files<File = File> + Wait, I: Read, W: Write, E: Write>(
+    rt: &R,
+    alloc: Global,
+    words: &[String],
+    input: &mut I,
+    output: &mut W,
+    errors: &mut E,
+) -> u8
+    ensures status { result ≤ 3 }
+    ensures usage { (result ≡ 2) ↔ (¬ GiveCall words.now) }
+{
+    let Some(words) = call_in(alloc, words) else {
+        let _ = writeln!(
+            errors,
+            "usage: ingestctl push|read|trim DIR SHARDS TENANT NOW"
+        );
+        return 2;
+    };
+    match call_and_print(rt, alloc, words, input, output) {
+        Ok(status) => status,
+        Err(stopped) => {
+            let _ = writeln!(errors, "{stopped}");
+            stopped.status()
+        }
+    }
+}
+
+// The exit status of an answer that was written.
+fn call_and_print<R: Files<File = File> + Wait, I: Read, W: Write>(
+    rt: &R,
+    alloc: Global,
+    words: CallWords<'_>,
+    input: &mut I,
+    output: &mut W,
+) -> Result<u8, Stopped>
+    ensures { IfOk result (λ status. status ≤ 1) }
+{
+    let answer = call_folder(rt, alloc, words, input)?;
+    write_answer(alloc, output, &answer)?;
+    match answer.status {
+        200 | 204 => Ok(0),
+        _ => Ok(1),
+    }
+}
+
+// Opens the slots of the folder, and makes the calls of the body.
+fn call_folder<R: Files<File = File> + Wait, I: Read>(
+    rt: &R,
+    alloc: Global,
+    words: CallWords<'_>,
+    input: &mut I,
+) -> Result<Answer, Stopped> {
+    let CallWords {
+        route,
+        folder,
+        shards,
+        tenant,
+        now,
+    } = words;
+    let tenant = tenant?;
+    let body = read_body(alloc, input)?;
+    let slots = open_slots(rt, alloc, folder, shards)?;
+    let (ingester, mut pass) = open_for_one(alloc, slots)?;
+    answer(rt, alloc, &ingester, &mut pass, now, route, &tenant, &body).map_err(|_| Stopped::Memory)
+}

@@ -1,0 +1,152 @@
+//! The program `ingest1`: a push body, judged on an empty shard in memory and read back.
+ghost use Rattle.std.specs.Prelude.{◌≡◌, ◌↔◌, ◌<◌, ◌≤◌, ◌^◌, IfOk, vec_len};
+ghost use Rattle.ingester.specs.Calls.{IsPassOf};
+ghost use Rattle.ingesterd.specs.Words.{GiveClock};
+
+use crate::body::{read_body, write_answer, write_bytes};
+use crate::opening::open_for_one;
+use crate::stopped::Stopped;
+use crate::words::clock_in;
+use accept::Call;
+use disk::{Disk, MemDisk};
+use front::{Route, answer, read_answer};
+use history::Pass;
+use ingester::{CallFault, Ingester};
+use labels::{LabelFault, LabelSet, StreamKey, Tenant};
+use pushjson::{PushFault, RawBatch, read_push};
+use std::alloc::Global;
+use std::io::{Read, Write};
+use std::sync::Wait;
+
+/// Whose streams they are.
+const TENANT: &str = "t";
+
+/// Above every time that an entry may have.
+const END_OF_TIME: u64 = 1 << 63;
+
+/// The bytes that a disk has room for: more than the log of any body needs.
+const ROOM: u64 = 8_388_608;
+
+/// The device calls that a disk has room for: more than the log of any body needs.
+const CALLS: u64 = 65_536;
+
+/// Runs `ingest1 NOW` for the tenant `t` on an empty shard in memory, and gives its exit status.
+///
+/// NOW is the clock in nanoseconds, 1 to 19 decimal digits below 2^63. The input is a push body of at most 4,194,304 bytes.
+/// Written are the push's status, a newline and its body, then for each stream with lawful labels, in body order, the body
+/// of a read of all its entries and a newline. A body refused at its form writes status, newline and text, and no more.
+/// Status 0: an answer was written, whatever its own status. 1: a fault while running. 2: wrong words. 3: a refused opening.
+/// A fault stands on one line of `errors`.
+pub fn run_ingest1<R: Wait, I: Read, W: Write, E: Write>(
+    rt: &R,
+    alloc: Global,
+    words: &[String],
+    input: &mut I,
+    output: &mut W,
+    errors: &mut E,
+) -> u8
+    ensures status { result ≤ 3 }
+    ensures usage { (result ≡ 2) ↔ (¬ GiveClock words.now) }
+{
+    let Some(now) = clock_in(words) else {
+        let _ = writeln!(errors, "usage: ingest1 NOW");
+        return 2;
+    };
+    if let Err(stopped) = push_and_read(rt, alloc, now, input, output) {
+        let _ = writeln!(errors, "{stopped}");
+        return stopped.status();
+    }
+    0
+}
+
+fn push_and_read<R: Wait, I: Read, W: Write>(
+    rt: &R,
+    alloc: Global,
+    now: u64,
+    input: &mut I,
+    output: &mut W,
+) -> Result<(), Stopped>
+    requires { now < 2 ^ 63 }
+{
+    let body = read_body(alloc, input)?;
+    let tenant = Tenant::new(alloc, TENANT).map_err(|_| Stopped::Memory)?;
+    let (ingester, mut pass) = open_for_one(alloc, empty_slots(alloc)?)?;
+    let pushed = answer(
+        rt,
+        alloc,
+        &ingester,
+        &mut pass,
+        now,
+        Route::Push,
+        &tenant,
+        &body,
+    )
+    .map_err(|_| Stopped::Memory)?;
+    write_answer(alloc, output, &pushed)?;
+    if pushed.status == 500 {
+        return Ok(());
+    }
+    read_back(rt, alloc, &ingester, &mut pass, &body, output)
+}
+
+// The two empty slots of one shard.
+fn empty_slots(alloc: Global) -> Result<Vec<[MemDisk; 2]>, Stopped>
+    ensures { IfOk result (λ slots. vec_len slots ≡ 1) }
+{
+    let first = MemDisk::new(alloc, ROOM, CALLS, ROOM)?;
+    let second = MemDisk::new(alloc, ROOM, CALLS, ROOM)?;
+    let mut slots = Vec::with_capacity(alloc, 1)?;
+    slots.push_reserved([first, second]);
+    Ok(slots)
+}
+
+// Reads each stream of a body that was pushed, and writes the answers, a line each.
+fn read_back<D: Disk + Drop, R: Wait, W: Write>(
+    rt: &R,
+    alloc: Global,
+    ingester: &Ingester<D>,
+    pass: &mut Pass,
+    body: &[u8],
+    output: &mut W,
+) -> Result<(), Stopped>
+    requires { IsPassOf ingester.now pass.old }
+{
+    let batches = match read_push(alloc, body) {
+        Ok(batches) => batches,
+        Err(PushFault::Memory) => return Err(Stopped::Memory),
+        Err(_) => return Ok(()),
+    };
+    for batch in batches {
+        read_stream(rt, alloc, ingester, pass, batch, output)?;
+    }
+    Ok(())
+}
+
+// Reads all entries of a stream, where its labels are lawful.
+fn read_stream<D: Disk + Drop, R: Wait, W: Write>(
+    rt: &R,
+    alloc: Global,
+    ingester: &Ingester<D>,
+    pass: &mut Pass,
+    batch: RawBatch,
+    output: &mut W,
+) -> Result<(), Stopped>
+    requires { IsPassOf ingester.now pass.old }
+    ensures { IsPassOf ingester.now pass.new }
+{
+    let labels = match LabelSet::new(alloc, batch.pairs) {
+        Ok(labels) => labels,
+        Err(LabelFault::Memory) => return Err(Stopped::Memory),
+        Err(_) => return Ok(()),
+    };
+    let tenant = Tenant::new(alloc, TENANT).map_err(|_| Stopped::Memory)?;
+    let call = Call::Read {
+        key: StreamKey { tenant, labels },
+        from: 0,
+        to: END_OF_TIME,
+    };
+    let reply = ingester.call(rt, alloc, pass, call).map_err(Stopped::from)?;
+    let read = read_answer(alloc, &reply).map_err(|_| Stopped::Memory)?;
+    write_bytes(output, read.body.as_slice())?;
+    write_bytes(output, b"\n")
+}

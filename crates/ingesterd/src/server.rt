@@ -1,0 +1,78 @@
+//! The program `ingesterd`: the server.
+ghost use Rattle.std.specs.Prelude.{◌≡◌, ◌↔◌, ◌≤◌};
+ghost use Rattle.ingesterd.specs.Words.{GiveServer};
+
+use crate::clock::SystemClock;
+use crate::opening::open_shards;
+use crate::serving::serve_listener;
+use crate::slots::open_slots;
+use crate::stopped::Stopped;
+use crate::words::{ServerWords, server_in};
+use std::alloc::Global;
+use std::fs::{File, Files};
+use std::io::Write;
+use std::net::{IpAddr, Ipv4Addr, Net, SocketAddr, TcpListener, TcpStream};
+use std::rt::Clock;
+use std::sync::Wait;
+use std::thread::Threads;
+
+/// Runs `ingesterd DIR PORT SHARDS WORKERS [CONNECTIONS]`, and gives its exit status.
+///
+/// The slots of DIR are opened and replayed, the port of 127.0.0.1 is listened on (0: any that is free), `ready <port>` is
+/// written, and each connection is served by one of WORKERS threads. After CONNECTIONS connections, where given, it ends
+/// with status 0; else it goes on. Status 1: a fault while running. 2: wrong words. 3: a refused opening. A fault stands on
+/// one line of `errors`.
+pub fn run_server<R, W: Write, E: Write>(
+    rt: &R,
+    alloc: Global,
+    words: &[String],
+    output: &mut W,
+    errors: &mut E,
+) -> u8
+where
+    R: Files<File = File> + Net<Listener = TcpListener, Stream = TcpStream>,
+    R: Clock + Threads + Wait + Sync,
+    ensures status { result ≤ 3 }
+    ensures usage { (result ≡ 2) ↔ (¬ GiveServer words.now) }
+{
+    let Some(words) = server_in(words) else {
+        let _ = writeln!(
+            errors,
+            "usage: ingesterd DIR PORT SHARDS WORKERS [CONNECTIONS]"
+        );
+        return 2;
+    };
+    if let Err(stopped) = serve_folder(rt, alloc, words, output) {
+        let _ = writeln!(errors, "{stopped}");
+        return stopped.status();
+    }
+    0
+}
+
+// Opens the folder and the port, and serves.
+fn serve_folder<R, W: Write>(
+    rt: &R,
+    alloc: Global,
+    words: ServerWords<'_>,
+    output: &mut W,
+) -> Result<(), Stopped>
+where
+    R: Files<File = File> + Net<Listener = TcpListener, Stream = TcpStream>,
+    R: Clock + Threads + Wait + Sync,
+{
+    let slots = open_slots(rt, alloc, words.folder, words.shards)?;
+    let (ingester, passes) = open_shards(alloc, slots, words.workers)?;
+    let address = SocketAddr::new(IpAddr::V4(Ipv4Addr::LOCALHOST), words.port);
+    let listener = TcpListener::bind(rt, address).map_err(|_| Stopped::Listen)?;
+    let port = listener.local_addr().map_err(|_| Stopped::Listen)?.port();
+    let mut clocks = Vec::with_capacity(alloc, passes.len())?;
+    for _ in 0..passes.len() {
+        if clocks.push(SystemClock::new(rt)).is_err() {
+            return Err(Stopped::Memory);
+        }
+    }
+    writeln!(output, "ready {port}").map_err(|_| Stopped::Output)?;
+    output.flush().map_err(|_| Stopped::Output)?;
+    let connections = words.connections.unwrap_or(u64::MAX);
+    serve_listener(rt, alloc, &ingester, passes, clocks, &listener, connections)
+}

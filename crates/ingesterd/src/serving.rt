@@ -1,0 +1,170 @@
+//! The server's loop: one acceptor, and workers with a pass each.
+ghost use Rattle.std.specs.Prelude.{◌≡◌, ℕ, Some, slice_get};
+ghost use Rattle.history.specs.Handles.{Passed};
+ghost use Rattle.ingester.specs.Calls.{IsPassOf};
+
+use crate::stopped::Stopped;
+use crossbeam_channel::{Receiver, Sender, bounded};
+use disk::Disk;
+use front::{Clock, serve};
+use history::Pass;
+use ingester::Ingester;
+use std::alloc::Global;
+use std::net::{TcpListener, TcpStream};
+use std::sync::Wait;
+use std::thread::{self, Scope, Threads};
+use std::time::Duration;
+
+/// For how many seconds a connection may send nothing, or take nothing, before it is closed.
+const IDLE_SECONDS: u64 = 60;
+
+/// How many connections may wait for a worker, beside those that wait for the acceptor.
+const WAITING: usize = 64;
+
+// Serves one connection until it ends. Whatever goes wrong with it, the worker takes the next.
+fn serve_stream<D: Disk + Drop, C: Clock, R: Wait>(
+    rt: &R,
+    alloc: Global,
+    ingester: &Ingester<D>,
+    pass: &mut Pass,
+    clock: &mut C,
+    stream: &TcpStream,
+)
+    requires { IsPassOf ingester.now pass.old }
+    ensures { IsPassOf ingester.now pass.new }
+{
+    let idle = Duration::from_secs(IDLE_SECONDS);
+    let _ = stream.set_nodelay(true);
+    let _ = stream.set_read_timeout(Some(idle));
+    let _ = stream.set_write_timeout(Some(idle));
+    let (mut reader, mut writer) = (stream, stream);
+    let _ = serve(rt, alloc, ingester, pass, clock, &mut reader, &mut writer);
+}
+
+// What a worker's thread is given.
+#[derive(Drop)]
+struct Worker<'a, D: Disk, C, R> {
+    rt: &'a R,
+    alloc: Global,
+    ingester: &'a Ingester<D>,
+    pass: Pass,
+    clock: C,
+    streams: Receiver<TcpStream>,
+}
+
+// Serves connections until no more come, or the pass is closed.
+fn work<D: Disk + Drop, C: Clock + Drop, R: Wait>(worker: Worker<D, C, R>)
+    requires { IsPassOf worker.ingester.now worker.pass }
+{
+    let Worker {
+        rt,
+        alloc,
+        ingester,
+        mut pass,
+        mut clock,
+        streams,
+    } = worker;
+    for stream in streams.iter(rt) {
+        serve_stream(rt, alloc, ingester, &mut pass, &mut clock, &stream);
+        if pass.is_closed() {
+            break;
+        }
+    }
+}
+
+// Hands each connection that comes to the workers, so many at most, until no worker is left.
+fn accept<R: Wait>(rt: &R, listener: &TcpListener, connections: u64, workers: Sender<TcpStream>) {
+    for stream in listener.incoming().take(connections as usize) {
+        if let Ok(stream) = stream
+            && workers.send(rt, stream).is_err()
+        {
+            break;
+        }
+    }
+}
+
+// Starts a worker.
+fn start<'s, E, D, C, R>(
+    scope: &'s Scope<'s, E>,
+    worker: Worker<'s, D, C, R>,
+) -> Result<(), Stopped>
+where
+    D: Disk + Drop + Send + 's,
+    C: Clock + Drop + Send + 's,
+    R: Threads + Wait + Sync,
+    requires pass { IsPassOf worker.ingester.now worker.pass }
+{
+    let run = move || -> ()
+        requires { IsPassOf worker.ingester.now worker.pass }
+    { work(worker) };
+    match scope.spawn(run) {
+        Ok(_handle) => Ok(()),
+        Err(_) => Err(Stopped::Thread),
+    }
+}
+
+// Starts a worker for each pass.
+fn start_all<'s, E, D, C, R>(
+    scope: &'s Scope<'s, E>,
+    rt: &'s R,
+    alloc: Global,
+    ingester: &'s Ingester<D>,
+    mut passes: Vec<Pass>,
+    mut clocks: Vec<C>,
+    streams: Receiver<TcpStream>,
+) -> Result<(), Stopped>
+where
+    D: Disk + Drop + Send + 's,
+    C: Clock + Drop + Send + 's,
+    R: Threads + Wait + Sync,
+    requires passes { (i : ℕ) (pass : Passed) → slice_get passes.items i ≡ Some pass → IsPassOf ingester.now pass }
+{
+    while let Some(pass) = passes.pop() {
+        let Some(clock) = clocks.pop() else {
+            break;
+        };
+        let streams = streams.clone()?;
+        let worker = Worker {
+            rt,
+            alloc,
+            ingester,
+            pass,
+            clock,
+            streams,
+        };
+        start(scope, worker)?;
+    }
+    Ok(())
+}
+
+/// Serves the connections that come to a listener, so many at most: one thread accepts them, and for each pass a worker,
+/// with a clock of its own, serves one after another. It ends when the last connection has ended, or when all passes are
+/// closed. A connection that fails, or does nothing for 60 seconds, is closed, and its worker takes the next.
+pub fn serve_listener<D, C, R>(
+    rt: &R,
+    alloc: Global,
+    ingester: &Ingester<D>,
+    passes: Vec<Pass>,
+    clocks: Vec<C>,
+    listener: &TcpListener,
+    connections: u64,
+) -> Result<(), Stopped>
+where
+    D: Disk + Drop + Send,
+    C: Clock + Drop + Send,
+    R: Threads + Wait + Sync,
+    requires passes { (i : ℕ) (pass : Passed) → slice_get passes.items i ≡ Some pass → IsPassOf ingester.now pass }
+{
+    let (sender, receiver) = bounded(alloc, WAITING)?;
+    thread::scope(
+        thread::scope_env(),
+        rt,
+        |scope| -> Result<(), Stopped>
+            requires { (i : ℕ) (pass : Passed) → slice_get passes.items i ≡ Some pass → IsPassOf ingester.now pass }
+        {
+            start_all(scope, rt, alloc, ingester, passes, clocks, receiver)?;
+            accept(rt, listener, connections, sender);
+            Ok(())
+        },
+    )
+}

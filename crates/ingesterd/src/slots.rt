@@ -1,0 +1,60 @@
+//! The slots of a folder.
+ghost use Rattle.std.specs.Prelude.{◌≡◌, ◌≤◌, IfOk, vec_len};
+
+use disk::{FileDisk, LockedFile};
+use std::alloc::{AllocError, Global};
+use std::fs::{self, File, Files};
+
+/// Why the files of slots are not opened.
+#[derive(Debug, Drop)]
+pub enum SlotsFault {
+    /// The file or folder at this path.
+    Path(String),
+    /// The allocator gave no memory.
+    Memory,
+}
+
+impl From<AllocError> for SlotsFault {
+    fn from(_refused: AllocError) -> SlotsFault {
+        SlotsFault::Memory
+    }
+}
+
+/// Opens the slots of so many shards, the files `shard-SS-0.wal` and `shard-SS-1.wal` of a folder. What is missing is made
+/// empty, the folder too, and each file is locked against another process.
+pub fn open_slots<R: Files<File = File>>(
+    rt: &R,
+    alloc: Global,
+    folder: &str,
+    shards: u32,
+) -> Result<Vec<[FileDisk; 2]>, SlotsFault>
+    ensures { IfOk result (λ slots. vec_len slots ≡ shards) }
+{
+    if fs::create_dir_all(rt, folder).is_err() {
+        return Err(SlotsFault::Path(folder.to_string(alloc)?));
+    }
+    let mut slots = Vec::new(alloc);
+    for shard in 0..shards {
+        let first = open_slot(rt, alloc, folder, shard, 0)?;
+        let second = open_slot(rt, alloc, folder, shard, 1)?;
+        if slots.push([first, second]).is_err() {
+            return Err(SlotsFault::Memory);
+        }
+    }
+    Ok(slots)
+}
+
+// Opens one slot.
+fn open_slot<R: Files<File = File>>(
+    rt: &R,
+    alloc: Global,
+    folder: &str,
+    shard: u32,
+    slot: u32,
+) -> Result<FileDisk, SlotsFault> {
+    let path = format!(in alloc; "{folder}/shard-{shard:02}-{slot}.wal")?;
+    match LockedFile::open(rt, path.as_str()) {
+        Ok(file) => Ok(FileDisk::new(file)),
+        Err(_) => Err(SlotsFault::Path(path)),
+    }
+}

@@ -1,0 +1,68 @@
+//! What stops a program.
+ghost use Rattle.std.specs.Prelude.{◌≢◌, ◌≤◌};
+
+use crate::slots::SlotsFault;
+use ingester::{CallFault, OpenFault};
+use std::alloc::AllocError;
+use thiserror::Error;
+
+/// What stops a program, as its line of standard error says.
+#[derive(Debug, Drop, Error)]
+pub enum Stopped {
+    #[error("cannot read body")]
+    Body,
+    #[error("cannot open {0}")]
+    File(String),
+    #[error("{0}")]
+    Opening(OpenFault),
+    #[error("cannot listen")]
+    Listen,
+    #[error("thread not started")]
+    Thread,
+    #[error("pass closed")]
+    PassClosed,
+    #[error("log spent")]
+    LogSpent,
+    #[error("out of memory")]
+    Memory,
+    #[error("cannot write")]
+    Output,
+}
+
+impl Stopped {
+    /// The exit status: 3 for a refused opening, else 1.
+    pub fn status(&self) -> u8
+        ensures some { result ≢ 2 }
+        ensures few { result ≤ 3 }
+    {
+        match self {
+            Stopped::Opening(_) => 3,
+            _ => 1,
+        }
+    }
+}
+
+impl From<AllocError> for Stopped {
+    fn from(_refused: AllocError) -> Stopped {
+        Stopped::Memory
+    }
+}
+
+impl From<SlotsFault> for Stopped {
+    fn from(fault: SlotsFault) -> Stopped {
+        match fault {
+            SlotsFault::Path(path) => Stopped::File(path),
+            SlotsFault::Memory => Stopped::Memory,
+        }
+    }
+}
+
+impl From<CallFault> for Stopped {
+    fn from(fault: CallFault) -> Stopped {
+        match fault {
+            CallFault::Memory => Stopped::Memory,
+            CallFault::PassClosed => Stopped::PassClosed,
+            CallFault::LogSpent => Stopped::LogSpent,
+        }
+    }
+}
