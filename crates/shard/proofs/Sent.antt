@@ -8,13 +8,18 @@ use Rattle.accept.proofs.limits.Limits.TheSendSync as limits
 use Rattle.disk.specs.declared.device.Disk as disk
 use Rattle.history.proofs.book.Book.TheSendSync as book
 use Rattle.streams.proofs.map.StreamMap.TheSendSync as map
-use Rattle.shard.proofs.keeping.Log.TheSendSync as log
+use Rattle.wal.proofs.log.Wal.TheSendSync as wal
+use Rattle.shard.specs.contracts.keeping.Log as log
 use Rattle.shard.specs.contracts.parts.Parts as parts
 use Rattle.shard.specs.contracts.shard.Shard.{the_row}
 use Rattle.shard.specs.contracts.shard.Shard.TheInside as inside
 
+log_send : (D : RattleType) → IsSend D → IsSend (log.the_row D)
+log_send D s = let T = log.the_type D in
+    recorded_send (Struct (declared.shape T)) T.D T.to T.to_one (struct_send (declared.shape T) (search (crosses, s, wal.the_field_send, sendable) depth 40, tt))
+
 parts_send : (D : RattleType) → IsSend D → AllSend (declared.fields (parts.the_type D))
-parts_send D s = (search (crosses, s, log.the_field_send, sendable) depth 40, (book.the_send, (map.the_send, (limits.the_field_send, (search sendable, (search (crosses, sendable) depth 40, (search (crosses, sendable) depth 40, tt)))))))
+parts_send D s = (search (log_send D s, sendable) depth 40, (book.the_send, (map.the_send, (limits.the_field_send, (search sendable, (search (crosses, sendable) depth 40, (search (crosses, sendable) depth 40, tt)))))))
 
 inside_send : (D : RattleType) (g : disk.Ghosts D.Denot) → IsSend D → IsSend (inside.the_row D g)
 inside_send D g s = let I = inside.the_type D g in recorded_send (Struct (declared.shape I)) I.D I.to I.to_one
