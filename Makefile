@@ -38,3 +38,4 @@ fmt:
 
 bench:
 	@cd crates/bench && $(RT) run -- time
+	@cd crates/bench_calls && $(RT) run -- time

@@ -1,0 +1,27 @@
+//! `bench_calls time` prints how many calls a second a shard and an ingester answer; `bench_calls check` makes a few calls
+//! of each.
+#![tactic(auto)]
+
+mod pushes;
+mod shard_calls;
+
+use anyhow::{Result, bail};
+use std::env;
+use std::rt::{Clock, Env};
+
+fn main(rt: HostRuntime) -> Result<()> {
+    let words: Vec<String> = env::args(&rt)?.skip(1).collect(rt.alloc())?;
+    match words.as_slice() {
+        [word] if word.as_str() == "time" => time(&rt),
+        [word] if word.as_str() == "check" => check(&rt),
+        _ => bail!("usage: bench_calls time|check"),
+    }
+}
+
+fn time<R: Clock + Print + AllocGlobal>(rt: &R) -> Result<()> {
+    shard_calls::time(rt)
+}
+
+fn check<R: Print + AllocGlobal>(rt: &R) -> Result<()> {
+    shard_calls::check(rt)
+}
