@@ -2,12 +2,15 @@
 //! of each.
 #![tactic(auto)]
 
+mod ingester_calls;
 mod pushes;
 mod shard_calls;
 
 use anyhow::{Result, bail};
 use std::env;
 use std::rt::{Clock, Env};
+use std::sync::Wait;
+use std::thread::Threads;
 
 fn main(rt: HostRuntime) -> Result<()> {
     let words: Vec<String> = env::args(&rt)?.skip(1).collect(rt.alloc())?;
@@ -18,10 +21,12 @@ fn main(rt: HostRuntime) -> Result<()> {
     }
 }
 
-fn time<R: Clock + Print + AllocGlobal>(rt: &R) -> Result<()> {
-    shard_calls::time(rt)
+fn time<R: Clock + Print + Threads + Wait + Sync + AllocGlobal>(rt: &R) -> Result<()> {
+    shard_calls::time(rt)?;
+    ingester_calls::time(rt)
 }
 
-fn check<R: Print + AllocGlobal>(rt: &R) -> Result<()> {
-    shard_calls::check(rt)
+fn check<R: Clock + Print + Threads + Wait + Sync + AllocGlobal>(rt: &R) -> Result<()> {
+    shard_calls::check(rt)?;
+    ingester_calls::check(rt)
 }

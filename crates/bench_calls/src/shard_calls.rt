@@ -15,8 +15,11 @@ use wal::Wal;
 /// The capacity of a segment, in bytes: so great that a timed push is appended, and no segment is ever full.
 const CAPACITY: u64 = 1 << 29;
 
+/// The room of a disk, in bytes: the same for all states.
+const ROOM: u64 = 1 << 28;
+
 /// How often each state is filled and pushed to; the best run counts.
-const RUNS: u32 = 10;
+const RUNS: u32 = 5;
 
 /// How many pushes are timed in a run. They leave two thousand entries more.
 const PUSHES: u64 = 200;
@@ -118,14 +121,11 @@ impl Desk {
     }
 }
 
-/// Opens the only shard of two empty slots, which have room for this state and so many timed pushes.
-fn open(alloc: Global, state: State, pushes: u64) -> Result<Desk> {
-    let lines = state.entries.saturating_add(pushes.saturating_mul(LINES));
-    let bytes = lines.saturating_mul(512).saturating_add(4_096);
-    let calls = lines.saturating_mul(4).saturating_add(64);
+/// Opens the only shard of two empty slots of so many bytes each.
+fn open(alloc: Global, room: u64) -> Result<Desk> {
     let slots = [
-        MemDisk::new(alloc, bytes, calls, bytes)?,
-        MemDisk::new(alloc, bytes, calls, bytes)?,
+        MemDisk::new(alloc, room, room / LINE as u64, room)?,
+        MemDisk::new(alloc, room, room / LINE as u64, room)?,
     ];
     let (log, image) = match Wal::open(alloc, slots, 0, 1, CAPACITY) {
         Ok(opened) => opened,
@@ -147,17 +147,31 @@ fn open(alloc: Global, state: State, pushes: u64) -> Result<Desk> {
     }
 }
 
-/// How long the timed pushes of one run take. They go to the first stream.
-fn run<R: Clock + AllocGlobal>(rt: &R, state: State) -> Result<Duration> {
+/// How long the timed pushes of one run take, which go to the first stream, and the shard with them.
+fn run<R: Clock + AllocGlobal>(rt: &R, state: State) -> Result<(Desk, Duration)> {
     let alloc = rt.alloc();
-    let mut desk = open(alloc, state, PUSHES)?;
+    let mut desk = open(alloc, ROOM)?;
     desk.fill(alloc, state)?;
     let calls = pushes_of(alloc, 0, state.share(), PUSHES)?;
     let start = Instant::now(rt)?;
     for call in &calls {
         desk.push(alloc, call)?;
     }
-    Ok(start.elapsed(rt)?)
+    let time = start.elapsed(rt)?;
+    Ok((desk, time))
+}
+
+/// The best time of all runs at a state. No shard is dropped before the last run, so that each run, at the small
+/// states too, writes to memory that was never touched.
+fn best_of<R: Clock + AllocGlobal>(rt: &R, state: State) -> Result<Duration> {
+    let mut desks = Vec::new(rt.alloc());
+    let mut best = Duration::MAX;
+    for _ in 0..RUNS {
+        let (desk, time) = run(rt, state)?;
+        desks.push(desk)?;
+        best = best.min(time);
+    }
+    Ok(best)
 }
 
 /// Prints how long a push takes at each state.
@@ -165,11 +179,7 @@ pub fn time<R: Clock + Print + AllocGlobal>(rt: &R) -> Result<()> {
     rt.println(format_args!("a shard, pushes of {LINES} lines of {LINE} bytes"))?;
     let mut smallest: Option<u128> = None;
     for state in STATES {
-        let mut best = Duration::MAX;
-        for _ in 0..RUNS {
-            best = best.min(run(rt, state)?);
-        }
-        let nanos = best.as_nanos().max(1) / u128::from(PUSHES);
+        let nanos = best_of(rt, state)?.as_nanos().max(1) / u128::from(PUSHES);
         report(rt, state, nanos, *smallest.get_or_insert(nanos))?;
     }
     Ok(())
@@ -195,7 +205,7 @@ pub fn check<R: Print + AllocGlobal>(rt: &R) -> Result<()> {
         entries: 6,
         streams: 3,
     };
-    let mut desk = open(alloc, state, 2)?;
+    let mut desk = open(alloc, 1 << 16)?;
     desk.fill(alloc, state)?;
     for call in &pushes_of(alloc, 0, state.share(), 2)? {
         desk.push(alloc, call)?;

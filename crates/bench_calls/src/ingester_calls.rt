@@ -1,0 +1,308 @@
+//! How many calls a second an ingester answers, by how many threads call it and how many shards it has.
+ghost use Rattle.std.specs.Prelude.{◌≡◌, ℕ, Some, slice_get, IfOk};
+ghost use Rattle.history.specs.Handles.{Passed};
+ghost use Rattle.ingester.specs.Calls.{IsPassOf};
+
+use crate::pushes::{LINE, LINES, has_few_entries, is_stored, key_of, pushes_of};
+use accept::{Call, Limits};
+use anyhow::{Result, bail};
+use crossbeam_channel::{Receiver, Sender, bounded};
+use disk::MemDisk;
+use history::Pass;
+use ingester::Ingester;
+use labels::shard_of;
+use std::alloc::Global;
+use std::rt::Clock;
+use std::sync::Wait;
+use std::sync::atomic::{AtomicU64, Ordering};
+use std::thread::{self, Scope, Threads};
+use std::time::{Duration, Instant};
+
+/// The capacity of a segment, in bytes: so great that a timed push is appended, and no segment is ever full.
+const CAPACITY: u64 = 1 << 29;
+
+/// How often each load is timed, over an ingester of its own; the best run counts.
+const RUNS: u32 = 5;
+
+/// How many pushes all passes make together in a run.
+const PUSHES: u64 = 32_000;
+
+/// Who calls: so many passes, a thread and a stream each, over so many shards, and so many pushes a pass.
+#[derive(Clone, Copy)]
+struct Load {
+    passes: u32,
+    shards: u32,
+    pushes: u64,
+}
+
+/// What a thread makes its pushes with.
+#[derive(Drop)]
+struct Caller<'a, R> {
+    rt: &'a R,
+    alloc: Global,
+    ingester: &'a Ingester<MemDisk>,
+    pass: Pass,
+    stream: u64,
+    pushes: u64,
+    ready: Sender<()>,
+    go: Receiver<()>,
+    stored: &'a AtomicU64,
+}
+
+/// So many pairs of empty slots, each with room for all pushes of a run.
+fn slots_of(alloc: Global, load: Load) -> Result<Vec<[MemDisk; 2]>> {
+    let pushes = load.pushes.saturating_mul(u64::from(load.passes));
+    let bytes = pushes.saturating_mul(LINES * 512).saturating_add(4_096);
+    let calls = pushes.saturating_mul(4).saturating_add(64);
+    let mut slots = Vec::new(alloc);
+    for _ in 0..load.shards {
+        slots.push([
+            MemDisk::new(alloc, bytes, calls, bytes)?,
+            MemDisk::new(alloc, bytes, calls, bytes)?,
+        ])?;
+    }
+    Ok(slots)
+}
+
+/// An ingester over empty slots, and its passes.
+fn open(alloc: Global, load: Load) -> Result<(Ingester<MemDisk>, Vec<Pass>)>
+    ensures { IfOk result (λ it. (p : ℕ) (pass : Passed) → slice_get it.1.items p ≡ Some pass → IsPassOf it.0 pass) }
+{
+    let slots = slots_of(alloc, load)?;
+    if slots.is_empty() || slots.len() > 64 || load.passes > 64 {
+        bail!("what is opened is out of its bounds");
+    }
+    match Ingester::open(alloc, slots, load.passes, Limits::PROFILE, CAPACITY) {
+        Ok(opened) => Ok(opened),
+        Err(refusal) => Err(refusal.0.into()),
+    }
+}
+
+/// A stream of its own for each pass: the first whose shard is the pass's number, counted round the shards.
+fn stream_of(alloc: Global, pass: u32, shards: u32) -> Result<u64> {
+    if shards == 0 || shards > 64 {
+        bail!("there are 1 to 64 shards");
+    }
+    for turn in 0..1_000u64 {
+        let stream = turn.saturating_mul(64).saturating_add(u64::from(pass));
+        if shard_of(&key_of(alloc, stream)?, shards) == pass % shards {
+            return Ok(stream);
+        }
+    }
+    bail!("no stream is of this shard");
+}
+
+/// Makes a push: whether it has its step, with all its lines stored.
+fn push<R: Wait>(
+    rt: &R,
+    alloc: Global,
+    ingester: &Ingester<MemDisk>,
+    pass: &mut Pass,
+    call: Call,
+) -> bool
+    requires { IsPassOf ingester.now pass.old }
+    ensures { IsPassOf ingester.now pass.new }
+{
+    if !call.has_lawful_numbers() || !has_few_entries(&call) {
+        return false;
+    }
+    match ingester.call(rt, alloc, pass, call) {
+        Ok(reply) => is_stored(&reply),
+        Err(_) => false,
+    }
+}
+
+/// Makes all pushes of a thread, one after another: how many were stored.
+fn push_all<R: Wait>(
+    rt: &R,
+    alloc: Global,
+    ingester: &Ingester<MemDisk>,
+    mut pass: Pass,
+    calls: Vec<Call>,
+) -> u64
+    requires { IsPassOf ingester.now pass }
+{
+    let mut stored: u64 = 0;
+    for call in calls {
+        if push(rt, alloc, ingester, &mut pass, call) {
+            stored = stored.saturating_add(1);
+        }
+    }
+    stored
+}
+
+/// What a thread does: it gets its pushes ready, and makes them once all threads may go.
+fn work<R: Wait>(caller: Caller<R>)
+    requires { IsPassOf caller.ingester.now caller.pass }
+{
+    let Caller {
+        rt,
+        alloc,
+        ingester,
+        pass,
+        stream,
+        pushes,
+        ready,
+        go,
+        stored,
+    } = caller;
+    let Ok(calls) = pushes_of(alloc, stream, 0, pushes) else {
+        return;
+    };
+    let _ = ready.send(rt, ());
+    drop(ready);
+    let _ = go.recv(rt);
+    stored.fetch_add(push_all(rt, alloc, ingester, pass, calls), Ordering::SeqCst);
+}
+
+/// Starts a thread.
+fn start<'s, E, R: Threads + Wait + Sync>(
+    scope: &'s Scope<'s, E>,
+    caller: Caller<'s, R>,
+) -> Result<()>
+    requires pass { IsPassOf caller.ingester.now caller.pass }
+{
+    let run = move || -> ()
+        requires { IsPassOf caller.ingester.now caller.pass }
+    { work(caller) };
+    match scope.spawn(run) {
+        Ok(_handle) => Ok(()),
+        Err(_) => bail!("thread not started"),
+    }
+}
+
+/// Starts a thread for each pass.
+fn start_all<'s, E, R: Threads + Wait + Sync>(
+    scope: &'s Scope<'s, E>,
+    rt: &'s R,
+    alloc: Global,
+    ingester: &'s Ingester<MemDisk>,
+    mut passes: Vec<Pass>,
+    load: Load,
+    ready: Sender<()>,
+    go: Receiver<()>,
+    stored: &'s AtomicU64,
+) -> Result<()>
+    requires passes { (i : ℕ) (pass : Passed) → slice_get passes.items i ≡ Some pass → IsPassOf ingester.now pass }
+{
+    while let Some(pass) = passes.pop() {
+        let number = (passes.len() % 64) as u32;
+        let stream = stream_of(alloc, number, load.shards)?;
+        let ready = ready.clone()?;
+        let go = go.clone()?;
+        let caller = Caller {
+            rt,
+            alloc,
+            ingester,
+            pass,
+            stream,
+            pushes: load.pushes,
+            ready,
+            go,
+            stored,
+        };
+        start(scope, caller)?;
+    }
+    Ok(())
+}
+
+/// Lets a thread for each pass make its pushes: how long that takes, from when all are ready to when all are done.
+fn push_in_threads<R: Clock + Threads + Wait + Sync>(
+    rt: &R,
+    alloc: Global,
+    ingester: &Ingester<MemDisk>,
+    passes: Vec<Pass>,
+    load: Load,
+    stored: &AtomicU64,
+) -> Result<Duration>
+    requires passes { (i : ℕ) (pass : Passed) → slice_get passes.items i ≡ Some pass → IsPassOf ingester.now pass }
+{
+    let (ready, all_ready) = bounded(alloc, 64)?;
+    let (go, may_go) = bounded(alloc, 1)?;
+    let start = thread::scope(
+        thread::scope_env(),
+        rt,
+        |scope| -> Result<Instant>
+            requires { (i : ℕ) (pass : Passed) → slice_get passes.items i ≡ Some pass → IsPassOf ingester.now pass }
+        {
+            start_all(
+                scope, rt, alloc, ingester, passes, load, ready, may_go, stored,
+            )?;
+            for _ in 0..load.passes {
+                all_ready.recv(rt)?;
+            }
+            let start = Instant::now(rt)?;
+            release(go);
+            Ok(start)
+        },
+    )?;
+    Ok(start.elapsed(rt)?)
+}
+
+/// Lets the threads go, who wait until there is no sender.
+fn release(go: Sender<()>) {
+    drop(go);
+}
+
+/// One run: how many pushes were stored, and how long they took.
+fn run<R: Clock + Threads + Wait + Sync + AllocGlobal>(
+    rt: &R,
+    load: Load,
+) -> Result<(u64, Duration)> {
+    let alloc = rt.alloc();
+    let (ingester, passes) = open(alloc, load)?;
+    let stored = AtomicU64::new(0);
+    let time = push_in_threads(rt, alloc, &ingester, passes, load, &stored)?;
+    Ok((stored.load(Ordering::SeqCst), time))
+}
+
+/// Prints how many calls a second an ingester answers, for each load.
+pub fn time<R: Clock + Print + Threads + Wait + Sync + AllocGlobal>(rt: &R) -> Result<()> {
+    rt.println(format_args!("an ingester, pushes of {LINES} lines of {LINE} bytes"))?;
+    for shards in [1, 4] {
+        for passes in [1, 4, 16] {
+            let pushes = PUSHES / u64::from(passes).max(1);
+            time_load(
+                rt,
+                Load {
+                    passes,
+                    shards,
+                    pushes,
+                },
+            )?;
+        }
+    }
+    Ok(())
+}
+
+fn time_load<R: Clock + Print + Threads + Wait + Sync + AllocGlobal>(
+    rt: &R,
+    load: Load,
+) -> Result<()> {
+    let wanted = load.pushes.saturating_mul(u64::from(load.passes));
+    let mut best = Duration::MAX;
+    for _ in 0..RUNS {
+        let (stored, time) = run(rt, load)?;
+        if stored != wanted {
+            bail!("a push was not stored");
+        }
+        best = best.min(time);
+    }
+    let Load { passes, shards, .. } = load;
+    let micros = best.as_micros().max(1);
+    let a_second = u128::from(wanted).saturating_mul(1_000_000) / micros;
+    rt.println(format_args!("  {passes} passes over {shards} shards: {a_second} calls a second"))?;
+    Ok(())
+}
+
+/// Makes a few pushes in two threads.
+pub fn check<R: Clock + Print + Threads + Wait + Sync + AllocGlobal>(rt: &R) -> Result<()> {
+    let load = Load {
+        passes: 2,
+        shards: 2,
+        pushes: 3,
+    };
+    let (stored, _time) = run(rt, load)?;
+    rt.println(format_args!("ingester passes 2 shards 2 stored {stored}"))?;
+    Ok(())
+}
