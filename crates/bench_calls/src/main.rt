@@ -1,9 +1,10 @@
-//! `bench_calls time` prints how many calls a second a shard and an ingester answer; `bench_calls check` makes a few calls
-//! of each.
+//! `bench_calls time` prints how many calls a second a shard and an ingester answer, and how fast a connection is served;
+//! `bench_calls check` makes a few calls of each.
 #![tactic(auto)]
 
 mod ingester_calls;
 mod pushes;
+mod served;
 mod shard_calls;
 
 use anyhow::{Result, bail};
@@ -23,10 +24,12 @@ fn main(rt: HostRuntime) -> Result<()> {
 
 fn time<R: Clock + Print + Threads + Wait + Sync + AllocGlobal>(rt: &R) -> Result<()> {
     shard_calls::time(rt)?;
-    ingester_calls::time(rt)
+    ingester_calls::time(rt)?;
+    served::time(rt)
 }
 
 fn check<R: Clock + Print + Threads + Wait + Sync + AllocGlobal>(rt: &R) -> Result<()> {
     shard_calls::check(rt)?;
-    ingester_calls::check(rt)
+    ingester_calls::check(rt)?;
+    served::check(rt)
 }

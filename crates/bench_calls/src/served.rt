@@ -1,0 +1,340 @@
+//! How fast the requests of a connection are served over memory, beside reading the same bodies and making the same
+//! calls alone.
+ghost use Rattle.std.specs.Prelude.{◌≡◌, ℕ, Some, slice_get, IfOk};
+ghost use Rattle.history.specs.Handles.{Passed};
+ghost use Rattle.accept.specs.Steps.{AreNumbers};
+ghost use Rattle.streams.specs.Changes.{HasFewEntries};
+ghost use Rattle.ingester.specs.Calls.{IsPassOf};
+
+use crate::pushes::{LINE, START, has_few_entries, is_stored};
+use accept::{Call, Limits};
+use anyhow::{Result, anyhow, bail};
+use disk::MemDisk;
+use front::{Served, serve};
+use history::Pass;
+use ingester::Ingester;
+use labels::{LabelSet, StreamKey, Tenant};
+use pushjson::{RawBatch, read_push};
+use std::alloc::{AllocError, Global};
+use std::io::{self, Write};
+use std::rt::Clock;
+use std::sync::Wait;
+use std::time::{Duration, Instant};
+
+/// How often each thing is timed; the best run counts.
+const RUNS: u32 = 10;
+
+/// How many requests a connection has, and of how many lines each: all in one stream, at times that rise.
+const LOADS: [(u64, u64); 2] = [(10_000, 10), (20, 5_000)];
+
+/// The bytes that a segment may have: more than the log of a load, so that the first call alone rolls.
+const CAPACITY: u64 = 67_108_864;
+
+/// The bytes that a disk has room for, also in its record: more than the log of a load.
+const ROOM: u64 = 33_554_432;
+
+/// The writes and syncs that a disk has room for.
+const CALLS: u64 = 65_536;
+
+/// The answer to a push whose entries are all stored.
+const NO_CONTENT: &str = "HTTP/1.1 204 No Content\r\n\r\n";
+
+/// The bytes of a connection, and the bodies of its requests.
+#[derive(Drop)]
+struct Load {
+    bytes: Vec<u8>,
+    bodies: Vec<Vec<u8>>,
+}
+
+/// A clock that stands.
+#[derive(Drop)]
+struct Standing;
+
+impl front::Clock for Standing {
+    ghost ticks = { λ old time new. new ≡ old };
+
+    fn now(&mut self) -> u64 {
+        START
+    }
+}
+
+/// A writer that counts what it is given.
+#[derive(Drop)]
+struct Counter {
+    bytes: usize,
+}
+
+impl Write for Counter {
+    fn write(&mut self, buf: &[u8]) -> io::Result<usize> {
+        self.bytes = self.bytes.saturating_add(buf.len());
+        Ok(buf.len())
+    }
+
+    fn flush(&mut self) -> io::Result<()> {
+        Ok(())
+    }
+}
+
+/// A push body of one stream, from this time on.
+fn body_of(alloc: Global, first: u64, entries: u64) -> Result<Vec<u8>> {
+    let text = "x".repeat(alloc, LINE)?;
+    let mut body = Vec::from_slice(
+        alloc,
+        b"{\"streams\":[{\"stream\":{\"a\":\"1\"},\"values\":[",
+    )?;
+    for entry in 0..entries {
+        let time = first.saturating_add(entry);
+        let comma = if entry == 0 { "" } else { "," };
+        write!(body, "{comma}[\"{time}\",\"{text}\"]")?;
+    }
+    body.extend_from_slice(b"]}]}")?;
+    Ok(body)
+}
+
+/// A connection of so many pushes of so many entries.
+fn load_of(alloc: Global, requests: u64, entries: u64) -> Result<Load> {
+    let mut bytes = Vec::new(alloc);
+    let mut bodies = Vec::new(alloc);
+    for request in 0..requests {
+        let first = START.saturating_add(request.saturating_mul(entries));
+        let body = body_of(alloc, first, entries)?;
+        let length = body.len();
+        write!(
+            bytes,
+            "POST /loki/api/v1/push HTTP/1.1\r\nHost: 127.0.0.1:3100\r\nX-Scope-OrgID: t\r\nContent-Type: application/json\r\nContent-Length: {length}\r\n\r\n"
+        )?;
+        bytes.extend_from_slice(&body)?;
+        bodies.push(body)?;
+    }
+    Ok(Load { bytes, bodies })
+}
+
+fn slot(alloc: Global) -> Result<MemDisk, AllocError> {
+    MemDisk::new(alloc, ROOM, CALLS, ROOM)
+}
+
+/// One shard over empty slots, and its passes.
+fn open_all(alloc: Global) -> Result<(Ingester<MemDisk>, Vec<Pass>)>
+    ensures { IfOk result (λ it. (p : ℕ) (pass : Passed) → slice_get it.1.items p ≡ Some pass → IsPassOf it.0 pass) }
+{
+    let mut slots = Vec::new(alloc);
+    slots.push([slot(alloc)?, slot(alloc)?])?;
+    match Ingester::open(alloc, slots, 1, Limits::PROFILE, CAPACITY) {
+        Ok(opened) => Ok(opened),
+        Err(refusal) => Err(refusal.0.into()),
+    }
+}
+
+/// The same with its one pass.
+fn open(alloc: Global) -> Result<(Ingester<MemDisk>, Pass)>
+    ensures { IfOk result (λ it. IsPassOf it.0 it.1) }
+{
+    let (ingester, mut passes) = open_all(alloc)?;
+    match passes.pop() {
+        Some(pass) => Ok((ingester, pass)),
+        None => Err(anyhow!("no pass")),
+    }
+}
+
+/// Serves a load, and gives how long that took.
+fn time_serve<R: Clock + Wait + AllocGlobal>(rt: &R, load: &Load) -> Result<Duration> {
+    let (ingester, mut pass) = open(rt.alloc())?;
+    let mut clock = Standing;
+    let mut reader = load.bytes.as_slice();
+    let mut writer = Counter { bytes: 0 };
+    let before = Instant::now(rt)?;
+    let end = serve(
+        rt,
+        rt.alloc(),
+        &ingester,
+        &mut pass,
+        &mut clock,
+        &mut reader,
+        &mut writer,
+    )?;
+    let time = before.elapsed(rt)?;
+    let wanted = load.bodies.len().saturating_mul(NO_CONTENT.len());
+    if end != Served::Ended || writer.bytes != wanted {
+        bail!("not all is stored");
+    }
+    Ok(time)
+}
+
+/// The push of a stream.
+fn call_of(alloc: Global, batch: RawBatch) -> Result<Call>
+    ensures numbers { IfOk result AreNumbers }
+    ensures few { IfOk result HasFewEntries }
+{
+    let tenant = Tenant::new(alloc, "t")?;
+    let labels = LabelSet::new(alloc, batch.pairs)?;
+    let call = Call::Push {
+        key: StreamKey { tenant, labels },
+        now: START,
+        entries: batch.entries,
+    };
+    if !call.has_lawful_numbers() || !has_few_entries(&call) {
+        bail!("not a push");
+    }
+    Ok(call)
+}
+
+/// Makes the push of a stream, and gives how long the call took.
+fn time_call<R: Clock + Wait + AllocGlobal>(
+    rt: &R,
+    ingester: &Ingester<MemDisk>,
+    pass: &mut Pass,
+    batch: RawBatch,
+) -> Result<Duration>
+    requires { IsPassOf ingester.now pass.old }
+    ensures { IsPassOf ingester.now pass.new }
+{
+    let call = call_of(rt.alloc(), batch)?;
+    let before = Instant::now(rt)?;
+    let reply = ingester.call(rt, rt.alloc(), pass, call)?;
+    let time = before.elapsed(rt)?;
+    if !is_stored(&reply) {
+        bail!("not all is stored");
+    }
+    Ok(time)
+}
+
+/// Makes the pushes of a body, and gives how long the calls took.
+fn time_calls<R: Clock + Wait + AllocGlobal>(
+    rt: &R,
+    ingester: &Ingester<MemDisk>,
+    pass: &mut Pass,
+    batches: Vec<RawBatch>,
+) -> Result<Duration>
+    requires { IsPassOf ingester.now pass.old }
+    ensures { IsPassOf ingester.now pass.new }
+{
+    let mut calling = Duration::ZERO;
+    for batch in batches {
+        let time = time_call(rt, ingester, pass, batch)?;
+        calling = calling.saturating_add(time);
+    }
+    Ok(calling)
+}
+
+/// Reads the bodies and drops what was read, and gives how long that took.
+fn time_reading<R: Clock + AllocGlobal>(rt: &R, bodies: &[Vec<u8>]) -> Result<Duration> {
+    let before = Instant::now(rt)?;
+    for body in bodies {
+        drop(read_push(rt.alloc(), body)?);
+    }
+    Ok(before.elapsed(rt)?)
+}
+
+/// Reads the bodies and makes their calls, one body behind another, and gives how long the reading and how long the
+/// calls took.
+fn time_bodies<R: Clock + Wait + AllocGlobal>(
+    rt: &R,
+    ingester: &Ingester<MemDisk>,
+    pass: &mut Pass,
+    bodies: &[Vec<u8>],
+) -> Result<(Duration, Duration)>
+    requires { IsPassOf ingester.now pass.old }
+{
+    let mut reading = Duration::ZERO;
+    let mut calling = Duration::ZERO;
+    for body in bodies {
+        let before = Instant::now(rt)?;
+        let batches = read_push(rt.alloc(), body)?;
+        reading = reading.saturating_add(before.elapsed(rt)?);
+        let time = time_calls(rt, ingester, pass, batches)?;
+        calling = calling.saturating_add(time);
+    }
+    Ok((reading, calling))
+}
+
+/// The same of a load, from empty slots on.
+fn time_parts<R: Clock + Wait + AllocGlobal>(rt: &R, load: &Load) -> Result<(Duration, Duration)> {
+    let (ingester, mut pass) = open(rt.alloc())?;
+    time_bodies(rt, &ingester, &mut pass, &load.bodies)
+}
+
+/// Prints a time for so many requests with bodies of so many bytes.
+fn report<R: Print>(
+    rt: &R,
+    name: &str,
+    requests: usize,
+    size: usize,
+    time: Duration,
+) -> Result<()> {
+    let micros = time.as_micros().max(1);
+    let a_second = (requests as u128).saturating_mul(1_000_000) / micros;
+    let speed = size as u128 / micros;
+    rt.println(format_args!("  {name}: {micros} us, {a_second} requests a second, {speed} MB/s"))?;
+    Ok(())
+}
+
+/// The bytes of all bodies.
+fn size_of_bodies(load: &Load) -> usize {
+    load.bodies
+        .iter()
+        .fold(0_usize, |size, body| size.saturating_add(body.len()))
+}
+
+/// Prints what share of the time of these parts serving takes.
+fn compare<R: Print>(rt: &R, name: &str, serving: Duration, parts: [Duration; 2]) -> Result<()> {
+    let [reading, calling] = parts;
+    let both = reading.saturating_add(calling).as_micros().max(1);
+    let percent = serving.as_micros().saturating_mul(100) / both;
+    rt.println(format_args!("  serve takes {percent} % of {name} and the calls"))?;
+    Ok(())
+}
+
+fn time_load<R: Clock + Print + Wait + AllocGlobal>(
+    rt: &R,
+    requests: u64,
+    entries: u64,
+) -> Result<()> {
+    let load = load_of(rt.alloc(), requests, entries)?;
+    let (mut serving, mut alone) = (Duration::MAX, Duration::MAX);
+    let (mut reading, mut calling) = (Duration::MAX, Duration::MAX);
+    for _ in 0..RUNS {
+        serving = serving.min(time_serve(rt, &load)?);
+        alone = alone.min(time_reading(rt, &load.bodies)?);
+        let (read, called) = time_parts(rt, &load)?;
+        reading = reading.min(read);
+        calling = calling.min(called);
+    }
+    let (count, size) = (load.bodies.len(), size_of_bodies(&load));
+    rt.println(format_args!(
+        "{count} requests of {entries} lines of {LINE} bytes on one connection: {size} bytes of bodies"
+    ))?;
+    for (name, time) in [
+        ("serve", serving),
+        ("read_push alone", alone),
+        ("read_push before each call", reading),
+        ("the calls", calling),
+    ] {
+        report(rt, name, count, size, time)?;
+    }
+    compare(rt, "read_push alone", serving, [alone, calling])?;
+    compare(
+        rt,
+        "read_push before each call",
+        serving,
+        [reading, calling],
+    )
+}
+
+/// Prints how fast connections are served.
+pub fn time<R: Clock + Print + Wait + AllocGlobal>(rt: &R) -> Result<()> {
+    for (requests, entries) in LOADS {
+        time_load(rt, requests, entries)?;
+    }
+    Ok(())
+}
+
+/// Serves a short connection, and makes its calls alone.
+pub fn check<R: Clock + Print + Wait + AllocGlobal>(rt: &R) -> Result<()> {
+    let load = load_of(rt.alloc(), 3, 2)?;
+    time_serve(rt, &load)?;
+    time_reading(rt, &load.bodies)?;
+    time_parts(rt, &load)?;
+    let (count, size) = (load.bodies.len(), size_of_bodies(&load));
+    rt.println(format_args!("served {count} requests with bodies of {size} bytes"))?;
+    Ok(())
+}
