@@ -4,6 +4,8 @@ ghost use Rattle.std.specs.Prelude.{◌≡◌, ◌≤◌, IfOk, vec_len};
 use disk::{FileDisk, LockedFile};
 use std::alloc::{AllocError, Global};
 use std::fs::{self, File, Files};
+use std::io;
+use std::path::Path;
 
 /// Why the files of slots are not opened.
 #[derive(Debug, Drop)]
@@ -21,7 +23,7 @@ impl From<AllocError> for SlotsFault {
 }
 
 /// Opens the slots of so many shards, the files `shard-SS-0.wal` and `shard-SS-1.wal` of a folder. What is missing is made
-/// empty, the folder too, and each file is locked against another process.
+/// empty, the folder too, and each file is locked against another process. What was made survives a crash.
 pub fn open_slots<R: Files<File = File>>(
     rt: &R,
     alloc: Global,
@@ -30,7 +32,7 @@ pub fn open_slots<R: Files<File = File>>(
 ) -> Result<Vec<[FileDisk; 2]>, SlotsFault>
     ensures { IfOk result (λ slots. vec_len slots ≡ shards) }
 {
-    if fs::create_dir_all(rt, folder).is_err() {
+    if make_folder(rt, folder).is_err() {
         return Err(SlotsFault::Path(folder.to_string(alloc)?));
     }
     let mut slots = Vec::new(alloc);
@@ -42,6 +44,34 @@ pub fn open_slots<R: Files<File = File>>(
         }
     }
     Ok(slots)
+}
+
+// Makes a folder where none is, and those above it, and syncs each folder in which one was made.
+fn make_folder<R: Files<File = File>>(rt: &R, folder: &str) -> io::Result<()> {
+    let missing = Path::new(folder)
+        .ancestors()
+        .take_while(|path| !is_folder(rt, name_of(*path)))
+        .count();
+    fs::create_dir_all(rt, folder)?;
+    for path in Path::new(folder).ancestors().skip(1).take(missing) {
+        File::open(rt, name_of(path))?.sync_all()?;
+    }
+    Ok(())
+}
+
+fn is_folder<R: Files>(rt: &R, path: &str) -> bool {
+    match fs::metadata(rt, path) {
+        Ok(metadata) => metadata.is_dir(),
+        Err(_) => false,
+    }
+}
+
+// A path as the system reads it: above a name alone is the folder where the program runs.
+fn name_of<'a>(path: Path<'a>) -> &'a str {
+    match path.as_str() {
+        "" => ".",
+        name => name,
+    }
 }
 
 // Opens one slot.
