@@ -20,8 +20,9 @@ use std::thread::Threads;
 ///
 /// The slots of DIR are opened and replayed, the port of 127.0.0.1 is listened on (0: any that is free), `ready <port>` is
 /// written, and each connection is served by one of WORKERS threads. After CONNECTIONS connections, where given, it ends
-/// with status 0; else it goes on. Status 1: a fault while running. 2: wrong words. 3: a refused opening. A fault stands on
-/// one line of `errors`.
+/// with status 0, as it does where no worker is left; else it goes on. A connection that fails costs no more than itself
+/// (`serve_listener`). Status 1: a fault while running. 2: wrong words. 3: a refused opening. A fault stands on one line of
+/// `errors`.
 pub fn run_server<R, W: Write, E: Write>(
     rt: &R,
     alloc: Global,

@@ -11,6 +11,7 @@ use history::Pass;
 use ingester::Ingester;
 use std::alloc::Global;
 use std::net::{TcpListener, TcpStream};
+use std::rt;
 use std::sync::Wait;
 use std::thread::{self, Scope, Threads};
 use std::time::Duration;
@@ -20,6 +21,9 @@ const IDLE_SECONDS: u64 = 60;
 
 /// How many connections may wait for a worker, beside those that wait for the acceptor.
 const WAITING: usize = 64;
+
+/// For how many milliseconds the acceptor waits where it could accept nothing.
+const PAUSE_MILLIS: u64 = 10;
 
 // Serves one connection until it ends. Whatever goes wrong with it, the worker takes the next.
 fn serve_stream<D: Disk + Drop, C: Clock, R: Wait>(
@@ -72,12 +76,22 @@ fn work<D: Disk + Drop, C: Clock + Drop, R: Wait>(worker: Worker<D, C, R>)
     }
 }
 
-// Hands each connection that comes to the workers, so many at most, until no worker is left.
-fn accept<R: Wait>(rt: &R, listener: &TcpListener, connections: u64, workers: Sender<TcpStream>) {
-    for stream in listener.incoming().take(connections as usize) {
-        if let Ok(stream) = stream
-            && workers.send(rt, stream).is_err()
-        {
+// Hands each connection that comes to the workers, so many at most, until no worker is left. Where none can be accepted, as
+// for want of file descriptors, it waits a little in place of asking at once again.
+fn accept<R: Wait + rt::Clock>(
+    rt: &R,
+    listener: &TcpListener,
+    connections: u64,
+    workers: Sender<TcpStream>,
+) {
+    let streams = listener.incoming().filter_map(|accepted| {
+        if accepted.is_err() {
+            thread::sleep(rt, Duration::from_millis(PAUSE_MILLIS));
+        }
+        accepted.ok()
+    });
+    for stream in streams.take(connections as usize) {
+        if workers.send(rt, stream).is_err() {
             break;
         }
     }
@@ -138,8 +152,12 @@ where
 }
 
 /// Serves the connections that come to a listener, so many at most: one thread accepts them, and for each pass a worker,
-/// with a clock of its own, serves one after another. It ends when the last connection has ended, or when all passes are
-/// closed. A connection that fails, or does nothing for 60 seconds, is closed, and its worker takes the next.
+/// with a clock of its own, serves one after another.
+///
+/// It ends when so many connections have come and each has ended; or, where no worker is left, since a pass is closed when
+/// its numbers are used up, with the next connection that comes; or at once, with an error, where there is no memory or a
+/// thread cannot be started. A connection that fails, or does nothing for 60 seconds, is closed, and its worker takes the
+/// next; what it was answered stands. A connection that could not be accepted is not counted, and costs 10 milliseconds.
 pub fn serve_listener<D, C, R>(
     rt: &R,
     alloc: Global,
@@ -152,7 +170,7 @@ pub fn serve_listener<D, C, R>(
 where
     D: Disk + Drop + Send,
     C: Clock + Drop + Send,
-    R: Threads + Wait + Sync,
+    R: Threads + Wait + rt::Clock + Sync,
     requires passes { (i : ℕ) (pass : Passed) → slice_get passes.items i ≡ Some pass → IsPassOf ingester.now pass }
 {
     let (sender, receiver) = bounded(alloc, WAITING)?;
