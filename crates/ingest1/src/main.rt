@@ -1,28 +1,16 @@
 //! `ingest1 NOW`: judges the push body on standard input on an empty shard, and reads it back.
 #![tactic(auto)]
 
-use ingesterd::run_ingest1;
+use ingesterd::{run_ingest1, words_of};
 use std::process::ExitCode;
-use std::rt::Env;
-use std::{env, io};
 
 fn main(rt: HostRuntime) -> ExitCode {
-    let words = match words_of(&rt) {
-        Ok(words) => words,
-        Err(error) if error.kind() == io::ErrorKind::OutOfMemory => {
-            let _ = rt.eprintln("out of memory");
-            return ExitCode::FAILURE;
-        }
-        // Words that are no text are no number either.
-        Err(_) => Vec::new(rt.alloc()),
+    let Ok(words) = words_of(&rt) else {
+        let _ = rt.eprintln("out of memory");
+        return ExitCode::FAILURE;
     };
     let (alloc, mut input) = (rt.alloc(), rt.stdin());
     let (mut output, mut errors) = (rt.stdout(), rt.stderr());
     let status = run_ingest1(&rt, alloc, &words, &mut input, &mut output, &mut errors);
     ExitCode::from(status)
-}
-
-/// The words behind the program's name.
-fn words_of(rt: &(impl Env + AllocGlobal)) -> io::Result<Vec<String>> {
-    Ok(env::args(rt)?.skip(1).collect(rt.alloc())?)
 }

@@ -22,3 +22,4 @@ pub use server::run_server;
 pub use serving::serve_listener;
 pub use stopped::Stopped;
 pub use walcat::{are_walcat_words, run_walcat};
+pub use words::words_of;

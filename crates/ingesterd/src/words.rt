@@ -7,6 +7,8 @@ use front::Route;
 use labels::{LabelFault, Tenant};
 use pushjson::time_of;
 use std::alloc::{AllocError, Global};
+use std::rt::Env;
+use std::{env, io};
 
 /// The greatest number of shards, and of passes.
 const MAX_SHARDS: u64 = 64;
@@ -64,6 +66,19 @@ pub struct CallWords<'a> {
     ghost some_shard: { 1 ≤ shards },
     ghost few_shards: { shards ≤ 64 },
     ghost small: { now < 2 ^ 63 },
+}
+
+/// The words behind the program's name: none, where one of them is no text, since such words are no program's.
+pub fn words_of<R: Env + AllocGlobal>(rt: &R) -> Result<Vec<String>, AllocError> {
+    match read_words(rt) {
+        Ok(words) => Ok(words),
+        Err(error) if error.kind() == io::ErrorKind::OutOfMemory => Err(AllocError),
+        Err(_) => Ok(Vec::new(rt.alloc())),
+    }
+}
+
+fn read_words<R: Env + AllocGlobal>(rt: &R) -> io::Result<Vec<String>> {
+    Ok(env::args(rt)?.skip(1).collect(rt.alloc())?)
 }
 
 /// The place of the words `FILE SHARD COUNT`; `None` where they are not such words.

@@ -1,21 +1,15 @@
 //! `walcat FILE SHARD COUNT`: prints the segment in the file, which is a slot of shard SHARD among COUNT.
 #![tactic(auto)]
 
-use ingesterd::{are_walcat_words, run_walcat};
+use ingesterd::{are_walcat_words, run_walcat, words_of};
 use std::fs::{File, Files};
+use std::io;
 use std::process::ExitCode;
-use std::rt::Env;
-use std::{env, io};
 
 fn main(rt: HostRuntime) -> ExitCode {
-    let words = match words_of(&rt) {
-        Ok(words) => words,
-        Err(error) if error.kind() == io::ErrorKind::OutOfMemory => {
-            let _ = rt.eprintln("out of memory");
-            return ExitCode::FAILURE;
-        }
-        // Words that are no text name no shard either.
-        Err(_) => Vec::new(rt.alloc()),
+    let Ok(words) = words_of(&rt) else {
+        let _ = rt.eprintln("out of memory");
+        return ExitCode::FAILURE;
     };
     let (alloc, mut output, mut errors) = (rt.alloc(), rt.stdout(), rt.stderr());
     let status = match words.first() {
@@ -29,9 +23,4 @@ fn main(rt: HostRuntime) -> ExitCode {
         _ => run_walcat(alloc, &words, &mut io::empty(), &mut output, &mut errors),
     };
     ExitCode::from(status)
-}
-
-/// The words behind the program's name.
-fn words_of(rt: &(impl Env + AllocGlobal)) -> io::Result<Vec<String>> {
-    Ok(env::args(rt)?.skip(1).collect(rt.alloc())?)
 }
