@@ -1,14 +1,6 @@
+use super::words_of;
 use crate::{run_ctl, run_server};
-use std::alloc::Global;
 use std::test::Fail;
-
-fn words_of(alloc: Global, line: &str) -> Result<Vec<String>, Fail> {
-    let mut words = Vec::new(alloc);
-    for word in line.split_whitespace() {
-        words.push(word.to_string(alloc)?)?;
-    }
-    Ok(words)
-}
 
 #[test]
 fn wrong_words_of_a_server(rt: HostRuntime) -> Result<(), Fail> {
