@@ -4,6 +4,7 @@ ghost use Rattle.history.specs.Handles.{Passed};
 ghost use Rattle.ingester.specs.Calls.{IsPassOf};
 
 mod connections;
+mod heads;
 mod pushes;
 mod reads;
 

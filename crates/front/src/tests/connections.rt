@@ -122,6 +122,20 @@ fn first_request_cut_at_each_place_has_no_step(rt: HostRuntime) -> Result<(), Fa
     Ok(())
 }
 
+#[test]
+fn stream_that_ends_inside_a_body_has_no_step(rt: HostRuntime) -> Result<(), Fail> {
+    let alloc = rt.alloc();
+    let (ingester, mut pass) = open(alloc, WIDE, 0)?;
+    let head = "POST /loki/api/v1/push HTTP/1.1\r\nX-Scope-OrgID: t\r\n";
+    let lines = "Content-Type: application/json\r\nContent-Length: 14\r\n";
+    let cut = format!(in alloc; "{head}{lines}\r\n{{\"streams\"")?;
+    let (text, end) = written(&rt, alloc, &ingester, &mut pass, 20, cut.as_bytes(), 1_000);
+    assert!(rt; text.is_empty());
+    assert_eq!(rt; end, Err(ServeFault::CutShort));
+    assert_eq!(rt; steps(&ingester, &mut pass), 0);
+    Ok(())
+}
+
 /// How a connection ends whose reader fails behind these bytes, and what was written.
 fn ends_at_reader<R: Wait>(
     rt: &R,

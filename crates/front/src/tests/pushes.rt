@@ -199,6 +199,53 @@ fn refused_labels_refuse_one_stream(rt: HostRuntime) -> Result<(), Fail> {
 }
 
 #[test]
+fn label_too_long_refuses_its_stream(rt: HostRuntime) -> Result<(), Fail> {
+    let alloc = rt.alloc();
+    let (ingester, mut pass) = open(alloc, WIDE, 0)?;
+    let name = "b".repeat(alloc, 1_025)?;
+    let named = format!(in alloc; "\"{name}\":\"x\"")?;
+    assert!(rt;
+        refuses_labels(
+            &rt,
+            alloc,
+            &ingester,
+            &mut pass,
+            named.as_str(),
+            "label name too long"
+        )?
+    );
+    let value = "x".repeat(alloc, 2_049)?;
+    let valued = format!(in alloc; "\"b\":\"{value}\"")?;
+    assert!(rt;
+        refuses_labels(
+            &rt,
+            alloc,
+            &ingester,
+            &mut pass,
+            valued.as_str(),
+            "label value too long"
+        )?
+    );
+    Ok(())
+}
+
+#[test]
+fn time_of_2_to_the_63_is_none(rt: HostRuntime) -> Result<(), Fail> {
+    let alloc = rt.alloc();
+    let (ingester, mut pass) = open(alloc, WIDE, 0)?;
+    let body =
+        r#"{"streams":[{"stream":{"a":"1"},"values":[["10","x"],["9223372036854775808","y"]]}]}"#;
+    let wanted = "bad time at stream 0 entry 1";
+    assert!(rt;
+        says(
+            &rt, alloc, &ingester, &mut pass, 20, PUSH, body, BAD, wanted
+        )?
+    );
+    assert_eq!(rt; steps(&ingester, &mut pass), 0);
+    Ok(())
+}
+
+#[test]
 fn body_refused_at_its_form_makes_no_step(rt: HostRuntime) -> Result<(), Fail> {
     let alloc = rt.alloc();
     let (ingester, mut pass) = open(alloc, WIDE, 0)?;
