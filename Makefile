@@ -1,7 +1,7 @@
 # rt is the command of the Rattle toolchain.
 RT ?= rt
 
-.PHONY: run demo sample test faults faults1 check fmt bench
+.PHONY: run demo sample test faults faults1 check fmt bench kill
 
 # the main job: the server, with its log in the folder data
 run:
@@ -10,6 +10,11 @@ run:
 # pushes a line to the server, and reads it back
 demo:
 	@tests/demo 3100
+
+# kills a server in the middle of pushes, and reads back what it answered
+kill:
+	@cd crates/server && $(RT) run > /dev/null 2>&1 || true
+	@tests/kill_in_the_middle
 
 # one push body, judged on an empty shard in memory and read back
 sample:
