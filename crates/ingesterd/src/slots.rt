@@ -46,17 +46,28 @@ pub fn open_slots<R: Files<File = File>>(
     Ok(slots)
 }
 
-// Makes a folder where none is, and those above it, and syncs each folder in which one was made.
+// Makes a folder where none is, and those above it, and syncs all that they stand in: also where each is there, since a
+// start that was killed may have made them. A folder that was there before need not let itself be opened.
 fn make_folder<R: Files<File = File>>(rt: &R, folder: &str) -> io::Result<()> {
+    if folder.is_empty() {
+        return Err(io::ErrorKind::NotFound.into());
+    }
     let missing = Path::new(folder)
         .ancestors()
         .take_while(|path| !is_folder(rt, name_of(*path)))
         .count();
     fs::create_dir_all(rt, folder)?;
-    for path in Path::new(folder).ancestors().skip(1).take(missing) {
-        File::open(rt, name_of(path))?.sync_all()?;
+    for (place, path) in Path::new(folder).ancestors().skip(1).enumerate() {
+        let synced = sync_folder(rt, name_of(path));
+        if place < missing {
+            synced?;
+        }
     }
     Ok(())
+}
+
+fn sync_folder<R: Files<File = File>>(rt: &R, path: &str) -> io::Result<()> {
+    File::open(rt, path)?.sync_all()
 }
 
 fn is_folder<R: Files>(rt: &R, path: &str) -> bool {
