@@ -41,6 +41,8 @@ check:
 fmt:
 	@for crate in crates/*/; do (cd "$$crate" && $(RT) fmt) || exit 1; done
 
+# (calls in memory that the process already has, since page faults would hide what a call costs)
 bench:
 	@cd crates/bench && $(RT) run -- time
-	@cd crates/bench_calls && $(RT) run -- time
+	@cd crates/bench_calls && $(RT) run -- check > /dev/null
+	@GLIBC_TUNABLES=glibc.malloc.mmap_max=0:glibc.malloc.trim_threshold=17179869184 crates/bench_calls/out/bench_calls time

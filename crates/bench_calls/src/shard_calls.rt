@@ -147,8 +147,8 @@ fn open(alloc: Global, room: u64) -> Result<Desk> {
     }
 }
 
-/// How long the timed pushes of one run take, which go to the first stream, and the shard with them.
-fn run<R: Clock + AllocGlobal>(rt: &R, state: State) -> Result<(Desk, Duration)> {
+/// How long the timed pushes of one run take, which go to the first stream.
+fn run<R: Clock + AllocGlobal>(rt: &R, state: State) -> Result<Duration> {
     let alloc = rt.alloc();
     let mut desk = open(alloc, ROOM)?;
     desk.fill(alloc, state)?;
@@ -157,19 +157,14 @@ fn run<R: Clock + AllocGlobal>(rt: &R, state: State) -> Result<(Desk, Duration)>
     for call in &calls {
         desk.push(alloc, call)?;
     }
-    let time = start.elapsed(rt)?;
-    Ok((desk, time))
+    Ok(start.elapsed(rt)?)
 }
 
-/// The best time of all runs at a state. No shard is dropped before the last run, so that each run, at the small
-/// states too, writes to memory that was never touched.
+/// The best time of all runs at a state.
 fn best_of<R: Clock + AllocGlobal>(rt: &R, state: State) -> Result<Duration> {
-    let mut desks = Vec::new(rt.alloc());
     let mut best = Duration::MAX;
     for _ in 0..RUNS {
-        let (desk, time) = run(rt, state)?;
-        desks.push(desk)?;
-        best = best.min(time);
+        best = best.min(run(rt, state)?);
     }
     Ok(best)
 }
