@@ -1,0 +1,15 @@
+//! Cases as rows of a text: what is done, and the lines that must be said.
+//!
+//! A row is a line `row NAME`, lines that say what is done, lines `= TEXT` that must be said, and a line `end`.
+//! Blank lines and lines that begin with `#` are skipped.
+#![tactic(auto)]
+
+mod hex;
+mod row;
+mod tally;
+mod text;
+
+pub use hex::{read_hex, write_hex};
+pub use row::{Row, rows_of, word_of};
+pub use tally::Tally;
+pub use text::{escape, text_of, unescape};

@@ -1,0 +1,102 @@
+use crate::hex::digit_of;
+use anyhow::{Result, anyhow, bail};
+use std::alloc::Global;
+use std::fmt::Write;
+
+/// Where a text is taken apart.
+#[derive(Clone, Copy, Drop)]
+enum Place {
+    /// Among characters that stand for themselves.
+    Plain,
+    /// Behind a backslash.
+    Escape,
+    /// Behind `\x`.
+    High,
+    /// Behind `\x` and a digit, which this is.
+    Low(u8),
+}
+
+/// Appends the bytes that a text stands for: `\r`, `\n`, `\t`, `\\` and `\x` with two digits are one byte each.
+///
+/// # Errors
+/// Another escape, or one that is cut short; want of memory.
+pub fn unescape(text: &str, into: &mut Vec<u8>) -> Result<()> {
+    let mut place = Place::Plain;
+    for byte in text.bytes() {
+        place = take_byte(place, byte, into)?;
+    }
+    match place {
+        Place::Plain => Ok(()),
+        _ => bail!("an escape is cut short"),
+    }
+}
+
+fn take_byte(place: Place, byte: u8, into: &mut Vec<u8>) -> Result<Place> {
+    let (byte, next) = match (place, byte) {
+        (Place::Plain, b'\\') => return Ok(Place::Escape),
+        (Place::Plain, byte) => (byte, Place::Plain),
+        (Place::Escape, b'r') => (b'\r', Place::Plain),
+        (Place::Escape, b'n') => (b'\n', Place::Plain),
+        (Place::Escape, b't') => (b'\t', Place::Plain),
+        (Place::Escape, b'\\') => (b'\\', Place::Plain),
+        (Place::Escape, b'x') => return Ok(Place::High),
+        (Place::Escape, _) => bail!("no such escape"),
+        (Place::High, digit) => return Ok(Place::Low(digit_of(digit)?)),
+        (Place::Low(high), digit) => (
+            high.wrapping_mul(16).wrapping_add(digit_of(digit)?),
+            Place::Plain,
+        ),
+    };
+    into.push(byte)?;
+    Ok(next)
+}
+
+/// The text that a text with escapes stands for.
+///
+/// # Errors
+/// Those of [`unescape`], and bytes that are no UTF-8.
+pub fn text_of(alloc: Global, text: &str) -> Result<String> {
+    let mut bytes = Vec::new(alloc);
+    unescape(text, &mut bytes)?;
+    String::from_utf8(bytes).map_err(|_| anyhow!("no UTF-8"))
+}
+
+/// Appends a text for these bytes that [`unescape`] reads: printable characters stand for themselves where all is UTF-8,
+/// else those of ASCII do.
+///
+/// # Errors
+/// Want of memory.
+pub fn escape(bytes: &[u8], into: &mut String) -> Result<()> {
+    match str::from_utf8(bytes) {
+        Ok(text) => {
+            for character in text.chars() {
+                escape_character(character, into)?;
+            }
+        }
+        Err(_) => {
+            for byte in bytes {
+                escape_byte(*byte, into)?;
+            }
+        }
+    }
+    Ok(())
+}
+
+fn escape_character(character: char, into: &mut String) -> Result<()> {
+    match u8::try_from(character) {
+        Ok(byte) if byte < 128 => escape_byte(byte, into),
+        _ => Ok(into.push(character)?),
+    }
+}
+
+fn escape_byte(byte: u8, into: &mut String) -> Result<()> {
+    match byte {
+        b'\r' => into.push_str("\\r")?,
+        b'\n' => into.push_str("\\n")?,
+        b'\t' => into.push_str("\\t")?,
+        b'\\' => into.push_str("\\\\")?,
+        b' '..=b'~' => into.push(char::from(byte))?,
+        _ => write!(into, "\\x{byte:02x}")?,
+    }
+    Ok(())
+}
