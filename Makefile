@@ -1,7 +1,7 @@
 # rt is the command of the Rattle toolchain.
 RT ?= rt
 
-.PHONY: run demo sample test faults faults1 check fmt bench kill
+.PHONY: run demo sample test faults check fmt bench kill
 
 # the main job: the server, with its log in the folder data
 run:
@@ -20,19 +20,15 @@ kill:
 sample:
 	@cd crates/ingest1 && $(RT) run -- 20 < stdin
 
-# the merge gate
-test: faults
-	$(RT) ci
+# the merge gate: every proof from nothing, the edits that must fail, the tests, the stored runs, and refused memory
+test:
+	@RT='$(RT)' tests/gate
 
-# each request for memory of the lower calls refused in turn
+# each request for memory of bench and ingest1 refused in turn
 faults:
 	@cd crates/bench && $(RT) run -- check > /dev/null
-	tests/each_allocation_fails bench
-
-# and of ingest1, which stands on nearly every crate
-faults1:
 	@cd crates/ingest1 && $(RT) run -- 20 < stdin > /dev/null
-	tests/each_allocation_fails ingest1
+	@tests/each_allocation_fails bench ingest1
 
 # every crate, lowest first, over the work of earlier checks
 check:
