@@ -172,15 +172,14 @@ impl Made {
         let Some(key) = self.keys.last() else {
             bail!("no key yet");
         };
-        let mut gap = "";
+        said.push_str("shards")?;
         for count in counts.split_ascii_whitespace() {
             let count = count.parse::<u32>()?;
             if count == 0 || count > 64 {
                 bail!("no count of shards: {count}");
             }
             let shard = shard_of(key, count);
-            write!(said, "{gap}{shard}")?;
-            gap = " ";
+            write!(said, " {shard}")?;
         }
         Ok(said.push('\n')?)
     }
