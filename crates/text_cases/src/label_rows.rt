@@ -104,22 +104,19 @@ impl Made {
         say_parsed(self.alloc, front.as_str(), said)
     }
 
-    fn last_set(&self) -> Result<&LabelSet> {
-        match self.sets.last() {
-            Some(set) => Ok(set),
-            None => bail!("no labels yet"),
-        }
-    }
-
     /// Says a copy of the last set's text.
     fn say_text(&self, said: &mut String) -> Result<()> {
-        let text = self.last_set()?.text(self.alloc)?;
-        say(text.as_str(), said)
+        match self.sets.last() {
+            Some(set) => say(set.text(self.alloc)?.as_str(), said),
+            None => say_nothing(said),
+        }
     }
 
     /// Says whether the last set's text, parsed, is that set.
     fn say_back(&self, said: &mut String) -> Result<()> {
-        let set = self.last_set()?;
+        let Some(set) = self.sets.last() else {
+            return say_nothing(said);
+        };
         let parsed = LabelSet::parse_text(self.alloc, set.as_str());
         if let Some(parsed) = made_or_said(parsed, said)? {
             say_whether(parsed == *set, said)?;
@@ -131,7 +128,7 @@ impl Made {
     fn say_equal(&self, said: &mut String) -> Result<()> {
         match self.sets.as_slice() {
             [.., one, other] => say_whether(one == other, said),
-            _ => bail!("not two sets yet"),
+            _ => say_nothing(said),
         }
     }
 
@@ -170,7 +167,7 @@ impl Made {
     /// Says the shards of the last key among these counts of shards.
     fn say_shards(&self, counts: &str, said: &mut String) -> Result<()> {
         let Some(key) = self.keys.last() else {
-            bail!("no key yet");
+            return say_nothing(said);
         };
         said.push_str("shards")?;
         for count in counts.split_ascii_whitespace() {
@@ -215,6 +212,11 @@ fn say_parsed(alloc: Global, text: &str, said: &mut String) -> Result<()> {
         say(set.as_str(), said)?;
     }
     Ok(())
+}
+
+/// Says that what is asked about was not made.
+fn say_nothing(said: &mut String) -> Result<()> {
+    Ok(said.push_str("nothing made\n")?)
 }
 
 fn say_whether(equal: bool, said: &mut String) -> Result<()> {

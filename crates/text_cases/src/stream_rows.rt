@@ -42,7 +42,7 @@ impl Opened {
             "read" => self.read(rest, said),
             "trim" => self.trim(rest, said),
             "state" => self.say_state(said),
-            "reopen" => self.reopen(),
+            "reopen" => self.reopen(said),
             _ => bail!("no such word: {word}"),
         }
     }
@@ -60,7 +60,7 @@ impl Opened {
         let now = now.parse::<u64>()?;
         let entries = entries_of(self.alloc, words)?;
         if !self.limits.are_lawful() || now > MOST || !are_times(&entries) {
-            bail!("a number is out of its bounds");
+            return Ok(said.push_str("a number is out of its bounds\n")?);
         }
         let outcomes = self.stream.judge(self.alloc, now, &entries, &self.limits)?;
         say_outcomes(outcomes.as_slice(), said)?;
@@ -105,9 +105,9 @@ impl Opened {
     }
 
     /// Takes the stream apart, and makes it of its parts again.
-    fn reopen(&mut self) -> Result<()> {
+    fn reopen(&mut self, said: &mut String) -> Result<()> {
         if self.stream.is_new() {
-            bail!("a new stream has no parts");
+            return Ok(said.push_str("a new stream has no parts\n")?);
         }
         let parts = self.stream.parts(self.alloc)?;
         self.stream = StreamState::of(self.alloc, parts)?;
