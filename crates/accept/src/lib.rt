@@ -10,8 +10,6 @@ mod limits;
 mod outcome;
 mod refusal;
 mod stream;
-#[cfg(test)]
-mod tests;
 
 pub use call::{Call, Reply};
 pub use entry::{Entry, EntryList, Line};

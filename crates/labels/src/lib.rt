@@ -23,6 +23,3 @@ pub use laws::{one_set, one_text, order_of_keys};
 pub use pairs::LabelPairs;
 pub use shards::shard_of;
 pub use tenant::Tenant;
-
-#[cfg(test)]
-mod tests;

@@ -13,6 +13,3 @@ pub use laws::one_answer;
 pub use push::{MAX_ENTRIES, RawBatch, read_push};
 pub use query::{RawRead, RawTrim, read_query, read_trim};
 pub use time::time_of;
-
-#[cfg(test)]
-mod tests;

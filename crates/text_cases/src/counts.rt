@@ -1,0 +1,32 @@
+use anyhow::Result;
+use std::alloc::Global;
+use std::collections::BTreeMap;
+use std::fmt::Write;
+
+/// How often each answer came.
+#[derive(Drop)]
+pub struct Counts {
+    answers: BTreeMap<String, u64>,
+}
+
+impl Counts {
+    pub fn new(alloc: Global) -> Counts {
+        Counts {
+            answers: BTreeMap::new(alloc),
+        }
+    }
+
+    pub fn add(&mut self, answer: String) -> Result<()> {
+        let count = self.answers.entry(answer)?.or_insert(0);
+        *count = count.saturating_add(1);
+        Ok(())
+    }
+
+    /// Says each answer, which ends in a line feed, with its count, in the order of their texts.
+    pub fn say(&self, said: &mut String) -> Result<()> {
+        for (answer, count) in &self.answers {
+            write!(said, "{count} cut: {answer}")?;
+        }
+        Ok(())
+    }
+}

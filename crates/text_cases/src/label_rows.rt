@@ -1,0 +1,256 @@
+ghost use Rattle.std.specs.Prelude.{◌≡◌, IfOk};
+
+use crate::counts::Counts;
+use crate::texts::{Draft, say, text_of_word};
+use anyhow::{Result, bail};
+use labels::{LabelFault, LabelPairs, LabelSet, StreamKey, Tenant, order_of_keys, shard_of};
+use rows::{Row, word_of};
+use std::alloc::{AllocError, Global};
+use std::cmp::Ordering;
+use std::fmt::Write;
+
+/// What the lines of a row have made, each in order.
+#[derive(Drop)]
+struct Made {
+    alloc: Global,
+    draft: Draft,
+    tenants: Vec<Tenant>,
+    sets: Vec<LabelSet>,
+    keys: Vec<StreamKey>,
+}
+
+/// Runs a row of labels, tenants and keys.
+pub fn take_row(alloc: Global, row: &Row<'_>, said: &mut String) -> Result<()> {
+    let mut made = Made {
+        alloc,
+        draft: Draft::new(alloc),
+        tenants: Vec::new(alloc),
+        sets: Vec::new(alloc),
+        keys: Vec::new(alloc),
+    };
+    for line in &row.given {
+        made.take_line(line, said)?;
+    }
+    Ok(())
+}
+
+impl Made {
+    fn take_line(&mut self, line: &str, said: &mut String) -> Result<()> {
+        let (word, rest) = word_of(line);
+        match word {
+            "put" => self.draft.put(rest),
+            "put*" => self.draft.put_times(rest),
+            "tenant" => self.make_tenant(rest, said),
+            "labels" => self.make_set(rest, said),
+            "key" => self.make_key(rest, said),
+            "parse" => {
+                let text = self.draft.end_text(self.alloc, rest)?;
+                say_parsed(self.alloc, text.as_str(), said)
+            }
+            "cut" => self.say_cut(rest, said),
+            "text" => self.say_text(said),
+            "back" => self.say_back(said),
+            "equal" => self.say_equal(said),
+            "copies" => self.say_copies(said),
+            "order" => self.say_order(said),
+            "shards" => self.say_shards(rest, said),
+            "memory" => Ok(writeln!(said, "{}", LabelFault::Memory)?),
+            _ => bail!("no such word: {word}"),
+        }
+    }
+
+    /// Makes the tenant of a text, and says it.
+    fn make_tenant(&mut self, text: &str, said: &mut String) -> Result<()> {
+        let text = self.draft.end_text(self.alloc, text)?;
+        if let Some(tenant) = made_or_said(Tenant::new(self.alloc, text.as_str()), said)? {
+            say(tenant.as_str(), said)?;
+            self.tenants.push(tenant)?;
+        }
+        Ok(())
+    }
+
+    /// Makes the set of labels, and says its canonical text.
+    fn make_set(&mut self, words: &str, said: &mut String) -> Result<()> {
+        if let Some(set) = made_or_said(set_of(self.alloc, words)?, said)? {
+            say(set.as_str(), said)?;
+            self.sets.push(set)?;
+        }
+        Ok(())
+    }
+
+    /// Makes the key of a tenant and labels.
+    fn make_key(&mut self, words: &str, said: &mut String) -> Result<()> {
+        let (tenant, labels) = word_of(words);
+        let tenant = made_or_said(Tenant::new(self.alloc, tenant), said)?;
+        let labels = made_or_said(set_of(self.alloc, labels)?, said)?;
+        if let (Some(tenant), Some(labels)) = (tenant, labels) {
+            self.keys.push(StreamKey { tenant, labels })?;
+        }
+        Ok(())
+    }
+
+    /// Parses each beginning of a text, a character more each time, and the whole.
+    fn say_cut(&mut self, text: &str, said: &mut String) -> Result<()> {
+        let text = self.draft.end_text(self.alloc, text)?;
+        let mut counts = Counts::new(self.alloc);
+        let mut front = String::new(self.alloc);
+        for character in text.as_str().chars() {
+            let mut answer = String::new(self.alloc);
+            say_parsed(self.alloc, front.as_str(), &mut answer)?;
+            counts.add(answer)?;
+            front.push(character)?;
+        }
+        counts.say(said)?;
+        say_parsed(self.alloc, front.as_str(), said)
+    }
+
+    /// Says a copy of the last set's text.
+    fn say_text(&self, said: &mut String) -> Result<()> {
+        match self.sets.last() {
+            Some(set) => say(set.text(self.alloc)?.as_str(), said),
+            None => say_nothing(said),
+        }
+    }
+
+    /// Says whether the last set's text, parsed, is that set.
+    fn say_back(&self, said: &mut String) -> Result<()> {
+        let Some(set) = self.sets.last() else {
+            return say_nothing(said);
+        };
+        let parsed = LabelSet::parse_text(self.alloc, set.as_str());
+        if let Some(parsed) = made_or_said(parsed, said)? {
+            say_whether(parsed == *set, said)?;
+        }
+        Ok(())
+    }
+
+    /// Says whether the last two sets are equal.
+    fn say_equal(&self, said: &mut String) -> Result<()> {
+        match self.sets.as_slice() {
+            [.., one, other] => say_whether(one == other, said),
+            _ => say_nothing(said),
+        }
+    }
+
+    /// Says how many copies of all that was made are equal to their sources, and how many differ.
+    fn say_copies(&self, said: &mut String) -> Result<()> {
+        let mut equal = 0_u64;
+        let mut other = 0_u64;
+        count_copies(&self.tenants, &mut equal, &mut other)?;
+        count_copies(&self.sets, &mut equal, &mut other)?;
+        for key in &self.keys {
+            let count = if copy_of(key)? == *key {
+                &mut equal
+            } else {
+                &mut other
+            };
+            *count = count.saturating_add(1);
+        }
+        writeln!(said, "{equal} equal, {other} differ")?;
+        Ok(())
+    }
+
+    /// Says a line for each key: how it stands to each of them.
+    fn say_order(&self, said: &mut String) -> Result<()> {
+        for one in &self.keys {
+            let mut gap = "";
+            for other in &self.keys {
+                said.push_str(gap)?;
+                said.push_str(sign_of(one, other))?;
+                gap = " ";
+            }
+            said.push('\n')?;
+        }
+        Ok(())
+    }
+
+    /// Says the shards of the last key among these counts of shards.
+    fn say_shards(&self, counts: &str, said: &mut String) -> Result<()> {
+        let Some(key) = self.keys.last() else {
+            return say_nothing(said);
+        };
+        said.push_str("shards")?;
+        for count in counts.split_ascii_whitespace() {
+            let count = count.parse::<u32>()?;
+            if count == 0 || count > 64 {
+                bail!("no count of shards: {count}");
+            }
+            let shard = shard_of(key, count);
+            write!(said, " {shard}")?;
+        }
+        Ok(said.push('\n')?)
+    }
+}
+
+/// The labels `NAME=VALUE` of words.
+fn set_of(alloc: Global, words: &str) -> Result<Result<LabelSet, LabelFault>> {
+    let mut pairs = Vec::new(alloc);
+    for word in words.split_ascii_whitespace() {
+        let Some((name, value)) = word.split_once('=') else {
+            bail!("no label: {word}");
+        };
+        pairs.push((text_of_word(alloc, name)?, text_of_word(alloc, value)?))?;
+    }
+    Ok(LabelSet::new(alloc, LabelPairs::new(pairs)))
+}
+
+/// What was made, or none where its fault was said.
+fn made_or_said<T: Drop>(made: Result<T, LabelFault>, said: &mut String) -> Result<Option<T>> {
+    match made {
+        Ok(made) => Ok(Some(made)),
+        Err(LabelFault::Memory) => Err(LabelFault::Memory.into()),
+        Err(fault) => {
+            writeln!(said, "{fault}")?;
+            Ok(None)
+        }
+    }
+}
+
+/// Says the set whose canonical text this is.
+fn say_parsed(alloc: Global, text: &str, said: &mut String) -> Result<()> {
+    if let Some(set) = made_or_said(LabelSet::parse_text(alloc, text), said)? {
+        say(set.as_str(), said)?;
+    }
+    Ok(())
+}
+
+/// Says that what is asked about was not made.
+fn say_nothing(said: &mut String) -> Result<()> {
+    Ok(said.push_str("nothing made\n")?)
+}
+
+fn say_whether(equal: bool, said: &mut String) -> Result<()> {
+    Ok(said.push_str(if equal { "equal\n" } else { "differ\n" })?)
+}
+
+fn count_copies<T: Clone + PartialEq + Drop>(
+    values: &[T],
+    equal: &mut u64,
+    other: &mut u64,
+) -> Result<()> {
+    for value in values {
+        if value.clone()? == *value {
+            *equal = equal.saturating_add(1);
+        } else {
+            *other = other.saturating_add(1);
+        }
+    }
+    Ok(())
+}
+
+/// A clone is its source.
+fn copy_of(key: &StreamKey) -> Result<StreamKey, AllocError>
+    ensures { IfOk result (λ copy. copy ≡ key.now) }
+{
+    key.clone()
+}
+
+/// How a key stands to another one by all comparisons, which must agree.
+fn sign_of(one: &StreamKey, other: &StreamKey) -> &'static str {
+    match (one < other, one == other, order_of_keys(one, other)) {
+        (true, false, Ordering::Less) => "<",
+        (false, true, Ordering::Equal) => "=",
+        (false, false, Ordering::Greater) => ">",
+        _ => "?",
+    }
+}

@@ -1,0 +1,187 @@
+ghost use Rattle.std.specs.Prelude.{◌↔◌, IsTrue};
+ghost use Rattle.accept.specs.Streams.{AreTimes};
+
+use crate::texts::{text_of_word, write_word};
+use accept::{Entry, Limits, Line, Outcome, StreamState, TrimRefusal};
+use anyhow::{Result, bail};
+use rows::{Row, word_of};
+use std::alloc::Global;
+use std::fmt::Write;
+
+/// The greatest time, and the greatest that a clock may tell.
+const MOST: u64 = 0x7fff_ffff_ffff_ffff;
+
+/// A stream, and the limits that its calls are under.
+#[derive(Drop)]
+struct Opened {
+    alloc: Global,
+    limits: Limits,
+    stream: StreamState,
+}
+
+/// Runs a row of calls on a stream that is new at first, under the profile's limits.
+pub fn take_row(alloc: Global, row: &Row<'_>, said: &mut String) -> Result<()> {
+    let mut opened = Opened {
+        alloc,
+        limits: Limits::PROFILE,
+        stream: StreamState::new(alloc),
+    };
+    for line in &row.given {
+        opened.take_line(line, said)?;
+    }
+    Ok(())
+}
+
+impl Opened {
+    fn take_line(&mut self, line: &str, said: &mut String) -> Result<()> {
+        let (word, rest) = word_of(line);
+        match word {
+            "limits" => self.set_limits(rest, said),
+            "push" => self.judge(rest, true, said),
+            "judge" => self.judge(rest, false, said),
+            "read" => self.read(rest, said),
+            "trim" => self.trim(rest, said),
+            "state" => self.say_state(said),
+            "reopen" => self.reopen(said),
+            _ => bail!("no such word: {word}"),
+        }
+    }
+
+    /// Takes these limits, and says whether they are lawful.
+    fn set_limits(&mut self, words: &str, said: &mut String) -> Result<()> {
+        self.limits = limits_of(words)?;
+        let lawful = self.limits.are_lawful();
+        Ok(said.push_str(if lawful { "lawful\n" } else { "not lawful\n" })?)
+    }
+
+    /// Says what becomes of each entry, and either stores those to store or says them.
+    fn judge(&mut self, words: &str, store: bool, said: &mut String) -> Result<()> {
+        let (now, words) = word_of(words);
+        let now = now.parse::<u64>()?;
+        let entries = entries_of(self.alloc, words)?;
+        if !self.limits.are_lawful() || now > MOST || !are_times(&entries) {
+            return Ok(said.push_str("a number is out of its bounds\n")?);
+        }
+        let outcomes = self.stream.judge(self.alloc, now, &entries, &self.limits)?;
+        say_outcomes(outcomes.as_slice(), said)?;
+        let reserved = self
+            .stream
+            .reserve(self.alloc, &entries, outcomes.as_slice())?;
+        if store {
+            self.stream.store(reserved);
+            return Ok(());
+        }
+        said.push_str("to store")?;
+        say_entries(self.alloc, reserved.as_slice(), said)
+    }
+
+    fn read(&self, words: &str, said: &mut String) -> Result<()> {
+        let (from, to) = word_of(words);
+        let found = self.stream.read(self.alloc, from.parse()?, to.parse()?)?;
+        said.push_str("found")?;
+        say_entries(self.alloc, found.as_slice(), said)
+    }
+
+    fn trim(&mut self, bound: &str, said: &mut String) -> Result<()> {
+        match self.stream.trim(bound.parse()?, &self.limits) {
+            Ok(count) => writeln!(said, "removed {count}")?,
+            Err(TrimRefusal::AboveOldest) => said.push_str("above oldest\n")?,
+            Err(TrimRefusal::NoSuchStream) => said.push_str("no such stream\n")?,
+        }
+        Ok(())
+    }
+
+    fn say_state(&self, said: &mut String) -> Result<()> {
+        let stream = &self.stream;
+        let age = if stream.is_new() { "new" } else { "not new" };
+        let highest = stream.highest();
+        write!(said, "{age}, highest {highest}, last")?;
+        match stream.last() {
+            Some(entry) => write_entry(self.alloc, entry, said)?,
+            None => said.push_str(" nothing")?,
+        }
+        said.push_str(", kept")?;
+        say_entries(self.alloc, stream.kept(), said)
+    }
+
+    /// Takes the stream apart, and makes it of its parts again.
+    fn reopen(&mut self, said: &mut String) -> Result<()> {
+        if self.stream.is_new() {
+            return Ok(said.push_str("a new stream has no parts\n")?);
+        }
+        let parts = self.stream.parts(self.alloc)?;
+        self.stream = StreamState::of(self.alloc, parts)?;
+        Ok(())
+    }
+}
+
+/// The profile's limits but for those `NAME=NUMBER` of the words.
+fn limits_of(words: &str) -> Result<Limits> {
+    let mut limits = Limits::PROFILE;
+    for word in words.split_ascii_whitespace() {
+        match word.split_once('=') {
+            Some(("line", number)) => limits.line = number.parse()?,
+            Some(("half_age", number)) => limits.half_age = number.parse()?,
+            Some(("max_old", number)) => limits.max_old = number.parse()?,
+            Some(("max_ahead", number)) => limits.max_ahead = number.parse()?,
+            _ => bail!("no limit: {word}"),
+        }
+    }
+    Ok(limits)
+}
+
+/// The entries `TIME:LINE` of words.
+fn entries_of(alloc: Global, words: &str) -> Result<Vec<Entry>> {
+    let mut entries = Vec::new(alloc);
+    for word in words.split_ascii_whitespace() {
+        let Some((time, line)) = word.split_once(':') else {
+            bail!("no entry: {word}");
+        };
+        entries.push(Entry {
+            time: time.parse()?,
+            line: Line::new(text_of_word(alloc, line)?),
+        })?;
+    }
+    Ok(entries)
+}
+
+fn are_times(entries: &[Entry]) -> bool
+    ensures { IsTrue result ↔ AreTimes entries.now }
+{
+    entries.iter().all(|entry| entry.time <= MOST)
+}
+
+fn say_outcomes(outcomes: &[Outcome], said: &mut String) -> Result<()> {
+    let mut gap = "";
+    for outcome in outcomes {
+        said.push_str(gap)?;
+        match outcome {
+            Outcome::TooLong => said.push_str("TooLong")?,
+            Outcome::TooOld => said.push_str("TooOld")?,
+            Outcome::TooNew => said.push_str("TooNew")?,
+            Outcome::Repeat => said.push_str("Repeat")?,
+            Outcome::TooFarBehind { oldest } => write!(said, "TooFarBehind({oldest})")?,
+            Outcome::Stored => said.push_str("Stored")?,
+        }
+        gap = " ";
+    }
+    Ok(said.push('\n')?)
+}
+
+/// Writes an entry behind a blank.
+fn write_entry(alloc: Global, entry: &Entry, into: &mut String) -> Result<()> {
+    let time = entry.time;
+    write!(into, " {time}:")?;
+    write_word(alloc, entry.line.as_str(), into)
+}
+
+/// Ends a line with these entries.
+fn say_entries(alloc: Global, entries: &[Entry], said: &mut String) -> Result<()> {
+    if entries.is_empty() {
+        said.push_str(" nothing")?;
+    }
+    for entry in entries {
+        write_entry(alloc, entry, said)?;
+    }
+    Ok(said.push('\n')?)
+}

@@ -1,0 +1,97 @@
+use anyhow::{Result, anyhow};
+use rows::{escape, text_of, unescape, word_of};
+use std::alloc::Global;
+use std::fmt::Write;
+use std::mem;
+
+/// The longest text that is said as it is, in bytes.
+const LONGEST: usize = 200;
+
+/// What the words `put` and `put*` have put in front of the text of the next call.
+#[derive(Drop)]
+pub struct Draft {
+    bytes: Vec<u8>,
+}
+
+impl Draft {
+    pub fn new(alloc: Global) -> Draft {
+        Draft {
+            bytes: Vec::new(alloc),
+        }
+    }
+
+    /// Puts a text.
+    pub fn put(&mut self, text: &str) -> Result<()> {
+        unescape(text, &mut self.bytes)
+    }
+
+    /// Puts a text as often as the number in front of it says.
+    pub fn put_times(&mut self, counted: &str) -> Result<()> {
+        let (count, text) = word_of(counted);
+        for _ in 0..count.parse::<usize>()? {
+            self.put(text)?;
+        }
+        Ok(())
+    }
+
+    /// What was put, with this text behind it; the draft is empty again.
+    pub fn end(&mut self, alloc: Global, text: &str) -> Result<Vec<u8>> {
+        self.put(text)?;
+        Ok(mem::replace(&mut self.bytes, Vec::new(alloc)))
+    }
+
+    /// The same as text.
+    pub fn end_text(&mut self, alloc: Global, text: &str) -> Result<String> {
+        let bytes = self.end(alloc, text)?;
+        String::from_utf8(bytes).map_err(|_| anyhow!("no UTF-8"))
+    }
+}
+
+/// The text of a word: pieces between bars, each with `*COUNT` behind it where it stands so many times.
+pub fn text_of_word(alloc: Global, word: &str) -> Result<String> {
+    let mut text = String::new(alloc);
+    for piece in word.split('|') {
+        let (piece, count) = match piece.rsplit_once('*') {
+            Some((piece, count)) => (piece, count.parse::<usize>()?),
+            None => (piece, 1),
+        };
+        let piece = text_of(alloc, piece)?;
+        for _ in 0..count {
+            text.push_str(piece.as_str())?;
+        }
+    }
+    Ok(text)
+}
+
+/// Writes a text with its escapes, or the length of a long one.
+pub fn write_text(text: &str, into: &mut String) -> Result<()> {
+    let length = text.len();
+    if length > LONGEST {
+        write!(into, "({length} bytes)")?;
+        return Ok(());
+    }
+    escape(text.as_bytes(), into)
+}
+
+/// Writes a text as one word: its blanks and its `=` as escapes too.
+pub fn write_word(alloc: Global, text: &str, into: &mut String) -> Result<()> {
+    if text.len() > LONGEST {
+        return write_text(text, into);
+    }
+    let mut escaped = String::new(alloc);
+    escape(text.as_bytes(), &mut escaped)?;
+    for character in escaped.chars() {
+        match character {
+            ' ' => into.push_str("\\x20")?,
+            '=' => into.push_str("\\x3d")?,
+            _ => into.push(character)?,
+        }
+    }
+    Ok(())
+}
+
+/// Says a text on a line.
+pub fn say(text: &str, said: &mut String) -> Result<()> {
+    write_text(text, said)?;
+    Ok(said.push('\n')?)
+}
