@@ -1,7 +1,7 @@
 # rt is the command of the Rattle toolchain.
 RT ?= rt
 
-.PHONY: run demo sample test faults faults1 check fmt bench kill
+.PHONY: run demo sample test edits faults faults1 check fmt bench kill
 
 # the main job: the server, with its log in the folder data
 run:
@@ -23,6 +23,10 @@ sample:
 # the merge gate
 test: faults
 	$(RT) ci
+
+# the wrong bodies that the gate leaves out: make edits [CRATES="labels accept"] [JOBS=2] [ALL=1, with the gate's]
+edits:
+	@RT=$(RT) tests/edits $(if $(ALL),--all) $(if $(JOBS),--jobs $(JOBS)) $(CRATES)
 
 # each request for memory of the lower calls refused in turn
 faults:
