@@ -1,7 +1,7 @@
 # rt is the command of the Rattle toolchain.
 RT ?= rt
 
-.PHONY: run demo sample test faults check fmt bench kill
+.PHONY: run demo sample test edits faults check fmt bench kill
 
 # the main job: the server, with its log in the folder data
 run:
@@ -23,6 +23,10 @@ sample:
 # the merge gate: every proof from nothing, the edits that must fail, the tests, the stored runs, and refused memory
 test:
 	@RT='$(RT)' tests/gate
+
+# the wrong bodies that the gate leaves out: make edits [CRATES="labels accept"] [JOBS=2] [ALL=1, with the gate's]
+edits:
+	@RT=$(RT) tests/edits $(if $(ALL),--all) $(if $(JOBS),--jobs $(JOBS)) $(CRATES)
 
 # each request for memory of bench and ingest1 refused in turn
 faults:
