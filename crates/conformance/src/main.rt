@@ -11,10 +11,9 @@ mod visits;
 use crate::plan::Plan;
 use anyhow::{Result, anyhow};
 use rows::{Row, Tally, rows_of};
-use std::env;
-use std::fs;
 use std::rt::{Env, Files};
 use std::sync::Wait;
+use std::{env, fs};
 
 fn main(rt: HostRuntime) -> Result<()> {
     let mut tally = Tally::new();

@@ -1,6 +1,7 @@
 use anyhow::{Result, anyhow};
 use rows::word_of;
 use std::alloc::Global;
+use std::mem;
 use wire::{Connection, Each};
 
 /// The most bytes that a segment may have.
@@ -91,7 +92,7 @@ impl Plan {
 
     fn begin_next(&mut self, time: u64) -> Result<()> {
         let next = Visit::new(self.alloc, time);
-        self.visits.push(std::mem::replace(&mut self.last, next))?;
+        self.visits.push(mem::replace(&mut self.last, next))?;
         Ok(())
     }
 }

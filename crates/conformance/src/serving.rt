@@ -1,5 +1,5 @@
 //! The connections of a row, one behind another.
-ghost use Rattle.std.specs.Prelude.{◌≡◌, ◌≤◌, ◌^◌};
+ghost use Rattle.std.specs.Prelude.{◌≡◌};
 ghost use Rattle.ingester.specs.Calls.{IsPassOf};
 
 use crate::opening::open;

@@ -9,7 +9,7 @@ mod taking;
 
 use crate::case::Case;
 use anyhow::Result;
-use rows::{Row, Tally, rows_of};
+use rows::{Tally, rows_of};
 use std::rt::{Env, Files};
 use std::{env, fs};
 

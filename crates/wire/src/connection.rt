@@ -82,9 +82,7 @@ impl Connection {
 
 /// Appends a text so many times.
 fn push_many(alloc: Global, line: &str, into: &mut Vec<u8>) -> Result<()> {
-    let (count, text) = line
-        .split_once(' ')
-        .ok_or(anyhow!("a count and a text"))?;
+    let (count, text) = line.split_once(' ').ok_or(anyhow!("a count and a text"))?;
     let mut piece = Vec::new(alloc);
     unescape(text, &mut piece)?;
     for _ in 0..count.parse::<usize>()? {
