@@ -15,6 +15,3 @@ pub use replies::read_answer;
 pub use requests::{Answer, Route, ServeFault, Served};
 pub use responding::answer;
 pub use serving::serve;
-
-#[cfg(test)]
-mod tests;

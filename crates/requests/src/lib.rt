@@ -31,6 +31,3 @@ pub use laws::{one_request, one_split};
 pub use outgoing::Outgoing;
 pub use route::Route;
 pub use verdict::Verdict;
-
-#[cfg(test)]
-mod tests;

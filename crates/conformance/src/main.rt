@@ -1,0 +1,50 @@
+//! `conformance FILE..`: serves connections over ingesters in memory, as the rows of the files say, and prints each row
+//! that comes out otherwise.
+#![tactic(auto)]
+
+mod opening;
+mod plan;
+mod replies;
+mod serving;
+mod visits;
+
+use crate::plan::Plan;
+use anyhow::{Result, anyhow};
+use rows::{Row, Tally, rows_of};
+use std::rt::{Env, Files};
+use std::sync::Wait;
+use std::{env, fs};
+
+fn main(rt: HostRuntime) -> Result<()> {
+    let mut tally = Tally::new();
+    for file in env::args(&rt)?.skip(1) {
+        take_file(&rt, file.as_str(), &mut tally)?;
+    }
+    tally.end(&rt)
+}
+
+fn take_file<R: Files + Print + Wait + AllocGlobal>(
+    rt: &R,
+    file: &str,
+    tally: &mut Tally,
+) -> Result<()> {
+    let alloc = rt.alloc();
+    let text = fs::read_to_string(rt, file)?;
+    for row in rows_of(alloc, text.as_str())?.iter() {
+        let mut said = String::new(alloc);
+        take_row(rt, row, &mut said).map_err(|error| anyhow!("{}: {error}", row.name))?;
+        tally.judge(rt, row, said.as_str())?;
+    }
+    Ok(())
+}
+
+/// A row whose first line is a `reply` asks for its answer, any other one for connections.
+fn take_row<R: Wait + AllocGlobal>(rt: &R, row: &Row<'_>, said: &mut String) -> Result<()> {
+    let alloc = rt.alloc();
+    match row.given.split_first() {
+        Some((first, entries)) if first.starts_with("reply ") => {
+            replies::answer_reply(alloc, first, entries, said)
+        }
+        _ => serving::serve_plan(rt, alloc, &Plan::read(alloc, &row.given)?, said),
+    }
+}

@@ -1,0 +1,98 @@
+use anyhow::{Result, anyhow};
+use rows::word_of;
+use std::alloc::Global;
+use std::mem;
+use wire::{Connection, Each};
+
+/// The most bytes that a segment may have.
+const MAX_CAPACITY: u64 = 1 << 30;
+
+/// The bytes that a segment has where a row says nothing.
+const WIDE: u64 = 1 << 21;
+
+/// The time where a row says nothing.
+const TIME: u64 = 20;
+
+/// One connection.
+#[derive(Drop)]
+pub struct Visit {
+    /// What the clock tells to its first request.
+    pub time: u64,
+    /// How much more it tells to each further one.
+    pub tick: u64,
+    pub connection: Connection,
+    /// Where it is run again.
+    pub each: Option<Each>,
+}
+
+impl Visit {
+    fn new(alloc: Global, time: u64) -> Visit {
+        Visit {
+            time,
+            tick: 0,
+            connection: Connection::new(alloc),
+            each: None,
+        }
+    }
+
+    fn take_line(&mut self, line: &str) -> Result<()> {
+        match word_of(line) {
+            ("time", time) => self.time = time.parse::<u64>()?,
+            ("tick", tick) => self.tick = tick.parse::<u64>()?,
+            ("each", name) => self.each = Some(Each::find(name)?),
+            _ => self.connection.take_line(line)?,
+        }
+        Ok(())
+    }
+}
+
+/// What a row asks for: one shard over empty slots, and connections to it.
+#[derive(Drop)]
+pub struct Plan {
+    alloc: Global,
+    /// How many bytes a segment may have, at most 2^30.
+    pub capacity: u64,
+    /// The device call of slot 1 from which on all fail, or 0.
+    pub stops: u64,
+    /// The connections before the last one.
+    pub visits: Vec<Visit>,
+    /// The last one.
+    pub last: Visit,
+}
+
+impl Plan {
+    /// Reads the lines of a row.
+    ///
+    /// # Errors
+    /// A line that is none of a row; want of memory.
+    pub fn read(alloc: Global, lines: &[&str]) -> Result<Plan> {
+        let mut plan = Plan {
+            alloc,
+            capacity: WIDE,
+            stops: 0,
+            visits: Vec::new(alloc),
+            last: Visit::new(alloc, TIME),
+        };
+        for line in lines {
+            plan.take_line(line)
+                .map_err(|error| anyhow!("{line}: {error}"))?;
+        }
+        Ok(plan)
+    }
+
+    fn take_line(&mut self, line: &str) -> Result<()> {
+        match word_of(line) {
+            ("capacity", bytes) => self.capacity = bytes.parse::<u64>()?.min(MAX_CAPACITY),
+            ("stops", call) => self.stops = call.parse::<u64>()?,
+            ("next", time) => self.begin_next(time.parse::<u64>()?)?,
+            _ => self.last.take_line(line)?,
+        }
+        Ok(())
+    }
+
+    fn begin_next(&mut self, time: u64) -> Result<()> {
+        let next = Visit::new(self.alloc, time);
+        self.visits.push(mem::replace(&mut self.last, next))?;
+        Ok(())
+    }
+}

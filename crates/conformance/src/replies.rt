@@ -1,0 +1,48 @@
+//! Replies to reads, as answers.
+use accept::{Entry, EntryList, Line, Reply};
+use anyhow::{Result, anyhow, bail};
+use front::read_answer;
+use rows::text_of;
+use std::alloc::Global;
+use std::fmt::Write;
+use wire::say_lines;
+
+/// Says status and body of the answer to a read that got the reply of this line. Its entries are lines
+/// `entry TIME TEXT`.
+///
+/// # Errors
+/// A line that is none of these; want of memory.
+pub fn answer_reply(alloc: Global, line: &str, entries: &[&str], said: &mut String) -> Result<()> {
+    let answer = read_answer(alloc, &reply_of(alloc, line, entries)?)?;
+    let status = answer.status;
+    writeln!(said, "{status}")?;
+    say_lines(alloc, &answer.body, said)
+}
+
+fn reply_of(alloc: Global, line: &str, entries: &[&str]) -> Result<Reply> {
+    match line {
+        "reply entries" => Ok(Reply::Entries(entries_of(alloc, entries)?)),
+        "reply unavailable" => Ok(Reply::Unavailable),
+        "reply no room" => Ok(Reply::NoRoom),
+        _ => bail!("no such reply"),
+    }
+}
+
+fn entries_of(alloc: Global, lines: &[&str]) -> Result<EntryList> {
+    let mut entries = Vec::new(alloc);
+    for line in lines {
+        entries.push(entry_of(alloc, line)?)?;
+    }
+    Ok(EntryList::new(entries))
+}
+
+fn entry_of(alloc: Global, line: &str) -> Result<Entry> {
+    let (time, text) = line
+        .strip_prefix("entry ")
+        .and_then(|entry| entry.split_once(' '))
+        .ok_or(anyhow!("entry TIME TEXT"))?;
+    Ok(Entry {
+        time: time.parse::<u64>()?,
+        line: Line::new(text_of(alloc, text)?),
+    })
+}

@@ -1,0 +1,42 @@
+use anyhow::{Result, anyhow};
+use rows::{Row, word_of};
+use std::alloc::Global;
+use wire::{Connection, Each};
+
+/// What a row asks for: the requests of a connection, or answers where there are any.
+#[derive(Drop)]
+pub struct Case<'a> {
+    pub connection: Connection,
+    /// Where it is run again.
+    pub each: Option<Each>,
+    /// The lines of the answers.
+    pub answers: Vec<&'a str>,
+}
+
+impl<'a> Case<'a> {
+    /// Reads the lines of a row.
+    ///
+    /// # Errors
+    /// A line that is none of a row; want of memory.
+    pub fn read(alloc: Global, row: &Row<'a>) -> Result<Case<'a>> {
+        let mut case = Case {
+            connection: Connection::new(alloc),
+            each: None,
+            answers: Vec::new(alloc),
+        };
+        for line in row.given.iter() {
+            case.take_line(line)
+                .map_err(|error| anyhow!("{}: {line}: {error}", row.name))?;
+        }
+        Ok(case)
+    }
+
+    fn take_line(&mut self, line: &'a str) -> Result<()> {
+        match word_of(line) {
+            ("each", name) => self.each = Some(Each::find(name)?),
+            ("answer" | "fixed" | "failure", _) => self.answers.push(line)?,
+            _ => self.connection.take_line(line)?,
+        }
+        Ok(())
+    }
+}

@@ -1,0 +1,92 @@
+use crate::manner::Manner;
+use crate::source::Source;
+use anyhow::{Result, anyhow, bail};
+use rows::{unescape, word_of};
+use std::alloc::Global;
+use std::io::Write;
+
+/// The bytes of a connection and the manner in which they come, put together from lines.
+#[derive(Drop)]
+pub struct Connection {
+    alloc: Global,
+    bytes: Vec<u8>,
+    /// The body of the next `post`, as far as it stands.
+    body: Vec<u8>,
+    pub manner: Manner,
+}
+
+impl Connection {
+    /// No bytes.
+    pub fn new(alloc: Global) -> Connection {
+        Connection {
+            alloc,
+            bytes: Vec::new(alloc),
+            body: Vec::new(alloc),
+            manner: Manner::PLAIN,
+        }
+    }
+
+    /// How many bytes there are.
+    pub fn len(&self) -> usize {
+        self.bytes.len()
+    }
+
+    /// Whether there are none.
+    pub fn is_empty(&self) -> bool {
+        self.bytes.is_empty()
+    }
+
+    /// The reader that gives them in this manner.
+    pub fn source(&self, manner: Manner) -> Source<'_> {
+        Source::new(self.bytes.as_slice(), manner)
+    }
+
+    /// Takes a line: `in TEXT`, `in* COUNT TEXT`, `body TEXT`, `body* COUNT TEXT`, `post PATH TEXT`, `step N`, `fails`,
+    /// `room N`, `takes N`, `stalls` or `interrupts`.
+    ///
+    /// # Errors
+    /// Another word, a text that [`unescape`] refuses, or one where a number must be; want of memory.
+    pub fn take_line(&mut self, line: &str) -> Result<()> {
+        let (word, rest) = word_of(line);
+        match word {
+            "in" => unescape(rest, &mut self.bytes)?,
+            "in*" => push_many(self.alloc, rest, &mut self.bytes)?,
+            "body" => unescape(rest, &mut self.body)?,
+            "body*" => push_many(self.alloc, rest, &mut self.body)?,
+            "post" => self.post(rest)?,
+            "step" => self.manner.step = rest.parse::<usize>()?.max(1),
+            "fails" => self.manner.fails = true,
+            "room" => self.manner.room = rest.parse::<usize>()?,
+            "takes" => self.manner.takes = rest.parse::<usize>()?.max(1),
+            "stalls" => self.manner.stalls = true,
+            "interrupts" => self.manner.interrupts = true,
+            _ => bail!("no such word"),
+        }
+        Ok(())
+    }
+
+    /// A lawful request to a path, with the body that stands and this text behind it.
+    fn post(&mut self, line: &str) -> Result<()> {
+        let (path, text) = word_of(line);
+        unescape(text, &mut self.body)?;
+        let length = self.body.len();
+        write!(
+            self.bytes,
+            "POST {path} HTTP/1.1\r\nX-Scope-OrgID: t\r\nContent-Type: application/json\r\nContent-Length: {length}\r\n\r\n"
+        )?;
+        self.bytes.extend_from_slice(&self.body)?;
+        self.body.clear();
+        Ok(())
+    }
+}
+
+/// Appends a text so many times.
+fn push_many(alloc: Global, line: &str, into: &mut Vec<u8>) -> Result<()> {
+    let (count, text) = line.split_once(' ').ok_or(anyhow!("a count and a text"))?;
+    let mut piece = Vec::new(alloc);
+    unescape(text, &mut piece)?;
+    for _ in 0..count.parse::<usize>()? {
+        into.extend_from_slice(&piece)?;
+    }
+    Ok(())
+}

@@ -1,0 +1,70 @@
+use crate::manner::Manner;
+use anyhow::{Result, bail};
+
+/// What changes from run to run, where a connection is run again at each place.
+#[derive(Clone, Copy, Debug, PartialEq, Eq)]
+pub enum Each {
+    /// The stream ends there.
+    Cut,
+    /// The reader fails there.
+    Fails,
+    /// The writer fails there.
+    Room,
+    /// So many bytes come at a time.
+    Step,
+}
+
+impl Each {
+    /// The one of this name.
+    ///
+    /// # Errors
+    /// Another name.
+    pub fn find(name: &str) -> Result<Each> {
+        match name {
+            "cut" => Ok(Each::Cut),
+            "fails" => Ok(Each::Fails),
+            "room" => Ok(Each::Room),
+            "step" => Ok(Each::Step),
+            _ => bail!("each cut, fails, room or step"),
+        }
+    }
+
+    /// The first place.
+    pub fn first(self) -> usize {
+        match self {
+            Each::Cut | Each::Fails | Each::Room => 0,
+            Each::Step => 1,
+        }
+    }
+
+    /// The place behind the last one, where so many bytes come and so many are written.
+    pub fn end(self, bytes: usize, written: usize) -> usize {
+        match self {
+            Each::Cut | Each::Fails | Each::Step => bytes.saturating_add(1),
+            Each::Room => written.saturating_add(1),
+        }
+    }
+
+    /// The manner of the run at this place.
+    pub fn manner(self, manner: Manner, place: usize) -> Manner {
+        match self {
+            Each::Cut => Manner {
+                length: place,
+                ..manner
+            },
+            Each::Fails => Manner {
+                length: place,
+                fails: true,
+                ..manner
+            },
+            Each::Room => Manner {
+                room: place,
+                ..manner
+            },
+            Each::Step => Manner {
+                step: place.max(1),
+                ..manner
+            },
+        }
+    }
+}

@@ -1,0 +1,31 @@
+/// How the bytes of a connection come, and how what is written is taken.
+#[derive(Clone, Copy, Debug)]
+pub struct Manner {
+    /// How many of the bytes come.
+    pub length: usize,
+    /// How many bytes a read gives at most.
+    pub step: usize,
+    /// Whether the reader fails behind them, in place of ending.
+    pub fails: bool,
+    /// How many bytes the writer takes in all.
+    pub room: usize,
+    /// How many bytes it takes in one write.
+    pub takes: usize,
+    /// Whether the writer answers behind them that it took no byte, in place of failing.
+    pub stalls: bool,
+    /// Whether each read and each write is interrupted once before it is made.
+    pub interrupts: bool,
+}
+
+impl Manner {
+    /// All bytes come in large pieces, and all that is written is taken.
+    pub const PLAIN: Manner = Manner {
+        length: usize::MAX,
+        step: 10_000,
+        fails: false,
+        room: usize::MAX,
+        takes: usize::MAX,
+        stalls: false,
+        interrupts: false,
+    };
+}
