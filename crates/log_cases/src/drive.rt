@@ -118,7 +118,8 @@ fn say_six<D: Disk>(disk: &mut D, said: &mut String) -> Result<()> {
     ] {
         said.push_str(if failed { "fails " } else { "ok " })?;
     }
-    writeln!(said, "so")?;
+    said.pop();
+    said.push('\n')?;
     Ok(())
 }
 
@@ -150,11 +151,22 @@ fn say_images(alloc: Global, disk: &mut MemDisk, words: &str, said: &mut String)
     writeln!(said, "{} contents", found.len())?;
     for content in &found {
         match content.strip_prefix(front) {
-            Some([]) => said.push('-')?,
-            Some(left) => write_hex(left, said)?,
+            Some(left) => write_short(left, said)?,
             None => said.push_str("another front")?,
         }
         said.push('\n')?;
+    }
+    Ok(())
+}
+
+/// Digits of bytes; `-` of none, `COUNT*HEX` of one that stands often.
+fn write_short(bytes: &[u8], said: &mut String) -> Result<()> {
+    match bytes.first() {
+        None => said.push('-')?,
+        Some(first) if bytes.len() > 8 && bytes.iter().all(|byte| byte == first) => {
+            write!(said, "{}*{first:02x}", bytes.len())?;
+        }
+        Some(_) => write_hex(bytes, said)?,
     }
     Ok(())
 }
