@@ -1,7 +1,12 @@
 //! Records written, where they are small enough.
+ghost use Rattle.std.specs.Prelude.{◌<◌, ◌^◌, length};
+ghost use Rattle.segment.specs.Spelling.{record_text};
+ghost use Rattle.segment.specs.declared.record.Record.TheVariants.{Append, Trim};
+
 use crate::sizes::{are_small, is_small, is_small_image};
-use accept::{Image, StreamImage};
+use accept::{Entry, Image, StreamImage};
 use anyhow::{Result, bail};
+use labels::StreamKey;
 use log_words::{number_of, owner_of};
 use rows::word_of;
 use segment::{
@@ -34,16 +39,8 @@ fn put_one(record: &Record, slot: &mut Vec<u8>) -> Result<u64> {
         bail!("too large");
     }
     match record {
-        Record::Append { key, entries } => {
-            let size = append_block_size(key, entries.as_slice());
-            put_append_block(key, entries.as_slice(), slot)?;
-            Ok(size)
-        }
-        Record::Trim { key, bound } => {
-            let size = trim_block_size(key);
-            put_trim_block(key, *bound, slot)?;
-            Ok(size)
-        }
+        Record::Append { key, entries } => put_append(key, entries.as_slice(), slot),
+        Record::Trim { key, bound } => put_trim(key, *bound, slot),
         Record::State {
             key: _,
             highest: _,
@@ -51,6 +48,24 @@ fn put_one(record: &Record, slot: &mut Vec<u8>) -> Result<u64> {
             entries: _,
         } => bail!("a state stands in no block of its own"),
     }
+}
+
+#[tactic(auto, using(crate::proofs::Sizes::frames))]
+fn put_append(key: &StreamKey, entries: &[Entry], slot: &mut Vec<u8>) -> Result<u64>
+    requires { length (record_text (Append key.now entries.now)) < 2 ^ 30 }
+{
+    let size = append_block_size(key, entries);
+    put_append_block(key, entries, slot)?;
+    Ok(size)
+}
+
+#[tactic(auto, using(crate::proofs::Sizes::frames))]
+fn put_trim(key: &StreamKey, bound: u64, slot: &mut Vec<u8>) -> Result<u64>
+    requires { length (record_text (Trim key.now bound)) < 2 ^ 30 }
+{
+    let size = trim_block_size(key);
+    put_trim_block(key, bound, slot)?;
+    Ok(size)
 }
 
 /// Writes each state with its first entries as one part and the others as another.
