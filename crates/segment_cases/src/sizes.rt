@@ -104,7 +104,7 @@ fn states_size(image: &Image) -> Option<usize>
 }
 
 /// Whether what all streams have is small.
-#[tactic(auto, using(crate::proofs::Sizes::rooms))]
+#[tactic(auto, using(crate::proofs::TextLengths::rooms))]
 pub fn is_small_image(image: &Image) -> bool
     ensures { IsTrue result → room image.now < 2 ^ 31 }
 {
