@@ -50,7 +50,6 @@ fn put_one(record: &Record, slot: &mut Vec<u8>) -> Result<u64> {
     }
 }
 
-#[tactic(auto, using(crate::proofs::TextLengths::frames))]
 fn put_append(key: &StreamKey, entries: &[Entry], slot: &mut Vec<u8>) -> Result<u64>
     requires { length (record_text (Append key.now entries.now)) < 2 ^ 30 }
 {
@@ -59,7 +58,6 @@ fn put_append(key: &StreamKey, entries: &[Entry], slot: &mut Vec<u8>) -> Result<
     Ok(size)
 }
 
-#[tactic(auto, using(crate::proofs::TextLengths::frames))]
 fn put_trim(key: &StreamKey, bound: u64, slot: &mut Vec<u8>) -> Result<u64>
     requires { length (record_text (Trim key.now bound)) < 2 ^ 30 }
 {
