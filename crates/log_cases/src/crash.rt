@@ -37,9 +37,10 @@ impl Alike {
     }
 }
 
-/// `SLOT VALUES MAX PLACE`: what a crash may leave of this slot, with unsynced bytes of these values: of those that follow one
-/// another and are alike how many and how long, what byte stands at the place, whether the others are as a read gives, and
-/// what is opened, with the other slot as a read gives it.
+/// `SLOT VALUES MAX PLACE`: what a crash may leave of this slot, with unsynced bytes of these values.
+///
+/// Of contents that follow one another and are alike it appends how many they are and how long, what byte stands at the
+/// place, whether the others are as a read gives, and what is opened, with the other slot as a read gives it.
 pub fn say_crash(alloc: Global, slots: &mut Slots, words: &str, said: &mut String) -> Result<()> {
     let (slot, rest) = word_of(words);
     let (values, rest) = word_of(rest);

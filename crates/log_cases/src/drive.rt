@@ -132,8 +132,8 @@ pub fn read_all<D: Disk>(alloc: Global, disk: &mut D) -> Result<Vec<u8>> {
     Ok(bytes)
 }
 
-/// `VALUES MAX` or `VALUES MAX FROM`: what a crash may leave, with bytes of these values, from that place on where all before
-/// it is as a read gives.
+/// `VALUES MAX` or `VALUES MAX FROM`: what a crash may leave, with unsynced bytes of these values. Of each content what
+/// stands from that place on, where all before it is as a read gives.
 fn say_images(alloc: Global, disk: &mut MemDisk, words: &str, said: &mut String) -> Result<()> {
     let (values, rest) = word_of(words);
     let (max, from) = word_of(rest);

@@ -1,5 +1,5 @@
-//! `log_cases FILE ..`: makes calls on disks and on logs over two of them as the rows of the files say, prints each row of
-//! which something else is said, and the counts.
+//! `log_cases FILE ..`: makes calls on disks and on logs over two of them as the rows of the files say, prints each row
+//! of which something else is said, and the counts.
 #![tactic(auto)]
 
 mod crash;
