@@ -3,8 +3,8 @@ use anyhow::{Context, Result, bail};
 use rows::{read_hex, write_hex};
 use std::alloc::Global;
 
-/// The example: a segment of generation 1 of the only shard, whose one stream has the entry 10 x. Its closing gate stands
-/// at 79.
+/// The example: a segment of generation 1 of the only shard, whose one stream has the entry 10 x. Its closing gate
+/// stands at 79.
 const SEGMENT: [u8; 80] = *b"\x01LWL1\x01\0\0\0\0\0\0\0\0\0\0\0\x01\0\0\0\x01\x35\0\0\0\
 \x03\x01\0t\x07\0\0\0{a=\"1\"}\x0a\0\0\0\0\0\0\0\
 \x0a\0\0\0\0\0\0\0\x01\0\0\0x\x01\0\0\0\

@@ -1,5 +1,5 @@
-//! `segment_cases FILE ..`: writes and reads segments as the rows of the files say, prints each row of which something else
-//! is said, and the counts.
+//! `segment_cases FILE ..`: writes and reads segments as the rows of the files say, prints each row of which something
+//! else is said, and the counts.
 #![tactic(auto)]
 
 mod desk;

@@ -42,7 +42,8 @@ fn entries_size(entries: &[Entry]) -> Option<usize>
 }
 
 fn state_size(key: &StreamKey, last: &Entry, entries: &[Entry]) -> Option<usize>
-    ensures { IfSome result (λ n. n ≡ 9 + length (spelling.key key.now) + length (spelling.entry last.now) + length (spelling.entries entries.now)) }
+    ensures { IfSome result (λ n. n ≡ 9 + length (spelling.key key.now)
+        + length (spelling.entry last.now) + length (spelling.entries entries.now)) }
 {
     key_size(key)?
         .checked_add(entry_size(last)?)?
