@@ -1,0 +1,237 @@
+use crate::crash::say_crash;
+use crate::drive::{Drive, take_memory_word};
+use crate::slots::{Slots, open, synced};
+use anyhow::{Result, bail};
+use disk::{DeviceFault, FileDisk, FileFault, ImagesFault, LockedFile, MemDisk};
+use log_words::{bytes_of, number_of};
+use rows::word_of;
+use std::alloc::Global;
+use std::fmt::Write;
+use std::fs::{self, File};
+use std::rt::Files;
+use wal::{OpenFault, Wal, WalFault};
+
+/// What a row has so far: a disk; or two slots of a log; or the log over them.
+#[derive(Drop)]
+pub struct Desk {
+    drive: Option<Drive>,
+    slots: Option<Slots>,
+    log: Option<Wal<MemDisk>>,
+}
+
+impl Desk {
+    pub fn new() -> Desk {
+        Desk {
+            drive: None,
+            slots: None,
+            log: None,
+        }
+    }
+
+    /// Does what a line says, and appends what is answered.
+    pub fn take_line<R: Files<File = File> + AllocGlobal>(
+        &mut self,
+        rt: &R,
+        line: &str,
+        said: &mut String,
+    ) -> Result<()> {
+        let (word, rest) = word_of(line);
+        match word {
+            "memory" => self.drive = Some(Drive::Memory(memory_of(rt.alloc(), rest)?)),
+            "file" => self.open_file(rt, rest, said)?,
+            "drop" => self.drive = None,
+            "folder" => {
+                let _ = fs::remove_dir_all(rt, rest);
+                fs::create_dir(rt, rest)?;
+            }
+            "remove" => fs::remove_dir_all(rt, rest)?,
+            "faults" => say_faults(said)?,
+            _ => self.take_log_word(rt.alloc(), word, rest, said)?,
+        }
+        Ok(())
+    }
+
+    /// Keeps the disk over a file where it is opened, else what was kept.
+    fn open_file<R: Files<File = File>>(
+        &mut self,
+        rt: &R,
+        path: &str,
+        said: &mut String,
+    ) -> Result<()> {
+        match LockedFile::open(rt, path) {
+            Ok(file) => {
+                self.drive = Some(Drive::File(FileDisk::new(file)));
+                writeln!(said, "open")?;
+            }
+            Err(FileFault::Io(_)) => writeln!(said, "refused by the system")?,
+            Err(fault) => writeln!(said, "{fault}")?,
+        }
+        Ok(())
+    }
+
+    fn take_log_word(
+        &mut self,
+        alloc: Global,
+        word: &str,
+        rest: &str,
+        said: &mut String,
+    ) -> Result<()> {
+        match word {
+            "slot" => self.fill(alloc, rest),
+            "on" => self.take_slot_word(alloc, rest, said),
+            "open" => self.open(alloc, rest, said),
+            "close" => self.close(),
+            "crash" => self.crash(alloc, rest, said),
+            "append" => self.append(&bytes_of(alloc, rest)?, said),
+            "roll" => self.roll(&bytes_of(alloc, rest)?, said),
+            "fits" | "log" => self.look(word, rest, said),
+            _ => match &mut self.drive {
+                Some(drive) => drive.take_word(alloc, word, rest, said),
+                None => bail!("no such word, or no disk"),
+            },
+        }
+    }
+
+    /// The slots of a log that isn't open: two disks on which nothing was ever written, where none were made.
+    fn closed(&mut self, alloc: Global) -> Result<Slots> {
+        if self.log.is_some() {
+            bail!("the log is open");
+        }
+        match self.slots.take() {
+            Some(slots) => Ok(slots),
+            None => Slots::empty(alloc),
+        }
+    }
+
+    /// `SLOT BYTES`: another disk as this slot, on which these bytes are synced.
+    fn fill(&mut self, alloc: Global, words: &str) -> Result<()> {
+        let (slot, bytes) = word_of(words);
+        let mut slots = self.closed(alloc)?;
+        *slots.at(slot)? = synced(alloc, &bytes_of(alloc, bytes)?)?;
+        self.slots = Some(slots);
+        Ok(())
+    }
+
+    /// `SLOT WORDS`: what is done with one slot.
+    fn take_slot_word(&mut self, alloc: Global, words: &str, said: &mut String) -> Result<()> {
+        let (slot, words) = word_of(words);
+        let (word, rest) = word_of(words);
+        let mut slots = self.closed(alloc)?;
+        take_memory_word(alloc, slots.at(slot)?, word, rest, said)?;
+        self.slots = Some(slots);
+        Ok(())
+    }
+
+    fn open(&mut self, alloc: Global, words: &str, said: &mut String) -> Result<()> {
+        let slots = self.closed(alloc)?;
+        match open(alloc, slots, words, said)? {
+            Ok(log) => self.log = Some(log),
+            Err(slots) => self.slots = Some(slots),
+        }
+        Ok(())
+    }
+
+    fn close(&mut self) -> Result<()> {
+        match self.log.take() {
+            Some(log) => self.slots = Some(Slots::of(log.into_slots())),
+            None => bail!("no log"),
+        }
+        Ok(())
+    }
+
+    fn crash(&mut self, alloc: Global, words: &str, said: &mut String) -> Result<()> {
+        let mut slots = self.closed(alloc)?;
+        say_crash(alloc, &mut slots, words, said)?;
+        self.slots = Some(slots);
+        Ok(())
+    }
+
+    fn append(&mut self, frame: &[u8], said: &mut String) -> Result<()> {
+        let Some(log) = &mut self.log else {
+            bail!("no log")
+        };
+        if !log.fits(frame.len() as u64) {
+            writeln!(said, "does not fit")?;
+            return Ok(());
+        }
+        say_call(log.append(frame), said)
+    }
+
+    fn roll(&mut self, segment: &[u8], said: &mut String) -> Result<()> {
+        let Some(log) = &mut self.log else {
+            bail!("no log")
+        };
+        if segment.len() as u64 >= log.capacity() {
+            writeln!(said, "above the capacity")?;
+            return Ok(());
+        }
+        say_call(log.roll(segment), said)
+    }
+
+    /// Answers whether so many bytes fit, or what log it is.
+    fn look(&self, word: &str, rest: &str, said: &mut String) -> Result<()> {
+        let Some(log) = &self.log else {
+            bail!("no log")
+        };
+        if word == "fits" {
+            let fits = log.fits(number_of(rest)?);
+            writeln!(said, "{}", if fits { "yes" } else { "no" })?;
+            return Ok(());
+        }
+        let (shard, count) = (log.shard(), log.count());
+        let (generation, capacity) = (log.generation(), log.capacity());
+        writeln!(
+            said,
+            "generation {generation} shard {shard} of {count} capacity {capacity}"
+        )?;
+        Ok(())
+    }
+}
+
+/// `ROOM CALLS WRITTEN`: an empty disk with this room.
+fn memory_of(alloc: Global, words: &str) -> Result<MemDisk> {
+    let (room, rest) = word_of(words);
+    let (calls, written) = word_of(rest);
+    Ok(MemDisk::new(
+        alloc,
+        number_of(room)?,
+        number_of(calls)?,
+        number_of(written)?,
+    )?)
+}
+
+fn say_call(answer: Result<(), WalFault>, said: &mut String) -> Result<()> {
+    match answer {
+        Ok(()) => writeln!(said, "ok")?,
+        Err(fault) => writeln!(said, "{fault}")?,
+    }
+    Ok(())
+}
+
+/// The text of each fault.
+fn say_faults(said: &mut String) -> Result<()> {
+    writeln!(said, "{DeviceFault}")?;
+    for fault in [ImagesFault::TooMany, ImagesFault::Memory] {
+        writeln!(said, "{fault}")?;
+    }
+    for fault in [FileFault::InUse, FileFault::NotAFile] {
+        writeln!(said, "{fault}")?;
+    }
+    for fault in [
+        OpenFault::Device,
+        OpenFault::Damaged {
+            slot: 1,
+            offset: 79,
+        },
+        OpenFault::OtherShard { slot: 0 },
+        OpenFault::OtherCount { slot: 1 },
+        OpenFault::Memory,
+        OpenFault::UnknownVersion { slot: 0 },
+    ] {
+        writeln!(said, "{fault}")?;
+    }
+    for fault in [WalFault::Device, WalFault::GenerationSpent] {
+        writeln!(said, "{fault}")?;
+    }
+    Ok(())
+}

@@ -1,0 +1,172 @@
+//! Calls on a disk.
+use anyhow::{Context, Result, bail};
+use disk::{DeviceFault, Disk, FileDisk, MemDisk};
+use log_words::{bytes_of, number_of, write_bytes};
+use rows::{word_of, write_hex};
+use std::alloc::Global;
+use std::fmt::Write;
+
+/// What the buffer of a read holds before.
+const UNREAD: u8 = 9;
+
+/// A disk in memory or over a file.
+#[derive(Drop)]
+pub enum Drive {
+    Memory(MemDisk),
+    File(FileDisk),
+}
+
+impl Drive {
+    /// Makes a call, and appends what is answered.
+    pub fn take_word(
+        &mut self,
+        alloc: Global,
+        word: &str,
+        rest: &str,
+        said: &mut String,
+    ) -> Result<()> {
+        match self {
+            Drive::Memory(disk) => take_memory_word(alloc, disk, word, rest, said),
+            Drive::File(disk) => take_disk_word(alloc, disk, word, rest, said),
+        }
+    }
+}
+
+/// What is done with a disk in memory alone, or with every disk.
+pub fn take_memory_word(
+    alloc: Global,
+    disk: &mut MemDisk,
+    word: &str,
+    rest: &str,
+    said: &mut String,
+) -> Result<()> {
+    match word {
+        "fail" => disk.fail_at(number_of(rest)?),
+        "stop" => disk.stop_at(number_of(rest)?),
+        "calls" => writeln!(said, "{}", disk.calls())?,
+        "images" => say_images(alloc, disk, rest, said)?,
+        _ => take_disk_word(alloc, disk, word, rest, said)?,
+    }
+    Ok(())
+}
+
+fn take_disk_word<D: Disk>(
+    alloc: Global,
+    disk: &mut D,
+    word: &str,
+    rest: &str,
+    said: &mut String,
+) -> Result<()> {
+    match word {
+        "write" => {
+            let (at, bytes) = word_of(rest);
+            let written = disk.write_at(number_of(at)?, &bytes_of(alloc, bytes)?);
+            say_done(written, said)
+        }
+        "sync" => say_done(disk.sync(), said),
+        "len" => match disk.len() {
+            Ok(len) => Ok(writeln!(said, "{len}")?),
+            Err(fault) => Ok(writeln!(said, "{fault}")?),
+        },
+        "read" => say_read(alloc, disk, rest, said),
+        "six" => say_six(disk, said),
+        "is" => {
+            let found = read_all(alloc, disk)?;
+            if found == bytes_of(alloc, rest)? {
+                return Ok(writeln!(said, "the same {} bytes", found.len())?);
+            }
+            write_bytes(&found, said)
+        }
+        _ => bail!("no such word"),
+    }
+}
+
+fn say_done(answer: Result<(), DeviceFault>, said: &mut String) -> Result<()> {
+    match answer {
+        Ok(()) => writeln!(said, "ok")?,
+        Err(fault) => writeln!(said, "{fault}")?,
+    }
+    Ok(())
+}
+
+/// `AT LENGTH`: how many bytes were read into a buffer of this length, and what it holds then.
+fn say_read<D: Disk>(alloc: Global, disk: &mut D, words: &str, said: &mut String) -> Result<()> {
+    let (at, length) = word_of(words);
+    let length = usize::try_from(number_of(length)?)?;
+    let mut buffer = vec![in alloc; UNREAD; length]?;
+    match disk.read(number_of(at)?, &mut buffer) {
+        Ok(count) => {
+            write!(said, "{count}: ")?;
+            write_hex(&buffer, said)?;
+            said.push('\n')?;
+        }
+        Err(fault) => writeln!(said, "{fault}")?,
+    }
+    Ok(())
+}
+
+/// Six calls, and of each whether it failed: a write, a sync, the length, a read, a write, a sync.
+fn say_six<D: Disk>(disk: &mut D, said: &mut String) -> Result<()> {
+    let mut buffer = [0];
+    for failed in [
+        disk.write_at(0, &[1]).is_err(),
+        disk.sync().is_err(),
+        disk.len().is_err(),
+        disk.read(0, &mut buffer).is_err(),
+        disk.write_at(0, &[2]).is_err(),
+        disk.sync().is_err(),
+    ] {
+        said.push_str(if failed { "fails " } else { "ok " })?;
+    }
+    said.pop();
+    said.push('\n')?;
+    Ok(())
+}
+
+/// All bytes of a disk.
+pub fn read_all<D: Disk>(alloc: Global, disk: &mut D) -> Result<Vec<u8>> {
+    let length = usize::try_from(disk.len()?)?;
+    let mut bytes = vec![in alloc; 0; length]?;
+    let count = disk.read(0, &mut bytes)?;
+    bytes.truncate(count);
+    Ok(bytes)
+}
+
+/// `VALUES MAX` or `VALUES MAX FROM`: what a crash may leave, with unsynced bytes of these values. Of each content what
+/// stands from that place on, where all before it is as a read gives.
+fn say_images(alloc: Global, disk: &mut MemDisk, words: &str, said: &mut String) -> Result<()> {
+    let (values, rest) = word_of(words);
+    let (max, from) = word_of(rest);
+    let max = usize::try_from(number_of(max)?)?;
+    let from = match from {
+        "" => 0,
+        _ => usize::try_from(number_of(from)?)?,
+    };
+    let found = match disk.images(alloc, &bytes_of(alloc, values)?, max) {
+        Ok(found) => found,
+        Err(fault) => return Ok(writeln!(said, "{fault}")?),
+    };
+    let seen = read_all(alloc, disk)?;
+    let front = seen.get(..from).context("past the end")?;
+    writeln!(said, "{} contents", found.len())?;
+    for content in &found {
+        match content.strip_prefix(front) {
+            Some(left) => write_short(left, said)?,
+            None => said.push_str("another front")?,
+        }
+        said.push('\n')?;
+    }
+    Ok(())
+}
+
+/// Digits of bytes; `-` of none, `COUNT*HEX` of one that stands often.
+fn write_short(bytes: &[u8], said: &mut String) -> Result<()> {
+    match bytes.first() {
+        None => said.push('-')?,
+        Some(first) if bytes.len() > 8 && bytes.iter().all(|byte| byte == first) => {
+            write!(said, "{}*{first:02x}", bytes.len())?;
+        }
+        Some(_) => write_hex(bytes, said)?,
+    }
+    Ok(())
+}

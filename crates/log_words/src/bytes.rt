@@ -1,0 +1,103 @@
+use crate::numbers::number_of;
+use anyhow::{Context, Result, bail};
+use rows::{read_hex, write_hex};
+use std::alloc::Global;
+
+/// The example: a segment of generation 1 of the only shard, whose one stream has the entry 10 x. Its closing gate
+/// stands at 79.
+const SEGMENT: [u8; 80] = *b"\x01LWL1\x01\0\0\0\0\0\0\0\0\0\0\0\x01\0\0\0\x01\x35\0\0\0\
+\x03\x01\0t\x07\0\0\0{a=\"1\"}\x0a\0\0\0\0\0\0\0\
+\x0a\0\0\0\0\0\0\0\x01\0\0\0x\x01\0\0\0\
+\x0a\0\0\0\0\0\0\0\x01\0\0\0x\0";
+
+/// What an append of the entry 11 y puts behind that gate: a block without its own gate, and a closed gate.
+const FRAME: [u8; 37] = *b"\x20\0\0\0\x01\x01\0t\x07\0\0\0{a=\"1\"}\x01\0\0\0\
+\x0b\0\0\0\0\0\0\0\x01\0\0\0y\0";
+
+/// How many bytes of a slot stand on one line.
+const LINE: usize = 32;
+
+/// The bytes that words stand for, each taken in behind those before.
+///
+/// Pairs of digits are bytes; `segment` and `frame` those of the example; `-` none; `COUNT*HEX` the same so often.
+/// `cut:COUNT` keeps the first of what stands so far, `from:COUNT` drops them, and `at:PLACE=HEX` writes over bytes.
+///
+/// # Errors
+/// Another word, a place that isn't there, or want of memory.
+pub fn bytes_of(alloc: Global, words: &str) -> Result<Vec<u8>> {
+    let mut bytes = Vec::new(alloc);
+    for word in words.split(' ') {
+        bytes = take_word(alloc, bytes, word).context(format_args!("in {word}"))?;
+    }
+    Ok(bytes)
+}
+
+fn take_word(alloc: Global, mut bytes: Vec<u8>, word: &str) -> Result<Vec<u8>> {
+    match word {
+        "" | "-" => {}
+        "segment" => bytes.extend_from_slice(&SEGMENT)?,
+        "frame" => bytes.extend_from_slice(&FRAME)?,
+        _ => match word.split_once(':') {
+            Some((change, rest)) => return change_bytes(alloc, bytes, change, rest),
+            None => append_often(alloc, &mut bytes, word)?,
+        },
+    }
+    Ok(bytes)
+}
+
+fn change_bytes(alloc: Global, mut bytes: Vec<u8>, change: &str, rest: &str) -> Result<Vec<u8>> {
+    match change {
+        "cut" => bytes.truncate(usize::try_from(number_of(rest)?)?),
+        "from" => {
+            let first = usize::try_from(number_of(rest)?)?;
+            let left = bytes.get(first..).context("past the end")?;
+            return Ok(Vec::from_slice(alloc, left)?);
+        }
+        "at" => {
+            let (place, digits) = rest.split_once('=').context("no bytes")?;
+            let mut new = Vec::new(alloc);
+            read_hex(digits, &mut new)?;
+            write_over(&mut bytes, usize::try_from(number_of(place)?)?, &new)?;
+        }
+        _ => bail!("no such change"),
+    }
+    Ok(bytes)
+}
+
+fn write_over(bytes: &mut [u8], at: usize, new: &[u8]) -> Result<()> {
+    for (index, byte) in new.iter().enumerate() {
+        match bytes.get_mut(at.saturating_add(index)) {
+            Some(place) => *place = *byte,
+            None => bail!("past the end"),
+        }
+    }
+    Ok(())
+}
+
+fn append_often(alloc: Global, bytes: &mut Vec<u8>, word: &str) -> Result<()> {
+    let (count, digits) = match word.split_once('*') {
+        Some((count, digits)) => (number_of(count)?, digits),
+        None => (1, word),
+    };
+    let mut new = Vec::new(alloc);
+    read_hex(digits, &mut new)?;
+    for _ in 0..count {
+        bytes.extend_from_slice(&new)?;
+    }
+    Ok(())
+}
+
+/// Appends how many bytes there are, and lines of their digits.
+///
+/// # Errors
+/// Want of memory.
+pub fn write_bytes(bytes: &[u8], into: &mut String) -> Result<()> {
+    use std::fmt::Write;
+
+    writeln!(into, "{} bytes", bytes.len())?;
+    for line in bytes.chunks(LINE) {
+        write_hex(line, into)?;
+        into.push('\n')?;
+    }
+    Ok(())
+}

@@ -1,0 +1,30 @@
+ghost use Rattle.std.specs.Prelude.{IfOk};
+ghost use Rattle.segment.specs.Segments.{IsOwner, owner_of};
+
+use anyhow::{Context, Result, bail};
+use rows::word_of;
+
+/// The number that a word spells.
+///
+/// # Errors
+/// A word that is none.
+pub fn number_of(word: &str) -> Result<u64> {
+    word.parse::<u64>()
+        .context(format_args!("no number: {word}"))
+}
+
+/// A shard and among how many, `SHARD COUNT`.
+///
+/// # Errors
+/// Other words, or a count that is not 1 to 64.
+pub fn owner_of(words: &str) -> Result<(u32, u32)>
+    ensures { IfOk result (λ it. IsOwner (owner_of it.0 it.1)) }
+{
+    let (shard, count) = word_of(words);
+    let shard = u32::try_from(number_of(shard)?)?;
+    let count = u32::try_from(number_of(count)?)?;
+    if count < 1 || count > 64 {
+        bail!("no count of shards: {count}");
+    }
+    Ok((shard, count))
+}

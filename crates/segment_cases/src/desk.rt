@@ -1,0 +1,153 @@
+use crate::given::{entries_of, entry_of, key_of};
+use crate::reading::{say_front, say_header, say_records, say_segment};
+use crate::runs::{say_cuts, say_each};
+use crate::trimming::trimmed;
+use crate::writing::{put_parts, put_records, put_states, put_streams};
+use anyhow::{Context, Result, bail};
+use labels::StreamKey;
+use log_words::{bytes_of, number_of, owner_of, write_bytes};
+use rows::word_of;
+use segment::{Record, SegFault, put_closed_gate, put_segment_head};
+use std::alloc::Global;
+use std::fmt::Write;
+use std::mem;
+
+/// What a row has so far.
+#[derive(Drop)]
+pub struct Desk {
+    alloc: Global,
+    /// The bytes of a slot.
+    slot: Vec<u8>,
+    /// Whose the next records are.
+    key: Option<StreamKey>,
+    /// The records that aren't written yet.
+    records: Vec<Record>,
+}
+
+impl Desk {
+    /// An empty slot.
+    pub fn new(alloc: Global) -> Desk {
+        Desk {
+            alloc,
+            slot: Vec::new(alloc),
+            key: None,
+            records: Vec::new(alloc),
+        }
+    }
+
+    /// Does what a line says, and appends what is answered.
+    pub fn take_line(&mut self, line: &str, said: &mut String) -> Result<()> {
+        let (word, rest) = word_of(line);
+        match word {
+            "slot" => self.slot = bytes_of(self.alloc, rest)?,
+            "key" => self.key = Some(key_of(self.alloc, rest)?),
+            "append" | "trim" | "state" => self.take_record(word, rest)?,
+            "trimmed" => self.trim(rest, said)?,
+            "write" => self.write(rest, said)?,
+            "faults" => say_faults(said)?,
+            _ => self.look(word, rest, said)?,
+        }
+        Ok(())
+    }
+
+    /// Answers what the slot is.
+    fn look(&mut self, word: &str, rest: &str, said: &mut String) -> Result<()> {
+        match word {
+            "bytes" => write_bytes(&self.slot, said),
+            "is" => self.say_whether(rest, said),
+            "header" => say_header(&self.slot, rest, said),
+            "read" => say_segment(self.alloc, &self.slot, rest, said),
+            "records" => say_records(self.alloc, &self.slot, rest, said),
+            "front" => say_front(self.alloc, &self.slot, rest, said),
+            "cuts" => say_cuts(self.alloc, &self.slot, said),
+            "each" => say_each(self.alloc, &mut self.slot, rest, said),
+            _ => bail!("no such word"),
+        }
+    }
+
+    fn take_record(&mut self, word: &str, rest: &str) -> Result<()> {
+        let key = match &self.key {
+            Some(key) => key.clone()?,
+            None => bail!("no key"),
+        };
+        let record = match word {
+            "append" => Record::Append {
+                key,
+                entries: entries_of(self.alloc, rest)?,
+            },
+            "trim" => Record::Trim {
+                key,
+                bound: number_of(rest)?,
+            },
+            _ => {
+                let (highest, rest) = word_of(rest);
+                let (last, entries) = word_of(rest);
+                Record::State {
+                    key,
+                    highest: number_of(highest)?,
+                    last: entry_of(self.alloc, last)?,
+                    entries: entries_of(self.alloc, entries)?,
+                }
+            }
+        };
+        self.records.push(record)?;
+        Ok(())
+    }
+
+    fn trim(&mut self, rest: &str, said: &mut String) -> Result<()> {
+        let (bound, half_age) = word_of(rest);
+        let (bound, half_age) = (number_of(bound)?, number_of(half_age)?);
+        let record = self.records.pop().context("no record")?;
+        self.records
+            .push(trimmed(self.alloc, record, bound, half_age, said)?)?;
+        Ok(())
+    }
+
+    /// Writes the records behind what the slot has.
+    fn write(&mut self, words: &str, said: &mut String) -> Result<()> {
+        let (word, rest) = word_of(words);
+        let records = mem::replace(&mut self.records, Vec::new(self.alloc));
+        match word {
+            "block" => put_records(&records, &mut self.slot),
+            "parts" => put_parts(&records, &mut self.slot, said),
+            "states" => put_states(&records, number_of(rest)?, &mut self.slot),
+            "segment" => put_streams(self.alloc, records, rest, &mut self.slot, said),
+            "head" => put_head(rest, &mut self.slot),
+            "gate" => Ok(put_closed_gate(&mut self.slot)?),
+            _ => bail!("nothing to write"),
+        }
+    }
+
+    /// Answers whether the slot has just these bytes, and what it has where not.
+    fn say_whether(&self, words: &str, said: &mut String) -> Result<()> {
+        if self.slot == bytes_of(self.alloc, words)? {
+            writeln!(said, "the same {} bytes", self.slot.len())?;
+            return Ok(());
+        }
+        write_bytes(&self.slot, said)
+    }
+}
+
+/// `GENERATION SIZE SHARD COUNT`: the header, the first gate and the payload's length.
+fn put_head(words: &str, slot: &mut Vec<u8>) -> Result<()> {
+    let (generation, rest) = word_of(words);
+    let (size, owner) = word_of(rest);
+    let (generation, size) = (number_of(generation)?, number_of(size)?);
+    let (shard, count) = owner_of(owner)?;
+    put_segment_head(generation, shard, count, u32::try_from(size)?, slot)?;
+    Ok(())
+}
+
+/// The text of each fault.
+fn say_faults(said: &mut String) -> Result<()> {
+    for fault in [
+        SegFault::Damaged { offset: 79 },
+        SegFault::OtherShard,
+        SegFault::OtherCount,
+        SegFault::UnknownVersion,
+        SegFault::Memory,
+    ] {
+        writeln!(said, "{fault}")?;
+    }
+    Ok(())
+}
