@@ -1,6 +1,1 @@
-mod Listed
-mod Places
-mod Clocks
-mod Servers
-mod Calls
 mod Sent

@@ -1,17 +1,17 @@
 //! The program `ingestctl`: one request on the slots of a folder.
 ghost use Rattle.std.specs.Prelude.{◌≡◌, ◌↔◌, ◌≤◌, IfOk};
-ghost use Rattle.ingesterd.specs.Words.{GiveCall};
+ghost use Rattle.words.specs.Words.{GiveCall};
 
 use crate::body::{read_body, write_answer};
 use crate::opening::open_for_one;
 use crate::slots::open_slots;
 use crate::stopped::Stopped;
-use crate::words::{CallWords, call_in};
 use front::{Answer, answer};
 use std::alloc::Global;
 use std::fs::{File, Files};
 use std::io::{Read, Write};
 use std::sync::Wait;
+use words::{CallWords, call_in};
 
 /// Runs `ingestctl push|read|trim DIR SHARDS TENANT NOW` on the body that is read from `input`, and gives its exit status.
 ///

@@ -1,12 +1,11 @@
 //! The program `ingest1`: a push body, judged on an empty shard in memory and read back.
 ghost use Rattle.std.specs.Prelude.{◌≡◌, ◌↔◌, ◌<◌, ◌≤◌, ◌^◌, IfOk, vec_len};
 ghost use Rattle.ingester.specs.Calls.{IsPassOf};
-ghost use Rattle.ingesterd.specs.Words.{GiveClock};
+ghost use Rattle.words.specs.Words.{GiveClock};
 
 use crate::body::{read_body, write_answer, write_bytes};
 use crate::opening::open_for_one;
 use crate::stopped::Stopped;
-use crate::words::clock_in;
 use accept::Call;
 use disk::{Disk, MemDisk};
 use front::{Route, answer, read_answer};
@@ -17,6 +16,7 @@ use pushjson::{PushFault, RawBatch, read_push};
 use std::alloc::Global;
 use std::io::{Read, Write};
 use std::sync::Wait;
+use words::clock_in;
 
 /// Whose streams they are.
 const TENANT: &str = "t";

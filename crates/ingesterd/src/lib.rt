@@ -12,8 +12,6 @@ mod slots;
 mod stopped;
 #[cfg(test)]
 mod tests;
-mod walcat;
-mod words;
 
 pub use clock::SystemClock;
 pub use ctl::run_ctl;
@@ -21,5 +19,4 @@ pub use ingest1::run_ingest1;
 pub use server::run_server;
 pub use serving::serve_listener;
 pub use stopped::Stopped;
-pub use walcat::{are_walcat_words, run_walcat};
 pub use words::words_of;

@@ -1,13 +1,12 @@
 //! The program `ingesterd`: the server.
 ghost use Rattle.std.specs.Prelude.{◌≡◌, ◌↔◌, ◌≤◌};
-ghost use Rattle.ingesterd.specs.Words.{GiveServer};
+ghost use Rattle.words.specs.Words.{GiveServer};
 
 use crate::clock::SystemClock;
 use crate::opening::open_shards;
 use crate::serving::serve_listener;
 use crate::slots::open_slots;
 use crate::stopped::Stopped;
-use crate::words::{ServerWords, server_in};
 use std::alloc::Global;
 use std::fs::{File, Files};
 use std::io::Write;
@@ -15,6 +14,7 @@ use std::net::{IpAddr, Ipv4Addr, Net, SocketAddr, TcpListener, TcpStream};
 use std::rt::Clock;
 use std::sync::Wait;
 use std::thread::Threads;
+use words::{ServerWords, server_in};
 
 /// Runs `ingesterd DIR PORT SHARDS WORKERS [CONNECTIONS]`, and gives its exit status.
 ///

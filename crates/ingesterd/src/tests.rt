@@ -4,8 +4,6 @@ mod calls;
 mod ingest1;
 mod openings;
 mod sockets;
-mod walcat;
-mod words;
 
 use std::alloc::Global;
 use std::test::Fail;

@@ -1,10 +1,11 @@
 //! `walcat FILE SHARD COUNT`: prints the segment in the file, which is a slot of shard SHARD among COUNT.
 #![tactic(auto)]
 
-use ingesterd::{are_walcat_words, run_walcat, words_of};
+use listing::{are_walcat_words, run_walcat};
 use std::fs::{File, Files};
 use std::io;
 use std::process::ExitCode;
+use words::words_of;
 
 fn main(rt: HostRuntime) -> ExitCode {
     let Ok(words) = words_of(&rt) else {

@@ -1,0 +1,5 @@
+mod Listed
+mod Places
+mod Clocks
+mod Servers
+mod Calls

@@ -1,0 +1,253 @@
+//! The words that programs are given.
+#![tactic(auto)]
+
+ghost use Rattle.std.specs.Prelude.{◌≡◌, ◌<◌, ◌≤◌, ◌^◌, IsTrue, MatchOption};
+ghost use Rattle.labels.specs.Tenants.{is_tenant};
+ghost use Rattle.words.specs.Words.{value, IsNumberIn, NameShard, GiveShard, GiveClock, NameServer, GiveServer, IsVerb, NameCall, GiveCall};
+
+use labels::{LabelFault, Tenant};
+use pushjson::time_of;
+use requests::Route;
+use std::alloc::{AllocError, Global};
+use std::rt::Env;
+use std::{env, io};
+
+/// The greatest number of shards, and of passes.
+const MAX_SHARDS: u64 = 64;
+
+/// The greatest port.
+const MAX_PORT: u64 = 65_535;
+
+/// The greatest number of connections after which a server may end.
+const MAX_CONNECTIONS: u64 = 4_294_967_295;
+
+/// A shard, and among how many.
+#[derive(Clone, Copy, Debug)]
+pub struct Place {
+    /// The shard's number, from 0 on.
+    pub shard: u32,
+    /// The number of shards, 1 to 64.
+    pub count: u32,
+    ghost some: { 1 ≤ count },
+    ghost few: { count ≤ 64 },
+    ghost below: { shard < count },
+}
+
+/// The words of `ingesterd DIR PORT SHARDS WORKERS [CONNECTIONS]`.
+#[derive(Clone, Copy, Debug)]
+pub struct ServerWords<'a> {
+    /// The folder of the slots.
+    pub folder: &'a str,
+    /// The port to listen on.
+    pub port: u16,
+    /// The number of shards, 1 to 64.
+    pub shards: u32,
+    /// The number of workers, 1 to 64.
+    pub workers: u32,
+    /// After how many connections the server ends, where it does.
+    pub connections: Option<u64>,
+    ghost some_shard: { 1 ≤ shards },
+    ghost few_shards: { shards ≤ 64 },
+    ghost some_worker: { 1 ≤ workers },
+    ghost few_workers: { workers ≤ 64 },
+}
+
+/// The words of `ingestctl push|read|trim DIR SHARDS TENANT NOW`.
+#[derive(Drop)]
+pub struct CallWords<'a> {
+    /// What the body asks for.
+    pub route: Route,
+    /// The folder of the slots.
+    pub folder: &'a str,
+    /// The number of shards, 1 to 64.
+    pub shards: u32,
+    /// Whose streams they are, where there was memory for the name.
+    pub tenant: Result<Tenant, AllocError>,
+    /// The clock, in nanoseconds.
+    pub now: u64,
+    ghost some_shard: { 1 ≤ shards },
+    ghost few_shards: { shards ≤ 64 },
+    ghost small: { now < 2 ^ 63 },
+}
+
+/// The words behind the program's name: none, where one of them is no text, since such words are no program's.
+pub fn words_of<R: Env + AllocGlobal>(rt: &R) -> Result<Vec<String>, AllocError> {
+    match read_words(rt) {
+        Ok(words) => Ok(words),
+        Err(error) if error.kind() == io::ErrorKind::OutOfMemory => Err(AllocError),
+        Err(_) => Ok(Vec::new(rt.alloc())),
+    }
+}
+
+fn read_words<R: Env + AllocGlobal>(rt: &R) -> io::Result<Vec<String>> {
+    Ok(env::args(rt)?.skip(1).collect(rt.alloc())?)
+}
+
+/// The place of the words `FILE SHARD COUNT`; `None` where they are not such words.
+pub fn place_in(words: &[String]) -> Option<Place>
+    ensures { MatchOption result (¬ GiveShard words.now) (λ _. GiveShard words.now) }
+{
+    match words {
+        [_file, shard, count] => place_of(shard.as_str(), count.as_str()),
+        _ => None,
+    }
+}
+
+fn place_of(shard: &str, count: &str) -> Option<Place>
+    ensures { MatchOption result (¬ NameShard shard.now count.now) (λ place. NameShard shard.now count.now × (place.shard ≡ value shard.now) × (place.count ≡ value count.now)) }
+{
+    let shard = time_of(shard)?;
+    let count = time_of(count)?;
+    if count < 1 || count > MAX_SHARDS || shard >= count {
+        return None;
+    }
+    Some(Place {
+        shard: shard as u32,
+        count: count as u32,
+    })
+}
+
+/// The clock that the word `NOW` gives; `None` where the words are no such word.
+pub fn clock_in(words: &[String]) -> Option<u64>
+    ensures { MatchOption result (¬ GiveClock words.now) (λ now. (now < 2 ^ 63) × GiveClock words.now) }
+{
+    match words {
+        [word] => time_of(word.as_str()),
+        _ => None,
+    }
+}
+
+// A number in decimal digits, within these bounds.
+fn number_in(text: &str, least: u64, most: u64) -> Option<u64>
+    ensures { MatchOption result (¬ IsNumberIn least most text.now) (λ n. IsNumberIn least most text.now × (n ≡ value text.now)) }
+{
+    let number = time_of(text)?;
+    if number < least || number > most {
+        return None;
+    }
+    Some(number)
+}
+
+/// The words of a server; `None` where they are not such words.
+pub fn server_in(words: &[String]) -> Option<ServerWords<'_>>
+    ensures { MatchOption result (¬ GiveServer words.now) (λ _. GiveServer words.now) }
+{
+    match words {
+        [folder, port, shards, workers] => endless_of(
+            folder.as_str(),
+            port.as_str(),
+            shards.as_str(),
+            workers.as_str(),
+        ),
+        [folder, port, shards, workers, limit] => ending_of(
+            folder.as_str(),
+            port.as_str(),
+            shards.as_str(),
+            workers.as_str(),
+            limit.as_str(),
+        ),
+        _ => None,
+    }
+}
+
+fn endless_of<'a>(
+    folder: &'a str,
+    port: &str,
+    shards: &str,
+    workers: &str,
+) -> Option<ServerWords<'a>>
+    ensures { MatchOption result (¬ NameServer port.now shards.now workers.now) (λ _. NameServer port.now shards.now workers.now) }
+{
+    let port = number_in(port, 0, MAX_PORT)?;
+    let shards = number_in(shards, 1, MAX_SHARDS)?;
+    let workers = number_in(workers, 1, MAX_SHARDS)?;
+    Some(ServerWords {
+        folder,
+        port: port as u16,
+        shards: shards as u32,
+        workers: workers as u32,
+        connections: None,
+    })
+}
+
+fn ending_of<'a>(
+    folder: &'a str,
+    port: &str,
+    shards: &str,
+    workers: &str,
+    limit: &str,
+) -> Option<ServerWords<'a>>
+    ensures { MatchOption result (¬ (NameServer port.now shards.now workers.now × IsNumberIn 1 4294967295 limit.now)) (λ _. NameServer port.now shards.now workers.now × IsNumberIn 1 4294967295 limit.now) }
+{
+    let endless = endless_of(folder, port, shards, workers)?;
+    let limit = number_in(limit, 1, MAX_CONNECTIONS)?;
+    Some(ServerWords {
+        folder: endless.folder,
+        port: endless.port,
+        shards: endless.shards,
+        workers: endless.workers,
+        connections: Some(limit),
+    })
+}
+
+/// The words of a call; `None` where they are not such words.
+pub fn call_in(alloc: Global, words: &[String]) -> Option<CallWords<'_>>
+    ensures { MatchOption result (¬ GiveCall words.now) (λ _. GiveCall words.now) }
+{
+    match words {
+        [verb, folder, shards, tenant, now] => call_of(
+            alloc,
+            verb.as_str(),
+            folder.as_str(),
+            shards.as_str(),
+            tenant.as_str(),
+            now.as_str(),
+        ),
+        _ => None,
+    }
+}
+
+fn call_of<'a>(
+    alloc: Global,
+    verb: &str,
+    folder: &'a str,
+    shards: &str,
+    tenant: &str,
+    now: &str,
+) -> Option<CallWords<'a>>
+    ensures { MatchOption result (¬ NameCall verb.now shards.now tenant.now now.now) (λ _. NameCall verb.now shards.now tenant.now now.now) }
+{
+    let route = route_of(verb)?;
+    let shards = number_in(shards, 1, MAX_SHARDS)?;
+    let now = time_of(now)?;
+    let tenant = tenant_of(alloc, tenant)?;
+    Some(CallWords {
+        route,
+        folder,
+        shards: shards as u32,
+        tenant,
+        now,
+    })
+}
+
+fn route_of(verb: &str) -> Option<Route>
+    ensures { MatchOption result (¬ IsVerb verb.now) (λ _. IsVerb verb.now) }
+{
+    match verb {
+        "push" => Some(Route::Push),
+        "read" => Some(Route::Read),
+        "trim" => Some(Route::Trim),
+        _ => None,
+    }
+}
+
+// A lawful tenant, where there is memory for its name.
+fn tenant_of(alloc: Global, text: &str) -> Option<Result<Tenant, AllocError>>
+    ensures { MatchOption result (¬ IsTrue (is_tenant text.now)) (λ _. IsTrue (is_tenant text.now)) }
+{
+    match Tenant::new(alloc, text) {
+        Ok(tenant) => Some(Ok(tenant)),
+        Err(LabelFault::BadTenant) => None,
+        Err(_) => Some(Err(AllocError)),
+    }
+}
