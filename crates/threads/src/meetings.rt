@@ -89,8 +89,8 @@ fn read_of_nothing(alloc: Global) -> Option<Call>
 /// The history of one shard, its book, and two passes.
 fn open(alloc: Global) -> Result<(History, Book, Pass, Pass), Fail>
     ensures book { IfOk result (λ it. (it.1.table ≡ it.0) × (it.1.about.shards ≡ 1) × (it.1.shard ≡ 0) × (it.1.items ≡ [])) }
-    ensures one { IfOk result (λ it. (it.2.table ≡ it.0) × (it.2.caller.about.shards ≡ 1) × (it.2.caller.pending ≡ None)) }
-    ensures two { IfOk result (λ it. (it.3.table ≡ it.0) × (it.3.caller.about.shards ≡ 1) × (it.3.caller.pending ≡ None)) }
+    ensures one { IfOk result (λ it. (it.2.table ≡ it.0) × (it.2.caller.about.shards ≡ 1) × (it.2.caller.pending ≡ None) × (it.2.caller.last ≡ 0)) }
+    ensures two { IfOk result (λ it. (it.3.table ≡ it.0) × (it.3.caller.about.shards ≡ 1) × (it.3.caller.pending ≡ None) × (it.3.caller.last ≡ 0)) }
 {
     let bases = vec![in alloc; Image::new(alloc)]?;
     let (history, mut books, mut passes) = History::new(alloc, &bases, 2, Limits::PROFILE, 4_096)?;
@@ -136,8 +136,9 @@ fn calls<J: Room>(
     ensures number { IfSome result (λ p. p.caller.last ≡ 100) }
 {
     let read = read_of_nothing(alloc)?;
-    for _made in 0..100u64 {
+    for made in 0..100u64 {
         call(rt, alloc, history, desk, &mut pass, &read)?;
+        let _ = made;
     }
     Some(pass)
 }
@@ -209,11 +210,11 @@ fn announced_call_is_withdrawn(rt: HostRuntime) -> Result<(), Fail> {
     assert_eq!(rt; (books.len(), passes.len()), (2, 3));
     let mut pass = passes.pop().ok_or("a pass")?;
     let read = read_of_nothing(alloc).ok_or("a call")?;
-    for _ in 0..2 {
-        let ticket = history.announce(&mut pass, &read)?;
-        history.withdraw(&mut pass, ticket);
-        assert!(rt; !pass.is_closed());
-    }
+    let first = history.announce(&mut pass, &read)?;
+    history.withdraw(&mut pass, first);
+    assert!(rt; !pass.is_closed());
+    let second = history.announce(&mut pass, &read)?;
+    history.withdraw(&mut pass, second);
     assert_eq!(rt; history.observe(&mut pass, 1), 0);
     pass.close();
     assert!(rt; history.announce(&mut pass, &read).is_err());

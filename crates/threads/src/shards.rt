@@ -261,7 +261,8 @@ fn push_together<R: Threads + Wait + Clock + Sync>(
             requires { IsPassOf one.ingester.now one.pass }
         { push_all_there(one) },
         move || -> Option<(Pass, u64)>
-            requires { IsPassOf ingester.now two × (0 < ingester.now.about.shards) }
+            requires pass { IsPassOf ingester.now two }
+            requires shards { 0 < ingester.now.about.shards }
             ensures { IfSome result (λ it. IsPassOf ingester.entry.now it.0) }
         {
             let looked = act_and_look(rt, alloc, ingester, two, pushes);
@@ -269,10 +270,10 @@ fn push_together<R: Threads + Wait + Clock + Sync>(
             looked
         },
     );
-    if !one {
-        return Err(Fail::from("the first thread's pushes"));
+    match two {
+        Some(looked) if one => Ok(looked),
+        _ => Err(Fail::from("pushes that are not stored")),
     }
-    Ok(two.ok_or("the second thread's pushes")?)
 }
 
 /// What a read of all times gives, where it has entries: each a time and a line.
