@@ -107,15 +107,13 @@ fn call<J: Room>(
     history: &History,
     desk: &Mutex<Desk<J>>,
     pass: &mut Pass,
-    call: &Call,
 ) -> Option<()>
     requires history { history.now ≡ J.table }
-    requires call { ReadsNothing call.now }
     requires pass { (pass.old.table ≡ J.table) × (pass.old.caller.about.shards ≡ 1) × (pass.old.caller.pending ≡ None) }
     ensures pass { (pass.new.table ≡ J.table) × (pass.new.caller.about.shards ≡ 1) × (pass.new.caller.pending ≡ None) }
     ensures number { IfSome result (λ _. pass.new.caller.last ≡ pass.old.caller.last + 1) }
 {
-    let ticket = history.announce(pass, call).ok()?;
+    let ticket = history.announce(pass, &read_of_nothing(alloc)?).ok()?;
     let reply = Reply::Entries(EntryList::new(Vec::new(alloc)));
     let receipt = desk.lock(rt).answer(ticket, reply);
     history.collect(pass, receipt);
@@ -135,9 +133,8 @@ fn calls<J: Room>(
     ensures pass { IfSome result (λ p. (p.table ≡ J.table) × (p.caller.about.shards ≡ 1) × (p.caller.pending ≡ None)) }
     ensures number { IfSome result (λ p. p.caller.last ≡ 100) }
 {
-    let read = read_of_nothing(alloc)?;
     for made in 0..100u64 {
-        call(rt, alloc, history, desk, &mut pass, &read)?;
+        call(rt, alloc, history, desk, &mut pass)?;
         let _ = made;
     }
     Some(pass)

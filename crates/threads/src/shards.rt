@@ -232,28 +232,29 @@ fn act_and_look<R: Wait + Clock>(
     Some((pass, seen))
 }
 
-/// One pass makes the first pushes in a thread of its own. Meanwhile the other makes its own, or waits for a while, looks at
+/// One pass makes the first pushes in a thread of its own. Meanwhile the other makes the second, or waits for a while, looks at
 /// shard 0, and opens the gate: the other pass, and the number of steps that it saw.
 fn push_together<R: Threads + Wait + Clock + Sync>(
     rt: &R,
     alloc: Global,
     gate: &Gate,
     ingester: &Ingester<Slot>,
-    one: (Pass, Pushes<'_>),
-    two: (Pass, Option<Pushes<'_>>),
+    one: Pass,
+    first: Pushes<'_>,
+    two: Pass,
+    second: Option<Pushes<'_>>,
 ) -> Result<(Pass, u64), Fail>
-    requires one { IsPassOf ingester.now one.0 }
-    requires two { IsPassOf ingester.now two.0 }
+    requires one { IsPassOf ingester.now one }
+    requires two { IsPassOf ingester.now two }
     requires shards { 0 < ingester.now.about.shards }
     ensures { IfOk result (λ it. IsPassOf ingester.now it.0) }
 {
-    let (two, pushes) = two;
     let one = Caller {
         rt,
         alloc,
         ingester,
-        pass: one.0,
-        pushes: one.1,
+        pass: one,
+        pushes: first,
     };
     let (one, two) = join(
         rt,
@@ -265,15 +266,15 @@ fn push_together<R: Threads + Wait + Clock + Sync>(
             requires shards { 0 < ingester.now.about.shards }
             ensures { IfSome result (λ it. IsPassOf ingester.entry.now it.0) }
         {
-            let looked = act_and_look(rt, alloc, ingester, two, pushes);
+            let looked = act_and_look(rt, alloc, ingester, two, second);
             gate.open();
             looked
         },
     );
-    match two {
-        Some(looked) if one => Ok(looked),
-        _ => Err(Fail::from("pushes that are not stored")),
+    if !one {
+        return Err(Fail::from("the first thread's pushes"));
     }
+    Ok(two.ok_or("the second thread's pushes")?)
 }
 
 /// What a read of all times gives, where it has entries: each a time and a line.
@@ -330,8 +331,7 @@ fn gate_two_shards(rt: HostRuntime) -> Result<(), Fail> {
     let two = last_of(&ingester, &mut passes)?;
     let one = last_of(&ingester, &mut passes)?;
     gate.close();
-    let (one, two) = ((one, HELD), (two, Some(FREE)));
-    let (mut two, seen) = push_together(&rt, alloc, &gate, &ingester, one, two)?;
+    let (mut two, seen) = push_together(&rt, alloc, &gate, &ingester, one, HELD, two, Some(FREE))?;
     assert_eq!(rt; seen, 0);
     assert_eq!(rt; lengths(&ingester, &mut two), (1, 1));
     assert_eq!(rt; lengths(&ingester, &mut three), (1, 1));
@@ -351,8 +351,7 @@ fn gate_look_while_held(rt: HostRuntime) -> Result<(), Fail> {
     let two = last_of(&ingester, &mut passes)?;
     let one = last_of(&ingester, &mut passes)?;
     gate.close();
-    let (one, two) = ((one, HELD), (two, None));
-    let (mut two, seen) = push_together(&rt, alloc, &gate, &ingester, one, two)?;
+    let (mut two, seen) = push_together(&rt, alloc, &gate, &ingester, one, HELD, two, None)?;
     assert_eq!(rt; (seen, ingester.look(&mut two, 0)), (0, 1));
     Ok(())
 }
@@ -374,8 +373,7 @@ fn two_threads_push_to_one_stream(rt: HostRuntime) -> Result<(), Fail> {
         first: 1_100,
         count: 100,
     };
-    let (one, two) = ((one, first), (two, Some(second)));
-    let (mut two, _) = push_together(&rt, alloc, &free, &ingester, one, two)?;
+    let (mut two, _) = push_together(&rt, alloc, &free, &ingester, one, first, two, Some(second))?;
     assert_eq!(rt; ingester.look(&mut two, 0), 200);
     let all = Pushes {
         value: "1",
