@@ -1,0 +1,84 @@
+//! The programs.
+
+use crate::ended::Ended;
+use crate::streams::{Sink, Source};
+use ingesterd::{run_ctl, run_ingest1, run_server};
+use listing::run_walcat;
+use std::alloc::Global;
+use std::fs::{File, Files};
+use std::io::ErrorKind;
+use std::net::{Net, TcpListener, TcpStream};
+use std::rt::Clock;
+use std::sync::Wait;
+use std::thread::Threads;
+
+/// Which program runs.
+#[derive(Clone, Copy, Debug, PartialEq, Eq)]
+pub enum Program {
+    Walcat,
+    Ingest1,
+    Ingestctl,
+    Ingesterd,
+}
+
+impl Program {
+    /// The program of this name.
+    pub fn of(name: &str) -> Option<Program> {
+        match name {
+            "walcat" => Some(Program::Walcat),
+            "ingest1" => Some(Program::Ingest1),
+            "ingestctl" => Some(Program::Ingestctl),
+            "ingesterd" => Some(Program::Ingesterd),
+            _ => None,
+        }
+    }
+}
+
+/// Where the streams of a program fail.
+#[derive(Clone, Copy)]
+pub struct Limits {
+    /// Behind how many bytes the input fails, and with what.
+    pub input: Option<(usize, ErrorKind)>,
+    /// How many bytes standard output takes.
+    pub output: usize,
+    /// How many bytes standard error takes.
+    pub errors: usize,
+}
+
+impl Limits {
+    /// Streams that never fail.
+    pub const NONE: Limits = Limits {
+        input: None,
+        output: usize::MAX,
+        errors: usize::MAX,
+    };
+}
+
+/// Runs a program with these words and this input.
+pub fn run<R>(
+    rt: &R,
+    alloc: Global,
+    program: Program,
+    words: &[String],
+    input: &[u8],
+    limits: Limits,
+) -> Ended
+where
+    R: Files<File = File> + Net<Listener = TcpListener, Stream = TcpStream>,
+    R: Clock + Threads + Wait + Sync,
+{
+    let mut input = Source::new(input, limits.input);
+    let mut output = Sink::new(alloc, limits.output);
+    let mut errors = Sink::new(alloc, limits.errors);
+    let status = match program {
+        Program::Walcat => run_walcat(alloc, words, &mut input, &mut output, &mut errors),
+        Program::Ingest1 => run_ingest1(rt, alloc, words, &mut input, &mut output, &mut errors),
+        Program::Ingestctl => run_ctl(rt, alloc, words, &mut input, &mut output, &mut errors),
+        Program::Ingesterd => run_server(rt, alloc, words, &mut output, &mut errors),
+    };
+    Ended {
+        status,
+        output: output.into_bytes(),
+        errors: errors.into_bytes(),
+    }
+}

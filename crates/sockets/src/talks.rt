@@ -1,0 +1,417 @@
+ghost use Rattle.std.specs.Prelude.{◌<◌, ◌≤◌, ◌≡◌, ℕ, Some, slice_get, vec_len, IfOk};
+ghost use Rattle.history.specs.Handles.{Passed};
+ghost use Rattle.ingester.specs.Calls.{IsPassOf};
+
+use accept::Limits;
+use disk::{Gate, GateDisk, MemDisk};
+use ingester::Ingester;
+use ingesterd::{Stopped, SystemClock, run_ctl, run_server, serve_listener};
+use std::alloc::Global;
+use std::fs::{self, File, Files};
+use std::io::{self, Write};
+use std::net::{IpAddr, Ipv4Addr, Net, Shutdown, SocketAddr, TcpListener, TcpStream};
+use std::rt;
+use std::sync::Wait;
+use std::test::Fail;
+use std::thread::{self, Threads, join};
+use std::time::Duration;
+
+/// How many bytes a segment may have.
+const CAPACITY: u64 = 4_096;
+
+/// A body that pushes 10 x to the stream {a="1"}.
+const SAMPLE: &str = r#"{"streams":[{"stream":{"a":"1"},"values":[["10","x"]]}]}"#;
+
+/// A body that reads what the sample pushes.
+const READ: &str = r#"{"stream":{"a":"1"},"from":"0","to":"100"}"#;
+
+/// A slot in memory, whose syncs a gate can hold.
+type Slot = GateDisk<MemDisk>;
+
+/// A body that reads all of the sample's stream.
+const READ_ALL: &str = r#"{"stream":{"a":"1"},"from":"0","to":"9223372036854775807"}"#;
+
+/// A body that pushes 11 y to the sample's stream.
+const LOST: &str = r#"{"streams":[{"stream":{"a":"1"},"values":[["11","y"]]}]}"#;
+
+/// A body that pushes 11 y to a stream of another shard, where there are two.
+const OTHER: &str = r#"{"streams":[{"stream":{"a":"2"},"values":[["11","y"]]}]}"#;
+
+const NO_CONTENT: &str = "HTTP/1.1 204 No Content\r\n\r\n";
+
+/// The answer to a read of the sample.
+const X_ALONE: &str =
+    "HTTP/1.1 200 OK\r\nContent-Type: application/json\r\nContent-Length: 23\r\n\r\n{\"values\":[[\"10\",\"x\"]]}";
+
+/// A clock that stands.
+#[derive(Drop)]
+struct Standing;
+
+impl front::Clock for Standing {
+    ghost ticks = { λ old time new. time ≡ 20 };
+
+    fn now(&mut self) -> u64 {
+        20
+    }
+}
+
+/// What a client does.
+#[derive(Drop)]
+enum Talk<'a> {
+    /// Sends each text over a connection of its own, and waits for what is answered.
+    Ask(&'a [&'a str]),
+    /// Waits for a while and asks, again and again until it is answered.
+    Insist(&'a str),
+    /// Sends the one and leaves, and asks the other over another connection.
+    Leave {
+        cut: &'a str,
+        then: &'a str,
+    },
+    /// Sends the one while the gate is closed, asks the other over another connection, and opens the gate before it waits for
+    /// the first answer.
+    Hold {
+        held: &'a str,
+        then: &'a str,
+        gate: &'a Gate,
+    },
+}
+
+/// What a client's thread is given.
+#[derive(Drop)]
+struct Client<'a, R> {
+    rt: &'a R,
+    alloc: Global,
+    address: SocketAddr,
+    talk: Talk<'a>,
+}
+
+fn send<R: Net<Listener = TcpListener, Stream = TcpStream>>(
+    rt: &R,
+    address: SocketAddr,
+    text: &str,
+) -> io::Result<TcpStream> {
+    let mut stream = TcpStream::connect(rt, address)?;
+    stream.write_all(text.as_bytes())?;
+    Ok(stream)
+}
+
+/// All that is answered, where nothing more is sent.
+fn read_answers(alloc: Global, stream: TcpStream) -> io::Result<String> {
+    stream.shutdown(Shutdown::Write)?;
+    io::read_to_string(alloc, stream)
+}
+
+fn ask<R: Net<Listener = TcpListener, Stream = TcpStream>>(
+    rt: &R,
+    alloc: Global,
+    address: SocketAddr,
+    text: &str,
+) -> io::Result<String> {
+    read_answers(alloc, send(rt, address, text)?)
+}
+
+/// For as long as another thread needs to do what it was asked for.
+fn rest<R: rt::Clock>(rt: &R) {
+    thread::sleep(rt, Duration::from_millis(50));
+}
+
+fn insist<R: Net<Listener = TcpListener, Stream = TcpStream> + rt::Clock>(
+    rt: &R,
+    alloc: Global,
+    address: SocketAddr,
+    text: &str,
+) -> io::Result<String> {
+    for _ in 0..100 {
+        rest(rt);
+        if let Ok(told) = ask(rt, alloc, address, text) {
+            return Ok(told);
+        }
+    }
+    ask(rt, alloc, address, text)
+}
+
+/// All answers of a client's talk, one behind the other.
+fn answers_of<R: Net<Listener = TcpListener, Stream = TcpStream> + rt::Clock>(
+    client: Client<R>,
+) -> io::Result<String> {
+    let Client {
+        rt,
+        alloc,
+        address,
+        talk,
+    } = client;
+    match talk {
+        Talk::Ask(texts) => {
+            let mut told = String::new(alloc);
+            for text in texts {
+                told.push_str(ask(rt, alloc, address, text)?.as_str())?;
+            }
+            Ok(told)
+        }
+        Talk::Insist(text) => insist(rt, alloc, address, text),
+        Talk::Leave { cut, then } => {
+            drop(send(rt, address, cut)?);
+            ask(rt, alloc, address, then)
+        }
+        Talk::Hold { held, then, gate } => {
+            gate.close();
+            let first = send(rt, address, held)?;
+            rest(rt);
+            let second = ask(rt, alloc, address, then);
+            gate.open();
+            let (first, second) = (read_answers(alloc, first)?, second?);
+            Ok(format!(in alloc; "{first}{second}")?)
+        }
+    }
+}
+
+/// A request with this body for the tenant `t`.
+fn post(alloc: Global, route: &str, body: &str) -> Result<String, Fail> {
+    let length = body.len();
+    let fields = "X-Scope-OrgID: t\r\nContent-Type: application/json";
+    Ok(format!(in alloc;
+        "POST {route} HTTP/1.1\r\n{fields}\r\nContent-Length: {length}\r\n\r\n{body}"
+    )?)
+}
+
+fn push(alloc: Global, body: &str) -> Result<String, Fail> {
+    post(alloc, "/loki/api/v1/push", body)
+}
+
+fn read(alloc: Global) -> Result<String, Fail> {
+    post(alloc, "/ingester/v1/read", READ)
+}
+
+/// What a client is answered while so many workers serve so many connections over these slots.
+fn talk_and_serve<R>(
+    rt: &R,
+    alloc: Global,
+    slots: Vec<[Slot; 2]>,
+    workers: u32,
+    connections: u64,
+    listener: &TcpListener,
+    talk: Talk<'_>,
+) -> Result<String, Fail>
+where
+    R: Net<Listener = TcpListener, Stream = TcpStream> + Threads + Wait + rt::Clock + Sync,
+    requires slots { (0 < vec_len slots) × (vec_len slots ≤ 64) }
+    requires workers { workers ≤ 64 }
+{
+    let client = Client {
+        rt,
+        alloc,
+        address: listener.local_addr()?,
+        talk,
+    };
+    let opened = Ingester::open(alloc, slots, workers, Limits::PROFILE, CAPACITY);
+    let Ok((ingester, passes)) = opened else {
+        return Err(Fail::from("slots are refused"));
+    };
+    let mut clocks = Vec::new(alloc);
+    for _ in 0..workers {
+        clocks.push(Standing)?;
+    }
+    let ingester = &ingester;
+    let (told, served) = join(
+        rt,
+        move || answers_of(client).ok(),
+        move || -> Result<(), Stopped>
+            requires { (i : ℕ) (pass : Passed) → slice_get passes.items i ≡ Some pass → IsPassOf ingester.now pass }
+        { serve_listener(rt, alloc, ingester, passes, clocks, listener, connections) },
+    );
+    if served.is_err() {
+        return Err(Fail::from("not served"));
+    }
+    Ok(told.ok_or("not answered")?)
+}
+
+/// Any free port of the loopback.
+fn listen<R: Net<Listener = TcpListener, Stream = TcpStream>>(rt: &R) -> io::Result<TcpListener> {
+    TcpListener::bind(rt, SocketAddr::new(IpAddr::V4(Ipv4Addr::LOCALHOST), 0))
+}
+
+/// An empty slot behind this gate.
+fn slot(alloc: Global, gate: &Gate) -> Result<Slot, Fail> {
+    let disk = MemDisk::new(alloc, 8_192, 1_000, 65_536)?;
+    Ok(GateDisk::new(disk, gate.try_clone()?))
+}
+
+/// The empty slots of one shard.
+fn slots_of_one(alloc: Global) -> Result<Vec<[Slot; 2]>, Fail>
+    ensures { IfOk result (λ slots. vec_len slots ≡ 1) }
+{
+    let gate = Gate::new(alloc)?;
+    let mut slots = Vec::new(alloc);
+    slots.push([slot(alloc, &gate)?, slot(alloc, &gate)?])?;
+    Ok(slots)
+}
+
+/// The empty slots of two shards, the first behind this gate.
+fn slots_of_two(alloc: Global, gate: &Gate) -> Result<Vec<[Slot; 2]>, Fail>
+    ensures { IfOk result (λ slots. vec_len slots ≡ 2) }
+{
+    let free = Gate::new(alloc)?;
+    let mut slots = Vec::new(alloc);
+    slots.push([slot(alloc, gate)?, slot(alloc, gate)?])?;
+    slots.push([slot(alloc, &free)?, slot(alloc, &free)?])?;
+    Ok(slots)
+}
+
+#[test]
+fn gate_two_connections(rt: HostRuntime) -> Result<(), Fail> {
+    let alloc = rt.alloc();
+    let gate = Gate::new(alloc)?;
+    let (slots, listener) = (slots_of_two(alloc, &gate)?, listen(&rt)?);
+    let (held, then) = (push(alloc, SAMPLE)?, push(alloc, OTHER)?);
+    let talk = Talk::Hold {
+        held: held.as_str(),
+        then: then.as_str(),
+        gate: &gate,
+    };
+    let told = talk_and_serve(&rt, alloc, slots, 2, 2, &listener, talk)?;
+    let wanted = format!(in alloc; "{NO_CONTENT}{NO_CONTENT}")?;
+    assert_eq!(rt; told, wanted);
+    Ok(())
+}
+
+#[test]
+fn clients_are_answered(rt: HostRuntime) -> Result<(), Fail> {
+    let alloc = rt.alloc();
+    let (lost, push, read) = (push(alloc, LOST)?, push(alloc, SAMPLE)?, read(alloc)?);
+    let then = format!(in alloc; "{push}{read}")?;
+    let (push, read, then) = (push.as_str(), read.as_str(), then.as_str());
+    let cut = lost.as_str().strip_suffix("}").ok_or("no body")?;
+    let texts = [push, push, read];
+    for (name, workers, connections, talk, wanted) in [
+        (
+            "the sample and its repeat",
+            2,
+            3,
+            Talk::Ask(&texts),
+            [NO_CONTENT, NO_CONTENT, X_ALONE],
+        ),
+        (
+            "a client leaves inside a body",
+            1,
+            2,
+            Talk::Leave { cut, then },
+            [NO_CONTENT, X_ALONE, ""],
+        ),
+        (
+            "failed accepts are not counted",
+            1,
+            1,
+            Talk::Insist(push),
+            [NO_CONTENT, "", ""],
+        ),
+    ] {
+        let (slots, listener) = (slots_of_one(alloc)?, listen(&rt)?);
+        // Accepting fails while the one client, which insists, is not there yet.
+        listener.set_nonblocking(connections == 1)?;
+        let workers: u32 = workers;
+        let told = talk_and_serve(
+            &rt,
+            alloc,
+            slots,
+            workers.min(64),
+            connections,
+            &listener,
+            talk,
+        )?;
+        let [first, second, third] = wanted;
+        let wanted = format!(in alloc; "{first}{second}{third}")?;
+        assert_eq!(rt; told, wanted, "{name}");
+    }
+    Ok(())
+}
+
+/// What a program writes and how it ends.
+#[derive(Drop)]
+struct Ended {
+    status: u8,
+    output: Vec<u8>,
+    errors: Vec<u8>,
+}
+
+impl Ended {
+    /// Whether the program ends with status 0, and writes just this.
+    fn is(&self, output: &str) -> bool {
+        self.status == 0 && self.output.as_slice() == output.as_bytes() && self.errors.is_empty()
+    }
+}
+
+/// The words of a line, which spaces part.
+fn words_of(alloc: Global, line: &str) -> Result<Vec<String>, Fail> {
+    let mut words = Vec::new(alloc);
+    for word in line.split_whitespace() {
+        words.push(word.to_string(alloc)?)?;
+    }
+    Ok(words)
+}
+
+/// The server of the folder `sockets_test` for one connection, and what is answered there.
+fn run_and_ask<R>(rt: &R, alloc: Global, port: u16, text: &str) -> Result<(String, Ended), Fail>
+where
+    R: Files<File = File> + Net<Listener = TcpListener, Stream = TcpStream>,
+    R: Threads + Wait + rt::Clock + Sync,
+{
+    let client = Client {
+        rt,
+        alloc,
+        address: SocketAddr::new(IpAddr::V4(Ipv4Addr::LOCALHOST), port),
+        talk: Talk::Insist(text),
+    };
+    let line = format!(in alloc; "sockets_test/new {port} 2 2 1")?;
+    let words = words_of(alloc, line.as_str())?;
+    let (mut output, mut errors) = (Vec::new(alloc), Vec::new(alloc));
+    let (told, status) = join(
+        rt,
+        move || answers_of(client).ok(),
+        || run_server(rt, alloc, &words, &mut output, &mut errors),
+    );
+    let ended = Ended {
+        status,
+        output,
+        errors,
+    };
+    Ok((told.ok_or("not answered")?, ended))
+}
+
+/// Reads all of the stream {a="1"} in the folder `sockets_test`, with no server.
+fn read_folder<R: Files<File = File> + Wait>(
+    rt: &R,
+    alloc: Global,
+    now: u64,
+) -> Result<Ended, Fail> {
+    let line = format!(in alloc; "read sockets_test/new 2 t {now}")?;
+    let words = words_of(alloc, line.as_str())?;
+    let (mut output, mut errors) = (Vec::new(alloc), Vec::new(alloc));
+    let mut input = READ_ALL.as_bytes();
+    let status = run_ctl(rt, alloc, &words, &mut input, &mut output, &mut errors);
+    Ok(Ended {
+        status,
+        output,
+        errors,
+    })
+}
+
+#[test]
+fn a_server_keeps_what_it_answered(rt: HostRuntime) -> Result<(), Fail> {
+    let alloc = rt.alloc();
+    let _ = fs::remove_dir_all(&rt, "sockets_test");
+    let port = listen(&rt)?.local_addr()?.port();
+    let now = front::Clock::now(&mut SystemClock::new(&rt));
+    let body = format!(in alloc;
+        "{{\"streams\":[{{\"stream\":{{\"a\":\"1\"}},\"values\":[[\"{now}\",\"x\"]]}}]}}"
+    )?;
+    let push = push(alloc, body.as_str())?;
+    let (told, ended) = run_and_ask(&rt, alloc, port, push.as_str())?;
+    let ready = format!(in alloc; "ready {port}\n")?;
+    assert!(rt; ended.is(ready.as_str()));
+    assert_eq!(rt; told.as_str(), NO_CONTENT);
+    let read = read_folder(&rt, alloc, now)?;
+    let wanted = format!(in alloc; "200\n{{\"values\":[[\"{now}\",\"x\"]]}}")?;
+    assert!(rt; read.is(wanted.as_str()));
+    fs::remove_dir_all(&rt, "sockets_test")?;
+    Ok(())
+}

@@ -1,0 +1,13 @@
+use Rattle.std.proofs.Common.{sym, ◌∙◌}
+use Rattle.threads.proofs.Reading.{reply_nothing, first_shard}
+use Rattle.threads.proofs.meetings.Desk.answer.Goals as goal
+
+pub commit-reply-requires-clause-shard : goal.commit-reply-requires-clause-shard
+commit-reply-requires-clause-shard g c =
+    let desk = c.self.invariant in
+    first_shard c.self.inside.book.about c.args.ticket.ask desk.1 ∙ sym desk.2
+
+pub commit-reply-requires-clause-reply : goal.commit-reply-requires-clause-reply
+commit-reply-requires-clause-reply g c =
+    let book = c.self.inside.book in
+    c.requires.reply ∙ sym (reply_nothing book.about book.shard book.items c.args.ticket.ask.call c.requires.ticket.1 c.self.invariant.3)

@@ -1,0 +1,11 @@
+//! Tests over threads and gates: locks, histories, disks and shards, each called by several threads at once.
+#![tactic(auto)]
+
+#[cfg(test)]
+mod gates;
+#[cfg(test)]
+mod locks;
+#[cfg(test)]
+mod meetings;
+#[cfg(test)]
+mod shards;

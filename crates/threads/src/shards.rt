@@ -1,0 +1,386 @@
+//! Shards whose syncs a gate holds, called by two threads at once.
+ghost use Rattle.std.specs.Prelude.{◌≡◌, ◌<◌, ◌≤◌, ℕ, IsTrue, Some, slice_get, vec_len, IfOk, IfSome};
+ghost use Rattle.streams.specs.Changes.{HasFewEntries};
+ghost use Rattle.history.specs.Handles.{Passed};
+ghost use Rattle.ingester.specs.Calls.{IsPassOf};
+
+use accept::{Call, Entry, EntryList, Limits, Line, Outcome, Reply};
+use disk::{Gate, GateDisk, MemDisk};
+use history::Pass;
+use ingester::Ingester;
+use labels::{LabelPairs, LabelSet, StreamKey, Tenant};
+use std::alloc::Global;
+use std::sync::Wait;
+use std::test::*;
+use std::thread::{self, Threads, join};
+use std::time::{Clock, Duration};
+
+/// A slot in memory, whose syncs a gate can hold.
+type Slot = GateDisk<MemDisk>;
+
+/// How many bytes a segment may have.
+const CAPACITY: u64 = 4_096;
+
+/// What the clock says: two hours.
+const NOW: u64 = 7_200_000_000_000;
+
+/// Pushes of one entry each to the stream `{a=VALUE}`, at rising times. Each line is the label's value.
+#[derive(Clone, Copy)]
+struct Pushes<'a> {
+    value: &'a str,
+    first: u64,
+    count: u64,
+}
+
+/// A push to shard 0, where there are two.
+const HELD: Pushes<'static> = Pushes {
+    value: "1",
+    first: 10,
+    count: 1,
+};
+
+/// A push to shard 1, where there are two.
+const FREE: Pushes<'static> = Pushes {
+    value: "2",
+    first: 11,
+    count: 1,
+};
+
+/// What another thread makes pushes with.
+#[derive(Drop)]
+struct Caller<'a, R> {
+    rt: &'a R,
+    alloc: Global,
+    ingester: &'a Ingester<Slot>,
+    pass: Pass,
+    pushes: Pushes<'a>,
+}
+
+/// The key of `{a=VALUE}` for the tenant `t`.
+fn key(alloc: Global, value: &str) -> Option<StreamKey> {
+    let mut pairs = Vec::new(alloc);
+    pairs
+        .push(("a".to_string(alloc).ok()?, value.to_string(alloc).ok()?))
+        .ok()?;
+    Some(StreamKey {
+        tenant: Tenant::new(alloc, "t").ok()?,
+        labels: LabelSet::new(alloc, LabelPairs::new(pairs)).ok()?,
+    })
+}
+
+/// An empty slot behind this gate.
+fn slot(alloc: Global, gate: &Gate) -> Result<Slot, Fail> {
+    let disk = MemDisk::new(alloc, 8_192, 1_000, 65_536)?;
+    Ok(GateDisk::new(disk, gate.try_clone()?))
+}
+
+/// The empty slots of one shard, behind no gate that is ever closed.
+fn slots_of_one(alloc: Global) -> Result<Vec<[Slot; 2]>, Fail>
+    ensures { IfOk result (λ slots. vec_len slots ≡ 1) }
+{
+    let free = Gate::new(alloc)?;
+    let mut slots = Vec::new(alloc);
+    slots.push([slot(alloc, &free)?, slot(alloc, &free)?])?;
+    Ok(slots)
+}
+
+/// The empty slots of two shards, the first behind this gate.
+fn slots_of_two(alloc: Global, gate: &Gate) -> Result<Vec<[Slot; 2]>, Fail>
+    ensures { IfOk result (λ slots. vec_len slots ≡ 2) }
+{
+    let free = Gate::new(alloc)?;
+    let mut slots = Vec::new(alloc);
+    slots.push([slot(alloc, gate)?, slot(alloc, gate)?])?;
+    slots.push([slot(alloc, &free)?, slot(alloc, &free)?])?;
+    Ok(slots)
+}
+
+fn open(
+    alloc: Global,
+    slots: Vec<[Slot; 2]>,
+    passes: u32,
+) -> Result<(Ingester<Slot>, Vec<Pass>), Fail>
+    requires slots { (0 < vec_len slots) × (vec_len slots ≤ 64) }
+    requires passes { passes ≤ 64 }
+    ensures passes { IfOk result (λ it. (p : ℕ) (pass : Passed) → slice_get it.1.items p ≡ Some pass → IsPassOf it.0 pass) }
+    ensures shards { IfOk result (λ it. it.0.about.shards ≡ vec_len slots) }
+{
+    match Ingester::open(alloc, slots, passes, Limits::PROFILE, CAPACITY) {
+        Ok(opened) => Ok(opened),
+        Err(_) => Err(Fail::from("slots are refused")),
+    }
+}
+
+/// The last of these passes.
+fn last_of(ingester: &Ingester<Slot>, passes: &mut Vec<Pass>) -> Result<Pass, Fail>
+    requires { (p : ℕ) (pass : Passed) → slice_get passes.old.items p ≡ Some pass → IsPassOf ingester.now pass }
+    ensures pass { IfOk result (IsPassOf ingester.now) }
+    ensures passes { (p : ℕ) (pass : Passed) → slice_get passes.new.items p ≡ Some pass → IsPassOf ingester.now pass }
+{
+    match passes.pop() {
+        Some(pass) => Ok(pass),
+        None => Err(Fail::from("there is no pass")),
+    }
+}
+
+fn has_few_entries(call: &Call) -> bool
+    ensures { IsTrue result → HasFewEntries call.now }
+{
+    match call {
+        Call::Push { entries, .. } => entries.as_slice().len() <= 10_000,
+        Call::Read { .. } | Call::Trim { .. } => true,
+    }
+}
+
+fn call<R: Wait>(
+    rt: &R,
+    alloc: Global,
+    ingester: &Ingester<Slot>,
+    pass: &mut Pass,
+    call: Call,
+) -> Option<Reply>
+    requires { IsPassOf ingester.now pass.old }
+    ensures { IsPassOf ingester.now pass.new }
+{
+    if call.has_lawful_numbers() && has_few_entries(&call) {
+        ingester.call(rt, alloc, pass, call).ok()
+    } else {
+        None
+    }
+}
+
+/// Pushes one entry: whether it is stored.
+fn stores<R: Wait>(
+    rt: &R,
+    alloc: Global,
+    ingester: &Ingester<Slot>,
+    pass: &mut Pass,
+    value: &str,
+    time: u64,
+) -> Option<bool>
+    requires { IsPassOf ingester.now pass.old }
+    ensures { IsPassOf ingester.now pass.new }
+{
+    let line = Line::new(value.to_string(alloc).ok()?);
+    let mut entries = Vec::new(alloc);
+    entries.push(Entry { time, line }).ok()?;
+    let push = Call::Push {
+        key: key(alloc, value)?,
+        now: NOW,
+        entries: EntryList::new(entries),
+    };
+    match call(rt, alloc, ingester, pass, push)? {
+        Reply::Verdict(outcomes) => Some(outcomes.as_slice() == [Outcome::Stored].as_slice()),
+        _ => Some(false),
+    }
+}
+
+/// Makes these pushes, where each is stored.
+fn push_all<R: Wait>(
+    rt: &R,
+    alloc: Global,
+    ingester: &Ingester<Slot>,
+    mut pass: Pass,
+    pushes: Pushes<'_>,
+) -> Option<Pass>
+    requires { IsPassOf ingester.now pass }
+    ensures { IfSome result (IsPassOf ingester.now) }
+{
+    for k in 0..pushes.count {
+        let time = pushes.first.wrapping_add(k);
+        if !stores(rt, alloc, ingester, &mut pass, pushes.value, time)? {
+            return None;
+        }
+    }
+    Some(pass)
+}
+
+/// Makes its pushes: whether each is stored.
+fn push_all_there<R: Wait>(caller: Caller<R>) -> bool
+    requires { IsPassOf caller.ingester.now caller.pass }
+{
+    let Caller {
+        rt,
+        alloc,
+        ingester,
+        pass,
+        pushes,
+    } = caller;
+    push_all(rt, alloc, ingester, pass, pushes).is_some()
+}
+
+/// Makes these pushes, or waits for a while, and looks at shard 0.
+fn act_and_look<R: Wait + Clock>(
+    rt: &R,
+    alloc: Global,
+    ingester: &Ingester<Slot>,
+    pass: Pass,
+    pushes: Option<Pushes<'_>>,
+) -> Option<(Pass, u64)>
+    requires pass { IsPassOf ingester.now pass }
+    requires shards { 0 < ingester.now.about.shards }
+    ensures { IfSome result (λ it. IsPassOf ingester.now it.0) }
+{
+    let mut pass = match pushes {
+        Some(pushes) => push_all(rt, alloc, ingester, pass, pushes)?,
+        None => {
+            thread::sleep(rt, Duration::from_millis(50));
+            pass
+        }
+    };
+    let seen = ingester.look(&mut pass, 0);
+    Some((pass, seen))
+}
+
+/// One pass makes the first pushes in a thread of its own. Meanwhile the other makes the second, or waits for a while, looks at
+/// shard 0, and opens the gate: the other pass, and the number of steps that it saw.
+fn push_together<R: Threads + Wait + Clock + Sync>(
+    rt: &R,
+    alloc: Global,
+    gate: &Gate,
+    ingester: &Ingester<Slot>,
+    one: Pass,
+    first: Pushes<'_>,
+    two: Pass,
+    second: Option<Pushes<'_>>,
+) -> Result<(Pass, u64), Fail>
+    requires one { IsPassOf ingester.now one }
+    requires two { IsPassOf ingester.now two }
+    requires shards { 0 < ingester.now.about.shards }
+    ensures { IfOk result (λ it. IsPassOf ingester.now it.0) }
+{
+    let one = Caller {
+        rt,
+        alloc,
+        ingester,
+        pass: one,
+        pushes: first,
+    };
+    let (one, two) = join(
+        rt,
+        move || -> bool
+            requires { IsPassOf one.ingester.now one.pass }
+        { push_all_there(one) },
+        move || -> Option<(Pass, u64)>
+            requires pass { IsPassOf ingester.now two }
+            requires shards { 0 < ingester.now.about.shards }
+            ensures { IfSome result (λ it. IsPassOf ingester.entry.now it.0) }
+        {
+            let looked = act_and_look(rt, alloc, ingester, two, second);
+            gate.open();
+            looked
+        },
+    );
+    if !one {
+        return Err(Fail::from("the first thread's pushes"));
+    }
+    Ok(two.ok_or("the second thread's pushes")?)
+}
+
+/// What a read of all times gives, where it has entries: each a time and a line.
+fn read<R: Wait>(
+    rt: &R,
+    alloc: Global,
+    ingester: &Ingester<Slot>,
+    pass: &mut Pass,
+    value: &str,
+) -> Option<EntryList>
+    requires { IsPassOf ingester.now pass.old }
+    ensures { IsPassOf ingester.now pass.new }
+{
+    let read = Call::Read {
+        key: key(alloc, value)?,
+        from: 0,
+        to: 1 << 63,
+    };
+    match call(rt, alloc, ingester, pass, read)? {
+        Reply::Entries(entries) => Some(entries),
+        _ => None,
+    }
+}
+
+/// Whether these are the entries of these pushes.
+fn are_of(entries: Option<EntryList>, pushes: Pushes<'_>) -> bool {
+    let Some(entries) = entries else {
+        return false;
+    };
+    let entries = entries.as_slice();
+    let times = pushes.first..pushes.first.saturating_add(pushes.count);
+    entries.len() as u64 == pushes.count
+        && entries.iter().zip(times).all(|(entry, time)| entry.time == time
+            && entry.line.as_str() == pushes.value)
+}
+
+/// The lengths that it sees of both shards.
+fn lengths(ingester: &Ingester<Slot>, pass: &mut Pass) -> (u64, u64)
+    requires pass { IsPassOf ingester.now pass.old }
+    requires shards { ingester.now.about.shards ≡ 2 }
+    ensures { IsPassOf ingester.now pass.new }
+{
+    let first = ingester.look(pass, 0);
+    let second = ingester.look(pass, 1);
+    (first, second)
+}
+
+#[test]
+fn gate_two_shards(rt: HostRuntime) -> Result<(), Fail> {
+    let alloc = rt.alloc();
+    let gate = Gate::new(alloc)?;
+    let (ingester, mut passes) = open(alloc, slots_of_two(alloc, &gate)?, 3)?;
+    let mut three = last_of(&ingester, &mut passes)?;
+    let two = last_of(&ingester, &mut passes)?;
+    let one = last_of(&ingester, &mut passes)?;
+    gate.close();
+    let (mut two, seen) = push_together(&rt, alloc, &gate, &ingester, one, HELD, two, Some(FREE))?;
+    assert_eq!(rt; seen, 0);
+    assert_eq!(rt; lengths(&ingester, &mut two), (1, 1));
+    assert_eq!(rt; lengths(&ingester, &mut three), (1, 1));
+    ingester.meet(&mut two, &mut three);
+    let held = read(&rt, alloc, &ingester, &mut two, "1");
+    assert!(rt; are_of(held, HELD));
+    let free = read(&rt, alloc, &ingester, &mut three, "2");
+    assert!(rt; are_of(free, FREE));
+    Ok(())
+}
+
+#[test]
+fn gate_look_while_held(rt: HostRuntime) -> Result<(), Fail> {
+    let alloc = rt.alloc();
+    let gate = Gate::new(alloc)?;
+    let (ingester, mut passes) = open(alloc, slots_of_two(alloc, &gate)?, 2)?;
+    let two = last_of(&ingester, &mut passes)?;
+    let one = last_of(&ingester, &mut passes)?;
+    gate.close();
+    let (mut two, seen) = push_together(&rt, alloc, &gate, &ingester, one, HELD, two, None)?;
+    assert_eq!(rt; (seen, ingester.look(&mut two, 0)), (0, 1));
+    Ok(())
+}
+
+#[test]
+fn two_threads_push_to_one_stream(rt: HostRuntime) -> Result<(), Fail> {
+    let alloc = rt.alloc();
+    let free = Gate::new(alloc)?;
+    let (ingester, mut passes) = open(alloc, slots_of_one(alloc)?, 2)?;
+    let two = last_of(&ingester, &mut passes)?;
+    let one = last_of(&ingester, &mut passes)?;
+    let first = Pushes {
+        value: "1",
+        first: 1_000,
+        count: 100,
+    };
+    let second = Pushes {
+        value: "1",
+        first: 1_100,
+        count: 100,
+    };
+    let (mut two, _) = push_together(&rt, alloc, &free, &ingester, one, first, two, Some(second))?;
+    assert_eq!(rt; ingester.look(&mut two, 0), 200);
+    let all = Pushes {
+        value: "1",
+        first: 1_000,
+        count: 200,
+    };
+    let entries = read(&rt, alloc, &ingester, &mut two, "1");
+    assert!(rt; are_of(entries, all));
+    Ok(())
+}
