@@ -2,10 +2,17 @@ use anyhow::Result;
 use std::alloc::Global;
 use std::fmt::Write;
 
+/// A text, and how often it came.
+#[derive(Drop)]
+struct Text {
+    text: String,
+    count: u64,
+}
+
 /// Texts in their order, of which equal ones that follow one another are counted.
 #[derive(Drop)]
 pub struct Counted {
-    texts: Vec<(String, u64)>,
+    texts: Vec<Text>,
 }
 
 impl Counted {
@@ -16,19 +23,18 @@ impl Counted {
     }
 
     pub fn add(&mut self, text: String) -> Result<()> {
-        if let Some((last, count)) = self.texts.last_mut() {
-            if last.as_str() == text.as_str() {
-                *count = count.saturating_add(1);
-                return Ok(());
+        match self.texts.last_mut() {
+            Some(last) if last.text.as_str() == text.as_str() => {
+                last.count = last.count.saturating_add(1);
             }
+            _ => self.texts.push(Text { text, count: 1 })?,
         }
-        self.texts.push((text, 1))?;
         Ok(())
     }
 
     /// Appends the texts with this between them: one that came more than once as `3 times TEXT`.
     pub fn write(&self, between: &str, into: &mut String) -> Result<()> {
-        for (index, (text, count)) in self.texts.iter().enumerate() {
+        for (index, Text { text, count }) in self.texts.iter().enumerate() {
             if index > 0 {
                 into.push_str(between)?;
             }

@@ -141,7 +141,7 @@ impl Stage {
 
     /// Says the state of each shard, and keeps its slots, all of which work.
     fn say_left(&mut self, all: Vec<Left>, said: &mut String) -> Result<()> {
-        let count = all.len() as u32;
+        let count = u32::try_from(all.len())?;
         let mut states = Counted::new(self.alloc);
         let mut shard: u32 = 0;
         for left in all {

@@ -1,6 +1,8 @@
 //! All shards of an ingester, and its passes.
 ghost use Rattle.std.specs.Prelude.{◌≡◌, ℕ, Some, slice_get};
+ghost use Rattle.std.specs.Coded.{codes};
 ghost use Rattle.accept.specs.Steps.{AreNumbers};
+ghost use Rattle.accept.specs.contracts.image.Image as image;
 ghost use Rattle.history.specs.Handles.{Passed};
 ghost use Rattle.ingester.specs.Calls.{IsPassOf};
 ghost use Rattle.streams.specs.Changes.{HasFewEntries};
@@ -25,8 +27,8 @@ pub struct Together {
     pass: Pass,
     others: Vec<Pass>,
     count: u32,
-    ghost of_pass: { IsPassOf ingester pass },
-    ghost of_others: { (p : ℕ) (other : Passed) → slice_get others.items p ≡ Some other → IsPassOf ingester other },
+    ghost of_pass: { IsPassOf ingester pass } by { Prim.hlevel (codes, image.the_row.coded) },
+    ghost of_others: { (p : ℕ) (other : Passed) → slice_get others.items p ≡ Some other → IsPassOf ingester other } by { Prim.hlevel (codes, image.the_row.coded) },
     ghost shards: { ingester.about.shards ≡ count },
 }
 
