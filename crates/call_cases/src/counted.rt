@@ -1,0 +1,48 @@
+use anyhow::Result;
+use std::alloc::Global;
+use std::fmt::Write;
+
+/// A text, and how often it came.
+#[derive(Drop)]
+struct Text {
+    text: String,
+    count: u64,
+}
+
+/// Texts in their order, of which equal ones that follow one another are counted.
+#[derive(Drop)]
+pub struct Counted {
+    texts: Vec<Text>,
+}
+
+impl Counted {
+    pub fn new(alloc: Global) -> Counted {
+        Counted {
+            texts: Vec::new(alloc),
+        }
+    }
+
+    pub fn add(&mut self, text: String) -> Result<()> {
+        match self.texts.last_mut() {
+            Some(last) if last.text.as_str() == text.as_str() => {
+                last.count = last.count.saturating_add(1);
+            }
+            _ => self.texts.push(Text { text, count: 1 })?,
+        }
+        Ok(())
+    }
+
+    /// Appends the texts with this between them: one that came more than once as `3 times TEXT`.
+    pub fn write(&self, between: &str, into: &mut String) -> Result<()> {
+        for (index, Text { text, count }) in self.texts.iter().enumerate() {
+            if index > 0 {
+                into.push_str(between)?;
+            }
+            if *count > 1 {
+                write!(into, "{count} times ")?;
+            }
+            into.push_str(text.as_str())?;
+        }
+        Ok(())
+    }
+}

@@ -1,0 +1,36 @@
+use crate::words::number_of;
+use accept::Limits;
+use anyhow::{Result, bail};
+
+/// What slots are opened with.
+#[derive(Clone, Copy, Debug)]
+pub struct Settings {
+    pub limits: Limits,
+    /// The greatest length of a segment, in bytes.
+    pub capacity: u64,
+    pub passes: u32,
+}
+
+impl Settings {
+    /// The limits of the profile, a small capacity, and one pass.
+    pub const USUAL: Settings = Settings {
+        limits: Limits::PROFILE,
+        capacity: 4_096,
+        passes: 1,
+    };
+
+    /// Takes a line with one of the settings in: its word, and the number behind it.
+    pub fn set(&mut self, word: &str, text: &str) -> Result<()> {
+        let (number, _) = number_of(text)?;
+        match word {
+            "line" => self.limits.line = number,
+            "half_age" => self.limits.half_age = number,
+            "max_old" => self.limits.max_old = number,
+            "max_ahead" => self.limits.max_ahead = number,
+            "capacity" => self.capacity = number,
+            "passes" => self.passes = u32::try_from(number)?,
+            _ => bail!("no such word: {word}"),
+        }
+        Ok(())
+    }
+}

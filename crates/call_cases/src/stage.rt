@@ -1,0 +1,285 @@
+//! What the lines of a row do.
+
+use crate::alone::Alone;
+use crate::counted::Counted;
+use crate::crashes::{say_contents, say_trials};
+use crate::opened::Opened;
+use crate::prepared::{End, Prepared};
+use crate::settings::Settings;
+use crate::slots::{Left, Pair, Way};
+use crate::together::Together;
+use crate::words::number_of;
+use anyhow::{Result, bail};
+use rows::{escape, unescape, word_of};
+use std::alloc::Global;
+use std::fmt::Write;
+use std::mem;
+use std::sync::Wait;
+
+/// What a row has made so far.
+#[derive(Drop)]
+pub struct Stage {
+    alloc: Global,
+    settings: Settings,
+    /// The slots of each shard, while nothing is opened.
+    pairs: Vec<Pair>,
+    /// How many writes and syncs had been made on them at the opening.
+    before: Vec<(u64, u64)>,
+    opened: Option<Opened>,
+    prepared: Option<Prepared>,
+}
+
+impl Stage {
+    /// One shard with empty slots.
+    pub fn new(alloc: Global) -> Result<Stage> {
+        Ok(Stage {
+            alloc,
+            settings: Settings::USUAL,
+            pairs: empty_pairs(alloc, 1)?,
+            before: Vec::new(alloc),
+            opened: None,
+            prepared: None,
+        })
+    }
+
+    /// Does what a line asks for, and appends what is to be said to it.
+    pub fn take_line<R: Wait>(&mut self, rt: &R, line: &str, said: &mut String) -> Result<()> {
+        let (word, rest) = word_of(line);
+        match word {
+            "open" => self.open(rest, said),
+            "close" => self.close(rt, said),
+            "push" | "read" | "trim" | "each" => self.take_call(rt, line, said),
+            "look" => self.look(rest, said),
+            "turn" => self.turn(),
+            "store" | "forget" | "block" | "segment" => self.take_change(word, rest, said),
+            "crash" => self.crash(rest, said),
+            "fails" => self.try_each(Way::Fails, rest, said),
+            "stops" => self.try_each(Way::Stops, rest, said),
+            "shards" => self.set_shards(rest),
+            "slot" | "write" | "fail" | "stop" | "bytes" => self.take_slot(word, rest, said),
+            _ => self.settings.set(word, rest),
+        }
+    }
+
+    /// `shards COUNT`: so many shards with empty slots.
+    fn set_shards(&mut self, text: &str) -> Result<()> {
+        let (count, _) = number_of(text)?;
+        self.pairs = empty_pairs(self.alloc, count)?;
+        Ok(())
+    }
+
+    /// A word on the slot of a shard.
+    fn take_slot(&mut self, word: &str, text: &str, said: &mut String) -> Result<()> {
+        let alloc = self.alloc;
+        let (shard, text) = number_of(text)?;
+        let (slot, text) = number_of(text)?;
+        let Some(pair) = self.pairs.get_mut(shard as usize) else {
+            bail!("no such shard, or it is open");
+        };
+        match word {
+            "slot" => pair.replace(alloc, slot, &bytes_of(alloc, text)?),
+            "write" => {
+                let (at, text) = number_of(text)?;
+                pair.write(slot, at, &bytes_of(alloc, text)?)
+            }
+            "fail" => pair.plan(slot, Way::Fails, number_of(text)?.0),
+            "stop" => pair.plan(slot, Way::Stops, number_of(text)?.0),
+            _ => say_from(number_of(text)?.0, &pair.bytes(alloc, slot)?, said),
+        }
+    }
+
+    /// `open`: an ingester over all slots; `open alone`: the only shard without one.
+    fn open(&mut self, text: &str, said: &mut String) -> Result<()> {
+        let alloc = self.alloc;
+        let mut pairs = mem::replace(&mut self.pairs, Vec::new(alloc));
+        self.before = calls_of(alloc, &pairs)?;
+        match text {
+            "alone" => {
+                let (Some(pair), None) = (pairs.pop(), pairs.pop()) else {
+                    bail!("there is not one shard alone");
+                };
+                match Alone::open(alloc, pair, self.settings)? {
+                    Ok(alone) => self.opened = Some(Opened::Alone(alone)),
+                    Err((fault, pair)) => {
+                        writeln!(said, "refused: {fault}")?;
+                        self.put_back(vec![in alloc; pair]?, said)?;
+                    }
+                }
+            }
+            _ => match Together::open(alloc, pairs, self.settings)? {
+                Ok(together) => self.opened = Some(Opened::Together(together)),
+                Err((fault, pairs)) => {
+                    writeln!(said, "refused: {fault}")?;
+                    self.put_back(pairs, said)?;
+                }
+            },
+        }
+        Ok(())
+    }
+
+    /// Takes slots back that were not opened.
+    fn put_back(&mut self, pairs: Vec<Pair>, said: &mut String) -> Result<()> {
+        let mut all = Vec::new(self.alloc);
+        for pair in pairs {
+            all.push(Left {
+                pair,
+                steps: None,
+                is_marked: false,
+            })?;
+        }
+        self.say_left(all, said)
+    }
+
+    /// `close`: says what is left of each shard.
+    fn close<R: Wait>(&mut self, rt: &R, said: &mut String) -> Result<()> {
+        let Some(opened) = self.opened.take() else {
+            bail!("nothing is open");
+        };
+        let all = opened.close(rt, self.alloc)?;
+        self.say_left(all, said)
+    }
+
+    /// Says the state of each shard, and keeps its slots, all of which work.
+    fn say_left(&mut self, all: Vec<Left>, said: &mut String) -> Result<()> {
+        let count = u32::try_from(all.len())?;
+        let mut states = Counted::new(self.alloc);
+        let mut shard: u32 = 0;
+        for left in all {
+            let mut left = left;
+            left.pair.mend();
+            let before = self.before.get(shard as usize).copied().unwrap_or((0, 0));
+            states.add(left.state(self.alloc, shard, count, before)?)?;
+            self.pairs.push(left.pair)?;
+            shard = shard.saturating_add(1);
+        }
+        states.write("\n", said)?;
+        said.push('\n')?;
+        Ok(())
+    }
+
+    /// A call, or `each` and a call, which each pass makes in its turn.
+    fn take_call<R: Wait>(&mut self, rt: &R, line: &str, said: &mut String) -> Result<()> {
+        let alloc = self.alloc;
+        let Some(opened) = &mut self.opened else {
+            bail!("nothing is open");
+        };
+        let Some(call) = line.strip_prefix("each ") else {
+            opened.call(rt, alloc, line, said)?;
+            said.push('\n')?;
+            return Ok(());
+        };
+        let mut answers = Counted::new(alloc);
+        for _ in 0..opened.passes() {
+            let mut answer = String::new(alloc);
+            opened.call(rt, alloc, call, &mut answer)?;
+            answers.add(answer)?;
+            opened.turn()?;
+        }
+        answers.write("\n", said)?;
+        said.push('\n')?;
+        Ok(())
+    }
+
+    /// `look [SHARD]`
+    fn look(&mut self, text: &str, said: &mut String) -> Result<()> {
+        let shard = if text.is_empty() {
+            0
+        } else {
+            number_of(text)?.0
+        };
+        let Some(opened) = &mut self.opened else {
+            bail!("nothing is open");
+        };
+        opened.look(u32::try_from(shard)?, said)?;
+        said.push('\n')?;
+        Ok(())
+    }
+
+    /// `turn`: the next pass makes the calls.
+    fn turn(&mut self) -> Result<()> {
+        match &mut self.opened {
+            Some(opened) => opened.turn(),
+            None => bail!("nothing is open"),
+        }
+    }
+
+    /// `store CALL` and `forget CALL`, and the bytes of the last change, `block` and `segment`.
+    fn take_change(&mut self, word: &str, text: &str, said: &mut String) -> Result<()> {
+        let prepared = match self.prepared.take() {
+            Some(prepared) => prepared,
+            None => Prepared::new(self.alloc)?,
+        };
+        let (alloc, limits) = (self.alloc, self.settings.limits);
+        self.prepared = Some(match word {
+            "store" => prepared.make(alloc, limits, text, End::Store, said)?,
+            "forget" => prepared.make(alloc, limits, text, End::Forget, said)?,
+            "block" => {
+                say_from(0, &prepared.block, said)?;
+                prepared
+            }
+            _ => {
+                say_from(0, &prepared.segment, said)?;
+                prepared
+            }
+        });
+        Ok(())
+    }
+
+    /// `crash STREAM VALUE..`: what a read of the stream gives of each content that a crash may leave.
+    fn crash(&mut self, text: &str, said: &mut String) -> Result<()> {
+        let alloc = self.alloc;
+        let (stream, text) = word_of(text);
+        let mut values = Vec::new(alloc);
+        for word in text.split(' ') {
+            values.push(word.parse::<u8>()?)?;
+        }
+        let read = format!(in alloc; "read {stream}")?;
+        match self.pairs.first() {
+            Some(pair) => say_contents(alloc, pair, self.settings, read.as_str(), &values, said),
+            None => bail!("the shard is open"),
+        }
+    }
+
+    /// `fails CALL` and `stops CALL`: a call where each device call of it in turn fails, or all from there on; then the call.
+    fn try_each(&mut self, way: Way, call: &str, said: &mut String) -> Result<()> {
+        match self.pairs.first_mut() {
+            Some(pair) => {
+                *pair = say_trials(self.alloc, pair, self.settings, way, call, said)?;
+                Ok(())
+            }
+            None => bail!("the shard is open"),
+        }
+    }
+}
+
+fn empty_pairs(alloc: Global, count: u64) -> Result<Vec<Pair>> {
+    let mut pairs = Vec::new(alloc);
+    for _ in 0..count {
+        pairs.push(Pair::of_bytes(alloc, &[], &[])?)?;
+    }
+    Ok(pairs)
+}
+
+fn calls_of(alloc: Global, pairs: &[Pair]) -> Result<Vec<(u64, u64)>> {
+    let mut calls = Vec::new(alloc);
+    for pair in pairs {
+        calls.push(pair.calls())?;
+    }
+    Ok(calls)
+}
+
+fn bytes_of(alloc: Global, text: &str) -> Result<Vec<u8>> {
+    let mut bytes = Vec::new(alloc);
+    unescape(text, &mut bytes)?;
+    Ok(bytes)
+}
+
+/// Says the bytes from a place on.
+fn say_from(at: u64, bytes: &[u8], said: &mut String) -> Result<()> {
+    match bytes.get(at as usize..) {
+        Some(bytes) => escape(bytes, said)?,
+        None => said.push_str("none")?,
+    }
+    said.push('\n')?;
+    Ok(())
+}

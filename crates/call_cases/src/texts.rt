@@ -1,0 +1,54 @@
+//! Answers as text.
+
+use accept::{Entry, Outcome, Reply};
+use anyhow::Result;
+use rows::escape;
+use std::fmt::Write;
+
+/// A line of one character that is longer than this is said by its length.
+const LONG: usize = 8;
+
+/// Appends an answer: `verdict` and the outcomes, `entries` and the entries as a push gives them, or its name.
+pub fn write_reply(reply: &Reply, into: &mut String) -> Result<()> {
+    match reply {
+        Reply::Verdict(outcomes) => write_outcomes(outcomes.as_slice(), into),
+        Reply::Entries(entries) => write_entries(entries.as_slice(), into),
+        other => Ok(write!(into, "{other:?}")?),
+    }
+}
+
+fn write_outcomes(outcomes: &[Outcome], into: &mut String) -> Result<()> {
+    into.push_str("verdict")?;
+    for outcome in outcomes {
+        write!(into, " {outcome:?}")?;
+    }
+    Ok(())
+}
+
+fn write_entries(entries: &[Entry], into: &mut String) -> Result<()> {
+    into.push_str("entries")?;
+    for entry in entries {
+        write_entry(entry.time, entry.line.as_str(), into)?;
+    }
+    Ok(())
+}
+
+fn write_entry(time: u64, line: &str, into: &mut String) -> Result<()> {
+    let count = line.len();
+    match only_character(line) {
+        Some(character) if count > LONG => write!(into, " {time}*{count}:{character}")?,
+        _ => {
+            write!(into, " {time}:")?;
+            escape(line.as_bytes(), into)?;
+        }
+    }
+    Ok(())
+}
+
+/// The character of which a line consists.
+fn only_character(line: &str) -> Option<char> {
+    let first = line.chars().next()?;
+    line.chars()
+        .all(|character| character == first)
+        .then_some(first)
+}

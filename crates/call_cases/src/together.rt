@@ -1,0 +1,155 @@
+//! All shards of an ingester, and its passes.
+ghost use Rattle.std.specs.Prelude.{◌≡◌, ℕ, Some, slice_get};
+ghost use Rattle.std.specs.Coded.{codes};
+ghost use Rattle.accept.specs.Steps.{AreNumbers};
+ghost use Rattle.accept.specs.contracts.image.Image as image;
+ghost use Rattle.history.specs.Handles.{Passed};
+ghost use Rattle.ingester.specs.Calls.{IsPassOf};
+ghost use Rattle.streams.specs.Changes.{HasFewEntries};
+
+use crate::settings::Settings;
+use crate::slots::{Left, Pair};
+use crate::texts::write_reply;
+use accept::Call;
+use anyhow::{Result, bail};
+use disk::MemDisk;
+use history::Pass;
+use ingester::{Closed, Ingester, OpenFault};
+use std::alloc::Global;
+use std::fmt::Write;
+use std::mem;
+use std::sync::Wait;
+
+/// An ingester, the pass that makes the calls, and all other passes.
+#[derive(Drop)]
+pub struct Together {
+    ingester: Ingester<MemDisk>,
+    pass: Pass,
+    others: Vec<Pass>,
+    count: u32,
+    ghost of_pass: { IsPassOf ingester pass } by { Prim.hlevel (codes, image.the_row.coded) },
+    ghost of_others: { (p : ℕ) (other : Passed) → slice_get others.items p ≡ Some other → IsPassOf ingester other } by { Prim.hlevel (codes, image.the_row.coded) },
+    ghost shards: { ingester.about.shards ≡ count },
+}
+
+fn slots_of(alloc: Global, pairs: Vec<Pair>) -> Result<Vec<[MemDisk; 2]>> {
+    let mut slots = Vec::new(alloc);
+    for pair in pairs {
+        slots.push(pair.into_slots())?;
+    }
+    Ok(slots)
+}
+
+fn pairs_of(alloc: Global, slots: Vec<[MemDisk; 2]>) -> Result<Vec<Pair>> {
+    let mut pairs = Vec::new(alloc);
+    for both in slots {
+        pairs.push(Pair::of_slots(both))?;
+    }
+    Ok(pairs)
+}
+
+impl Together {
+    /// Opens a shard over each pair of slots. A refusal says why, and gives the slots back in their order.
+    pub fn open(
+        alloc: Global,
+        pairs: Vec<Pair>,
+        settings: Settings,
+    ) -> Result<Result<Together, (OpenFault, Vec<Pair>)>> {
+        let Settings {
+            limits,
+            capacity,
+            passes,
+        } = settings;
+        let slots = slots_of(alloc, pairs)?;
+        if slots.is_empty() || slots.len() > 64 || passes > 64 {
+            bail!("there are 1 to 64 shards and passes");
+        }
+        if !limits.are_lawful() || capacity > 1 << 30 {
+            bail!("a limit is out of its bounds");
+        }
+        let count = slots.len() as u32;
+        match Ingester::open(alloc, slots, passes, limits, capacity) {
+            Ok((ingester, mut others)) => {
+                let Some(pass) = others.pop() else {
+                    bail!("there is no pass");
+                };
+                Ok(Ok(Together {
+                    ingester,
+                    pass,
+                    others,
+                    count,
+                }))
+            }
+            Err(refusal) => Ok(Err((refusal.0, pairs_of(alloc, refusal.1)?))),
+        }
+    }
+
+    /// Makes a call, and appends its answer, or why it was refused.
+    pub fn call<R: Wait>(
+        &mut self,
+        rt: &R,
+        alloc: Global,
+        call: Call,
+        into: &mut String,
+    ) -> Result<()>
+        requires numbers { AreNumbers call }
+        requires few { HasFewEntries call }
+    {
+        match self.ingester.call(rt, alloc, &mut self.pass, call) {
+            Ok(reply) => write_reply(&reply, into),
+            Err(fault) => Ok(write!(into, "{fault}")?),
+        }
+    }
+
+    /// How many passes there are.
+    pub fn passes(&self) -> usize {
+        self.others.len().saturating_add(1)
+    }
+
+    /// Lets the next pass make the calls, each in its turn.
+    pub fn turn(&mut self) -> Result<()> {
+        if let Some(next) = self.others.pop() {
+            let last = mem::replace(&mut self.pass, next);
+            self.others.insert(0, last)?;
+        }
+        Ok(())
+    }
+
+    /// How long the history of a shard is, as the pass sees it now.
+    pub fn steps(&mut self, shard: u32) -> Result<u64> {
+        if shard >= self.count {
+            bail!("no such shard");
+        }
+        Ok(self.ingester.look(&mut self.pass, shard))
+    }
+
+    /// What is left of each shard, the first in front.
+    pub fn close<R: Wait>(self, rt: &R, alloc: Global) -> Result<Vec<Left>> {
+        let mut open = self;
+        let mut steps = Vec::new(alloc);
+        for shard in 0..open.count {
+            steps.push(open.steps(shard)?)?;
+        }
+        let mut closed = open.end(rt)?;
+        let mut all = Vec::new(alloc);
+        for steps in steps.iter().rev() {
+            let Some(shard) = closed.take() else {
+                bail!("a shard is lost");
+            };
+            all.push(Left::of_slots(shard.0, Some(*steps), shard.1))?;
+        }
+        all.reverse();
+        Ok(all)
+    }
+
+    fn end<R: Wait>(self, rt: &R) -> Result<Closed<MemDisk>> {
+        let Together {
+            ingester,
+            pass,
+            mut others,
+            count: _,
+        } = self;
+        others.push(pass)?;
+        Ok(ingester.close(rt, others))
+    }
+}
