@@ -1,5 +1,5 @@
 -- What a pass knows stays right at each step.
-use Rattle.std.proofs.Common.{◌≡◌, ◌≢◌, ◌⊎◌, ℕ, zero, suc, ◌+◌, ◌<◌, List, [], ◌∷◌, ◌++◌, length, Bool, true, false, cond, eqb, refl, sym, ap, ◌∙◌, subst, inl, inr, ⊎_elim, append_assoc, append-nil, arith, length-append, length-set, Some, None}
+use Rattle.std.proofs.Common.{◌≡◌, ◌≢◌, ◌⊎◌, ℕ, zero, suc, ◌+◌, ◌<◌, ◌≤◌, List, [], ◌∷◌, ◌++◌, length, Bool, true, false, cond, eqb, refl, sym, ap, ◌∙◌, subst, inl, inr, ⊎_elim, append_assoc, append-nil, arith, length-append, length-set}
 use Rattle.std.specs.Prelude.{slice_index_or, slice_set, replicate}
 use Rattle.std.proofs.lemmas.Bool.{cases_eq}
 use Rattle.std.proofs.lemmas.List.{get_or-set_same, get_or-set_other}
@@ -13,25 +13,29 @@ use Rattle.history.specs.declared.views.About.{About}
 use Rattle.history.specs.declared.views.Caller.{Caller}
 use Rattle.history.specs.declared.views.Token.{Token}
 use Rattle.history.specs.declared.views.Token.TheVariants.{Nothing, Open, Done}
-use Rattle.history.specs.Histories.{Begins, shard_in, step_of, steps_by, on, asks_by, AllBelow, IsMade, bound}
-use Rattle.history.specs.Rule.{AccountOk, TokenOk, newcomer, pending_of, committed, IsOut, AreTold}
-use Rattle.history.specs.Plays.{seen_at, ask_of, announce_to, withdraw_to, collect_to, look_to, AreHis, HasStepsOf, IsRested, Extends}
-use Rattle.history.proofs.Lists.{put, put_at, put_all, begins_same, begins_more, begins_trans, in_line, behind, last_or_none, last_same}
-use Rattle.history.proofs.Past.{steps_append, asks_step, steps_mine, steps_begin, on_append, on_here, on_else, below_on, below_more, below_last, below_middle, under_more, under_last, unused_below, unused_number, unused_step, made_left, made_last}
+use Rattle.history.specs.Histories.{Begins, shard_in, step_of, steps_by, on, asks_by, AllBelow, AllAbove, IsRising, IsUnused, AreUnused, IsMade, HaveSteps, IsAmong, AreAmong, IsFirst, IsFirstNumber, behind_first, bound}
+use Rattle.history.specs.Rule.{AccountOk, HasOwn, IsWaiting, AreWaiting, IsOrdered, IsQueue, TokenOk, newcomer, floor_of, IsOut, AreTold}
+use Rattle.history.specs.Plays.{seen_at, ask_of, before_of, announce_to, withdraw_to, collect_to, look_to, AreHis, HasStepsOf, IsRested, Extends}
+use Rattle.history.proofs.Lists.{put, put_at, put_else, put_all, begins_same, begins_more, begins_trans, in_line, behind, last_or_none, last_same}
+use Rattle.history.proofs.Past.{AreFrom, steps_append, asks_step, steps_mine, steps_begin, on_append, on_here, on_else, below_on, below_more, below_last, below_middle, above_last, rising_last, rising_back, rising_front, parted, under_more, under_last, unused_below, unused_number, unused_step, unused_both, made_left, made_right, made_last, not_made, has_step, among_left, among_last, among_on, among_floor, queue_last, queue_behind, floor_first, among_behind, first_by_number, few_behind}
 
--- without a pending call there is no call on its way
-pub no_token : (t : Token) → None ≡ pending_of t → t ≡ Nothing
-no_token Nothing e = refl
-no_token (Open a f) e = absurd (cc)
-no_token (Done s upto at) e = absurd (cc)
+-- what is told of calls, after a change of the one with number n
+pub told_put : (made made' : List Step) (ts : ℕ → Token) (n : ℕ) (t' : Token) → ((a : Ask) → IsMade a made → IsMade a made') → ((a : Ask) → IsOut a (ts n) → IsMade a made' ⊎ IsOut a t') → (asks : List Ask) → AreTold made ts asks → AreTold made' (put ts n t') asks
+told_put made made' ts n t' f g [] h = tt
+told_put made made' ts n t' f g (a ∷ asks) h = (
+  ⊎_elim
+      (λ (m : IsMade a made). inl (f a m))
+      (λ (o : IsOut a (ts a.number)). ⊎_elim
+      (λ (e : n ≡ a.number). subst (λ (t : Token). IsMade a made' ⊎ IsOut a t) (sym (put_at ts n t' a.number e)) (g a (subst (λ (m : ℕ). IsOut a (ts m)) (sym e) o)))
+      (λ (d : n ≢ a.number). inr (subst (λ (t : Token). IsOut a t) (sym (put_else ts n t' a.number d)) o))
+      (cases_eq n a.number))
+      h.0,
+  told_put made made' ts n t' f g asks h.1,
+)
 
-pub told_map : (made made' : List Step) (t t' : Token) → ((a : Ask) → IsMade a made ⊎ IsOut a t → IsMade a made' ⊎ IsOut a t') → (asks : List Ask) → AreTold made t asks → AreTold made' t' asks
-told_map made made' t t' f [] h = tt
-told_map made made' t t' f (a ∷ asks) h = (f a h.0, told_map made made' t t' f asks h.1)
-
-pub told_append : (made : List Step) (t : Token) (xs ys : List Ask) → AreTold made t xs → AreTold made t ys → AreTold made t (xs ++ ys)
-told_append made t [] ys h k = k
-told_append made t (a ∷ xs) ys h k = (h.0, told_append made t xs ys h.1 k)
+pub told_append : (made : List Step) (ts : ℕ → Token) (xs ys : List Ask) → AreTold made ts xs → AreTold made ts ys → AreTold made ts (xs ++ ys)
+told_append made ts [] ys h k = k
+told_append made ts (a ∷ xs) ys h k = (h.0, told_append made ts xs ys h.1 k)
 
 -- what is seen, where one shard's part is replaced
 pub seen_set : (P : ℕ → List Item → Type 0) (l : List (List Item)) (k : ℕ) (new : List Item) → ((j : ℕ) → P j (slice_index_or l j [])) → P k new → (j : ℕ) → P j (slice_index_or (slice_set l k new) j [])
@@ -41,177 +45,385 @@ seen_set P (y ∷ l) zero new f b (suc j) = f (suc j)
 seen_set P (y ∷ l) (suc k) new f b zero = f zero
 seen_set P (y ∷ l) (suc k) new f b (suc j) = seen_set (λ i x. P (suc i) x) l k new (λ i. f (suc i)) b j
 
-module _ (about : About) (items : ℕ → List Item) (p : ℕ) (c : Caller) where
-  pub announced_ok : (call : Call) (n : ℕ) → c.last < n → n < bound → AccountOk about items p c Nothing → AccountOk about items p (announce_to c n call) (Open (ask_of c n call) false)
-  announced_ok call n above small h = record {
-    named = h.named;
-    within = small;
-    own = h.own;
-    seen = h.seen;
-    wide = h.wide;
-    made_seen = h.made_seen;
-    rises = below_more (c.last + 1) n c.made (omega arith) h.rises;
-    gone = under_more (c.last + 1) n c.withdrawn (omega arith) h.gone;
-    unused = h.unused;
-    told = λ k. told_map c.made c.made Nothing (Open (ask_of c n call) false) (λ a t. ⊎_elim (λ (m : IsMade a c.made). inl m) (λ (o : ⊥). absurd o) t) (asks_by p (items k)) (h.told k);
-    pending = refl;
-    token = (h.named, refl);
-    count = let m = h.count in omega arith;
-  }
+open_done : (a : Ask) (f : Bool) (e : List Ask) (s : Step) (upto : List Item) (at : ℕ × ℕ) → Open a f e ≡ Done s upto at → ⊥
+open_done a f e s upto at q = cc
 
-  pub withdrawn_ok : (a : Ask) → AccountOk about items p c (Open a false) → AccountOk about items p (withdraw_to c a.number) Nothing
-  withdrawn_ok a h =
-      let last : a.number ≡ c.last = h.token.1 in record {
+nothing_done : (s : Step) (upto : List Item) (at : ℕ × ℕ) → Nothing ≡ Done s upto at → ⊥
+nothing_done s upto at q = cc
+
+nothing_open : (a : Ask) (f : Bool) (e : List Ask) → Nothing ≡ Open a f e → ⊥
+nothing_open a f e q = cc
+
+one_step : (s r : Step) (upto upto' : List Item) (at at' : ℕ × ℕ) → Done s upto at ≡ Done r upto' at' → s ≡ r
+one_step s r upto upto' at at' q = cc
+
+pub one_open : (a b : Ask) (f g : Bool) (d e : List Ask) → Open a f d ≡ Open b g e → (a ≡ b) × (d ≡ e)
+one_open a b f g d e q = ((cc), (cc))
+
+-- steps that wait still do, after a change of the call with number n
+module _ (about : About) (k : ℕ) (ts : ℕ → Token) (n : ℕ) (t' : Token) where
+  wait_put : (s : Step) → n ≢ s.ask.number → IsWaiting about k ts s → IsWaiting about k (put ts n t') s
+  wait_put s d w = record { upto = w.upto; at = w.at; here = w.here; is = put_else ts n t' s.ask.number d ∙ w.is }
+
+  pub waits_put : (ss : List Step) → ((s : Step) → IsWaiting about k ts s → n ≢ s.ask.number) → AreWaiting about k ts ss → AreWaiting about k (put ts n t') ss
+  waits_put [] f w = tt
+  waits_put (s ∷ ss) f w = (wait_put s (f s w.0) w.0, waits_put ss f w.1)
+
+  pub waits_above : (ss : List Step) → AllAbove n ss → AreWaiting about k ts ss → AreWaiting about k (put ts n t') ss
+  waits_above [] a w = tt
+  waits_above (s ∷ ss) a w = (wait_put s (λ e. let above = a.0 in omega arith) w.0, waits_above ss a.1 w.1)
+
+pub waits_last : (about : About) (k : ℕ) (ts : ℕ → Token) (ss : List Step) (s : Step) → AreWaiting about k ts ss → IsWaiting about k ts s → AreWaiting about k ts (ss ++ s ∷ [])
+waits_last about k ts [] s w l = (l, tt)
+waits_last about k ts (x ∷ ss) s w l = (w.0, waits_last about k ts ss s w.1 l)
+
+-- a number that no waiting step has, since its call has none
+pub waits_unused : (about : About) (k : ℕ) (ts : ℕ → Token) (n : ℕ) (ss : List Step) → ((s : Step) → IsWaiting about k ts s → n ≢ s.ask.number) → AreWaiting about k ts ss → IsUnused n ss
+waits_unused about k ts n [] f w = tt
+waits_unused about k ts n (s ∷ ss) f w = ((λ e. f s w.0 (sym e)), waits_unused about k ts n ss f w.1)
+
+-- calls without a step stay in order, where each of them was one
+pub order_map : (about : About) (ts ts' : ℕ → Token) → ((m : ℕ) (b : Ask) (g : Bool) (d : List Ask) → ts' m ≡ Open b g d → (g' : Bool) × (ts m ≡ Open b g' d)) → IsOrdered about ts → IsOrdered about ts'
+order_map about ts ts' back order a b f g d e x y here less =
+    let one = back a.number a f d x in
+    let two = back b.number b g e y in
+    order a b one.0 two.0 d e one.1 two.1 here less
+
+pub order_put : (about : About) (ts : ℕ → Token) (n : ℕ) (t' : Token) → ((a : Ask) (f : Bool) (d : List Ask) → t' ≡ Open a f d → ⊥) → IsOrdered about ts → IsOrdered about (put ts n t')
+order_put about ts n t' shut = order_map about ts (put ts n t') (λ m b g d q. ⊎_elim
+    (λ (e : n ≡ m). absurd (shut b g d (sym (put_at ts n t' m e) ∙ q)))
+    (λ (u : n ≢ m). (g, sym (put_else ts n t' m u) ∙ q))
+    (cases_eq n m))
+
+-- a call of a pass with no open call is on no way
+pub no_token : (about : About) (items : ℕ → List Item) (p n : ℕ) (t : Token) → TokenOk about items p [] n t → t ≡ Nothing
+no_token about items p n Nothing h = refl
+no_token about items p n (Open a f e) h = absurd h.2
+no_token about items p n (Done s upto at) h = absurd h.2
+
+module _ (about : About) (items : ℕ → List Item) (p : ℕ) (c : Caller) (ts : ℕ → Token) (h : AccountOk about items p c ts) where
+  -- what a token says is so
+  pub token_ok : (n : ℕ) (t : Token) → ts n ≡ t → TokenOk about items p c.pending n t
+  token_ok n t is = subst (λ (u : Token). TokenOk about items p c.pending n u) is (h.tokens n)
+
+  -- a number above the last is of no call
+  pub free_number : (n : ℕ) → c.last < n → ts n ≡ Nothing
+  free_number n above = free (ts n) (h.tokens n)
+    where
+      free : (t : Token) → TokenOk about items p c.pending n t → t ≡ Nothing
+      free Nothing k = refl
+      free (Open a f e) k = absurd (let low = (among_floor a c.last c.pending h.queue k.2).1 in let same = k.0 in omega arith)
+      free (Done s upto at) k = absurd (let low = (among_floor s.ask c.last c.pending h.queue k.2).1 in let same = k.0 in omega arith)
+
+  -- an open call is one of those that are pending
+  open_among : (a b : Ask) (f : Bool) (e : List Ask) → ts b.number ≡ Open a f e → IsAmong a c.pending
+  open_among a b f e is = (token_ok b.number (Open a f e) is).2
+
+  waiting_among : (k : ℕ) (ss : List Step) → AreWaiting about k ts ss → AreAmong ss c.pending
+  waiting_among k [] w = tt
+  waiting_among k (s ∷ ss) w = ((token_ok s.ask.number (Done s w.0.upto w.0.at) w.0.is).2, waiting_among k ss w.1)
+
+  waiting_from : (k n : ℕ) (ss : List Step) → n ≤ floor_of c.last c.pending → AreWaiting about k ts ss → AreFrom n ss
+  waiting_from k n [] l w = tt
+  waiting_from k n (s ∷ ss) l w =
+      ((let low = (among_floor s.ask c.last c.pending h.queue (token_ok s.ask.number (Done s w.0.upto w.0.at) w.0.is).2).0 in omega arith), waiting_from k n ss l w.1)
+
+  -- the call that is announced
+  module _ (call : Call) (n : ℕ) (above : c.last < n) where
+    abbrev new : Ask
+    new = ask_of c n call
+
+    abbrev new_token : Token
+    new_token = Open new false (before_of c n call)
+
+    announced_order : c.about ≡ about → IsOrdered about (put ts n new_token)
+    announced_order at a b f g d e x y here less = ⊎_elim
+        (λ (later : n ≡ b.number). announced_later later)
+        (λ (other : n ≢ b.number). announced_earlier other)
+        (cases_eq n b.number)
+      where
+        announced_later : n ≡ b.number → IsAmong a e
+        announced_later later =
+            let same = one_open new b false g (before_of c n call) e (sym (put_at ts n new_token b.number later) ∙ y) in
+            let earlier : n ≢ a.number = λ q. omega arith in
+            let old : ts a.number ≡ Open a f d = sym (put_else ts n new_token a.number earlier) ∙ x in
+            let on_it : shard_in c.about new ≡ shard_in c.about a = ap (λ (q : Ask). shard_in c.about q) same.0 ∙ ap (λ (o : About). shard_in o b) at ∙ sym here ∙ ap (λ (o : About). shard_in o a) (sym at) in
+            subst (λ (l : List Ask). IsAmong a l) same.1 (among_on c.about (shard_in c.about new) a c.pending on_it (open_among a a f d old))
+
+        announced_earlier : n ≢ b.number → IsAmong a e
+        announced_earlier other =
+            let old : ts b.number ≡ Open b g e = sym (put_else ts n new_token b.number other) ∙ y in
+            let most = (among_floor b c.last c.pending h.queue (open_among b b g e old)).1 in
+            let apart : n ≢ a.number = λ q. omega arith in
+            h.order a b f g d e (sym (put_else ts n new_token a.number apart) ∙ x) old here less
+
+    announced_token : (m : ℕ) → n ≢ m → (t : Token) → TokenOk about items p c.pending m t → TokenOk about items p (c.pending ++ new ∷ []) m t
+    announced_token m u Nothing k = tt
+    announced_token m u (Open a f e) k = (k.0, k.1, among_left a c.pending (new ∷ []) k.2, k.3)
+    announced_token m u (Done s upto at) k = (k.0, k.1, among_left s.ask c.pending (new ∷ []) k.2, k.3, k.4)
+
+    pub announced_ok : c.about ≡ about → n < bound → length c.pending < 64 → AccountOk about items p (announce_to c n call) (put ts n new_token)
+    announced_ok at small few =
+        let free = free_number n above in
+        let floor = announced_floor c.pending h.queue in record {
+          named = h.named;
+          within = small;
+          own = λ k. record { rest = (h.own k).rest; is = (h.own k).is; waiting = waits_put about k ts n new_token (h.own k).rest (λ s w e. nothing_done s w.upto w.at (sym free ∙ ap ts e ∙ w.is)) (h.own k).waiting };
+          rising = h.rising;
+          used = λ k. below_more (c.last + 1) (n + 1) (steps_by p (items k)) (omega arith) (h.used k);
+          seen = h.seen;
+          wide = h.wide;
+          made_seen = h.made_seen;
+          rises = below_more (floor_of c.last c.pending) (floor_of n (c.pending ++ new ∷ [])) c.made floor h.rises;
+          gone = under_more (floor_of c.last c.pending) (floor_of n (c.pending ++ new ∷ [])) c.withdrawn floor h.gone;
+          unused = h.unused;
+          told = λ k. told_put c.made c.made ts n new_token (λ a m. m) (λ a o. absurd (subst (λ (t : Token). IsOut a t) free o)) (asks_by p (items k)) (h.told k);
+          queue = queue_last c.last n c.pending new h.queue above refl;
+          few = let e = length-append c.pending (new ∷ []) in omega arith;
+          tokens = put_all ts n new_token (λ m t. TokenOk about items p (c.pending ++ new ∷ []) m t)
+              (refl, h.named, among_last new new c.pending refl, below_more (c.last + 1) n (steps_by p (items (shard_in about new))) (omega arith) (h.used (shard_in about new)))
+              (λ m u. announced_token m u (ts m) (h.tokens m));
+          order = announced_order at;
+        }
+      where
+        announced_floor : (qs : List Ask) → IsQueue c.last qs → floor_of c.last qs ≤ floor_of n (qs ++ new ∷ [])
+        announced_floor [] q = omega arith
+        announced_floor (b ∷ qs) q = omega arith
+
+  -- the first open call ends
+  module _ (a : Ask) (first : IsFirst a c.pending) where
+    lower : floor_of c.last c.pending ≡ a.number
+    lower = (floor_first a c.last c.pending first h.queue).0
+
+    upper : a.number < floor_of c.last (behind_first c.pending)
+    upper = (floor_first a c.last c.pending first h.queue).1
+
+    ended_token : (m : ℕ) → a.number ≢ m → (u : Token) → TokenOk about items p c.pending m u → TokenOk about items p (behind_first c.pending) m u
+    ended_token m d Nothing k = tt
+    ended_token m d (Open b f e) k = (k.0, k.1, among_behind b a c.pending first k.2 (λ q. d (q ∙ k.0)), k.3)
+    ended_token m d (Done s upto at) k = (k.0, k.1, among_behind s.ask a c.pending first k.2 (λ q. d (q ∙ k.0)), k.3, k.4)
+
+    pub ended_tokens : (m : ℕ) → TokenOk about items p (behind_first c.pending) m (put ts a.number Nothing m)
+    ended_tokens = put_all ts a.number Nothing (λ m u. TokenOk about items p (behind_first c.pending) m u) tt (λ m d. ended_token m d (ts m) (h.tokens m))
+
+  pub withdrawn_ok : (a : Ask) (e : List Ask) → IsFirst a c.pending → ts a.number ≡ Open a false e → AccountOk about items p (withdraw_to c a.number) (put ts a.number Nothing)
+  withdrawn_ok a e first is =
+      let n = a.number in
+      let low : floor_of c.last c.pending ≡ n = lower a first in
+      let high : n < floor_of c.last (behind_first c.pending) = upper a first in
+      let floor : floor_of c.last c.pending ≤ floor_of c.last (behind_first c.pending) = omega arith in
+      let apart : (k : ℕ) (s : Step) → IsWaiting about k ts s → n ≢ s.ask.number = λ k s w q. open_done a false e s w.upto w.at (sym is ∙ ap ts q ∙ w.is) in
+      let unused : (k : ℕ) → IsUnused n (steps_by p (items k)) = λ k. subst (λ (l : List Step). IsUnused n l) (sym (h.own k).is)
+      (unused_both n (on about k c.made) (h.own k).rest (unused_below n (on about k c.made) (below_on about k n c.made (subst (λ (m : ℕ). AllBelow m c.made) low h.rises))) (waits_unused about k ts n (h.own k).rest (apart k) (h.own k).waiting)) in record {
         named = h.named;
         within = h.within;
-        own = h.own;
+        own = λ k. record { rest = (h.own k).rest; is = (h.own k).is; waiting = waits_put about k ts n Nothing (h.own k).rest (apart k) (h.own k).waiting };
+        rising = h.rising;
+        used = h.used;
         seen = h.seen;
         wide = h.wide;
         made_seen = h.made_seen;
-        rises = below_more a.number (c.last + 1) c.made (omega arith) h.rises;
-        gone = under_last (c.last + 1) a.number c.withdrawn (under_more a.number (c.last + 1) c.withdrawn (omega arith) h.gone) (omega arith);
-        unused = unused_number a.number c.withdrawn c.made h.unused (unused_below a.number c.made h.rises);
-        told = λ k. told_map c.made c.made (Open a false) Nothing (λ b t. ⊎_elim (λ (m : IsMade b c.made). inl m) (λ (o : (false ≡ true) × (a ≡ b)). let e = o.0 in absurd (cc)) t) (asks_by p (items k)) (h.told k);
-        pending = refl;
-        token = tt;
-        count = let n = h.count in omega arith;
+        rises = below_more (floor_of c.last c.pending) (floor_of c.last (behind_first c.pending)) c.made floor h.rises;
+        gone = under_last (floor_of c.last (behind_first c.pending)) n c.withdrawn (under_more (floor_of c.last c.pending) (floor_of c.last (behind_first c.pending)) c.withdrawn floor h.gone) high;
+        unused = λ k. unused_number n c.withdrawn (steps_by p (items k)) (h.unused k) (unused k);
+        told = λ k. told_put c.made c.made ts n Nothing (λ b m. m) (λ b o. let q = (subst (λ (t : Token). IsOut b t) is o).0 in absurd (cc)) (asks_by p (items k)) (h.told k);
+        queue = queue_behind c.last c.pending h.queue;
+        few = few_behind c.pending h.few;
+        tokens = ended_tokens a first;
+        order = order_put about ts n Nothing nothing_open h.order;
       }
 
   -- a call that goes into doubt
-  pub doubted_ok : (a : Ask) (f : Bool) → AccountOk about items p c (Open a f) → AccountOk about items p c (Open a true)
-  doubted_ok a f h = record {
-    named = h.named;
-    within = h.within;
-    own = h.own;
-    seen = h.seen;
-    wide = h.wide;
-    made_seen = h.made_seen;
-    rises = h.rises;
-    gone = h.gone;
-    unused = h.unused;
-    told = λ k. told_map c.made c.made (Open a f) (Open a true) (λ b t. ⊎_elim (λ (m : IsMade b c.made). inl m) (λ (o : (f ≡ true) × (a ≡ b)). inr (refl, o.1)) t) (asks_by p (items k)) (h.told k);
-    pending = h.pending;
-    token = h.token;
-    count = h.count;
-  }
-
-  committed_begins : (k : ℕ) (t : Token) → Begins (on about k c.made) (on about k (committed c.made t))
-  committed_begins k Nothing = begins_same (on about k c.made)
-  committed_begins k (Open a f) = begins_same (on about k c.made)
-  committed_begins k (Done s upto at) = record { rest = on about k (s ∷ []); is = on_append about k c.made (s ∷ []) }
+  pub doubted_ok : (a : Ask) (f : Bool) (e : List Ask) → ts a.number ≡ Open a f e → AccountOk about items p c (put ts a.number (Open a true e))
+  doubted_ok a f e is =
+      let n = a.number in
+      let t' : Token = Open a true e in record {
+        named = h.named;
+        within = h.within;
+        own = λ k. record { rest = (h.own k).rest; is = (h.own k).is; waiting = waits_put about k ts n t' (h.own k).rest (λ s w q. open_done a f e s w.upto w.at (sym is ∙ ap ts q ∙ w.is)) (h.own k).waiting };
+        rising = h.rising;
+        used = h.used;
+        seen = h.seen;
+        wide = h.wide;
+        made_seen = h.made_seen;
+        rises = h.rises;
+        gone = h.gone;
+        unused = h.unused;
+        told = λ k. told_put c.made c.made ts n t' (λ b m. m) (λ b o. inr (refl, (subst (λ (t : Token). IsOut b t) is o).1)) (asks_by p (items k)) (h.told k);
+        queue = h.queue;
+        few = h.few;
+        tokens = put_all ts n t' (λ m u. TokenOk about items p c.pending m u) (token_ok n (Open a f e) is) (λ m d. h.tokens m);
+        order = order_map about ts (put ts n t') (λ m b g d q. ⊎_elim
+            (λ (s : n ≡ m). let same = one_open a b true g e d (sym (put_at ts n t' m s) ∙ q) in (f, ap ts (sym s) ∙ is ∙ (λ i. Open (same.0 i) f (same.1 i))))
+            (λ (u : n ≢ m). (g, sym (put_else ts n t' m u) ∙ q))
+            (cases_eq n m)) h.order;
+      }
 
   -- a look at shard k
-  pub looked_ok : (k : ℕ) (t : Token) → AccountOk about items p c t → AccountOk about items p (look_to c k (items k)) t
-  looked_ok k t h = record {
+  pub looked_ok : (k : ℕ) → AccountOk about items p (look_to c k (items k)) ts
+  looked_ok k = record {
     named = h.named;
     within = h.within;
     own = h.own;
+    rising = h.rising;
+    used = h.used;
     seen = seen_set (λ j x. Begins x (items j)) c.seen k (items k) h.seen (begins_same (items k));
     wide = length-set c.seen k (items k) ∙ h.wide;
-    made_seen = seen_set (λ j x. Begins (on about j c.made) (steps_by p x)) c.seen k (items k) h.made_seen (subst (λ l. Begins (on about k c.made) l) (sym (h.own k)) (committed_begins k t));
+    made_seen = seen_set (λ j x. Begins (on about j c.made) (steps_by p x)) c.seen k (items k) h.made_seen (record { rest = (h.own k).rest; is = (h.own k).is });
     rises = h.rises;
     gone = h.gone;
     unused = h.unused;
     told = h.told;
-    pending = h.pending;
-    token = h.token;
-    count = h.count;
+    queue = h.queue;
+    few = h.few;
+    tokens = h.tokens;
+    order = h.order;
   }
 
-  his : (t : Token) → c.pending ≡ pending_of t → (asks : List Ask) → AreTold c.made t asks → AreHis c.made c.pending asks
-  his t e [] h = tt
-  his t e (a ∷ asks) h = (⊎_elim (λ (m : IsMade a c.made). inl m) (λ (o : IsOut a t). inr (e ∙ his_one t a o)) h.0, his t e asks h.1)
-    where
-      his_one : (t : Token) (a : Ask) → IsOut a t → pending_of t ≡ Some a
-      his_one Nothing a o = absurd o
-      his_one (Open b f) a o = ap Some o.1
-      his_one (Done s upto at) a o = ap Some o
+  his_one : (a : Ask) (t : Token) → TokenOk about items p c.pending a.number t → IsOut a t → IsAmong a c.pending
+  his_one a Nothing k o = absurd o
+  his_one a (Open b f e) k o = subst (λ (x : Ask). IsAmong x c.pending) o.1 k.2
+  his_one a (Done s upto at) k o = subst (λ (x : Ask). IsAmong x c.pending) o k.2
 
-  rest_of : ℕ → Token → List Step
-  rest_of k Nothing = []
-  rest_of k (Open a f) = []
-  rest_of k (Done s upto at) = on about k (s ∷ [])
-
-  rest_is : (k : ℕ) (t : Token) → on about k (committed c.made t) ≡ on about k c.made ++ rest_of k t
-  unfolding rest_of
-  rest_is k Nothing = sym (append-nil (on about k c.made))
-  rest_is k (Open a f) = sym (append-nil (on about k c.made))
-  rest_is k (Done s upto at) = on_append about k c.made (s ∷ [])
-
-  one_or_none : (b : Bool) (s : Step) → (cond b (s ∷ []) [] ≡ []) ⊎ (cond b (s ∷ []) [] ≡ s ∷ [])
-  one_or_none true s = inr refl
-  one_or_none false s = inl refl
-
-  rest_one : (k : ℕ) (t : Token) → c.pending ≡ pending_of t → (rest_of k t ≡ []) ⊎ ((s : Step) × (rest_of k t ≡ s ∷ []) × (c.pending ≡ Some s.ask))
-  unfolding rest_of
-  rest_one k Nothing e = inl refl
-  rest_one k (Open a f) e = inl refl
-  rest_one k (Done s upto at) e = ⊎_elim (λ (n : on about k (s ∷ []) ≡ []). inl n) (λ (n : on about k (s ∷ []) ≡ s ∷ []). inr (s, n, e)) (one_or_none (eqb k (shard_in about s.ask)) s)
+  his : (asks : List Ask) → AreTold c.made ts asks → AreHis c.made c.pending asks
+  his [] t = tt
+  his (a ∷ asks) t = (⊎_elim (λ (m : IsMade a c.made). inl m) (λ (o : IsOut a (ts a.number)). inr (his_one a (ts a.number) (h.tokens a.number) o)) t.0, his asks t.1)
 
 -- what a look at shard k tells of the steps of a pass
-pub steps_of : (items : ℕ → List Item) (c : Caller) (t : Token) (k : ℕ) → AccountOk c.about items c.pass c t → HasStepsOf c k (items k)
-steps_of items c t k h = record {
-  rest = rest_of c.about items c.pass c k t;
-  is = h.own k ∙ rest_is c.about items c.pass c k t;
-  one = rest_one c.about items c.pass c k t h.pending;
-  told = his c.about items c.pass c t h.pending (asks_by c.pass (items k)) (h.told k);
+pub steps_of : (items : ℕ → List Item) (c : Caller) (ts : ℕ → Token) (k : ℕ) → AccountOk c.about items c.pass c ts → HasStepsOf c k (items k)
+steps_of items c ts k h = record {
+  rest = (h.own k).rest;
+  is = (h.own k).is;
+  among = waiting_among c.about items c.pass c ts h k (h.own k).rest (h.own k).waiting;
+  rises = rising_back (on c.about k c.made) (h.own k).rest (subst (λ (l : List Step). IsRising l) (h.own k).is (h.rising k));
+  told = his c.about items c.pass c ts h (asks_by c.pass (items k)) (h.told k);
 }
 
 -- what others' steps leave of a pass
-pub grown_ok : (about : About) (items items' : ℕ → List Item) (p : ℕ) (c : Caller) (t : Token) → ((k : ℕ) → Begins (items k) (items' k)) → ((k : ℕ) → steps_by p (items' k) ≡ steps_by p (items k))
-    → ((k : ℕ) → AreTold c.made t (asks_by p (items' k))) → AccountOk about items p c t → AccountOk about items' p c t
-grown_ok about items items' p c t grows same told h = record {
+pub grown_ok : (about : About) (items items' : ℕ → List Item) (p : ℕ) (c : Caller) (ts : ℕ → Token) → ((k : ℕ) → Begins (items k) (items' k)) → ((k : ℕ) → steps_by p (items' k) ≡ steps_by p (items k))
+    → ((k : ℕ) → AreTold c.made ts (asks_by p (items' k))) → AccountOk about items p c ts → AccountOk about items' p c ts
+grown_ok about items items' p c ts grows same told h = record {
   named = h.named;
   within = h.within;
-  own = λ k. same k ∙ h.own k;
+  own = λ k. record { rest = (h.own k).rest; is = same k ∙ (h.own k).is; waiting = (h.own k).waiting };
+  rising = λ k. subst (λ (l : List Step). IsRising l) (sym (same k)) (h.rising k);
+  used = λ k. subst (λ (l : List Step). AllBelow (c.last + 1) l) (sym (same k)) (h.used k);
   seen = λ k. begins_trans (h.seen k) (grows k);
   wide = h.wide;
   made_seen = h.made_seen;
   rises = h.rises;
   gone = h.gone;
-  unused = h.unused;
+  unused = λ k. subst (λ (l : List Step). AreUnused c.withdrawn l) (sym (same k)) (h.unused k);
   told = told;
-  pending = h.pending;
-  token = token_grown t h.token;
-  count = h.count;
+  queue = h.queue;
+  few = h.few;
+  tokens = λ n. token_grown n (ts n) (h.tokens n);
+  order = h.order;
 }
   where
-    token_grown : (t : Token) → TokenOk about items p c.last t → TokenOk about items' p c.last t
-    token_grown Nothing h = tt
-    token_grown (Open a f) h = h
-    token_grown (Done s upto at) h = (h.0, h.1, begins_trans h.2 (grows (shard_in about s.ask)), h.3)
+    token_grown : (n : ℕ) (t : Token) → TokenOk about items p c.pending n t → TokenOk about items' p c.pending n t
+    token_grown n Nothing k = tt
+    token_grown n (Open a f e) k = (k.0, k.1, k.2, subst (λ (l : List Step). AllBelow n l) (sym (same (shard_in about a))) k.3)
+    token_grown n (Done s upto at) k = (k.0, k.1, k.2, begins_trans k.3 (grows (shard_in about s.ask)), k.4)
 
--- a call of the pass gets its step on shard k
-pub committed_ok : (about : About) (items : ℕ → List Item) (p : ℕ) (c : Caller) (a : Ask) (f : Bool) (r : Reply) (k : ℕ) (at : ℕ × ℕ) → shard_in about a ≡ k → AccountOk about items p c (Open a f)
-    → AccountOk about (put items k (items k ++ Answered (step_of a r) ∷ [])) p c (Done (step_of a r) (items k ++ Answered (step_of a r) ∷ []) at)
-committed_ok about items p c a f r k at here h = record {
-  named = h.named;
-  within = h.within;
-  own = put_all items k now (λ j l. steps_by p l ≡ on about j (c.made ++ s ∷ []))
-      (steps_mine p (items k) s (sym h.token.0) ∙ ap (λ l. l ++ s ∷ []) (h.own k) ∙ sym (on_here about k c.made s (sym here)))
-      (λ j n. h.own j ∙ sym (on_else about j c.made s (λ e. n (sym (e ∙ here)))));
-  seen = put_all items k now (λ j l. Begins (slice_index_or c.seen j []) l) (begins_more (slice_index_or c.seen k []) (items k) (Answered s ∷ []) (h.seen k)) (λ j n. h.seen j);
-  wide = h.wide;
-  made_seen = h.made_seen;
-  rises = h.rises;
-  gone = h.gone;
-  unused = unused_step c.withdrawn c.made s h.gone h.unused;
-  told = put_all items k now (λ j l. AreTold c.made (Done s now at) (asks_by p l))
-      (subst (λ l. AreTold c.made (Done s now at) l) (sym (asks_step p (items k) s)) (still k))
-      (λ j n. still j);
-  pending = h.pending;
-  token = (h.token.0, h.token.1, subst (λ l. Begins now l) (sym (put_at items k now (shard_in about a) (sym here))) (begins_same now), (items k, refl));
-  count = h.count;
-}
-  where
-    s : Step
-    s = step_of a r
+-- a call of the pass gets its step on shard k, behind those that its ticket names
+module _ (about : About) (items : ℕ → List Item) (p : ℕ) (c : Caller) (ts : ℕ → Token) (a : Ask) (f : Bool) (e : List Ask) (r : Reply) (k : ℕ) (at : ℕ × ℕ)
+    (here : shard_in about a ≡ k) (is : ts a.number ≡ Open a f e) (had : HaveSteps e (items k)) (h : AccountOk about items p c ts) where
+  abbrev s : Step
+  s = step_of a r
 
-    now : List Item
-    now = items k ++ Answered s ∷ []
+  abbrev now : List Item
+  now = items k ++ Answered s ∷ []
 
-    still : (j : ℕ) → AreTold c.made (Done s now at) (asks_by p (items j))
-    still j = told_map c.made c.made (Open a f) (Done s now at) (λ b t. ⊎_elim (λ (m : IsMade b c.made). inl m) (λ (o : (f ≡ true) × (a ≡ b)). inr o.1) t) (asks_by p (items j)) (h.told j)
+  abbrev items' : ℕ → List Item
+  items' = put items k now
+
+  abbrev t' : Token
+  t' = Done s now at
+
+  abbrev mine : TokenOk about items p c.pending a.number (Open a f e)
+  mine = token_ok about items p c ts h a.number (Open a f e) is
+
+  below : AllBelow a.number (steps_by p (items k))
+  below = subst (λ (j : ℕ). AllBelow a.number (steps_by p (items j))) here mine.3
+
+  longer_steps : steps_by p now ≡ steps_by p (items k) ++ s ∷ []
+  longer_steps = steps_mine p (items k) s (sym mine.1)
+
+  -- a call on the shard that has no step yet is a later one
+  later : (m : ℕ) (b : Ask) (g : Bool) (d : List Ask) → ts m ≡ Open b g d → a.number ≢ m → shard_in about b ≡ k → a.number < m
+  later m b g d q apart there =
+      let its : TokenOk about items p c.pending m (Open b g d) = token_ok about items p c ts h m (Open b g d) q in
+      let same : b.number ≡ m = its.0 in
+      not_less (λ less.
+      let named : IsAmong b e = h.order b a g f d e (ap ts same ∙ q) is (there ∙ sym here) (omega arith) in
+      let stepped : IsMade b (steps_by p (items k)) = subst (λ (o : ℕ). IsMade b (steps_by o (items k))) its.1 (has_step b e (items k) named had) in
+      not_made b m (steps_by p (items k)) (subst (λ (j : ℕ). AllBelow m (steps_by p (items j))) there its.3) (omega arith) stepped)
+    where
+      not_less : (m < a.number → ⊥) → a.number < m
+      not_less no_way = ⊎_elim (λ (e : a.number ≡ m). absurd (apart e)) (λ (u : a.number ≢ m). not_greater u) (cases_eq a.number m)
+        where
+          not_greater : a.number ≢ m → a.number < m
+          not_greater u = omega arith
+
+  still_told : (j : ℕ) → AreTold c.made (put ts a.number t') (asks_by p (items j))
+  still_told j = told_put c.made c.made ts a.number t' (λ b m. m) (λ b o. inr (subst (λ (t : Token). IsOut b t) is o).1) (asks_by p (items j)) (h.told j)
+
+  committed_token : (m : ℕ) → a.number ≢ m → (t : Token) → ts m ≡ t → TokenOk about items p c.pending m t → TokenOk about items' p c.pending m t
+  committed_token m u Nothing q o = tt
+  committed_token m u (Open b g d) q o = (
+    o.0,
+    o.1,
+    o.2,
+    put_all items k now (λ j l. shard_in about b ≡ j → AllBelow m (steps_by p l))
+        (λ there. subst (λ (l : List Step). AllBelow m l) (sym longer_steps)
+        (below_last m (steps_by p (items k)) s (subst (λ (j : ℕ). AllBelow m (steps_by p (items j))) there o.3) (later m b g d q u there)))
+        (λ j v there. subst (λ (i : ℕ). AllBelow m (steps_by p (items i))) there o.3)
+        (shard_in about b) refl,
+  )
+  committed_token m u (Done d upto when) q o = (o.0, o.1, o.2, begins_trans o.3 (put_all items k now (λ j l. Begins (items j) l) (record { rest = Answered s ∷ []; is = refl }) (λ j v. begins_same (items j)) (shard_in about d.ask)), o.4)
+
+  committed_own : (j : ℕ) → HasOwn about p c.made (put ts a.number t') j (items' j)
+  committed_own = put_all items k now (λ j l. HasOwn about p c.made (put ts a.number t') j l)
+      (record {
+        rest = (h.own k).rest ++ s ∷ [];
+        is = longer_steps ∙ ap (λ l. l ++ s ∷ []) (h.own k).is ∙ append_assoc (on about k c.made) (h.own k).rest (s ∷ []);
+        waiting = waits_last about k (put ts a.number t') (h.own k).rest s (waits_put about k ts a.number t' (h.own k).rest (apart k) (h.own k).waiting)
+            (record { upto = now; at = at; here = here; is = put_at ts a.number t' a.number refl });
+      })
+      (λ j n. record { rest = (h.own j).rest; is = (h.own j).is; waiting = waits_put about j ts a.number t' (h.own j).rest (apart j) (h.own j).waiting })
+    where
+      apart : (j : ℕ) (w : Step) → IsWaiting about j ts w → a.number ≢ w.ask.number
+      apart j w o q = open_done a f e w o.upto o.at (sym is ∙ ap ts q ∙ o.is)
+
+  pub committed_ok : AccountOk about items' p c (put ts a.number t')
+  committed_ok =
+      let range = among_floor a c.last c.pending h.queue mine.2 in
+      let low = range.0 in
+      let high = range.1 in record {
+        named = h.named;
+        within = h.within;
+        own = committed_own;
+        rising = put_all items k now (λ j l. IsRising (steps_by p l)) (subst (λ (l : List Step). IsRising l) (sym longer_steps) (rising_last (steps_by p (items k)) s (h.rising k) below)) (λ j n. h.rising j);
+        used = put_all items k now (λ j l. AllBelow (c.last + 1) (steps_by p l)) (subst (λ (l : List Step). AllBelow (c.last + 1) l) (sym longer_steps) (below_last (c.last + 1) (steps_by p (items k)) s (h.used k) (omega arith))) (λ j n. h.used j);
+        seen = put_all items k now (λ j l. Begins (slice_index_or c.seen j []) l) (begins_more (slice_index_or c.seen k []) (items k) (Answered s ∷ []) (h.seen k)) (λ j n. h.seen j);
+        wide = h.wide;
+        made_seen = h.made_seen;
+        rises = h.rises;
+        gone = h.gone;
+        unused = put_all items k now (λ j l. AreUnused c.withdrawn (steps_by p l))
+            (subst (λ (l : List Step). AreUnused c.withdrawn l) (sym longer_steps) (unused_step c.withdrawn (steps_by p (items k)) s (under_more (floor_of c.last c.pending) a.number c.withdrawn low h.gone) (h.unused k)))
+            (λ j n. h.unused j);
+        told = put_all items k now (λ j l. AreTold c.made (put ts a.number t') (asks_by p l))
+            (subst (λ (l : List Ask). AreTold c.made (put ts a.number t') l) (sym (asks_step p (items k) s)) (still_told k))
+            (λ j n. still_told j);
+        queue = h.queue;
+        few = h.few;
+        tokens = put_all ts a.number t' (λ m u. TokenOk about items' p c.pending m u)
+            (refl, mine.1, mine.2, subst (λ (l : List Item). Begins now l) (sym (put_at items k now (shard_in about a) (sym here))) (begins_same now), (items k, refl))
+            (λ m u. committed_token m u (ts m) refl (h.tokens m));
+        order = order_put about ts a.number t' (λ b g d q. open_done b g d s now at (sym q)) h.order;
+      }
 
 -- what is seen, where the part of a shard that is there is replaced
 pub seen_put : (P : ℕ → List Item → Type 0) (l : List (List Item)) (k : ℕ) (new : List Item) → k < length l → ((j : ℕ) → j ≢ k → P j (slice_index_or l j [])) → P k new → (j : ℕ) → P j (slice_index_or (slice_set l k new) j [])
@@ -229,80 +441,144 @@ both_begin a b h k =
     front_empty [] y e = refl
     front_empty (z ∷ x) y e = absurd (let n = ap length e in omega arith)
 
--- a pass with no call on its way has seen all that it made, and nothing else of it
-pub rested_of : (items : ℕ → List Item) (c : Caller) → AccountOk c.about items c.pass c Nothing → IsRested c
-rested_of items c h k =
-    sym (both_begin (on c.about k c.made) (steps_by c.pass (seen_at c k)) (h.made_seen k) (subst (λ l. Begins (steps_by c.pass (seen_at c k)) l) (h.own k) (steps_begin c.pass (seen_at c k) (items k) (h.seen k))))
+-- a pass with no open call has seen all that it made, and nothing else of it
+pub rested_of : (items : ℕ → List Item) (c : Caller) (ts : ℕ → Token) → AccountOk c.about items c.pass c ts → c.pending ≡ [] → IsRested c
+rested_of items c ts h idle k =
+    let all : steps_by c.pass (items k) ≡ on c.about k c.made = (h.own k).is ∙ ap (λ l. on c.about k c.made ++ l) (none_wait (h.own k).rest (h.own k).waiting) ∙ append-nil (on c.about k c.made) in
+    sym (both_begin (on c.about k c.made) (steps_by c.pass (seen_at c k)) (h.made_seen k) (subst (λ l. Begins (steps_by c.pass (seen_at c k)) l) all (steps_begin c.pass (seen_at c k) (items k) (h.seen k))))
+  where
+    none_wait : (ss : List Step) → AreWaiting c.about k ts ss → ss ≡ []
+    none_wait [] w = refl
+    none_wait (s ∷ ss) w = absurd (subst (λ (l : List Ask). IsAmong s.ask l) idle (token_ok c.about items c.pass c ts h s.ask.number (Done s w.0.upto w.0.at) w.0.is).2)
 
-single : (s t : Step) (front rest : List Step) → s ∷ [] ≡ front ++ t ∷ rest → front ≡ []
-single s t [] rest e = refl
-single s t (x ∷ front) rest e = absurd (let n = ap length e in let m = length-append front (t ∷ rest) in omega arith)
+-- answers are told apart by their numbers
+pub answers_first : (items : ℕ → List Item) (c : Caller) (ts : ℕ → Token) (s : Step) (upto : List Item) (at : ℕ × ℕ) → AccountOk c.about items c.pass c ts → ts s.ask.number ≡ Done s upto at → IsFirstNumber s.ask.number c.pending → IsFirst s.ask c.pending
+answers_first items c ts s upto at h is its = first_by_number s.ask c.last c.pending h.queue (token_ok c.about items c.pass c ts h s.ask.number (Done s upto at) is).2 its
 
-module _ (items : ℕ → List Item) (c : Caller) (s : Step) (upto : List Item) (at : ℕ × ℕ) (h : AccountOk c.about items c.pass c (Done s upto at))
-    (rested : steps_by c.pass (seen_at c (shard_in c.about s.ask)) ≡ on c.about (shard_in c.about s.ask) c.made) where
+-- and so are calls that come back without a step
+pub returns_first : (items : ℕ → List Item) (c : Caller) (ts : ℕ → Token) (a : Ask) (f : Bool) (e : List Ask) → AccountOk c.about items c.pass c ts → ts a.number ≡ Open a f e → IsFirstNumber a.number c.pending → IsFirst a c.pending
+returns_first items c ts a f e h is its = first_by_number a c.last c.pending h.queue (token_ok c.about items c.pass c ts h a.number (Open a f e) is).2 its
+
+module _ (items : ℕ → List Item) (c : Caller) (ts : ℕ → Token) (s : Step) (upto : List Item) (at : ℕ × ℕ) (h : AccountOk c.about items c.pass c ts) (is : ts s.ask.number ≡ Done s upto at)
+    (first : IsFirst s.ask c.pending) where
   abbrev k : ℕ
   k = shard_in c.about s.ask
+
+  abbrev number : ℕ
+  number = s.ask.number
 
   abbrev old : List Item
   old = seen_at c k
 
-  all_steps : steps_by c.pass (items k) ≡ on c.about k c.made ++ s ∷ []
-  all_steps = h.own k ∙ on_here c.about k c.made s refl
+  abbrev token : TokenOk c.about items c.pass c.pending number (Done s upto at)
+  token = token_ok c.about items c.pass c ts h number (Done s upto at) is
 
-  not_back : Begins upto old → ⊥
-  not_back b =
+  abbrev floor : floor_of c.last c.pending ≡ number
+  floor = lower c.about items c.pass c ts h s.ask first
+
+  made_below : AllBelow number c.made
+  made_below = subst (λ (m : ℕ). AllBelow m c.made) floor h.rises
+
+  steps_upto : steps_by c.pass upto ≡ steps_by c.pass token.4.0 ++ s ∷ []
+  steps_upto = ap (steps_by c.pass) token.4.1 ∙ steps_mine c.pass token.4.0 s (sym token.1)
+
+  abbrev tail : Begins (steps_by c.pass upto) (steps_by c.pass (items k))
+  tail = steps_begin c.pass upto (items k) token.3
+
+  all_steps : steps_by c.pass (items k) ≡ steps_by c.pass token.4.0 ++ s ∷ tail.rest
+  all_steps = tail.is ∙ ap (λ l. l ++ tail.rest) steps_upto ∙ append_assoc (steps_by c.pass token.4.0) (s ∷ []) tail.rest
+
+  -- before the step stands what the pass made, and no more of it
+  split_there : (on c.about k c.made ≡ steps_by c.pass token.4.0) × ((h.own k).rest ≡ s ∷ tail.rest)
+  split_there = parted number (on c.about k c.made) (h.own k).rest (steps_by c.pass token.4.0) s tail.rest refl
+      (below_on c.about k number c.made made_below)
+      (waiting_from c.about items c.pass c ts h k number (h.own k).rest (omega (arith, floor)) (h.own k).waiting)
+      (rising_front (steps_by c.pass token.4.0) s tail.rest (subst (λ (l : List Step). IsRising l) all_steps (h.rising k)))
+      (sym (h.own k).is ∙ all_steps)
+
+  made_upto : steps_by c.pass upto ≡ on c.about k c.made ++ s ∷ []
+  made_upto = steps_upto ∙ ap (λ l. l ++ s ∷ []) (sym split_there.0)
+
+  abbrev rest_above : AllAbove number tail.rest
+  rest_above = (subst (λ (l : List Step). IsRising l) split_there.1 (rising_back (on c.about k c.made) (h.own k).rest (subst (λ (l : List Step). IsRising l) (h.own k).is (h.rising k)))).0
+
+  not_back : IsRested c → Begins upto old → ⊥
+  not_back rested b =
       let t = steps_begin c.pass upto old b in
-      let u : steps_by c.pass upto ≡ steps_by c.pass h.token.3.0 ++ s ∷ [] = ap (steps_by c.pass) h.token.3.1 ∙ steps_mine c.pass h.token.3.0 s (sym h.token.0) in
-      let e : on c.about k c.made ≡ (steps_by c.pass h.token.3.0 ++ s ∷ []) ++ t.rest = sym rested ∙ t.is ∙ ap (λ l. l ++ t.rest) u in
-      let n : s.ask.number < s.ask.number = below_middle s.ask.number (steps_by c.pass h.token.3.0) s t.rest (subst (AllBelow s.ask.number) e (below_on c.about k s.ask.number c.made h.rises)) in
+      let e : on c.about k c.made ≡ (steps_by c.pass token.4.0 ++ s ∷ []) ++ t.rest = sym (rested k) ∙ t.is ∙ ap (λ l. l ++ t.rest) steps_upto in
+      let less : number < number = below_middle number (steps_by c.pass token.4.0) s t.rest (subst (λ (l : List Step). AllBelow number l) e (below_on c.about k number c.made made_below)) in
       omega arith
 
-  forth : Begins old upto
-  forth = ⊎_elim (λ (b : Begins old upto). b) (λ (b : Begins upto old). absurd (not_back b)) (in_line old upto (items k) (h.seen k) h.token.2)
+  forth : IsRested c → Begins old upto
+  forth rested = ⊎_elim (λ (b : Begins old upto). b) (λ (b : Begins upto old). absurd (not_back rested b)) (in_line old upto (items k) (h.seen k) token.3)
 
-  between_none : (front : List Item) → upto ≡ (old ++ front) ++ Answered s ∷ [] → steps_by c.pass front ≡ []
-  between_none front e =
-      let t = steps_begin c.pass upto (items k) h.token.2 in
+  between_none : IsRested c → (front : List Item) → token.4.0 ≡ old ++ front → steps_by c.pass front ≡ []
+  between_none rested front e =
       let made = on c.about k c.made in
-      let f : List Step = steps_by c.pass front in
-      let u : steps_by c.pass upto ≡ (made ++ f) ++ s ∷ [] = ap (steps_by c.pass) e ∙ steps_mine c.pass (old ++ front) s (sym h.token.0) ∙ ap (λ l. l ++ s ∷ []) (steps_append c.pass old front ∙ ap (λ l. l ++ f) rested) in
-      let w : made ++ s ∷ [] ≡ made ++ (f ++ s ∷ t.rest) = sym all_steps ∙ t.is ∙ ap (λ l. l ++ t.rest) u ∙ append_assoc (made ++ f) (s ∷ []) t.rest ∙ append_assoc made f (s ∷ t.rest) in
-      single s s f t.rest (behind made (s ∷ []) (f ++ s ∷ t.rest) w)
+      let both : made ++ [] ≡ made ++ steps_by c.pass front = append-nil made ∙ split_there.0 ∙ ap (steps_by c.pass) e ∙ steps_append c.pass old front ∙ ap (λ l. l ++ steps_by c.pass front) (rested k) in
+      sym (behind made [] (steps_by c.pass front) both)
 
-  pub extends_of : Extends c.pass old s upto
-  extends_of = ⊎_elim
-      (λ (e : forth.rest ≡ []). absurd (not_back (record { rest = []; is = sym (append-nil upto ∙ forth.is ∙ ap (λ l. old ++ l) e ∙ append-nil old) })))
-      (λ (t : (front : List Item) × (x : Item) × (forth.rest ≡ front ++ x ∷ [])).
-      let e : upto ≡ (old ++ t.0) ++ t.1 ∷ [] = forth.is ∙ ap (λ l. old ++ l) t.2 ∙ sym (append_assoc old t.0 (t.1 ∷ [])) in
-      let both = last_same (old ++ t.0) h.token.3.0 t.1 (Answered s) (sym e ∙ h.token.3.1) in
-      let f : upto ≡ (old ++ t.0) ++ Answered s ∷ [] = e ∙ ap (λ x. (old ++ t.0) ++ x ∷ []) both.1 in
-      record { between = t.0; is = f; none = between_none t.0 f })
-      (last_or_none forth.rest)
+  pub extends_of : IsRested c → Extends c.pass old s upto
+  extends_of rested =
+      let b = forth rested in
+      ⊎_elim
+      (λ (e : b.rest ≡ []). absurd (not_back rested (record { rest = []; is = sym (append-nil upto ∙ b.is ∙ ap (λ l. old ++ l) e ∙ append-nil old) })))
+      (λ (t : (front : List Item) × (x : Item) × (b.rest ≡ front ++ x ∷ [])).
+      let e : upto ≡ (old ++ t.0) ++ t.1 ∷ [] = b.is ∙ ap (λ l. old ++ l) t.2 ∙ sym (append_assoc old t.0 (t.1 ∷ [])) in
+      let both = last_same (old ++ t.0) token.4.0 t.1 (Answered s) (sym e ∙ token.4.1) in
+      record { between = t.0; is = e ∙ ap (λ x. (old ++ t.0) ++ x ∷ []) both.1; none = between_none rested t.0 (sym both.0) })
+      (last_or_none b.rest)
 
-  steps_upto : steps_by c.pass upto ≡ on c.about k c.made ++ s ∷ []
-  steps_upto =
-      let x = extends_of in
-      ap (steps_by c.pass) x.is ∙ steps_mine c.pass (old ++ x.between) s (sym h.token.0)
-      ∙ ap (λ l. l ++ s ∷ []) (steps_append c.pass old x.between ∙ ap (λ l. steps_by c.pass old ++ l) x.none ∙ append-nil (steps_by c.pass old) ∙ rested)
+  -- and then it has seen just what it made, this step too
+  pub rested_then : IsRested c → k < length c.seen → IsRested (collect_to c s upto)
+  rested_then rested lt = seen_put (λ j x. steps_by c.pass x ≡ on c.about j (c.made ++ s ∷ [])) c.seen k upto lt
+      (λ j d. rested j ∙ sym (on_else c.about j c.made s d))
+      (made_upto ∙ sym (on_here c.about k c.made s refl))
 
-  pub collected_ok : k < length c.seen → AccountOk c.about items c.pass (collect_to c s upto) Nothing
+  collected_own : (j : ℕ) → HasOwn c.about c.pass (c.made ++ s ∷ []) (put ts number Nothing) j (items j)
+  collected_own j = ⊎_elim
+      (λ (e : k ≡ j). subst (λ (i : ℕ). HasOwn c.about c.pass (c.made ++ s ∷ []) (put ts number Nothing) i (items i)) e own_here)
+      (λ (d : k ≢ j). own_there d)
+      (cases_eq k j)
+    where
+      own_here : HasOwn c.about c.pass (c.made ++ s ∷ []) (put ts number Nothing) k (items k)
+      own_here = record {
+        rest = tail.rest;
+        is = tail.is ∙ ap (λ l. l ++ tail.rest) (made_upto ∙ sym (on_here c.about k c.made s refl));
+        waiting = waits_above c.about k ts number Nothing tail.rest rest_above (subst (λ (l : List Step). AreWaiting c.about k ts l) split_there.1 (h.own k).waiting).1;
+      }
+
+      own_there : k ≢ j → HasOwn c.about c.pass (c.made ++ s ∷ []) (put ts number Nothing) j (items j)
+      own_there d = record {
+        rest = (h.own j).rest;
+        is = (h.own j).is ∙ ap (λ l. l ++ (h.own j).rest) (sym (on_else c.about j c.made s (λ e. d (sym e))));
+        waiting = waits_put c.about j ts number Nothing (h.own j).rest
+            (λ w o q. d (ap (λ (x : Step). shard_in c.about x.ask) (one_step s w upto o.upto at o.at (sym is ∙ ap ts q ∙ o.is)) ∙ o.here))
+            (h.own j).waiting;
+      }
+
+  pub collected_ok : k < length c.seen → AccountOk c.about items c.pass (collect_to c s upto) (put ts number Nothing)
   collected_ok lt =
-      let last : s.ask.number ≡ c.last = h.token.1 in record {
+      let high : number < floor_of c.last (behind_first c.pending) = upper c.about items c.pass c ts h s.ask first in
+      let low : floor_of c.last c.pending ≡ number = floor in record {
         named = refl;
         within = h.within;
-        own = h.own;
-        seen = seen_put (λ j x. Begins x (items j)) c.seen k upto lt (λ j n. h.seen j) h.token.2;
+        own = collected_own;
+        rising = h.rising;
+        used = h.used;
+        seen = seen_put (λ j x. Begins x (items j)) c.seen k upto lt (λ j d. h.seen j) token.3;
         wide = length-set c.seen k upto ∙ h.wide;
         made_seen = seen_put (λ j x. Begins (on c.about j (c.made ++ s ∷ [])) (steps_by c.pass x)) c.seen k upto lt
-            (λ j n. subst (λ l. Begins l (steps_by c.pass (seen_at c j))) (sym (on_else c.about j c.made s n)) (h.made_seen j))
-            (subst (λ l. Begins l (steps_by c.pass upto)) (sym (on_here c.about k c.made s refl)) (subst (λ l. Begins (on c.about k c.made ++ s ∷ []) l) (sym steps_upto) (begins_same (on c.about k c.made ++ s ∷ []))));
-        rises = below_last (c.last + 1) c.made s (below_more s.ask.number (c.last + 1) c.made (omega arith) h.rises) (omega arith);
-        gone = under_more s.ask.number (c.last + 1) c.withdrawn (omega arith) h.gone;
+            (λ j d. subst (λ l. Begins l (steps_by c.pass (seen_at c j))) (sym (on_else c.about j c.made s d)) (h.made_seen j))
+            (subst (λ l. Begins l (steps_by c.pass upto)) (made_upto ∙ sym (on_here c.about k c.made s refl)) (begins_same (steps_by c.pass upto)));
+        rises = below_last (floor_of c.last (behind_first c.pending)) c.made s (below_more number (floor_of c.last (behind_first c.pending)) c.made (omega arith) made_below) high;
+        gone = under_more (floor_of c.last c.pending) (floor_of c.last (behind_first c.pending)) c.withdrawn (omega arith) h.gone;
         unused = h.unused;
-        told = λ j. told_map c.made (c.made ++ s ∷ []) (Done s upto at) Nothing (λ b t. ⊎_elim (λ (m : IsMade b c.made). inl (made_left b c.made (s ∷ []) m)) (λ (o : s.ask ≡ b). inl (made_last b c.made s o)) t) (asks_by c.pass (items j)) (h.told j);
-        pending = refl;
-        token = tt;
-        count = let n = h.count in let m = length-append c.made (s ∷ []) in omega arith;
+        told = λ j. told_put c.made (c.made ++ s ∷ []) ts number Nothing (λ b m. made_left b c.made (s ∷ []) m) (λ b o. inl (made_last b c.made s (subst (λ (t : Token). IsOut b t) is o))) (asks_by c.pass (items j)) (h.told j);
+        queue = queue_behind c.last c.pending h.queue;
+        few = few_behind c.pending h.few;
+        tokens = ended_tokens c.about items c.pass c ts h s.ask first;
+        order = order_put c.about ts number Nothing nothing_open h.order;
       }
 
 nothing_at : (n k : ℕ) → slice_index_or (replicate {A = List Item} n []) k [] ≡ []
@@ -315,19 +591,22 @@ length-none zero = refl
 length-none (suc n) = ap suc (length-none n)
 
 -- a pass that has seen and made nothing, where there is nothing
-pub newcomer_ok : (about : About) (p : ℕ) → AccountOk about (λ _. []) p (newcomer about p) Nothing
+pub newcomer_ok : (about : About) (p : ℕ) → AccountOk about (λ _. []) p (newcomer about p) (λ _. Nothing)
 newcomer_ok about p = record {
   named = refl;
   within = omega arith;
-  own = λ k. refl;
+  own = λ k. record { rest = []; is = refl; waiting = tt };
+  rising = λ k. tt;
+  used = λ k. tt;
   seen = λ k. record { rest = []; is = sym (ap (λ l. l ++ []) (nothing_at about.shards k)) };
   wide = length-none about.shards;
   made_seen = λ k. record { rest = []; is = ap (steps_by p) (nothing_at about.shards k) };
   rises = tt;
   gone = tt;
-  unused = tt;
+  unused = λ k. tt;
   told = λ k. tt;
-  pending = refl;
-  token = tt;
-  count = omega arith;
+  queue = tt;
+  few = omega arith;
+  tokens = λ n. tt;
+  order = λ a b f g d e x y here less. absurd (nothing_open a f d x);
 }

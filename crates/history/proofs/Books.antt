@@ -20,18 +20,13 @@ use Rattle.history.specs.declared.views.View.{View}
 use Rattle.history.specs.declared.views.Role.TheVariants.{Nobody, Keeps}
 use Rattle.history.specs.declared.views.Token.{Token}
 use Rattle.history.specs.declared.views.Token.TheVariants.{Nothing, Open, Done}
-use Rattle.history.specs.Histories.{Begins, IsLegalAt, terms_of, history_of, reply_of, shard_in, steps_by, on, asks_by, AllBelow, bound}
-use Rattle.history.specs.Rule.{alone, Contents, AccountOk, IsGood, AreWords, AreTold, Holds, committed, used, total, number_of}
+use Rattle.history.specs.Histories.{Begins, IsLegalAt, terms_of, history_of, reply_of, shard_in, steps_by, asks_by, AllBelow, HaveSteps, bound}
+use Rattle.history.specs.Rule.{alone, Contents, AccountOk, IsGood, AreWords, AreTold, Holds, total}
 use Rattle.history.specs.Plays.{keeper, answered, committed_at}
-use Rattle.history.proofs.Lists.{put, put_at, put_all, put_other, begins_same}
-use Rattle.history.proofs.Past.{asks_step, steps_else, length_on, below_on, all_new, legal_more, marked_step, total_step, total_least}
-use Rattle.history.proofs.Accounts.{grown_ok, committed_ok}
-use Rattle.history.proofs.Seats.{seats_set, hand_put, doubt_put, account_at, held_by, book_of}
-
-length_committed : (made : List Step) (t : Token) → length (committed made t) ≤ length made + used t
-length_committed made Nothing = omega arith
-length_committed made (Open a f) = omega arith
-length_committed made (Done s upto at) = let n = length-append made (s ∷ []) in omega arith
+use Rattle.history.proofs.Lists.{put, put_at, put_all, put_other, put_two, put_two_at, begins_same}
+use Rattle.history.proofs.Past.{rising_count, asks_step, steps_else, all_new, legal_more, marked_step, total_step, total_least}
+use Rattle.history.proofs.Accounts.{token_ok, grown_ok, committed_ok}
+use Rattle.history.proofs.Seats.{seats_set, hand_put, doubt_put, held_by, book_of}
 
 mark_least : (b : Bool) → cond b 1 0 ≤ 1
 mark_least true = omega arith
@@ -42,10 +37,7 @@ pub room : (about : About) (x : Contents) (k : ℕ) → IsGood about x → about
 room about x k good few =
     let least : total about.passes (x.items k) ≤ about.passes * bound = total_least about.passes (x.items k) (λ p lt.
     let ok = good.passes p lt in
-    let same : length (steps_by p (x.items k)) ≡ length (on about k (committed (x.callers p).made (x.tokens p))) = ap length (ok.own k) in
-    let few_on : length (on about k (committed (x.callers p).made (x.tokens p))) ≤ length (committed (x.callers p).made (x.tokens p)) = length_on about k (committed (x.callers p).made (x.tokens p)) in
-    let few_made = length_committed (x.callers p).made (x.tokens p) in
-    let count = ok.count in
+    let rises : length (steps_by p (x.items k)) ≤ (x.callers p).last + 1 = rising_count ((x.callers p).last + 1) (steps_by p (x.items k)) (ok.rising k) (ok.used k) in
     let within = ok.within in
     omega arith) in
     let counted = good.counted k in
@@ -54,10 +46,10 @@ room about x k good few =
     omega arith
 
 -- the shard's word gets the length of its longer history
-pub words_longer : (about : About) (x : Contents) (words : List ℕ) (k : ℕ) (now : List Item) (item : Item) (callers : ℕ → Caller) (tokens : ℕ → Token) → AreWords about x words → k < about.shards
-    → now ≡ x.items k ++ item ∷ [] → length (x.items k) + 1 < 18446744073709551616 → ((p : ℕ) → number_of (tokens p) ≡ number_of (x.tokens p))
-    → AreWords about (record { items = put x.items k now; callers = callers; tokens = tokens }) (slice_set words k ((slice_index words k + 1) % 2 ^ 64))
-words_longer about x words k now item callers tokens h lt is fits same =
+pub words_longer : (about : About) (x : Contents) (words : List ℕ) (k : ℕ) (now : List Item) (item : Item) (tokens : ℕ → ℕ → Token) → AreWords about x words → k < about.shards
+    → now ≡ x.items k ++ item ∷ [] → length (x.items k) + 1 < 18446744073709551616
+    → AreWords about (record { items = put x.items k now; callers = x.callers; tokens = tokens }) (slice_set words k ((slice_index words k + 1) % 2 ^ 64))
+words_longer about x words k now item tokens h lt is fits =
     let new : ℕ = (slice_index words k + 1) % 2 ^ 64 in record {
       any = h.any;
       few = h.few;
@@ -66,7 +58,7 @@ words_longer about x words k now item callers tokens h lt is fits same =
           (λ _. get_or-set_same words k new 0 (let w = h.wide in omega arith)
           ∙ (let e = h.lengths k lt in let n : length now ≡ length (x.items k) + 1 = ap length is ∙ length-append (x.items k) (item ∷ []) in omega arith))
           (λ j n l. get_or-set_other words k j new 0 (λ e. n (sym e)) ∙ h.lengths j l);
-      numbers = λ p l. get_or-set_other words k (about.shards + p) new 0 (λ e. omega arith) ∙ h.numbers p l ∙ sym (same p);
+      numbers = λ p l. get_or-set_other words k (about.shards + p) new 0 (λ e. omega arith) ∙ h.numbers p l;
     }
 
 pub longer_begins : (x : Contents) (k : ℕ) (now : List Item) (item : Item) → now ≡ x.items k ++ item ∷ [] → (j : ℕ) → Begins (x.items j) (put x.items k now j)
@@ -89,17 +81,19 @@ refuses about k items call e = ap (λ b. cond b Unavailable (reply_unmarked abou
         cond (changes (answer limits h call) && nat_lt about.capacity (room_of (after limits h call))) NoRoom (answer limits h call)
 
 -- an open call that is another's is the same call
-one_ask : (a b : Ask) (f : Bool) → Open a f ≡ Open b true → a ≡ b
-one_ask a b f e = cc
+one_ask : (a b : Ask) (f : Bool) (d e : List Ask) → Open a f d ≡ Open b true e → a ≡ b
+one_ask a b f d e q = cc
 
 -- the histories and the passes after a step of the call a
-good_step : (about : About) (x : Contents) (k : ℕ) (now : List Item) (a : Ask) (f : Bool) (at : ℕ × ℕ) → IsGood about x → a.pass < about.passes → shard_in about a ≡ k → x.tokens a.pass ≡ Open a f
+good_step : (about : About) (x : Contents) (k : ℕ) (now : List Item) (a : Ask) (f : Bool) (b : List Ask) (at : ℕ × ℕ) → IsGood about x → a.pass < about.passes → shard_in about a ≡ k → x.tokens a.pass a.number ≡ Open a f b → HaveSteps b (x.items k)
     → let s : Step = answered about k (x.items k) a in now ≡ x.items k ++ Answered s ∷ []
-    → IsGood about (record { items = put x.items k now; callers = x.callers; tokens = put x.tokens a.pass (Done s now at) })
-good_step about x k now a f at good lt here has is =
+    → IsGood about (record { items = put x.items k now; callers = x.callers; tokens = put_two x.tokens a.pass a.number (Done s now at) })
+good_step about x k now a f b at good lt here has had is =
     let s : Step = answered about k (x.items k) a in
-    let ok = account_at about x a.pass (x.callers a.pass) (Open a f) good lt refl has in
-    let below : AllBelow a.number (steps_by a.pass (x.items k)) = subst (AllBelow a.number) (sym (ok.own k)) (below_on about k a.number (x.callers a.pass).made ok.rises) in
+    let c = x.callers a.pass in
+    let ts = x.tokens a.pass in
+    let ok = good.passes a.pass lt in
+    let below : AllBelow a.number (steps_by a.pass (x.items k)) = subst (λ (j : ℕ). AllBelow a.number (steps_by a.pass (x.items j))) here (token_ok about x.items a.pass c ts ok a.number (Open a f b) has).3 in
     let may : MayFollow (terms_of about k) (history_of about k (x.items k)) (Answered s) = (replies about k (x.items k) a, all_new a (x.items k) below, eq-eqb k (shard_in about a) (sym here)) in record {
       legal = put_all x.items k now (λ j l. IsLegalAt about j l) (subst (λ l. IsLegalAt about k l) (sym is) (legal_more about k (x.items k) (Answered s) (good.legal k) may)) (λ j n. good.legal j);
       counted = put_all x.items k now (λ j l. length l ≤ total about.passes l + cond (is_marked l) 1 0)
@@ -110,8 +104,8 @@ good_step about x k now a f at good lt here has is =
           let m : cond {A = ℕ} (is_marked (x.items k ++ Answered s ∷ [])) 1 0 ≡ cond {A = ℕ} (is_marked (x.items k)) 1 0 = ap (λ b. cond b 1 0) (marked_step (x.items k) s) in
           omega arith))
           (λ j n. good.counted j);
-      passes = put_all x.tokens a.pass (Done s now at) (λ q u. q < about.passes → AccountOk about (put x.items k now) q (x.callers q) u)
-          (λ _. subst (λ l. AccountOk about (put x.items k l) a.pass (x.callers a.pass) (Done s l at)) (sym is) (committed_ok about x.items a.pass (x.callers a.pass) a f s.reply k at here ok))
+      passes = put_all x.tokens a.pass (put ts a.number (Done s now at)) (λ q u. q < about.passes → AccountOk about (put x.items k now) q (x.callers q) u)
+          (λ _. subst (λ l. AccountOk about (put x.items k l) a.pass c (put ts a.number (Done s l at))) (sym is) (committed_ok about x.items a.pass c ts a f b s.reply k at here has had ok))
           (λ q n l. grown_ok about x.items (put x.items k now) q (x.callers q) (x.tokens q) (longer_begins x k now (Answered s) is)
           (put_all x.items k now (λ j l. steps_by q l ≡ steps_by q (x.items j)) (ap (steps_by q) is ∙ steps_else q (x.items k) s (λ e. n (sym e))) (λ j m. refl))
           (put_all x.items k now (λ j l. AreTold (x.callers q).made (x.tokens q) (asks_by q l))
@@ -121,19 +115,19 @@ good_step about x k now a f at good lt here has is =
     }
 
 -- a book adds a step
-commits : (slots id k : ℕ) (about : About) (items : List Item) (a : Ask) (f : Bool) (at : ℕ × ℕ) → shard_in about a ≡ k
-    → Allows Holds slots id (keeper about k items [] (Open a f), []) k (λ n. (n + 1) % 2 ^ 64) (committed_at at (step slots k 1 0 none) (keeper about k items [] (Open a f), []))
-commits slots id k about items a f at here s h wide e fits =
-    let r = book_of s id (record { about = about; shard = k; items = items; doubt = [] }) Nobody (Open a f) h e in
+commits : (slots id k : ℕ) (about : About) (items : List Item) (a : Ask) (f : Bool) (b : List Ask) (at : ℕ × ℕ) → shard_in about a ≡ k → HaveSteps b items
+    → Allows Holds slots id (keeper about k items [] (Open a f b), []) k (λ n. (n + 1) % 2 ^ 64) (committed_at at (step slots k 1 0 none) (keeper about k items [] (Open a f b), []))
+commits slots id k about items a f b at here had s h wide e fits =
+    let r = book_of s id (record { about = about; shard = k; items = items; doubt = [] }) Nobody (Open a f b) h e in
     let x = r.contents in
-    let seat = r.seats id (keeper about k items [] (Open a f)) e in
+    let seat = r.seats id (keeper about k items [] (Open a f b)) e in
     let mine = seat.role in
     let hand = seat.hand in
     let d : Step = answered about k items a in
     let now : List Item = items ++ Answered d ∷ [] in
     let is : now ≡ x.items k ++ Answered (answered about k (x.items k) a) ∷ [] = ap (λ l. l ++ Answered (answered about k l a) ∷ []) (sym mine.3) in
     let t' : Token = Done d now at in
-    let x' : Contents = record { items = put x.items k now; callers = x.callers; tokens = put x.tokens a.pass t' } in (
+    let x' : Contents = record { items = put x.items k now; callers = x.callers; tokens = put_two x.tokens a.pass a.number t' } in (
       keeper about k now [] t',
       keeps,
       tt,
@@ -141,31 +135,32 @@ commits slots id k about items a f at here s h wide e fits =
         about,
         record {
           contents = x';
-          seating = held_by r.seating a.pass id;
-          words = words_longer about x s.words k now (Answered (answered about k (x.items k) a)) x.callers (put x.tokens a.pass t') r.words mine.1 is (room about x k r.good r.words.few)
-              (put_all x.tokens a.pass t' (λ q u. number_of u ≡ number_of (x.tokens q)) (sym (ap number_of hand.2)) (λ q n. refl));
-          good = subst (λ l. IsGood about (record { items = put x.items k now; callers = x.callers; tokens = put x.tokens a.pass (Done (answered about k l a) now at) })) mine.3 (good_step about x k now a f at r.good hand.0 here hand.2 is);
-          seats = seats_set about x r.seating id x' (held_by r.seating a.pass id)
+          seating = held_by r.seating a.pass a.number id;
+          words = words_longer about x s.words k now (Answered (answered about k (x.items k) a)) (put_two x.tokens a.pass a.number t') r.words mine.1 is (room about x k r.good r.words.few);
+          good = subst (λ l. IsGood about (record { items = put x.items k now; callers = x.callers; tokens = put_two x.tokens a.pass a.number (Done (answered about k l a) now at) })) mine.3
+              (good_step about x k now a f b at r.good hand.0 here hand.2 (subst (λ (l : List Item). HaveSteps b l) (sym mine.3) had) is);
+          seats = seats_set about x r.seating id x' (held_by r.seating a.pass a.number id)
               (record {
                 books = λ i j n q. (q, put_other x.items k now r.seating.books id i j mine.2 q n);
                 passes = λ p j n q. (q, refl);
-                hands = hand_put about x r.seating a.pass id t' id (inr hand.1) (put x.items k now) x.callers r.seating.books r.seating.passes;
-                doubts = λ b j n q o. doubt_put x.tokens a.pass (Open a f) t' b hand.2 (λ same. absurd (n (sym q ∙ ap (λ (i : Ask). r.seating.books (shard_in about i)) (sym (one_ask a b f same)) ∙ ap r.seating.books here ∙ mine.2))) o;
+                hands = hand_put about x r.seating a.pass a.number id t' id (inr hand.1) (put x.items k now) x.callers r.seating.books r.seating.passes;
+                doubts = λ o j n q g. doubt_put x.tokens a.pass a.number (Open a f b) t' o hand.2
+                    (λ same. absurd (n (sym q ∙ ap (λ (i : Ask). r.seating.books (shard_in about i)) (sym (one_ask a o f b same.0 same.1)) ∙ ap r.seating.books here ∙ mine.2))) g;
               })
               s.views (keeper about k now [] t') r.seats
               (record {
                 role = (mine.0, mine.1, mine.2, put_at x.items k now k refl, tt);
                 guest = tt;
                 two = tt;
-                hand = (hand.0, put_at r.seating.holders a.pass id a.pass refl, put_at x.tokens a.pass t' a.pass refl);
+                hand = (hand.0, put_two_at r.seating.holders a.pass a.number id a.pass a.number refl refl, put_two_at x.tokens a.pass a.number t' a.pass a.number refl refl);
               });
         },
       ),
       refl,
     )
 
-pub commits_as : (slots id shard : ℕ) (shelf : Shelf) (a : Ask) (f : Bool) (at : ℕ × ℕ) (m : Me Unit View) → m ≡ (alone (Keeps shelf) (Open a f), []) → shelf.doubt ≡ [] → shelf.shard ≡ shard → shard_in shelf.about a ≡ shard
-    → Allows Holds slots id m shard (λ n. (n + 1) % 2 ^ 64) (committed_at at (step slots shard 1 0 none) m)
-commits_as slots id shard shelf a f at m is none_yet at_shard here =
-    let same : m ≡ (keeper shelf.about shard shelf.items [] (Open a f), []) = is ∙ ap (λ (z : ℕ × List Ask). (keeper shelf.about z.0 shelf.items z.1 (Open a f), [])) (λ i. (at_shard i, none_yet i)) in
-    subst (λ (u : Me Unit View). Allows Holds slots id u shard (λ n. (n + 1) % 2 ^ 64) (committed_at at (step slots shard 1 0 none) u)) (sym same) (commits slots id shard shelf.about shelf.items a f at here)
+pub commits_as : (slots id shard : ℕ) (shelf : Shelf) (a : Ask) (f : Bool) (b : List Ask) (at : ℕ × ℕ) (m : Me Unit View) → m ≡ (alone (Keeps shelf) (Open a f b), []) → shelf.doubt ≡ [] → shelf.shard ≡ shard → shard_in shelf.about a ≡ shard
+    → HaveSteps b shelf.items → Allows Holds slots id m shard (λ n. (n + 1) % 2 ^ 64) (committed_at at (step slots shard 1 0 none) m)
+commits_as slots id shard shelf a f b at m is none_yet at_shard here had =
+    let same : m ≡ (keeper shelf.about shard shelf.items [] (Open a f b), []) = is ∙ ap (λ (z : ℕ × List Ask). (keeper shelf.about z.0 shelf.items z.1 (Open a f b), [])) (λ i. (at_shard i, none_yet i)) in
+    subst (λ (u : Me Unit View). Allows Holds slots id u shard (λ n. (n + 1) % 2 ^ 64) (committed_at at (step slots shard 1 0 none) u)) (sym same) (commits slots id shard shelf.about shelf.items a f b at here had)

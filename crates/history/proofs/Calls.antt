@@ -1,5 +1,5 @@
 -- The steps of a pass at its own word keep the rule.
-use Rattle.std.proofs.Common.{◌≡◌, ◌⊎◌, ℕ, ◌+◌, ◌<◌, List, [], length, true, false, refl, sym, ap, ◌∙◌, subst, inl, inr, arith, None}
+use Rattle.std.proofs.Common.{◌≡◌, ◌⊎◌, ℕ, ◌+◌, ◌<◌, List, [], ◌∷◌, ◌++◌, length, true, false, refl, sym, ap, ◌∙◌, subst, inl, inr, arith}
 use mathlib.Core.Option.{none}
 use Rattle.atomic_table.specs.Table.{Me, Allows, step, keeps}
 use Rattle.accept.specs.declared.call.Call.{Call}
@@ -12,101 +12,112 @@ use Rattle.history.specs.declared.views.View.{View}
 use Rattle.history.specs.declared.views.Role.TheVariants.{Nobody, Calls}
 use Rattle.history.specs.declared.views.Token.{Token}
 use Rattle.history.specs.declared.views.Token.TheVariants.{Nothing, Open, Done}
-use Rattle.history.specs.Histories.{shard_in, steps_by, on, bound}
-use Rattle.history.specs.Rule.{alone, Contents, Seating, Holds}
-use Rattle.history.specs.Plays.{seen_at, ask_of, announce_to, withdraw_to, collect_to, announced_as, withdrew, collected}
-use Rattle.history.proofs.Lists.{put, put_at, put_other}
-use Rattle.history.proofs.Past.{legal_front}
+use Rattle.history.specs.Histories.{shard_in, IsFirstNumber, behind_first, bound}
+use Rattle.history.specs.Rule.{alone, Contents, Seating, IsInDoubt, number_of, Holds}
+use Rattle.history.specs.Plays.{IsRested, ask_of, before_of, announce_to, withdraw_to, collect_to, announced_as, withdrew, collected}
+use Rattle.history.proofs.Lists.{put, put_at, put_other, put_two, put_two_at}
+use Rattle.history.proofs.Past.{legal_front, number_last}
 use Rattle.history.proofs.Sharding.{shard_below}
-use Rattle.history.proofs.Accounts.{no_token, announced_ok, withdrawn_ok, collected_ok, extends_of, rested_of}
+use Rattle.history.proofs.Accounts.{free_number, token_ok, announced_ok, withdrawn_ok, collected_ok, extends_of, rested_then, answers_first, returns_first, rested_of}
 use Rattle.history.proofs.Seats.{Frame, seats_set, hand_put, doubt_put, account_at, with_pass, held_by, good_pass, words_pass, pass_of}
 
-pass_frame : (about : About) (x : Contents) (seats : Seating) (p id : ℕ) (c' : Caller) (t t' : Token) → seats.passes p ≡ id → x.tokens p ≡ t → (x.tokens p ≡ Nothing) ⊎ (seats.holders p ≡ id) → ((a : Ask) → t ≡ Open a true → t' ≡ Open a true)
-    → Frame about x seats id (with_pass x p c' t') (held_by seats p id)
-pass_frame about x seats p id c' t t' mine was free f = record {
-  books = λ k j n e. (e, refl);
-  passes = λ q j n e. (e, put_other x.callers p c' seats.passes id q j mine e n);
-  hands = hand_put about x seats p id t' id free x.items (put x.callers p c') seats.books seats.passes;
-  doubts = λ a j n e o. doubt_put x.tokens p t t' a was (f a) o;
+pass_frame : (about : About) (x : Contents) (seats : Seating) (p n id : ℕ) (c' : Caller) (t t' : Token) → seats.passes p ≡ id → x.tokens p n ≡ t → (x.tokens p n ≡ Nothing) ⊎ (seats.holders p n ≡ id) → ((a : Ask) → IsInDoubt a t → IsInDoubt a t')
+    → Frame about x seats id (with_pass x p n c' t') (held_by seats p n id)
+pass_frame about x seats p n id c' t t' mine was free f = record {
+  books = λ k j d e. (e, refl);
+  passes = λ q j d e. (e, put_other x.callers p c' seats.passes id q j mine e d);
+  hands = hand_put about x seats p n id t' id free x.items (put x.callers p c') seats.books seats.passes;
+  doubts = λ a j d e o. doubt_put x.tokens p n t t' a was (f a) o;
 }
 
-announces : (slots id n : ℕ) (c : Caller) (call : Call) → c.pending ≡ None → c.last < n → n < bound
+nothing_doubted : (t' : Token) (a : Ask) → IsInDoubt a Nothing → IsInDoubt a t'
+nothing_doubted t' a o = absurd (clash o.0 o.1)
+  where
+    clash : (e : List Ask) → Nothing ≡ Open a true e → ⊥
+    clash e q = cc
+
+announces : (slots id n : ℕ) (c : Caller) (call : Call) → length c.pending < 64 → c.last < n → n < bound
     → Allows Holds slots id (alone (Calls c) Nothing, []) (c.about.shards + c.pass) (λ _. n) (λ _. announced_as call (step slots (c.about.shards + c.pass) n 0 none) (alone (Calls c) Nothing, []) n)
-announces slots id n c call idle above small s h wide e fits =
+announces slots id n c call few above small s h wide e fits =
     let k = pass_of s id c Nobody Nothing h e in
     let x = k.contents in
     let mine = (k.seats id (alone (Calls c) Nothing) e).role in
-    let free : x.tokens c.pass ≡ Nothing = no_token (x.tokens c.pass) (sym idle ∙ (account_at c.about x c.pass c (x.tokens c.pass) k.good mine.1 mine.3 refl).pending) in
-    let ok = account_at c.about x c.pass c Nothing k.good mine.1 mine.3 free in
+    let ok = account_at c.about x c.pass c k.good mine.1 mine.3 in
+    let free : x.tokens c.pass n ≡ Nothing = free_number c.about x.items c.pass c (x.tokens c.pass) ok n above in
     let c' : Caller = announce_to c n call in
-    let t' : Token = Open (ask_of c n call) false in (
+    let t' : Token = Open (ask_of c n call) false (before_of c n call) in (
       alone (Calls c') t',
       keeps,
       tt,
       (
         c.about,
         record {
-          contents = with_pass x c.pass c' t';
-          seating = held_by k.seating c.pass id;
-          words = words_pass c.about x s.words c.pass (put x.callers c.pass c') t' k.words mine.1;
-          good = good_pass c.about x c.pass c' t' k.good (announced_ok c.about x.items c.pass c call n above small ok);
-          seats = seats_set c.about x k.seating id (with_pass x c.pass c' t') (held_by k.seating c.pass id)
-              (pass_frame c.about x k.seating c.pass id c' Nothing t' mine.2 free (inl free) (λ a q. absurd (cc)))
+          contents = with_pass x c.pass n c' t';
+          seating = held_by k.seating c.pass n id;
+          words = words_pass c.about x s.words c.pass c' (put_two x.tokens c.pass n t') n k.words mine.1 (sym (number_last n c.pending (ask_of c n call)));
+          good = good_pass c.about x c.pass n c' t' k.good (announced_ok c.about x.items c.pass c (x.tokens c.pass) ok call n above refl small few);
+          seats = seats_set c.about x k.seating id (with_pass x c.pass n c' t') (held_by k.seating c.pass n id)
+              (pass_frame c.about x k.seating c.pass n id c' Nothing t' mine.2 free (inl free) (nothing_doubted t'))
               s.views (alone (Calls c') t') k.seats
               (record {
                 role = (mine.0, mine.1, mine.2, put_at x.callers c.pass c' c.pass refl);
                 guest = tt;
                 two = tt;
-                hand = (mine.1, put_at k.seating.holders c.pass id c.pass refl, put_at x.tokens c.pass t' c.pass refl);
+                hand = (mine.1, put_two_at k.seating.holders c.pass n id c.pass n refl refl, put_two_at x.tokens c.pass n t' c.pass n refl refl);
               });
         },
       ),
-      ((refl, rested_of x.items c ok), refl),
+      ((refl, rested_of x.items c (x.tokens c.pass) ok), refl),
     )
 
-withdraws : (slots id : ℕ) (c : Caller) (a : Ask) → a.pass ≡ c.pass
-    → Allows Holds slots id (alone (Calls c) (Open a false), []) (c.about.shards + c.pass) (λ _. 0) (λ _. withdrew (step slots (c.about.shards + c.pass) 0 0 none) (alone (Calls c) (Open a false), []) 0)
-withdraws slots id c a own s h wide e fits =
-    let k = pass_of s id c Nobody (Open a false) h e in
+withdraws : (slots id word : ℕ) (c : Caller) (a : Ask) (d : List Ask) → a.pass ≡ c.pass → IsFirstNumber a.number c.pending → word ≡ number_of c.last (behind_first c.pending)
+    → Allows Holds slots id (alone (Calls c) (Open a false d), []) (c.about.shards + c.pass) (λ _. word) (λ _. withdrew (step slots (c.about.shards + c.pass) word 0 none) (alone (Calls c) (Open a false d), []) word)
+withdraws slots id word c a d own number due s h wide e fits =
+    let n = a.number in
+    let k = pass_of s id c Nobody (Open a false d) h e in
     let x = k.contents in
-    let seat = k.seats id (alone (Calls c) (Open a false)) e in
+    let seat = k.seats id (alone (Calls c) (Open a false d)) e in
     let mine = seat.role in
-    let has : x.tokens c.pass ≡ Open a false = ap x.tokens (sym own) ∙ seat.hand.2 in
-    let holds : k.seating.holders c.pass ≡ id = ap k.seating.holders (sym own) ∙ seat.hand.1 in
-    let ok = account_at c.about x c.pass c (Open a false) k.good mine.1 mine.3 has in
-    let c' : Caller = withdraw_to c a.number in (
+    let has : x.tokens c.pass n ≡ Open a false d = ap (λ (p : ℕ). x.tokens p n) (sym own) ∙ seat.hand.2 in
+    let holds : k.seating.holders c.pass n ≡ id = ap (λ (p : ℕ). k.seating.holders p n) (sym own) ∙ seat.hand.1 in
+    let ok = account_at c.about x c.pass c k.good mine.1 mine.3 in
+    let first = returns_first x.items c (x.tokens c.pass) a false d ok has number in
+    let c' : Caller = withdraw_to c n in (
       alone (Calls c') Nothing,
       keeps,
       tt,
       (
         c.about,
         record {
-          contents = with_pass x c.pass c' Nothing;
-          seating = held_by k.seating c.pass id;
-          words = words_pass c.about x s.words c.pass (put x.callers c.pass c') Nothing k.words mine.1;
-          good = good_pass c.about x c.pass c' Nothing k.good (withdrawn_ok c.about x.items c.pass c a ok);
-          seats = seats_set c.about x k.seating id (with_pass x c.pass c' Nothing) (held_by k.seating c.pass id)
-              (pass_frame c.about x k.seating c.pass id c' (Open a false) Nothing mine.2 has (inr holds) (λ b q. absurd (not_doubted a b q)))
+          contents = with_pass x c.pass n c' Nothing;
+          seating = held_by k.seating c.pass n id;
+          words = words_pass c.about x s.words c.pass c' (put_two x.tokens c.pass n Nothing) word k.words mine.1 due;
+          good = good_pass c.about x c.pass n c' Nothing k.good (withdrawn_ok c.about x.items c.pass c (x.tokens c.pass) ok a d first has);
+          seats = seats_set c.about x k.seating id (with_pass x c.pass n c' Nothing) (held_by k.seating c.pass n id)
+              (pass_frame c.about x k.seating c.pass n id c' (Open a false d) Nothing mine.2 has (inr holds) (λ b o. absurd (not_doubted a b d o.0 o.1)))
               s.views (alone (Calls c') Nothing) k.seats
               (record { role = (mine.0, mine.1, mine.2, put_at x.callers c.pass c' c.pass refl); guest = tt; two = tt; hand = tt });
         },
       ),
-      refl,
+      ((refl, first), refl),
     )
   where
-    not_doubted : (a b : Ask) → Open a false ≡ Open b true → ⊥
-    not_doubted a b e = cc
+    not_doubted : (a b : Ask) (d e : List Ask) → Open a false d ≡ Open b true e → ⊥
+    not_doubted a b d e q = cc
 
-collects : (slots id : ℕ) (c : Caller) (r : Step) (upto : List Item) (at : ℕ × ℕ) → r.ask.pass ≡ c.pass → steps_by c.pass (seen_at c (shard_in c.about r.ask)) ≡ on c.about (shard_in c.about r.ask) c.made
-    → Allows Holds slots id (alone (Calls c) (Done r upto at), []) (c.about.shards + c.pass) (λ _. 0) (λ _. collected (step slots (c.about.shards + c.pass) 0 0 none) (alone (Calls c) (Done r upto at), []) 0)
-collects slots id c r upto at own rested s h wide e fits =
+collects : (slots id word : ℕ) (c : Caller) (r : Step) (upto : List Item) (at : ℕ × ℕ) → r.ask.pass ≡ c.pass → IsFirstNumber r.ask.number c.pending → word ≡ number_of c.last (behind_first c.pending) → IsRested c
+    → Allows Holds slots id (alone (Calls c) (Done r upto at), []) (c.about.shards + c.pass) (λ _. word) (λ _. collected (step slots (c.about.shards + c.pass) word 0 none) (alone (Calls c) (Done r upto at), []) word)
+collects slots id word c r upto at own number due rested s h wide e fits =
+    let n = r.ask.number in
     let k = pass_of s id c Nobody (Done r upto at) h e in
     let x = k.contents in
     let seat = k.seats id (alone (Calls c) (Done r upto at)) e in
     let mine = seat.role in
-    let has : x.tokens c.pass ≡ Done r upto at = ap x.tokens (sym own) ∙ seat.hand.2 in
-    let holds : k.seating.holders c.pass ≡ id = ap k.seating.holders (sym own) ∙ seat.hand.1 in
-    let ok = account_at c.about x c.pass c (Done r upto at) k.good mine.1 mine.3 has in
+    let ts = x.tokens c.pass in
+    let has : ts n ≡ Done r upto at = ap (λ (p : ℕ). x.tokens p n) (sym own) ∙ seat.hand.2 in
+    let holds : k.seating.holders c.pass n ≡ id = ap (λ (p : ℕ). k.seating.holders p n) (sym own) ∙ seat.hand.1 in
+    let ok = account_at c.about x c.pass c k.good mine.1 mine.3 in
+    let first = answers_first x.items c ts r upto at ok has number in
     let there : shard_in c.about r.ask < length c.seen = let w = ok.wide in let b = shard_below c.about r.ask k.words.any in omega arith in
     let c' : Caller = collect_to c r upto in (
       alone (Calls c') Nothing,
@@ -115,37 +126,47 @@ collects slots id c r upto at own rested s h wide e fits =
       (
         c.about,
         record {
-          contents = with_pass x c.pass c' Nothing;
-          seating = held_by k.seating c.pass id;
-          words = words_pass c.about x s.words c.pass (put x.callers c.pass c') Nothing k.words mine.1;
-          good = good_pass c.about x c.pass c' Nothing k.good (collected_ok x.items c r upto at ok rested there);
-          seats = seats_set c.about x k.seating id (with_pass x c.pass c' Nothing) (held_by k.seating c.pass id)
-              (pass_frame c.about x k.seating c.pass id c' (Done r upto at) Nothing mine.2 has (inr holds) (λ b q. absurd (not_open r upto at b q)))
+          contents = with_pass x c.pass n c' Nothing;
+          seating = held_by k.seating c.pass n id;
+          words = words_pass c.about x s.words c.pass c' (put_two x.tokens c.pass n Nothing) word k.words mine.1 due;
+          good = good_pass c.about x c.pass n c' Nothing k.good (collected_ok x.items c ts r upto at ok has first there);
+          seats = seats_set c.about x k.seating id (with_pass x c.pass n c' Nothing) (held_by k.seating c.pass n id)
+              (pass_frame c.about x k.seating c.pass n id c' (Done r upto at) Nothing mine.2 has (inr holds) (λ b o. absurd (not_open r upto at b o.0 o.1)))
               s.views (alone (Calls c') Nothing) k.seats
               (record { role = (mine.0, mine.1, mine.2, put_at x.callers c.pass c' c.pass refl); guest = tt; two = tt; hand = tt });
         },
       ),
-      ((refl, legal_front c.about (shard_in c.about r.ask) upto (x.items (shard_in c.about r.ask)) ok.token.2 (k.good.legal (shard_in c.about r.ask)), extends_of x.items c r upto at ok rested, there), refl),
+      (
+        (
+          refl,
+          legal_front c.about (shard_in c.about r.ask) upto (x.items (shard_in c.about r.ask)) (token_ok c.about x.items c.pass c ts ok n (Done r upto at) has).3 (k.good.legal (shard_in c.about r.ask)),
+          extends_of x.items c ts r upto at ok has first rested,
+          there,
+          first,
+          rested_then x.items c ts r upto at ok has first rested there,
+        ),
+        refl,
+      ),
     )
   where
-    not_open : (r : Step) (upto : List Item) (at : ℕ × ℕ) (b : Ask) → Done r upto at ≡ Open b true → ⊥
-    not_open r upto at b e = cc
+    not_open : (r : Step) (upto : List Item) (at : ℕ × ℕ) (b : Ask) (e : List Ask) → Done r upto at ≡ Open b true e → ⊥
+    not_open r upto at b e q = cc
 
 -- the same, of a seat that is known by equations
-pub announces_as : (slots id word n : ℕ) (c : Caller) (call : Call) (m : Me Unit View) → m ≡ (alone (Calls c) Nothing, []) → c.about.shards + c.pass ≡ word → c.pending ≡ None → c.last < n → n < bound
+pub announces_as : (slots id word n : ℕ) (c : Caller) (call : Call) (m : Me Unit View) → m ≡ (alone (Calls c) Nothing, []) → c.about.shards + c.pass ≡ word → length c.pending < 64 → c.last < n → n < bound
     → Allows Holds slots id m word (λ _. n) (λ _. announced_as call (step slots word n 0 none) m n)
-announces_as slots id word n c call m is at_word idle above small =
+announces_as slots id word n c call m is at_word few above small =
     subst (λ (u : Me Unit View). Allows Holds slots id u word (λ _. n) (λ _. announced_as call (step slots word n 0 none) u n)) (sym is)
-    (subst (λ (z : ℕ). Allows Holds slots id (alone (Calls c) Nothing, []) z (λ _. n) (λ _. announced_as call (step slots z n 0 none) (alone (Calls c) Nothing, []) n)) at_word (announces slots id n c call idle above small))
+    (subst (λ (z : ℕ). Allows Holds slots id (alone (Calls c) Nothing, []) z (λ _. n) (λ _. announced_as call (step slots z n 0 none) (alone (Calls c) Nothing, []) n)) at_word (announces slots id n c call few above small))
 
-pub withdraws_as : (slots id word : ℕ) (c : Caller) (a : Ask) (m : Me Unit View) → m ≡ (alone (Calls c) (Open a false), []) → c.about.shards + c.pass ≡ word → a.pass ≡ c.pass
-    → Allows Holds slots id m word (λ _. 0) (λ _. withdrew (step slots word 0 0 none) m 0)
-withdraws_as slots id word c a m is at_word own =
-    subst (λ (u : Me Unit View). Allows Holds slots id u word (λ _. 0) (λ _. withdrew (step slots word 0 0 none) u 0)) (sym is)
-    (subst (λ (z : ℕ). Allows Holds slots id (alone (Calls c) (Open a false), []) z (λ _. 0) (λ _. withdrew (step slots z 0 0 none) (alone (Calls c) (Open a false), []) 0)) at_word (withdraws slots id c a own))
+pub withdraws_as : (slots id at_word word : ℕ) (c : Caller) (a : Ask) (d : List Ask) (m : Me Unit View) → m ≡ (alone (Calls c) (Open a false d), []) → c.about.shards + c.pass ≡ at_word → a.pass ≡ c.pass → IsFirstNumber a.number c.pending
+    → word ≡ number_of c.last (behind_first c.pending) → Allows Holds slots id m at_word (λ _. word) (λ _. withdrew (step slots at_word word 0 none) m word)
+withdraws_as slots id at_word word c a d m is there own number due =
+    subst (λ (u : Me Unit View). Allows Holds slots id u at_word (λ _. word) (λ _. withdrew (step slots at_word word 0 none) u word)) (sym is)
+    (subst (λ (z : ℕ). Allows Holds slots id (alone (Calls c) (Open a false d), []) z (λ _. word) (λ _. withdrew (step slots z word 0 none) (alone (Calls c) (Open a false d), []) word)) there (withdraws slots id word c a d own number due))
 
-pub collects_as : (slots id word : ℕ) (c : Caller) (r : Step) (upto : List Item) (at : ℕ × ℕ) (m : Me Unit View) → m ≡ (alone (Calls c) (Done r upto at), []) → c.about.shards + c.pass ≡ word → r.ask.pass ≡ c.pass
-    → steps_by c.pass (seen_at c (shard_in c.about r.ask)) ≡ on c.about (shard_in c.about r.ask) c.made → Allows Holds slots id m word (λ _. 0) (λ _. collected (step slots word 0 0 none) m 0)
-collects_as slots id word c r upto at m is at_word own rested =
-    subst (λ (u : Me Unit View). Allows Holds slots id u word (λ _. 0) (λ _. collected (step slots word 0 0 none) u 0)) (sym is)
-    (subst (λ (z : ℕ). Allows Holds slots id (alone (Calls c) (Done r upto at), []) z (λ _. 0) (λ _. collected (step slots z 0 0 none) (alone (Calls c) (Done r upto at), []) 0)) at_word (collects slots id c r upto at own rested))
+pub collects_as : (slots id at_word word : ℕ) (c : Caller) (r : Step) (upto : List Item) (at : ℕ × ℕ) (m : Me Unit View) → m ≡ (alone (Calls c) (Done r upto at), []) → c.about.shards + c.pass ≡ at_word → r.ask.pass ≡ c.pass
+    → IsFirstNumber r.ask.number c.pending → word ≡ number_of c.last (behind_first c.pending) → IsRested c → Allows Holds slots id m at_word (λ _. word) (λ _. collected (step slots at_word word 0 none) m word)
+collects_as slots id at_word word c r upto at m is there own number due rested =
+    subst (λ (u : Me Unit View). Allows Holds slots id u at_word (λ _. word) (λ _. collected (step slots at_word word 0 none) u word)) (sym is)
+    (subst (λ (z : ℕ). Allows Holds slots id (alone (Calls c) (Done r upto at), []) z (λ _. word) (λ _. collected (step slots z word 0 none) (alone (Calls c) (Done r upto at), []) word)) there (collects slots id word c r upto at own number due rested))

@@ -11,31 +11,31 @@ use Rattle.history.specs.declared.views.Token.{Token}
 use Rattle.history.specs.declared.views.Token.TheVariants.{Nothing, Open, Done}
 use Rattle.history.specs.Rule.{alone, Contents, Seating, IsRole, IsHand, AreTwo, Holds}
 use Rattle.history.specs.Plays.{loose, kept_back, given, taken, seated, host, visitor}
-use Rattle.history.proofs.Lists.{put, put_at, put_else, put_other}
+use Rattle.history.proofs.Lists.{put, put_at, put_else, put_other, put_two_at, put_two_other}
 use Rattle.history.proofs.Seats.{Frame, role_kept, seats_split, seats_join, still_there, held_by}
 
 -- the call goes to seat i
 abbrev moved : Seating → Token → ℕ → Seating
 moved seats Nothing i = seats
-moved seats (Open a f) i = held_by seats a.pass i
-moved seats (Done s upto at) i = held_by seats s.ask.pass i
+moved seats (Open a f e) i = held_by seats a.pass a.number i
+moved seats (Done s upto at) i = held_by seats s.ask.pass s.ask.number i
 
-hand_moved : (about : About) (x : Contents) (seats : Seating) (p b i : ℕ) → seats.holders p ≡ b → (j : ℕ) (t : Token) → j ≢ b → IsHand about x seats j t → IsHand about x (held_by seats p i) j t
-hand_moved about x seats p b i mine j Nothing n h = tt
-hand_moved about x seats p b i mine j (Open a f) n h = (h.0, put_other seats.holders p i seats.holders b a.pass j mine h.1 n ∙ h.1, h.2)
-hand_moved about x seats p b i mine j (Done s upto at) n h = (h.0, put_other seats.holders p i seats.holders b s.ask.pass j mine h.1 n ∙ h.1, h.2)
+hand_moved : (about : About) (x : Contents) (seats : Seating) (p m b i : ℕ) → seats.holders p m ≡ b → (j : ℕ) (t : Token) → j ≢ b → IsHand about x seats j t → IsHand about x (held_by seats p m i) j t
+hand_moved about x seats p m b i mine j Nothing n h = tt
+hand_moved about x seats p m b i mine j (Open a f e) n h = (h.0, put_two_other seats.holders p m i seats.holders b a.pass a.number j mine h.1 n ∙ h.1, h.2)
+hand_moved about x seats p m b i mine j (Done s upto at) n h = (h.0, put_two_other seats.holders p m i seats.holders b s.ask.pass s.ask.number j mine h.1 n ∙ h.1, h.2)
 
 frame_moved : (about : About) (x : Contents) (seats : Seating) (b i : ℕ) (t : Token) → IsHand about x seats b t → Frame about x seats b x (moved seats t i)
 frame_moved about x seats b i Nothing h = record { books = λ k j n e. (e, refl); passes = λ p j n e. (e, refl); hands = λ j t n e. e; doubts = λ a j n e o. o }
-frame_moved about x seats b i (Open a f) h = record { books = λ k j n e. (e, refl); passes = λ p j n e. (e, refl); hands = hand_moved about x seats a.pass b i h.1; doubts = λ a j n e o. o }
-frame_moved about x seats b i (Done s upto at) h = record { books = λ k j n e. (e, refl); passes = λ p j n e. (e, refl); hands = hand_moved about x seats s.ask.pass b i h.1; doubts = λ a j n e o. o }
+frame_moved about x seats b i (Open a f e) h = record { books = λ k j n e. (e, refl); passes = λ p j n e. (e, refl); hands = hand_moved about x seats a.pass a.number b i h.1; doubts = λ a j n e o. o }
+frame_moved about x seats b i (Done s upto at) h = record { books = λ k j n e. (e, refl); passes = λ p j n e. (e, refl); hands = hand_moved about x seats s.ask.pass s.ask.number b i h.1; doubts = λ a j n e o. o }
 
 role_moved : (about : About) (x : Contents) (seats : Seating) (t : Token) (i j : ℕ) (role : Role) → IsRole about x seats j role → IsRole about x (moved seats t i) j role
 role_moved about x seats Nothing i j role h = h
-role_moved about x seats (Open a f) i j Nobody h = h
-role_moved about x seats (Open a f) i j (Opener known c d) h = h
-role_moved about x seats (Open a f) i j (Keeps shelf) h = h
-role_moved about x seats (Open a f) i j (Calls c) h = h
+role_moved about x seats (Open a f e) i j Nobody h = h
+role_moved about x seats (Open a f e) i j (Opener known c d) h = h
+role_moved about x seats (Open a f e) i j (Keeps shelf) h = h
+role_moved about x seats (Open a f e) i j (Calls c) h = h
 role_moved about x seats (Done s upto at) i j Nobody h = h
 role_moved about x seats (Done s upto at) i j (Opener known c d) h = h
 role_moved about x seats (Done s upto at) i j (Keeps shelf) h = h
@@ -43,8 +43,8 @@ role_moved about x seats (Done s upto at) i j (Calls c) h = h
 
 hand_there : (about : About) (x : Contents) (seats : Seating) (t : Token) (b i : ℕ) → IsHand about x seats b t → IsHand about x (moved seats t i) i t
 hand_there about x seats Nothing b i h = h
-hand_there about x seats (Open a f) b i h = (h.0, put_at seats.holders a.pass i a.pass refl, h.2)
-hand_there about x seats (Done s upto at) b i h = (h.0, put_at seats.holders s.ask.pass i s.ask.pass refl, h.2)
+hand_there about x seats (Open a f e) b i h = (h.0, put_two_at seats.holders a.pass a.number i a.pass a.number refl refl, h.2)
+hand_there about x seats (Done s upto at) b i h = (h.0, put_two_at seats.holders s.ask.pass s.ask.number i s.ask.pass s.ask.number refl refl, h.2)
 
 -- the call in hand goes to a new seat
 pub gives : (id : ℕ) (v : View) → Splits Holds id v (kept_back v) (given v)
@@ -106,12 +106,12 @@ frame_seated about x seats p b i mine = record {
   where
     same : (j : ℕ) (t : Token) → j ≢ b → IsHand about x seats j t → IsHand about x (seated_at seats p i) j t
     same j Nothing n h = h
-    same j (Open a f) n h = h
+    same j (Open a f e) n h = h
     same j (Done s upto at) n h = h
 
 hand_same : (about : About) (x : Contents) (seats : Seating) (p i j : ℕ) (t : Token) → IsHand about x seats j t → IsHand about x (seated_at seats p i) j t
 hand_same about x seats p i j Nothing h = h
-hand_same about x seats p i j (Open a f) h = h
+hand_same about x seats p i j (Open a f e) h = h
 hand_same about x seats p i j (Done s upto at) h = h
 
 two_roles : (about : About) (x : Contents) (seats : Seating) (id other : ℕ) (role : Role) (d : Caller) → other ≢ id → IsRole about x seats id role → IsRole about x seats other (Calls d) → AreTwo role (Calls d)

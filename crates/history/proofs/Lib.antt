@@ -12,4 +12,5 @@ pub mod Starts
 pub mod Fits
 pub mod Tickets
 pub mod Meeting
+pub mod Lines
 pub mod Trial

@@ -27,6 +27,24 @@ module _ {A : Type 0} (f : ℕ → A) (i : ℕ) (x : A) where
   pub put_other : (seat : ℕ → ℕ) (id : ℕ) (k j : ℕ) → seat i ≡ id → seat k ≡ j → j ≢ id → put f i x k ≡ f k
   put_other seat id k j mine its apart = put_else k (λ e. apart (sym its ∙ ap seat (sym e) ∙ mine))
 
+-- f, but x at i and n
+abbrev pub put_two : {A : Type 0} → (ℕ → ℕ → A) → ℕ → ℕ → A → ℕ → ℕ → A
+put_two f i n x = put f i (put (f i) n x)
+
+module _ {A : Type 0} (f : ℕ → ℕ → A) (i n : ℕ) (x : A) where
+  pub put_two_at : (j m : ℕ) → i ≡ j → n ≡ m → put_two f i n x j m ≡ x
+  put_two_at j m e d = ap (λ (g : ℕ → A). g m) (put_at f i (put (f i) n x) j e) ∙ put_at (f i) n x m d
+
+  pub put_two_else : (j m : ℕ) → (i ≡ j → n ≡ m → ⊥) → put_two f i n x j m ≡ f j m
+  put_two_else j m apart = ⊎_elim
+      (λ (e : i ≡ j). ap (λ (g : ℕ → A). g m) (put_at f i (put (f i) n x) j e) ∙ put_else (f i) n x m (apart e) ∙ ap (λ (k : ℕ). f k m) e)
+      (λ (d : i ≢ j). ap (λ (g : ℕ → A). g m) (put_else f i (put (f i) n x) j d))
+      (cases_eq i j)
+
+  -- what another has is not changed
+  pub put_two_other : (seat : ℕ → ℕ → ℕ) (id : ℕ) (k m j : ℕ) → seat i n ≡ id → seat k m ≡ j → j ≢ id → put_two f i n x k m ≡ f k m
+  put_two_other seat id k m j mine its apart = put_two_else k m (λ e d. apart (sym its ∙ (λ t. seat (sym e t) (sym d t)) ∙ mine))
+
 -- what is said of both is kept by a change of both at one place
 pub put_both : {A B : Type 0} (f : ℕ → A) (g : ℕ → B) (i : ℕ) (x : A) (y : B) (P : ℕ → A → B → Type 0) → P i x y → ((j : ℕ) → i ≢ j → P j (f j) (g j)) → (j : ℕ) → P j (put f i x j) (put g i y j)
 put_both {A} {B} f g i x y P here there j =
@@ -51,11 +69,11 @@ module _ {A : Type 0} where
   begins_cons : (x y : A) (a b : List A) → x ≡ y → Begins a b → Begins (x ∷ a) (y ∷ b)
   begins_cons x y a b e h = record { rest = h.rest; is = λ i. sym e i ∷ h.is i }
 
-  head_or : A → List A → A
+  unfoldable pub head_or : A → List A → A
   head_or d [] = d
   head_or d (x ∷ xs) = x
 
-  tail_of : List A → List A
+  unfoldable pub tail_of : List A → List A
   tail_of [] = []
   tail_of (x ∷ xs) = xs
 

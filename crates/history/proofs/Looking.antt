@@ -1,5 +1,5 @@
 -- Looks at a shard's word keep the rule.
-use Rattle.std.proofs.Common.{◌≡◌, ℕ, ◌<◌, [], refl, sym, ◌∙◌, subst, arith}
+use Rattle.std.proofs.Common.{◌≡◌, ℕ, ◌<◌, [], refl, sym, ap, ◌∙◌, subst, arith}
 use mathlib.Core.Option.{some, none}
 use lib.ListN.{get_elem?}
 use Rattle.atomic_table.specs.Table.{Me, Allows, step, keeps}
@@ -12,11 +12,11 @@ use Rattle.history.specs.declared.views.Role.TheVariants.{Nobody, Keeps, Calls}
 use Rattle.history.specs.declared.views.Token.{Token}
 use Rattle.history.specs.declared.views.Token.TheVariants.{Nothing, Open, Done}
 use Rattle.history.specs.Histories.{Begins, IsLegalAt}
-use Rattle.history.specs.Rule.{alone, Contents, Seating, AccountOk, IsHand, Holds}
+use Rattle.history.specs.Rule.{alone, Contents, Seating, AccountOk, IsHand, number_of, Holds}
 use Rattle.history.specs.Plays.{seen_at, look_to, looked, met, settled, HasStepsOf}
 use Rattle.history.proofs.Lists.{put, put_at, put_else, put_other}
 use Rattle.history.proofs.Accounts.{looked_ok, steps_of}
-use Rattle.history.proofs.Seats.{Frame, seats_set, account_at, with_caller, good_caller, words_same, pass_of, book_of}
+use Rattle.history.proofs.Seats.{Frame, seats_set, account_at, with_caller, good_caller, words_look, words_same, pass_of, book_of}
 
 -- what is known of a pass alone changes
 caller_frame : (about : About) (x : Contents) (seats : Seating) (p id : ℕ) (c' : Caller) → seats.passes p ≡ id → Frame about x seats id (with_caller x p c') seats
@@ -29,16 +29,19 @@ caller_frame about x seats p id c' mine = record {
   where
     same : (j : ℕ) (t : Token) → IsHand about x seats j t → IsHand about (with_caller x p c') seats j t
     same j Nothing h = h
-    same j (Open a f) h = h
+    same j (Open a f e) h = h
     same j (Done s upto at) h = h
+
+word_same : (c d : Caller) → c ≡ d → number_of c.last c.pending ≡ number_of d.last d.pending
+word_same c d e = ap (λ (o : Caller). number_of o.last o.pending) e
 
 looks : (slots id k : ℕ) (c : Caller) → k < c.about.shards → Allows Holds slots id (alone (Calls c) Nothing, []) k (λ n. n) (looked (step slots k 0 0 none) (alone (Calls c) Nothing, []))
 looks slots id k c lt s h wide e fits =
     let r = pass_of s id c Nobody Nothing h e in
     let x = r.contents in
     let mine = (r.seats id (alone (Calls c) Nothing) e).role in
-    let t : Token = x.tokens c.pass in
-    let ok = account_at c.about x c.pass c t r.good mine.1 mine.3 refl in
+    let ts = x.tokens c.pass in
+    let ok = account_at c.about x c.pass c r.good mine.1 mine.3 in
     let c' : Caller = look_to c k (x.items k) in (
       alone (Calls c') Nothing,
       keeps,
@@ -48,14 +51,14 @@ looks slots id k c lt s h wide e fits =
         record {
           contents = with_caller x c.pass c';
           seating = r.seating;
-          words = words_same c.about (with_caller x c.pass c') s.words k (record { any = r.words.any; few = r.words.few; wide = r.words.wide; lengths = r.words.lengths; numbers = r.words.numbers });
-          good = good_caller c.about x c.pass c' r.good (looked_ok c.about x.items c.pass c k t ok);
+          words = words_same c.about (with_caller x c.pass c') s.words k (words_look c.about x s.words c.pass c' r.words mine.1 (word_same (x.callers c.pass) c mine.3));
+          good = good_caller c.about x c.pass c' r.good (looked_ok c.about x.items c.pass c ts ok k);
           seats = seats_set c.about x r.seating id (with_caller x c.pass c') r.seating (caller_frame c.about x r.seating c.pass id c' mine.2)
               s.views (alone (Calls c') Nothing) r.seats
               (record { role = (mine.0, mine.1, mine.2, put_at x.callers c.pass c' c.pass refl); guest = tt; two = tt; hand = tt });
         },
       ),
-      ((x.items k, refl, ok.seen k, r.good.legal k, sym (r.words.lengths k lt), steps_of x.items c t k ok, (let w = ok.wide in omega arith)), refl),
+      ((x.items k, refl, ok.seen k, r.good.legal k, sym (r.words.lengths k lt), steps_of x.items c ts k ok, (let w = ok.wide in omega arith)), refl),
     )
 
 pub looks_as : (slots id k : ℕ) (c : Caller) (m : Me Unit View) → m ≡ (alone (Calls c) Nothing, []) → k < c.about.shards → Allows Holds slots id m k (λ n. n) (looked (step slots k 0 0 none) m)
@@ -71,7 +74,7 @@ both_frame about x seats p q id c' d' mine its = record {
   where
     same : (j : ℕ) (t : Token) → IsHand about x seats j t → IsHand about (with_caller (with_caller x p c') q d') seats j t
     same j Nothing h = h
-    same j (Open a f) h = h
+    same j (Open a f e) h = h
     same j (Done s upto at) h = h
 
 meets : (slots id k : ℕ) (c d : Caller) → k < c.about.shards
@@ -83,11 +86,11 @@ meets slots id k c d lt s h wide e fits =
     let seat = r.seats id v e in
     let mine = seat.role in
     let its = seat.guest in
-    let t : Token = x.tokens c.pass in
-    let u : Token = x.tokens d.pass in
-    let ok = account_at c.about x c.pass c t r.good mine.1 mine.3 refl in
-    let okay = account_at c.about x d.pass d u r.good its.1 its.3 refl in
-    let okayed = subst (λ (b : About). AccountOk b x.items d.pass d u) (sym its.0) okay in
+    let ts = x.tokens c.pass in
+    let us = x.tokens d.pass in
+    let ok = account_at c.about x c.pass c r.good mine.1 mine.3 in
+    let okay = account_at c.about x d.pass d r.good its.1 its.3 in
+    let okayed = subst (λ (b : About). AccountOk b x.items d.pass d us) (sym its.0) okay in
     let c' : Caller = look_to c k (x.items k) in
     let d' : Caller = look_to d k (x.items k) in
     let x' : Contents = with_caller (with_caller x c.pass c') d.pass d' in
@@ -100,8 +103,9 @@ meets slots id k c d lt s h wide e fits =
         record {
           contents = x';
           seating = r.seating;
-          words = words_same c.about x' s.words k (record { any = r.words.any; few = r.words.few; wide = r.words.wide; lengths = r.words.lengths; numbers = r.words.numbers });
-          good = good_caller c.about (with_caller x c.pass c') d.pass d' (good_caller c.about x c.pass c' r.good (looked_ok c.about x.items c.pass c k t ok)) (looked_ok c.about x.items d.pass d k u okay);
+          words = words_same c.about x' s.words k (words_look c.about (with_caller x c.pass c') s.words d.pass d' (words_look c.about x s.words c.pass c' r.words mine.1 (word_same (x.callers c.pass) c mine.3)) its.1
+              (word_same (put x.callers c.pass c' d.pass) d (put_else x.callers c.pass c' d.pass seat.two ∙ its.3)));
+          good = good_caller c.about (with_caller x c.pass c') d.pass d' (good_caller c.about x c.pass c' r.good (looked_ok c.about x.items c.pass c ts ok k)) (looked_ok c.about x.items d.pass d us okay k);
           seats = seats_set c.about x r.seating id x' r.seating (both_frame c.about x r.seating c.pass d.pass id c' d' mine.2 its.2) s.views w r.seats
               (record {
                 role = (mine.0, mine.1, mine.2, put_else (put x.callers c.pass c') d.pass d' c.pass (λ q. seat.two (sym q)) ∙ put_at x.callers c.pass c' c.pass refl);
@@ -111,7 +115,7 @@ meets slots id k c d lt s h wide e fits =
               });
         },
       ),
-      ((x.items k, refl, (ok.seen k, okay.seen k, r.good.legal k, steps_of x.items c t k ok, steps_of x.items d u k okayed, its.0), (let o = ok.wide in omega arith), (let o = okay.wide in omega arith)), refl),
+      ((x.items k, refl, (ok.seen k, okay.seen k, r.good.legal k, steps_of x.items c ts k ok, steps_of x.items d us k okayed, its.0), (let o = ok.wide in omega arith), (let o = okay.wide in omega arith)), refl),
     )
 
 pub meets_as : (slots id k : ℕ) (c d : Caller) (m : Me Unit View) → m ≡ (record { role = Calls c; guest = Calls d; hand = Nothing }, []) → k < c.about.shards → Allows Holds slots id m k (λ n. n) (met (step slots k 0 0 none) m)
@@ -125,8 +129,8 @@ settles slots id k shelf c s h wide e fits =
     let seat = r.seats id v e in
     let mine = seat.role in
     let its = seat.guest in
-    let t : Token = x.tokens c.pass in
-    let ok = subst (λ (b : About). AccountOk b x.items c.pass c t) (sym its.0) (account_at shelf.about x c.pass c t r.good its.1 its.3 refl) in (
+    let ts = x.tokens c.pass in
+    let ok = subst (λ (b : About). AccountOk b x.items c.pass c ts) (sym its.0) (account_at shelf.about x c.pass c r.good its.1 its.3) in (
       v,
       keeps,
       tt,
@@ -145,7 +149,7 @@ settles slots id k shelf c s h wide e fits =
         (
           subst (λ l. Begins (seen_at c shelf.shard) l) mine.3 (ok.seen shelf.shard),
           subst (λ l. IsLegalAt shelf.about shelf.shard l) mine.3 (r.good.legal shelf.shard),
-          subst (λ l. HasStepsOf c shelf.shard l) mine.3 (steps_of x.items c t shelf.shard ok),
+          subst (λ l. HasStepsOf c shelf.shard l) mine.3 (steps_of x.items c ts shelf.shard ok),
           its.0,
         ),
       ),

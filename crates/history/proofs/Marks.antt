@@ -19,84 +19,76 @@ use Rattle.history.specs.declared.views.Token.{Token}
 use Rattle.history.specs.declared.views.Token.TheVariants.{Nothing, Open, Done}
 use Rattle.history.specs.Shards.{is_of_shard}
 use Rattle.history.specs.Histories.{IsLegalAt, terms_of, history_of, shard_in, steps_by, of_pass, asks_by, AllBelow}
-use Rattle.history.specs.Rule.{alone, Contents, Seating, AccountOk, IsGood, AreWords, AreOpen, AreTold, IsHand, HoldsFor, Holds, total, number_of}
+use Rattle.history.specs.Rule.{alone, Contents, Seating, AccountOk, IsGood, AreWords, IsInDoubt, AreOpen, IsOut, AreTold, IsHand, HoldsFor, Holds, total}
 use Rattle.history.specs.Plays.{loose, keeper, in_doubt, marked}
-use Rattle.history.proofs.Lists.{put, put_at, put_all, put_other}
-use Rattle.history.proofs.Past.{asks_append, steps_mark, below_on, no_step, legal_more, marked_mark, total_mark}
-use Rattle.history.proofs.Accounts.{told_append, grown_ok, doubted_ok}
-use Rattle.history.proofs.Seats.{Frame, role_kept, seats_set, seats_join, still_there, hand_put, doubt_put, account_at, held_by, book_of}
+use Rattle.history.proofs.Lists.{put, put_at, put_all, put_other, put_two, put_two_at}
+use Rattle.history.proofs.Past.{asks_append, steps_mark, no_step, legal_more, marked_mark, total_mark}
+use Rattle.history.proofs.Accounts.{one_open, token_ok, told_append, grown_ok, doubted_ok}
+use Rattle.history.proofs.Seats.{Frame, role_kept, seats_set, seats_join, still_there, hand_put, doubt_put, held_by, book_of}
 use Rattle.history.proofs.Books.{room, words_longer, longer_begins}
 
 open_append : (about : About) (x : Contents) (k : ℕ) (d e : List Ask) → AreOpen about x k d → AreOpen about x k e → AreOpen about x k (d ++ e)
 open_append about x k [] e h g = g
 open_append about x k (a ∷ d) e h g = (h.0, h.1, h.2, open_append about x k d e h.3 g)
 
-one_call : (a b : Ask) (f : Bool) → Open a f ≡ Open b true → Open a true ≡ Open b true
-one_call a b f e = let same : a ≡ b = cc in ap (λ (c : Ask). Open c true) same
+one_call : (a b : Ask) (f : Bool) (d : List Ask) → IsInDoubt b (Open a f d) → IsInDoubt b (Open a true d)
+one_call a b f d o = let same = one_open a b f true d o.0 o.1 in (d, ap (λ (c : Ask). Open c true d) same.0)
 
 -- an open call comes into the book's hand, and goes into doubt
-doubts : (id : ℕ) (shelf : Shelf) (other : ℕ) (role : Role) (a : Ask) (f : Bool) → shard_in shelf.about a ≡ shelf.shard
-    → Joins Holds id (alone (Keeps shelf) Nothing) other (alone role (Open a f)) (in_doubt (alone (Keeps shelf) Nothing) (alone role (Open a f))) loose
-doubts id shelf other role a f here s h e n there =
-    let w : View = alone role (Open a f) in
+doubts : (id : ℕ) (shelf : Shelf) (other : ℕ) (role : Role) (a : Ask) (f : Bool) (b : List Ask) → shard_in shelf.about a ≡ shelf.shard
+    → Joins Holds id (alone (Keeps shelf) Nothing) other (alone role (Open a f b)) (in_doubt (alone (Keeps shelf) Nothing) (alone role (Open a f b))) loose
+doubts id shelf other role a f b here s h e n there =
+    let w : View = alone role (Open a f b) in
     let both : View = in_doubt (alone (Keeps shelf) Nothing) w in
     let r = book_of s id shelf Nobody Nothing h e in
     let about : About = shelf.about in
     let x = r.contents in
     let mine = r.seats id (alone (Keeps shelf) Nothing) e in
     let hand = (r.seats other w (still_there s.views id other both w n there)).hand in
-    let t' : Token = Open a true in
-    let x' : Contents = record { items = x.items; callers = x.callers; tokens = put x.tokens a.pass t' } in
-    let seats = held_by r.seating a.pass id in
+    let t' : Token = Open a true b in
+    let x' : Contents = record { items = x.items; callers = x.callers; tokens = put_two x.tokens a.pass a.number t' } in
+    let seats = held_by r.seating a.pass a.number id in
+    let at_it = put_two_at x.tokens a.pass a.number t' a.pass a.number refl refl in
     let frame : Frame about x r.seating other x' seats = record {
       books = λ i j m q. (q, refl);
       passes = λ p j m q. (q, refl);
-      hands = hand_put about x r.seating a.pass other t' id (inr hand.1) x.items x.callers r.seating.books r.seating.passes;
-      doubts = λ b j m q o. doubt_put x.tokens a.pass (Open a f) t' b hand.2 (one_call a b f) o;
+      hands = hand_put about x r.seating a.pass a.number other t' id (inr hand.1) x.items x.callers r.seating.books r.seating.passes;
+      doubts = λ o j m q g. doubt_put x.tokens a.pass a.number (Open a f b) t' o hand.2 (one_call a o f b) g;
     } in
     let kept = role_kept about x r.seating other x' seats frame id (Keeps shelf) (λ q. n (sym q)) mine.role in (
       about,
       record {
         contents = x';
         seating = seats;
-        words = record {
-          any = r.words.any;
-          few = r.words.few;
-          wide = r.words.wide;
-          lengths = r.words.lengths;
-          numbers = λ p l. r.words.numbers p l ∙ put_all x.tokens a.pass t' (λ q u. number_of (x.tokens q) ≡ number_of u) (ap number_of hand.2) (λ q m. refl) p;
-        };
+        words = record { any = r.words.any; few = r.words.few; wide = r.words.wide; lengths = r.words.lengths; numbers = r.words.numbers };
         good = record {
           legal = r.good.legal;
           counted = r.good.counted;
-          passes = put_all x.tokens a.pass t' (λ q u. q < about.passes → AccountOk about x.items q (x.callers q) u)
-              (λ l. doubted_ok about x.items a.pass (x.callers a.pass) a f (account_at about x a.pass (x.callers a.pass) (Open a f) r.good l refl hand.2))
+          passes = put_all x.tokens a.pass (put (x.tokens a.pass) a.number t') (λ q u. q < about.passes → AccountOk about x.items q (x.callers q) u)
+              (λ l. doubted_ok about x.items a.pass (x.callers a.pass) (x.tokens a.pass) (r.good.passes a.pass l) a f b hand.2)
               (λ q m. r.good.passes q);
         };
         seats = seats_join about x r.seating other x' seats frame s.views id both r.seats
             (record {
-              role = (kept.0, kept.1, kept.2, kept.3, open_append about x' shelf.shard shelf.doubt (a ∷ []) kept.4 (hand.0, here, put_at x.tokens a.pass t' a.pass refl, tt));
+              role = (kept.0, kept.1, kept.2, kept.3, open_append about x' shelf.shard shelf.doubt (a ∷ []) kept.4 (hand.0, here, (b, at_it), tt));
               guest = tt;
               two = tt;
-              hand = (hand.0, put_at r.seating.holders a.pass id a.pass refl, put_at x.tokens a.pass t' a.pass refl);
+              hand = (hand.0, put_two_at r.seating.holders a.pass a.number id a.pass a.number refl refl, at_it);
             });
       },
     )
 
-pub doubts_as : (id : ℕ) (v : View) (other : ℕ) (w : View) (shelf : Shelf) (role : Role) (a : Ask) (f : Bool) → v ≡ alone (Keeps shelf) Nothing → w ≡ alone role (Open a f) → shard_in shelf.about a ≡ shelf.shard
+pub doubts_as : (id : ℕ) (v : View) (other : ℕ) (w : View) (shelf : Shelf) (role : Role) (a : Ask) (f : Bool) (b : List Ask) → v ≡ alone (Keeps shelf) Nothing → w ≡ alone role (Open a f b) → shard_in shelf.about a ≡ shelf.shard
     → Joins Holds id v other w (in_doubt v w) loose
-doubts_as id v other w shelf role a f is its here = subst (λ (z : View × View). Joins Holds id z.0 other z.1 (in_doubt z.0 z.1) loose) (λ i. (sym is i, sym its i)) (doubts id shelf other role a f here)
+doubts_as id v other w shelf role a f b is its here = subst (λ (z : View × View). Joins Holds id z.0 other z.1 (in_doubt z.0 z.1) loose) (λ i. (sym is i, sym its i)) (doubts id shelf other role a f b here)
 
-cond_told : (made : List Step) (t : Token) (b : Bool) (a : Ask) (asks : List Ask) → (b ≡ true → t ≡ Open a true) → AreTold made t asks → AreTold made t (cond b (a ∷ asks) asks)
-cond_told made t true a asks f h = (inr (out t a (f refl)), h)
-  where
-    out : (t : Token) (a : Ask) → t ≡ Open a true → Rattle.history.specs.Rule.IsOut a t
-    out t a e = subst (λ u. Rattle.history.specs.Rule.IsOut a u) (sym e) (refl, refl)
-cond_told made t false a asks f h = h
+cond_told : (made : List Step) (ts : ℕ → Token) (b : Bool) (a : Ask) (asks : List Ask) → (b ≡ true → IsInDoubt a (ts a.number)) → AreTold made ts asks → AreTold made ts (cond b (a ∷ asks) asks)
+cond_told made ts true a asks f h = (inr (subst (λ (u : Token). IsOut a u) (sym (f refl).1) (refl, refl)), h)
+cond_told made ts false a asks f h = h
 
 told_doubt : (about : About) (x : Contents) (k q : ℕ) (made : List Step) (asks : List Ask) → AreOpen about x k asks → AreTold made (x.tokens q) (of_pass q asks)
 told_doubt about x k q made [] h = tt
-told_doubt about x k q made (a ∷ asks) h = cond_told made (x.tokens q) (eqb q a.pass) a (of_pass q asks) (λ e. ap x.tokens (eqb_same q a.pass e) ∙ h.2) (told_doubt about x k q made asks h.3)
+told_doubt about x k q made (a ∷ asks) h = cond_told made (x.tokens q) (eqb q a.pass) a (of_pass q asks) (λ e. (h.2.0, ap (λ (p : ℕ). x.tokens p a.number) (eqb_same q a.pass e) ∙ h.2.1)) (told_doubt about x k q made asks h.3)
   where
     clash : true ≡ false → ⊥
     clash e = cc
@@ -109,8 +101,9 @@ may_doubt : (about : About) (x : Contents) (k : ℕ) → IsGood about x → (ask
     → IsTrue (list_all (λ a. not (list_any (is_step_of a) (x.items k)) && is_of_shard about.shards k (key_of a.call)) asks)
 may_doubt about x k good [] h = refl
 may_doubt about x k good (a ∷ asks) h =
-    let ok = account_at about x a.pass (x.callers a.pass) (Open a true) good h.0 refl h.2 in
-    let below : AllBelow a.number (steps_by a.pass (x.items k)) = subst (AllBelow a.number) (sym (ok.own k)) (below_on about k a.number (x.callers a.pass).made ok.rises) in
+    let ok = good.passes a.pass h.0 in
+    let its = token_ok about x.items a.pass (x.callers a.pass) (x.tokens a.pass) ok a.number (Open a true h.2.0) h.2.1 in
+    let below : AllBelow a.number (steps_by a.pass (x.items k)) = subst (λ (j : ℕ). AllBelow a.number (steps_by a.pass (x.items j))) h.1 its.3 in
     both (list_any (is_step_of a) (x.items k)) (is_of_shard about.shards k (key_of a.call)) _ (no_step a (x.items k) below) (eq-eqb k (shard_in about a) (sym h.1)) (may_doubt about x k good asks h.3)
   where
     both : (b c d : Bool) → b ≡ false → c ≡ true → d ≡ true → ((not b && c) && d) ≡ true
@@ -159,7 +152,7 @@ marks slots id k about items asks unmarked s h wide e fits =
         record {
           contents = x';
           seating = r.seating;
-          words = words_longer about x s.words k now (Failed asks) x.callers x.tokens r.words mine.1 is (room about x k r.good r.words.few) (λ p. refl);
+          words = words_longer about x s.words k now (Failed asks) x.tokens r.words mine.1 is (room about x k r.good r.words.few);
           good = good_mark about x k now asks r.good mine.4 (ap is_marked mine.3 ∙ unmarked) is;
           seats = seats_set about x r.seating id x' r.seating
               (record {
@@ -177,8 +170,8 @@ marks slots id k about items asks unmarked s h wide e fits =
   where
     same : (about : About) (x x' : Contents) (seats : Seating) → x'.tokens ≡ x.tokens → (j : ℕ) (t : Token) → IsHand about x seats j t → IsHand about x' seats j t
     same about x x' seats e j Nothing h = h
-    same about x x' seats e j (Open a f) h = (h.0, h.1, (λ i. e i a.pass) ∙ h.2)
-    same about x x' seats e j (Done d upto at) h = (h.0, h.1, (λ i. e i d.ask.pass) ∙ h.2)
+    same about x x' seats e j (Open a f b) h = (h.0, h.1, (λ i. e i a.pass a.number) ∙ h.2)
+    same about x x' seats e j (Done d upto at) h = (h.0, h.1, (λ i. e i d.ask.pass d.ask.number) ∙ h.2)
 
 pub marks_as : (slots id shard : ℕ) (shelf : Shelf) (m : Me Unit View) → m ≡ (alone (Keeps shelf) Nothing, []) → shelf.shard ≡ shard → is_marked shelf.items ≡ false
     → Allows Holds slots id m shard (λ n. (n + 1) % 2 ^ 64) (marked (step slots shard 1 0 none) m)

@@ -15,7 +15,7 @@ pub met_start : (c d : Caller) → HaveMet c d 0 c.seen d.seen
 met_start c d = record { first_length = refl; second_length = refl; below = λ k l. absurd (omega arith); first_above = λ k l. refl; second_above = λ k l. refl }
 
 steps_same : (c : Caller) (l : List (List Item)) (k : ℕ) (new : List Item) → HasStepsOf (with_seen c l) k new → HasStepsOf c k new
-steps_same c l k new h = record { rest = h.rest; is = h.is; one = h.one; told = h.told }
+steps_same c l k new h = record { rest = h.rest; is = h.is; among = h.among; rises = h.rises; told = h.told }
 
 -- one more look
 pub met_look : (c d : Caller) (n : ℕ) (lc ld : List (List Item)) (m m' : Me Unit View) → m ≡ (pair_of (with_seen c lc) (with_seen d ld), []) → HaveMet c d n lc ld → Meets n m.0.role m.0.guest m'.0 × (m'.1 ≡ m.1)

@@ -10,8 +10,9 @@ use Rattle.accept.specs.declared.history.Item.{Item}
 use Rattle.accept.specs.declared.history.Item.TheVariants.{Answered, Failed}
 use Rattle.accept.specs.Histories.{MayFollow, is_marked, is_new, is_step_of}
 use Rattle.history.specs.declared.views.About.{About}
-use Rattle.history.specs.Histories.{Begins, IsLegalAt, terms_of, base_at, history_of, shard_in, steps_by, on, of_pass, asks_by, AllBelow, AreUnder, IsUnused, AreUnused, IsMade, bound}
-use Rattle.history.specs.Rule.{total}
+use Rattle.history.specs.Histories.{Begins, IsLegalAt, terms_of, base_at, history_of, shard_in, steps_by, on, of_pass, asks_by, AllBelow, AllAbove, IsRising, AreUnder, IsUnused, AreUnused, IsMade, HaveSteps, IsAmong, AreAmong, IsFirst, IsFirstNumber, behind_first, asks_on, bound}
+use Rattle.history.specs.Rule.{number_of, floor_of, IsQueue, total}
+use Rattle.history.proofs.Lists.{head_or, tail_of}
 
 cond_append : {A : Type 0} (b : Bool) (x : A) (xs ys : List A) → cond b (x ∷ (xs ++ ys)) (xs ++ ys) ≡ cond b (x ∷ xs) xs ++ ys
 cond_append true x xs ys = refl
@@ -85,6 +86,55 @@ pub below_middle : (n : ℕ) (xs : List Step) (s : Step) (rest : List Step) → 
 below_middle n [] s rest h = h.0
 below_middle n (x ∷ xs) s rest h = below_middle n xs s rest h.1
 
+pub above_last : (n : ℕ) (xs : List Step) (s : Step) → AllAbove n xs → n < s.ask.number → AllAbove n (xs ++ s ∷ [])
+above_last n [] s h l = (l, tt)
+above_last n (x ∷ xs) s h l = (h.0, above_last n xs s h.1 l)
+
+-- one more step, of a number above all these
+pub rising_last : (xs : List Step) (s : Step) → IsRising xs → AllBelow s.ask.number xs → IsRising (xs ++ s ∷ [])
+rising_last [] s h b = (tt, tt)
+rising_last (x ∷ xs) s h b = (above_last x.ask.number xs s h.0 b.0, rising_last xs s h.1 b.1)
+
+pub rising_back : (xs ys : List Step) → IsRising (xs ++ ys) → IsRising ys
+rising_back [] ys h = h
+rising_back (x ∷ xs) ys h = rising_back xs ys h.1
+
+above_one : (n : ℕ) (xs : List Step) (s : Step) (ys : List Step) → AllAbove n (xs ++ s ∷ ys) → n < s.ask.number
+above_one n [] s ys h = h.0
+above_one n (x ∷ xs) s ys h = above_one n xs s ys h.1
+
+pub rising_front : (xs : List Step) (s : Step) (ys : List Step) → IsRising (xs ++ s ∷ ys) → AllBelow s.ask.number xs
+rising_front [] s ys h = tt
+rising_front (x ∷ xs) s ys h = (above_one x.ask.number xs s ys h.0, rising_front xs s ys h.1)
+
+count_above : (m n : ℕ) (xs : List Step) → m < n → AllAbove m xs → IsRising xs → AllBelow n xs → length xs + m < n
+count_above m n [] l a r b = omega arith
+count_above m n (x ∷ xs) l a r b =
+    let above = a.0 in
+    let more : length xs + x.ask.number < n = count_above x.ask.number n xs b.0 r.0 r.1 b.1 in
+    omega arith
+
+-- rising numbers below n are at most n
+pub rising_count : (n : ℕ) (xs : List Step) → IsRising xs → AllBelow n xs → length xs ≤ n
+rising_count n [] r b = omega arith
+rising_count n (x ∷ xs) r b = let more : length xs + x.ask.number < n = count_above x.ask.number n xs b.0 r.0 r.1 b.1 in omega arith
+
+-- the numbers of these steps are n or above
+abbrev pub AreFrom : ℕ → List Step → Type 0
+AreFrom n [] = Unit {0}
+AreFrom n (s ∷ steps) = (n ≤ s.ask.number) × AreFrom n steps
+
+-- steps below n and then steps from n on are parted where the first of number n stands
+pub parted : (n : ℕ) (xs ws ys : List Step) (s : Step) (more : List Step) → s.ask.number ≡ n → AllBelow n xs → AreFrom n ws → AllBelow n ys → xs ++ ws ≡ ys ++ s ∷ more → (xs ≡ ys) × (ws ≡ s ∷ more)
+unfolding head_or tail_of
+parted n [] ws [] s more is b f c e = (refl, e)
+parted n [] ws (y ∷ ys) s more is b f c e = absurd (let from = (subst (λ l. AreFrom n l) e f).0 in let below = c.0 in omega arith)
+parted n (x ∷ xs) ws [] s more is b f c e = absurd (let same : x.ask.number ≡ s.ask.number = ap (λ t. (head_or s t).ask.number) e in let below = b.0 in omega arith)
+parted n (x ∷ xs) ws (y ∷ ys) s more is b f c e =
+    let first : x ≡ y = ap (head_or x) e in
+    let t = parted n xs ws ys s more is b.1 f c.1 (ap tail_of e) in
+    ((λ i. first i ∷ t.0 i), t.1)
+
 pub under_more : (n m : ℕ) (ns : List ℕ) → n ≤ m → AreUnder n ns → AreUnder m ns
 under_more n m [] le h = tt
 under_more n m (x ∷ xs) le h = ((let l = h.0 in omega arith), under_more n m xs le h.1)
@@ -110,6 +160,10 @@ pub unused_step : (ns : List ℕ) (xs : List Step) (s : Step) → AreUnder s.ask
 unused_step [] xs s u h = tt
 unused_step (n ∷ ns) xs s u h = (one_unused n xs s h.0 (λ e. let l = u.0 in omega arith), unused_step ns xs s u.1 h.1)
 
+pub unused_both : (n : ℕ) (xs ys : List Step) → IsUnused n xs → IsUnused n ys → IsUnused n (xs ++ ys)
+unused_both n [] ys h g = g
+unused_both n (x ∷ xs) ys h g = (h.0, unused_both n xs ys h.1 g)
+
 pub made_left : (a : Ask) (xs ys : List Step) → IsMade a xs → IsMade a (xs ++ ys)
 made_left a [] ys h = absurd h
 made_left a (s ∷ xs) ys h = ⊎_elim (λ (e : s.ask ≡ a). inl e) (λ (t : IsMade a xs). inr (made_left a xs ys t)) h
@@ -117,6 +171,113 @@ made_left a (s ∷ xs) ys h = ⊎_elim (λ (e : s.ask ≡ a). inl e) (λ (t : Is
 pub made_last : (a : Ask) (xs : List Step) (s : Step) → s.ask ≡ a → IsMade a (xs ++ s ∷ [])
 made_last a [] s e = inl e
 made_last a (x ∷ xs) s e = inr (made_last a xs s e)
+
+pub made_right : (a : Ask) (xs ys : List Step) → IsMade a ys → IsMade a (xs ++ ys)
+made_right a [] ys h = h
+made_right a (x ∷ xs) ys h = inr (made_right a xs ys h)
+
+-- a call above all these steps has none of them
+pub not_made : (a : Ask) (n : ℕ) (xs : List Step) → AllBelow n xs → n ≤ a.number → IsMade a xs → ⊥
+not_made a n [] b l m = m
+not_made a n (s ∷ xs) b l m = ⊎_elim
+    (λ (e : s.ask ≡ a). let same : s.ask.number ≡ a.number = ap (λ (c : Ask). c.number) e in let below = b.0 in omega arith)
+    (λ (t : IsMade a xs). not_made a n xs b.1 l t)
+    m
+
+-- the call of the last step has a step
+pub made_now : (s : Step) (items : List Item) → IsMade s.ask (steps_by s.ask.pass (items ++ Answered s ∷ []))
+made_now s items = subst (λ l. IsMade s.ask l) (sym (steps_mine s.ask.pass items s refl)) (made_last s.ask (steps_by s.ask.pass items) s refl)
+
+-- calls that have steps have them in a longer history too
+pub have_more : (asks : List Ask) (items xs : List Item) → HaveSteps asks items → HaveSteps asks (items ++ xs)
+have_more [] items xs h = tt
+have_more (a ∷ asks) items xs h = (subst (λ l. IsMade a l) (sym (steps_append a.pass items xs)) (made_left a (steps_by a.pass items) (steps_by a.pass xs) h.0), have_more asks items xs h.1)
+
+pub have_last : (asks : List Ask) (a : Ask) (items : List Item) → HaveSteps asks items → IsMade a (steps_by a.pass items) → HaveSteps (asks ++ a ∷ []) items
+have_last [] a items h m = (m, tt)
+have_last (b ∷ asks) a items h m = (h.0, have_last asks a items h.1 m)
+
+pub has_step : (b : Ask) (asks : List Ask) (items : List Item) → IsAmong b asks → HaveSteps asks items → IsMade b (steps_by b.pass items)
+has_step b [] items m h = absurd m
+has_step b (a ∷ asks) items m h = ⊎_elim
+    (λ (e : a ≡ b). subst (λ (c : Ask). IsMade c (steps_by c.pass items)) e h.0)
+    (λ (t : IsAmong b asks). has_step b asks items t h.1)
+    m
+
+-- the open calls of a pass
+pub among_left : (a : Ask) (xs ys : List Ask) → IsAmong a xs → IsAmong a (xs ++ ys)
+among_left a [] ys m = absurd m
+among_left a (b ∷ xs) ys m = ⊎_elim (λ (e : b ≡ a). inl e) (λ (t : IsAmong a xs). inr (among_left a xs ys t)) m
+
+pub among_last : (a b : Ask) (xs : List Ask) → b ≡ a → IsAmong a (xs ++ b ∷ [])
+among_last a b [] e = inl e
+among_last a b (x ∷ xs) e = inr (among_last a b xs e)
+
+among_cond : (a b : Ask) (t : Bool) (xs : List Ask) → (b ≡ a → t ≡ true) → (b ≡ a) ⊎ IsAmong a xs → IsAmong a (cond t (b ∷ xs) xs)
+among_cond a b true xs f m = m
+among_cond a b false xs f m = ⊎_elim (λ (e : b ≡ a). let g = f e in absurd (cc)) (λ (t : IsAmong a xs). t) m
+
+pub among_on : (about : About) (k : ℕ) (a : Ask) (xs : List Ask) → k ≡ shard_in about a → IsAmong a xs → IsAmong a (asks_on about k xs)
+among_on about k a [] here m = absurd m
+among_on about k a (b ∷ xs) here m = among_cond a b (eqb k (shard_in about b)) (asks_on about k xs)
+    (λ e. eq-eqb k (shard_in about b) (here ∙ ap (shard_in about) (sym e)))
+    (⊎_elim (λ (e : b ≡ a). inl e) (λ (t : IsAmong a xs). inr (among_on about k a xs here t)) m)
+
+floor_most : (last : ℕ) (qs : List Ask) → IsQueue last qs → floor_of last qs ≤ last + 1
+floor_most last [] q = omega arith
+floor_most last (a ∷ qs) q = let more = floor_most last qs q.1 in let below = q.0 in omega arith
+
+pub among_floor : (b : Ask) (last : ℕ) (qs : List Ask) → IsQueue last qs → IsAmong b qs → (floor_of last qs ≤ b.number) × (b.number ≤ last)
+among_floor b last [] q m = absurd m
+among_floor b last (a ∷ qs) q m = ⊎_elim
+    (λ (e : a ≡ b).
+    let same : a.number ≡ b.number = ap (λ (c : Ask). c.number) e in
+    let below = q.0 in
+    let most = floor_most last qs q.1 in
+    ((omega arith), (omega arith)))
+    (λ (t : IsAmong b qs).
+    let more = among_floor b last qs q.1 t in
+    let below = q.0 in
+    let low = more.0 in
+    ((omega arith), more.1))
+    m
+
+pub queue_last : (last n : ℕ) (qs : List Ask) (a : Ask) → IsQueue last qs → last < n → a.number ≡ n → IsQueue n (qs ++ a ∷ [])
+queue_last last n [] a q l e = ((omega arith), tt)
+queue_last last n (b ∷ []) a q l e = ((let below = q.0 in omega arith), ((omega arith), tt))
+queue_last last n (b ∷ (c ∷ qs)) a q l e = (q.0, queue_last last n (c ∷ qs) a q.1 l e)
+
+pub queue_behind : (last : ℕ) (qs : List Ask) → IsQueue last qs → IsQueue last (behind_first qs)
+queue_behind last [] q = tt
+queue_behind last (a ∷ qs) q = q.1
+
+pub floor_first : (a : Ask) (last : ℕ) (qs : List Ask) → IsFirst a qs → IsQueue last qs → (floor_of last qs ≡ a.number) × (a.number < floor_of last (behind_first qs))
+floor_first a last [] f q = absurd f
+floor_first a last (b ∷ qs) f q = let same : b.number ≡ a.number = ap (λ (c : Ask). c.number) f in (same, (let below = q.0 in omega arith))
+
+pub among_behind : (b a : Ask) (qs : List Ask) → IsFirst a qs → IsAmong b qs → a.number ≢ b.number → IsAmong b (behind_first qs)
+among_behind b a [] f m n = absurd f
+among_behind b a (c ∷ qs) f m n = ⊎_elim (λ (e : c ≡ b). absurd (n (ap (λ (d : Ask). d.number) (sym f ∙ e)))) (λ (t : IsAmong b qs). t) m
+
+-- the open call that has the first number is the first
+pub first_by_number : (a : Ask) (last : ℕ) (qs : List Ask) → IsQueue last qs → IsAmong a qs → IsFirstNumber a.number qs → IsFirst a qs
+first_by_number a last [] q m f = absurd f
+first_by_number a last (b ∷ qs) q m f = ⊎_elim
+    (λ (e : b ≡ a). e)
+    (λ (t : IsAmong a qs). absurd (let low = (among_floor a last qs q.1 t).0 in let below = q.0 in omega arith))
+    m
+
+pub number_last : (n : ℕ) (qs : List Ask) (a : Ask) → number_of n (qs ++ a ∷ []) ≡ n
+number_last n [] a = refl
+number_last n (b ∷ qs) a = refl
+
+pub length_behind : (n : ℕ) (qs : List Ask) → IsFirstNumber n qs → length (behind_first qs) + 1 ≡ length qs
+length_behind n [] f = absurd f
+length_behind n (a ∷ qs) f = omega arith
+
+pub few_behind : (qs : List Ask) → length qs ≤ 64 → length (behind_first qs) ≤ 64
+few_behind [] l = l
+few_behind (a ∷ qs) l = omega arith
 
 new_one : (b : Bool) (n : ℕ) (s : Step) (xs : List Step) (more : Bool) → AllBelow n (cond b (s ∷ xs) xs) → (AllBelow n xs → more ≡ true) → ((not b || nat_lt s.ask.number n) && more) ≡ true
 new_one true n s xs more h t = ap (λ c. c && more) (lt-ltb s.ask.number n h.0) ∙ t h.1

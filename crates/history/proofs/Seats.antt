@@ -20,18 +20,18 @@ use Rattle.history.specs.declared.views.Role.TheVariants.{Nobody, Opener, Keeps,
 use Rattle.history.specs.declared.views.Token.{Token}
 use Rattle.history.specs.declared.views.Token.TheVariants.{Nothing, Open, Done}
 use Rattle.history.specs.Histories.{shard_in}
-use Rattle.history.specs.Rule.{Contents, Seating, number_of, AccountOk, IsGood, AreWords, AreOpen, IsRole, IsHand, IsSeat, HoldsFor, Holds}
+use Rattle.history.specs.Rule.{Contents, Seating, number_of, AccountOk, IsGood, AreWords, IsInDoubt, AreOpen, IsRole, IsHand, IsSeat, HoldsFor, Holds}
 use Rattle.history.specs.Plays.{loose}
-use Rattle.history.proofs.Lists.{put, put_at, put_else, put_all, put_both}
+use Rattle.history.proofs.Lists.{put, put_all, put_both, put_two, put_two_at, put_two_else}
 
 -- what the seats other than b have is as it was
 pub record Frame (about : About) (x : Contents) (seats : Seating) (b : ℕ) (x' : Contents) (seats' : Seating) : Type 0 where
   pub books : (k j : ℕ) → j ≢ b → seats.books k ≡ j → (seats'.books k ≡ j) × (x'.items k ≡ x.items k)
   pub passes : (p j : ℕ) → j ≢ b → seats.passes p ≡ j → (seats'.passes p ≡ j) × (x'.callers p ≡ x.callers p)
   pub hands : (j : ℕ) (t : Token) → j ≢ b → IsHand about x seats j t → IsHand about x' seats' j t
-  pub doubts : (a : Ask) (j : ℕ) → j ≢ b → seats.books (shard_in about a) ≡ j → x.tokens a.pass ≡ Open a true → x'.tokens a.pass ≡ Open a true
+  pub doubts : (a : Ask) (j : ℕ) → j ≢ b → seats.books (shard_in about a) ≡ j → IsInDoubt a (x.tokens a.pass a.number) → IsInDoubt a (x'.tokens a.pass a.number)
 
-open_kept : (about : About) (x x' : Contents) (k : ℕ) → ((a : Ask) → shard_in about a ≡ k → x.tokens a.pass ≡ Open a true → x'.tokens a.pass ≡ Open a true) → (asks : List Ask) → AreOpen about x k asks → AreOpen about x' k asks
+open_kept : (about : About) (x x' : Contents) (k : ℕ) → ((a : Ask) → shard_in about a ≡ k → IsInDoubt a (x.tokens a.pass a.number) → IsInDoubt a (x'.tokens a.pass a.number)) → (asks : List Ask) → AreOpen about x k asks → AreOpen about x' k asks
 open_kept about x x' k f [] h = tt
 open_kept about x x' k f (a ∷ asks) h = (h.0, h.1, f a h.1 h.2, open_kept about x x' k f asks h.3)
 
@@ -85,50 +85,62 @@ module _ (about : About) (x : Contents) (seats : Seating) (b : ℕ) (x' : Conten
 pub still_there : (views : List View) (id other : ℕ) (both w : View) → other ≢ id → get_elem? (slice_set views id both) other ≡ some w → get_elem? views other ≡ some w
 still_there views id other both w n e = sym (set_else views id other both n) ∙ e
 
--- a hand that has nothing of pass p
-pub hand_put : (about : About) (x : Contents) (seats : Seating) (p b : ℕ) (t' : Token) (i' : ℕ) → (x.tokens p ≡ Nothing) ⊎ (seats.holders p ≡ b)
+-- a hand that has nothing of call n of pass p
+pub hand_put : (about : About) (x : Contents) (seats : Seating) (p n b : ℕ) (t' : Token) (i' : ℕ) → (x.tokens p n ≡ Nothing) ⊎ (seats.holders p n ≡ b)
     → (items : ℕ → List Item) (callers : ℕ → Caller) (books passes : ℕ → ℕ) (j : ℕ) (t : Token) → j ≢ b → IsHand about x seats j t
-    → IsHand about (record { items = items; callers = callers; tokens = put x.tokens p t' }) (record { books = books; passes = passes; holders = put seats.holders p i' }) j t
-hand_put about x seats p b t' i' free items callers books passes j Nothing n h = tt
-hand_put about x seats p b t' i' free items callers books passes j (Open a f) n h =
-    let apart : p ≢ a.pass = λ e. ⊎_elim (λ (z : x.tokens p ≡ Nothing). clash_open a f (sym z ∙ ap x.tokens e ∙ h.2)) (λ (z : seats.holders p ≡ b). n (sym h.1 ∙ ap seats.holders (sym e) ∙ z)) free in
-    (h.0, put_else seats.holders p i' a.pass apart ∙ h.1, put_else x.tokens p t' a.pass apart ∙ h.2)
+    → IsHand about (record { items = items; callers = callers; tokens = put_two x.tokens p n t' }) (record { books = books; passes = passes; holders = put_two seats.holders p n i' }) j t
+hand_put about x seats p n b t' i' free items callers books passes j Nothing d h = tt
+hand_put about x seats p n b t' i' free items callers books passes j (Open a f e) d h =
+    let apart : p ≡ a.pass → n ≡ a.number → ⊥ = λ q r. ⊎_elim
+    (λ (z : x.tokens p n ≡ Nothing). clash_open a f e (sym z ∙ (λ i. x.tokens (q i) (r i)) ∙ h.2))
+    (λ (z : seats.holders p n ≡ b). d (sym h.1 ∙ (λ i. seats.holders (sym q i) (sym r i)) ∙ z))
+    free in
+    (h.0, put_two_else seats.holders p n i' a.pass a.number apart ∙ h.1, put_two_else x.tokens p n t' a.pass a.number apart ∙ h.2)
   where
-    clash_open : (a : Ask) (f : Bool) → Nothing ≡ Open a f → ⊥
-    clash_open a f e = cc
-hand_put about x seats p b t' i' free items callers books passes j (Done s upto at) n h =
-    let apart : p ≢ s.ask.pass = λ e. ⊎_elim (λ (z : x.tokens p ≡ Nothing). clash_done s upto at (sym z ∙ ap x.tokens e ∙ h.2)) (λ (z : seats.holders p ≡ b). n (sym h.1 ∙ ap seats.holders (sym e) ∙ z)) free in
-    (h.0, put_else seats.holders p i' s.ask.pass apart ∙ h.1, put_else x.tokens p t' s.ask.pass apart ∙ h.2)
+    clash_open : (a : Ask) (f : Bool) (e : List Ask) → Nothing ≡ Open a f e → ⊥
+    clash_open a f e q = cc
+hand_put about x seats p n b t' i' free items callers books passes j (Done s upto at) d h =
+    let apart : p ≡ s.ask.pass → n ≡ s.ask.number → ⊥ = λ q r. ⊎_elim
+    (λ (z : x.tokens p n ≡ Nothing). clash_done s upto at (sym z ∙ (λ i. x.tokens (q i) (r i)) ∙ h.2))
+    (λ (z : seats.holders p n ≡ b). d (sym h.1 ∙ (λ i. seats.holders (sym q i) (sym r i)) ∙ z))
+    free in
+    (h.0, put_two_else seats.holders p n i' s.ask.pass s.ask.number apart ∙ h.1, put_two_else x.tokens p n t' s.ask.pass s.ask.number apart ∙ h.2)
   where
     clash_done : (s : Step) (upto : List Item) (at : ℕ × ℕ) → Nothing ≡ Done s upto at → ⊥
     clash_done s upto at e = cc
 
 -- a call in doubt that is not the changed one, or stays as it is
-pub doubt_put : (tokens : ℕ → Token) (p : ℕ) (t t' : Token) (a : Ask) → tokens p ≡ t → (t ≡ Open a true → t' ≡ Open a true) → tokens a.pass ≡ Open a true → put tokens p t' a.pass ≡ Open a true
-doubt_put tokens p t t' a was f o = ⊎_elim
-    (λ (e : p ≡ a.pass). put_at tokens p t' a.pass e ∙ f (sym was ∙ ap tokens e ∙ o))
-    (λ (n : p ≢ a.pass). put_else tokens p t' a.pass n ∙ o)
+pub doubt_put : (tokens : ℕ → ℕ → Token) (p n : ℕ) (t t' : Token) (a : Ask) → tokens p n ≡ t → (IsInDoubt a t → IsInDoubt a t') → IsInDoubt a (tokens a.pass a.number) → IsInDoubt a (put_two tokens p n t' a.pass a.number)
+doubt_put tokens p n t t' a was f o = ⊎_elim
+    (λ (e : p ≡ a.pass). ⊎_elim
+    (λ (d : n ≡ a.number). subst (λ (u : Token). IsInDoubt a u) (sym (put_two_at tokens p n t' a.pass a.number e d)) (f (subst (λ (u : Token). IsInDoubt a u) ((λ i. tokens (sym e i) (sym d i)) ∙ was) o)))
+    (λ (d : n ≢ a.number). stays (λ q r. d r))
+    (cases_eq n a.number))
+    (λ (e : p ≢ a.pass). stays (λ q r. e q))
     (cases_eq p a.pass)
+  where
+    stays : (p ≡ a.pass → n ≡ a.number → ⊥) → IsInDoubt a (put_two tokens p n t' a.pass a.number)
+    stays apart = subst (λ (u : Token). IsInDoubt a u) (sym (put_two_else tokens p n t' a.pass a.number apart)) o
 
 -- what is said of a pass, where the rule has its parts
-pub account_at : (about : About) (x : Contents) (p : ℕ) (c : Caller) (t : Token) → IsGood about x → p < about.passes → x.callers p ≡ c → x.tokens p ≡ t → AccountOk about x.items p c t
-account_at about x p c t good lt is has = subst (λ (z : Token). AccountOk about x.items p c z) has (subst (λ (z : Caller). AccountOk about x.items p z (x.tokens p)) is (good.passes p lt))
+pub account_at : (about : About) (x : Contents) (p : ℕ) (c : Caller) → IsGood about x → p < about.passes → x.callers p ≡ c → AccountOk about x.items p c (x.tokens p)
+account_at about x p c good lt is = subst (λ (z : Caller). AccountOk about x.items p z (x.tokens p)) is (good.passes p lt)
 
--- contents with another pass p
-abbrev pub with_pass : Contents → ℕ → Caller → Token → Contents
-with_pass x p c t = record { items = x.items; callers = put x.callers p c; tokens = put x.tokens p t }
+-- contents with another pass p, whose call n is changed
+abbrev pub with_pass : Contents → ℕ → ℕ → Caller → Token → Contents
+with_pass x p n c t = record { items = x.items; callers = put x.callers p c; tokens = put_two x.tokens p n t }
 
 abbrev pub with_caller : Contents → ℕ → Caller → Contents
 with_caller x p c = record { items = x.items; callers = put x.callers p c; tokens = x.tokens }
 
-abbrev pub held_by : Seating → ℕ → ℕ → Seating
-held_by seats p j = record { books = seats.books; passes = seats.passes; holders = put seats.holders p j }
+abbrev pub held_by : Seating → ℕ → ℕ → ℕ → Seating
+held_by seats p n j = record { books = seats.books; passes = seats.passes; holders = put_two seats.holders p n j }
 
-pub good_pass : (about : About) (x : Contents) (p : ℕ) (c : Caller) (t : Token) → IsGood about x → AccountOk about x.items p c t → IsGood about (with_pass x p c t)
-good_pass about x p c t good ok = record {
+pub good_pass : (about : About) (x : Contents) (p n : ℕ) (c : Caller) (t : Token) → IsGood about x → AccountOk about x.items p c (put (x.tokens p) n t) → IsGood about (with_pass x p n c t)
+good_pass about x p n c t good ok = record {
   legal = good.legal;
   counted = good.counted;
-  passes = put_both x.callers x.tokens p c t (λ q d u. q < about.passes → AccountOk about x.items q d u) (λ _. ok) (λ q n. good.passes q);
+  passes = put_both x.callers x.tokens p c (put (x.tokens p) n t) (λ q d u. q < about.passes → AccountOk about x.items q d u) (λ _. ok) (λ q m. good.passes q);
 }
 
 pub good_caller : (about : About) (x : Contents) (p : ℕ) (c : Caller) → IsGood about x → AccountOk about x.items p c (x.tokens p) → IsGood about (with_caller x p c)
@@ -138,17 +150,27 @@ good_caller about x p c good ok = record {
   passes = put_all x.callers p c (λ q d. q < about.passes → AccountOk about x.items q d (x.tokens q)) (λ _. ok) (λ q n. good.passes q);
 }
 
--- the pass's word gets the number of its call
-pub words_pass : (about : About) (x : Contents) (words : List ℕ) (p : ℕ) (callers : ℕ → Caller) (t : Token) → AreWords about x words → p < about.passes
-    → AreWords about (record { items = x.items; callers = callers; tokens = put x.tokens p t }) (slice_set words (about.shards + p) (number_of t))
-words_pass about x words p callers t h lt = record {
+-- the pass's word gets the last number, or 0
+pub words_pass : (about : About) (x : Contents) (words : List ℕ) (p : ℕ) (c : Caller) (tokens : ℕ → ℕ → Token) (word : ℕ) → AreWords about x words → p < about.passes → word ≡ number_of c.last c.pending
+    → AreWords about (record { items = x.items; callers = put x.callers p c; tokens = tokens }) (slice_set words (about.shards + p) word)
+words_pass about x words p c tokens word h lt is = record {
   any = h.any;
   few = h.few;
-  wide = length-set words (about.shards + p) (number_of t) ∙ h.wide;
-  lengths = λ k l. get_or-set_other words (about.shards + p) k (number_of t) 0 (λ e. omega arith) ∙ h.lengths k l;
-  numbers = put_all x.tokens p t (λ q u. q < about.passes → slice_index (slice_set words (about.shards + p) (number_of t)) (about.shards + q) ≡ number_of u)
-      (λ _. get_or-set_same words (about.shards + p) (number_of t) 0 (let w = h.wide in omega arith))
-      (λ q n l. get_or-set_other words (about.shards + p) (about.shards + q) (number_of t) 0 (λ e. n (omega arith)) ∙ h.numbers q l);
+  wide = length-set words (about.shards + p) word ∙ h.wide;
+  lengths = λ k l. get_or-set_other words (about.shards + p) k word 0 (λ e. omega arith) ∙ h.lengths k l;
+  numbers = put_all x.callers p c (λ q d. q < about.passes → slice_index (slice_set words (about.shards + p) word) (about.shards + q) ≡ number_of d.last d.pending)
+      (λ _. get_or-set_same words (about.shards + p) word 0 (let w = h.wide in omega arith) ∙ is)
+      (λ q n l. get_or-set_other words (about.shards + p) (about.shards + q) word 0 (λ e. n (omega arith)) ∙ h.numbers q l);
+}
+
+-- a pass sees more, and its word is as it was
+pub words_look : (about : About) (x : Contents) (words : List ℕ) (p : ℕ) (c : Caller) → AreWords about x words → p < about.passes → number_of (x.callers p).last (x.callers p).pending ≡ number_of c.last c.pending → AreWords about (with_caller x p c) words
+words_look about x words p c h lt same = record {
+  any = h.any;
+  few = h.few;
+  wide = h.wide;
+  lengths = h.lengths;
+  numbers = put_all x.callers p c (λ q d. q < about.passes → slice_index words (about.shards + q) ≡ number_of d.last d.pending) (λ l. h.numbers p l ∙ same) (λ q n. h.numbers q);
 }
 
 -- the words do not change

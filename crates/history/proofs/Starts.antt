@@ -9,13 +9,14 @@ use Rattle.accept.specs.declared.history.Ask.{Ask}
 use Rattle.accept.specs.declared.history.Step.{Step}
 use Rattle.accept.specs.declared.history.Item.{Item}
 use Rattle.history.specs.declared.views.About.{About}
+use Rattle.history.specs.declared.views.Caller.{Caller}
 use Rattle.history.specs.declared.views.View.{View}
 use Rattle.history.specs.declared.views.Sizes.{Sizes}
 use Rattle.history.specs.declared.views.Role.{Role}
 use Rattle.history.specs.declared.views.Role.TheVariants.{Nobody, Opener, Keeps, Calls}
 use Rattle.history.specs.declared.views.Token.{Token}
 use Rattle.history.specs.declared.views.Token.TheVariants.{Nothing, Open, Done}
-use Rattle.history.specs.Rule.{alone, opener, unnamed, newcomer, Contents, Seating, AccountOk, IsGood, AreWords, IsRole, IsHand, IsSeat, HoldsFor, Holds}
+use Rattle.history.specs.Rule.{alone, opener, unnamed, newcomer, number_of, Contents, Seating, TokenOk, IsGood, AreWords, IsRole, IsHand, IsSeat, HoldsFor, Holds}
 use Rattle.history.specs.Plays.{named, after_book, next_book, after_pass, next_pass}
 use Rattle.history.proofs.Lists.{put, put_at, put_else, put_other}
 use Rattle.history.proofs.Past.{legal_none}
@@ -24,10 +25,10 @@ use Rattle.history.proofs.Seats.{seats_split, words_same}
 
 -- no history has an item, and no pass has made a call
 abbrev nothing_yet : About → Contents
-nothing_yet about = record { items = λ _. []; callers = newcomer about; tokens = λ _. Nothing }
+nothing_yet about = record { items = λ _. []; callers = newcomer about; tokens = λ _ _. Nothing }
 
 abbrev all_at : ℕ → Seating
-all_at id = record { books = λ _. id; passes = λ _. id; holders = λ _. id }
+all_at id = record { books = λ _. id; passes = λ _. id; holders = λ _ _. id }
 
 nothing_good : (about : About) → IsGood about (nothing_yet about)
 nothing_good about = record { legal = λ k. legal_none about k; counted = λ k. omega arith; passes = λ p l. newcomer_ok about p }
@@ -75,13 +76,13 @@ role_gone about known x seats id j (Opener o a b) books passes n h = absurd (n (
 role_gone about known x seats id j (Keeps shelf) books passes n h = absurd (n (sym h.2 ∙ books shelf.shard))
 role_gone about known x seats id j (Calls c) books passes n h = absurd (n (sym h.2 ∙ passes c.pass))
 
-hand_gone : (about known : About) (x : Contents) (seats : Seating) (id j : ℕ) (t : Token) → ((p : ℕ) → p < known.passes → x.tokens p ≡ Nothing) → IsHand known x seats j t → IsHand about (nothing_yet about) (all_at id) j t
+hand_gone : (about known : About) (x : Contents) (seats : Seating) (id j : ℕ) (t : Token) → ((p n : ℕ) → p < known.passes → x.tokens p n ≡ Nothing) → IsHand known x seats j t → IsHand about (nothing_yet about) (all_at id) j t
 hand_gone about known x seats id j Nothing none_out h = tt
-hand_gone about known x seats id j (Open a f) none_out h = absurd (clash a f (sym (none_out a.pass h.0) ∙ h.2))
+hand_gone about known x seats id j (Open a f e) none_out h = absurd (clash a f e (sym (none_out a.pass a.number h.0) ∙ h.2))
   where
-    clash : (a : Ask) (f : Bool) → Nothing ≡ Open a f → ⊥
-    clash a f e = cc
-hand_gone about known x seats id j (Done d upto at) none_out h = absurd (clash d upto at (sym (none_out d.ask.pass h.0) ∙ h.2))
+    clash : (a : Ask) (f : Bool) (e : List Ask) → Nothing ≡ Open a f e → ⊥
+    clash a f e q = cc
+hand_gone about known x seats id j (Done d upto at) none_out h = absurd (clash d upto at (sym (none_out d.ask.pass d.ask.number h.0) ∙ h.2))
   where
     clash : (d : Step) (upto : List Item) (at : ℕ × ℕ) → Nothing ≡ Done d upto at → ⊥
     clash d upto at e = cc
@@ -95,8 +96,8 @@ names slots id known about same_shards same_passes s h wide e fits =
     let r = opener_of s id known 0 0 h e in
     let x = r.contents in
     let mine = (r.seats id (opener known 0 0) e).role in
-    let none_out : (p : ℕ) → p < known.passes → x.tokens p ≡ Nothing = λ p l.
-    no_token (x.tokens p) (subst (λ c. c.pending ≡ Rattle.history.specs.Rule.pending_of (x.tokens p)) (mine.2 p (omega arith)).1 (r.good.passes p l).pending) in (
+    let none_out : (p n : ℕ) → p < known.passes → x.tokens p n ≡ Nothing = λ p n l.
+    no_token known x.items p n (x.tokens p n) (subst (λ (c : Caller). TokenOk known x.items p c.pending n (x.tokens p n)) (mine.2 p (omega arith)).1 ((r.good.passes p l).tokens n)) in (
       opener about 0 0,
       keeps,
       tt,
@@ -110,7 +111,7 @@ names slots id known about same_shards same_passes s h wide e fits =
             few = let f = r.words.few in omega arith;
             wide = let w = r.words.wide in omega arith;
             lengths = λ k l. r.words.lengths k (omega arith) ∙ ap length (mine.1 k (omega arith)).1;
-            numbers = λ p l. ap (λ n. slice_index s.words (n + p)) same_shards ∙ r.words.numbers p (omega arith) ∙ ap Rattle.history.specs.Rule.number_of (none_out p (omega arith));
+            numbers = λ p l. ap (λ n. slice_index s.words (n + p)) same_shards ∙ r.words.numbers p (omega arith) ∙ ap (λ (c : Caller). number_of c.last c.pending) (mine.2 p (omega arith)).1;
           });
           good = nothing_good about;
           seats = λ j v q. ⊎_elim
@@ -133,12 +134,12 @@ names_as slots id known about m is same_shards same_passes = subst (λ (u : Me U
 
 hand_books : (about : About) (x : Contents) (seats : Seating) (books : ℕ → ℕ) (j : ℕ) (t : Token) → IsHand about x seats j t → IsHand about x (record { books = books; passes = seats.passes; holders = seats.holders }) j t
 hand_books about x seats books j Nothing h = h
-hand_books about x seats books j (Open a f) h = h
+hand_books about x seats books j (Open a f e) h = h
 hand_books about x seats books j (Done d upto at) h = h
 
 hand_passes : (about : About) (x : Contents) (seats : Seating) (passes : ℕ → ℕ) (j : ℕ) (t : Token) → IsHand about x seats j t → IsHand about x (record { books = seats.books; passes = passes; holders = seats.holders }) j t
 hand_passes about x seats passes j Nothing h = h
-hand_passes about x seats passes j (Open a f) h = h
+hand_passes about x seats passes j (Open a f e) h = h
 hand_passes about x seats passes j (Done d upto at) h = h
 
 next_books : (id : ℕ) (known : About) (a b : ℕ) → a < known.shards → Splits Holds id (opener known a b) (after_book (Opener known a b)) (next_book (Opener known a b))

@@ -1,14 +1,16 @@
 -- What contracts see of books, passes, tickets and receipts.
-use Rattle.std.specs.Prelude.{◌≡◌, ℕ, zero, suc, ◌+◌, ◌<◌, ◌≤◌, ◌==◌, ◌||◌, List, [], ◌∷◌, ◌++◌, Bool, true, false, length, slice_index_or}
+use Rattle.std.specs.Prelude.{◌≡◌, ℕ, zero, suc, ◌+◌, ◌<◌, ◌≤◌, ◌==◌, ◌||◌, List, [], ◌∷◌, ◌++◌, Bool, true, false, length, if◌then◌else◌, slice_index_or}
 use Rattle.atomic_table.specs.Seated.{TableId}
 use Rattle.atomic_table.specs.declared.shared.Seat.{Seat}
 use Rattle.accept.specs.declared.limits.Limits.{Limits}
 use Rattle.accept.specs.Rooms.{Streams}
+use Rattle.accept.specs.declared.call.Call.{Call}
 use Rattle.accept.specs.declared.call.Call.TheVariants.{Read}
 use Rattle.accept.specs.declared.call.Reply.TheVariants.{Unavailable}
 use Rattle.accept.specs.declared.history.Ask.{Ask}
 use Rattle.accept.specs.declared.history.Step.{Step}
 use Rattle.accept.specs.declared.history.Item.{Item}
+use Rattle.accept.specs.declared.history.Item.TheVariants.{Answered}
 use Rattle.accept.specs.declared.history.History.{History}
 use Rattle.history.specs.declared.views.About.{About}
 use Rattle.history.specs.declared.views.Caller.{Caller}
@@ -20,7 +22,7 @@ use Rattle.history.specs.declared.views.Token.{Token}
 use Rattle.history.specs.declared.views.Token.TheVariants.{Nothing, Open, Done}
 use Rattle.history.specs.Histories.{history_of, shard_in, step_of, bound}
 use Rattle.history.specs.Rule.{alone, newcomer}
-use Rattle.history.specs.Plays.{seen_at, IsMeeting}
+use Rattle.history.specs.Plays.{seen_at, ask_of, before_of, announce_to, IsMeeting}
 
 -- a shard's history, in the table of this name
 pub record Booked : Type 0 where
@@ -34,6 +36,8 @@ pub record Announced : Type 0 where
   pub table : TableId
   pub ask : Ask
   pub doubted : Bool
+  -- the pass's calls to this shard that were open when it was announced
+  pub before : List Ask
 
 -- a step, the history up to it, and what the clocks of the shard's two slots said
 pub record Received : Type 0 where
@@ -70,12 +74,16 @@ no_ask = record { pass = 0; number = 0; call = Read (record { tenant = []; label
 -- the parts of the call in hand, and of the role
 abbrev pub ask_in : Token → Ask
 ask_in Nothing = no_ask
-ask_in (Open a f) = a
+ask_in (Open a f e) = a
 ask_in (Done s upto at) = s.ask
 
 abbrev pub doubt_in : Token → Bool
-doubt_in (Open a f) = f
+doubt_in (Open a f e) = f
 doubt_in hand = false
+
+abbrev pub before_in : Token → List Ask
+before_in (Open a f e) = e
+before_in hand = []
 
 abbrev pub step_in : Token → Step
 step_in (Done s upto at) = s
@@ -99,19 +107,19 @@ caller_in role = newcomer no_about 0
 
 -- what contracts see of a ticket
 abbrev pub announced : Seat Unit View → Announced
-announced s = record { table = s.table_id; ask = ask_in s.me.0.hand; doubted = doubt_in s.me.0.hand }
+announced s = record { table = s.table_id; ask = ask_in s.me.0.hand; doubted = doubt_in s.me.0.hand; before = before_in s.me.0.hand }
 
 -- the seat has an open call in hand, with this number
 abbrev pub IsTicket : Seat Unit View → ℕ → Type 0
-IsTicket s n = (s.me ≡ (alone Nobody (Open (ask_in s.me.0.hand) (doubt_in s.me.0.hand)), [])) × ((ask_in s.me.0.hand).number ≡ n)
+IsTicket s n = (s.me ≡ (alone Nobody (Open (ask_in s.me.0.hand) (doubt_in s.me.0.hand) (before_in s.me.0.hand)), [])) × ((ask_in s.me.0.hand).number ≡ n)
 
 -- what contracts see of a receipt
 abbrev pub received : Seat Unit View → Received
 received s = record { table = s.table_id; step = step_in s.me.0.hand; upto = upto_in s.me.0.hand; moment = moment_in s.me.0.hand }
 
--- the seat has a call with its step in hand
-abbrev pub IsReceipt : Seat Unit View → Type 0
-IsReceipt s = s.me ≡ (alone Nobody (Done (step_in s.me.0.hand) (upto_in s.me.0.hand) (moment_in s.me.0.hand)), [])
+-- the seat has a call with its step in hand, with this number
+abbrev pub IsReceipt : Seat Unit View → ℕ → Type 0
+IsReceipt s n = (s.me ≡ (alone Nobody (Done (step_in s.me.0.hand) (upto_in s.me.0.hand) (moment_in s.me.0.hand)), [])) × ((step_in s.me.0.hand).ask.number ≡ n)
 
 -- what contracts see of a book
 abbrev pub booked : Seat Unit View → Booked
@@ -128,12 +136,32 @@ IsBook table shard s =
 abbrev pub passed : Seat Unit View → Bool → Passed
 passed s closed = record { table = s.table_id; caller = caller_in s.me.0.role; closed = closed }
 
--- the seat is a pass with this word, of so many shards, which has used numbers up to the last
-abbrev pub IsPass : Seat Unit View → ℕ → ℕ → ℕ → Type 0
-IsPass s shards word last =
+-- the seat is a pass with this word, of so many shards, which has used numbers up to the last, and has so many open calls
+abbrev pub IsPass : Seat Unit View → ℕ → ℕ → ℕ → ℕ → Type 0
+IsPass s shards word last calls =
     let c = caller_in s.me.0.role in
     (s.me ≡ (alone (Calls c) Nothing, [])) × (c.last ≡ last) × (c.about.shards ≡ shards) × (shards + c.pass ≡ word) × (shards + c.about.passes ≡ s.table_id.words)
-    × (c.pass < c.about.passes) × (last < bound) × (0 < shards) × (length c.seen ≡ shards)
+    × (c.pass < c.about.passes) × (last < bound) × (0 < shards) × (length c.seen ≡ shards) × (length c.pending ≡ calls) × (calls ≤ 64)
+
+-- the history with the next call of a pass answered `Unavailable`
+abbrev pub refused_by : List Item → Caller → Call → List Item
+refused_by items c call = items ++ Answered (step_of (ask_of c (c.last + 1) call) Unavailable) ∷ []
+
+-- the tickets of calls that a pass announces one after another
+abbrev pub tickets_of : TableId → Caller → List Call → List Announced
+tickets_of table c [] = []
+tickets_of table c (call ∷ calls) =
+    record { table = table; ask = ask_of c (c.last + 1) call; doubted = false; before = before_of c (c.last + 1) call } ∷ tickets_of table (announce_to c (c.last + 1) call) calls
+
+-- those of these tickets that are shard k's
+abbrev pub tickets_on : About → ℕ → List Announced → List Announced
+tickets_on about k [] = []
+tickets_on about k (t ∷ ts) = if k == shard_in about t.ask then t ∷ tickets_on about k ts else tickets_on about k ts
+
+-- each ticket names just the calls in front of it
+abbrev pub AreInLine : List Ask → List Announced → Type 0
+AreInLine front [] = Unit {0}
+AreInLine front (t ∷ ts) = (t.before ≡ front) × AreInLine (front ++ t.ask ∷ []) ts
 
 -- the opening of these bases
 abbrev pub about_of : List Streams → ℕ → Limits → ℕ → About

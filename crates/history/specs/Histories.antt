@@ -77,6 +77,16 @@ abbrev pub AllBelow : ℕ → List Step → Type 0
 AllBelow n [] = Unit {0}
 AllBelow n (s ∷ steps) = (s.ask.number < n) × AllBelow n steps
 
+-- the numbers of these steps are above n
+abbrev pub AllAbove : ℕ → List Step → Type 0
+AllAbove n [] = Unit {0}
+AllAbove n (s ∷ steps) = (n < s.ask.number) × AllAbove n steps
+
+-- the numbers of these steps rise
+abbrev pub IsRising : List Step → Type 0
+IsRising [] = Unit {0}
+IsRising (s ∷ steps) = AllAbove s.ask.number steps × IsRising steps
+
 -- these numbers are below n
 abbrev pub AreUnder : ℕ → List ℕ → Type 0
 AreUnder n [] = Unit {0}
@@ -96,6 +106,41 @@ AreUnused (n ∷ ns) steps = IsUnused n steps × AreUnused ns steps
 abbrev pub IsMade : Ask → List Step → Type 0
 IsMade a [] = ⊥
 IsMade a (s ∷ steps) = (s.ask ≡ a) ⊎ IsMade a steps
+
+-- each of the calls has a step in these items
+abbrev pub HaveSteps : List Ask → List Item → Type 0
+HaveSteps [] items = Unit {0}
+HaveSteps (a ∷ asks) items = IsMade a (steps_by a.pass items) × HaveSteps asks items
+
+-- the call is one of these
+abbrev pub IsAmong : Ask → List Ask → Type 0
+IsAmong a [] = ⊥
+IsAmong a (b ∷ asks) = (b ≡ a) ⊎ IsAmong a asks
+
+-- each step's call is one of these
+abbrev pub AreAmong : List Step → List Ask → Type 0
+AreAmong [] asks = Unit {0}
+AreAmong (s ∷ steps) asks = IsAmong s.ask asks × AreAmong steps asks
+
+-- the call is the first of these
+abbrev pub IsFirst : Ask → List Ask → Type 0
+IsFirst a [] = ⊥
+IsFirst a (b ∷ asks) = b ≡ a
+
+-- the first of these calls has the number n
+abbrev pub IsFirstNumber : ℕ → List Ask → Type 0
+IsFirstNumber n [] = ⊥
+IsFirstNumber n (a ∷ asks) = a.number ≡ n
+
+-- those behind the first
+abbrev pub behind_first : List Ask → List Ask
+behind_first [] = []
+behind_first (a ∷ asks) = asks
+
+-- those of these calls that are shard k's
+abbrev pub asks_on : About → ℕ → List Ask → List Ask
+asks_on about k [] = []
+asks_on about k (a ∷ asks) = if k == shard_in about a then a ∷ asks_on about k asks else asks_on about k asks
 
 -- numbers of calls are below this: 2^56
 abbrev pub bound : ℕ

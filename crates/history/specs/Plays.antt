@@ -1,7 +1,8 @@
 -- What each step of a seat leaves it with, and tells it.
-use Rattle.std.specs.Prelude.{◌≡◌, ◌⊎◌, ℕ, ◌+◌, ◌<◌, List, [], ◌∷◌, ◌++◌, true, false, length, slice_index_or, slice_set, Option, None, Some}
+use Rattle.std.specs.Prelude.{◌≡◌, ◌⊎◌, ℕ, ◌+◌, ◌<◌, List, [], ◌∷◌, ◌++◌, true, false, length, slice_index_or, slice_set}
 use Rattle.atomic_table.specs.Table.{Step as TableStep, Me}
 use Rattle.accept.specs.declared.call.Call.{Call}
+use Rattle.accept.specs.declared.call.Reply.{Reply}
 use Rattle.accept.specs.declared.history.Ask.{Ask}
 use Rattle.accept.specs.declared.history.Step.{Step}
 use Rattle.accept.specs.declared.history.Item.{Item}
@@ -13,7 +14,7 @@ use Rattle.history.specs.declared.views.Role.{Role}
 use Rattle.history.specs.declared.views.Role.TheVariants.{Nobody, Opener, Keeps, Calls}
 use Rattle.history.specs.declared.views.Token.{Token}
 use Rattle.history.specs.declared.views.Token.TheVariants.{Nothing, Open, Done}
-use Rattle.history.specs.Histories.{Begins, IsLegalAt, reply_of, shard_in, step_of, steps_by, on, asks_by, IsMade}
+use Rattle.history.specs.Histories.{Begins, IsLegalAt, reply_of, shard_in, step_of, steps_by, on, asks_by, asks_on, IsMade, IsRising, IsAmong, AreAmong, IsFirst, behind_first}
 use Rattle.history.specs.Rule.{alone, opener, newcomer}
 
 -- a seat that knows nothing
@@ -79,7 +80,7 @@ abbrev pub answered : About → ℕ → List Item → Ask → Step
 answered about k items a = step_of a (reply_of about k items a.call)
 
 abbrev pub commit_with : ℕ × ℕ → Role → Token → View
-commit_with moment (Keeps shelf) (Open a f) =
+commit_with moment (Keeps shelf) (Open a f e) =
     let s : Step = answered shelf.about shelf.shard shelf.items a in
     let now : List Item = shelf.items ++ Answered s ∷ [] in
     keeper shelf.about shelf.shard now [] (Done s now moment)
@@ -91,7 +92,7 @@ committed_at moment st m found m' = m' ≡ (commit_with moment m.0.role m.0.hand
 
 -- an open call comes into hand, and is in doubt from now on
 abbrev pub doubting : Role → Token → View
-doubting (Keeps shelf) (Open a f) = keeper shelf.about shelf.shard shelf.items (shelf.doubt ++ a ∷ []) (Open a true)
+doubting (Keeps shelf) (Open a f e) = keeper shelf.about shelf.shard shelf.items (shelf.doubt ++ a ∷ []) (Open a true e)
 doubting role hand = alone role hand
 
 -- by a join of two seats
@@ -114,7 +115,7 @@ seen_at c k = slice_index_or c.seen k []
 abbrev pub ask_of : Caller → ℕ → Call → Ask
 ask_of c n call = record { pass = c.pass; number = n; call = call }
 
--- the pass with this call pending
+-- the pass with this call pending behind its other open calls
 abbrev pub announce_to : Caller → ℕ → Call → Caller
 announce_to c n call = record {
   about = c.about;
@@ -123,22 +124,26 @@ announce_to c n call = record {
   seen = c.seen;
   made = c.made;
   withdrawn = c.withdrawn;
-  pending = Some (ask_of c n call);
+  pending = c.pending ++ ask_of c n call ∷ [];
 }
+
+-- the open calls of the pass on the shard of this call
+abbrev pub before_of : Caller → ℕ → Call → List Ask
+before_of c n call = asks_on c.about (shard_in c.about (ask_of c n call)) c.pending
 
 -- the steps of a pass in what it has seen are just those that it made
 abbrev pub IsRested : Caller → Type 0
 IsRested c = (k : ℕ) → steps_by c.pass (seen_at c k) ≡ on c.about k c.made
 
 abbrev pub Announces : Call → ℕ → Role → View → Type 0
-Announces call n (Calls c) w = (w ≡ alone (Calls (announce_to c n call)) (Open (ask_of c n call) false)) × IsRested c
+Announces call n (Calls c) w = (w ≡ alone (Calls (announce_to c n call)) (Open (ask_of c n call) false (before_of c n call))) × (c.pending ≡ [] → IsRested c)
 Announces call n role w = Unit {0}
 
 -- a pass announces the call, under the number that it stores
 abbrev pub announced_as : Call → TableStep Unit → Me Unit View → ℕ → Me Unit View → Type 0
 announced_as call st m found m' = Announces call st.first m.0.role m'.0 × (m'.1 ≡ m.1)
 
--- the pass with no call pending, and this number withdrawn
+-- the pass without its first open call, and with this number withdrawn
 abbrev pub withdraw_to : Caller → ℕ → Caller
 withdraw_to c n = record {
   about = c.about;
@@ -147,18 +152,18 @@ withdraw_to c n = record {
   seen = c.seen;
   made = c.made;
   withdrawn = c.withdrawn ++ n ∷ [];
-  pending = None;
+  pending = behind_first c.pending;
 }
 
-abbrev pub withdraw_with : Role → Token → View
-withdraw_with (Calls c) (Open a f) = alone (Calls (withdraw_to c a.number)) Nothing
-withdraw_with role hand = alone role hand
+abbrev pub Withdraws : Role → Token → View → Type 0
+Withdraws (Calls c) (Open a f e) w = (w ≡ alone (Calls (withdraw_to c a.number)) Nothing) × IsFirst a c.pending
+Withdraws role hand w = Unit {0}
 
--- a pass takes a call back
+-- a pass takes its first open call back
 abbrev pub withdrew : TableStep Unit → Me Unit View → ℕ → Me Unit View → Type 0
-withdrew st m found m' = m' ≡ (withdraw_with m.0.role m.0.hand, m.1)
+withdrew st m found m' = Withdraws m.0.role m.0.hand m'.0 × (m'.1 ≡ m.1)
 
--- the pass with this step answered, up to which it has seen the shard's history
+-- the pass with its first open call answered by this step, up to which it has seen the shard's history
 abbrev pub collect_to : Caller → Step → List Item → Caller
 collect_to c s new = record {
   about = c.about;
@@ -167,8 +172,12 @@ collect_to c s new = record {
   seen = slice_set c.seen (shard_in c.about s.ask) new;
   made = c.made ++ s ∷ [];
   withdrawn = c.withdrawn;
-  pending = None;
+  pending = behind_first c.pending;
 }
+
+-- the pass with its next call announced and then answered, with nothing between
+abbrev pub call_to : Caller → Call → Reply → List Item → Caller
+call_to c call reply new = collect_to (announce_to c (c.last + 1) call) (step_of (ask_of c (c.last + 1) call) reply) new
 
 -- `new` is `old`, then items in which pass p has no step, then the step s
 pub record Extends (p : ℕ) (old : List Item) (s : Step) (new : List Item) : Type 0 where
@@ -179,7 +188,7 @@ pub record Extends (p : ℕ) (old : List Item) (s : Step) (new : List Item) : Ty
 abbrev pub Collects : Role → Token → View → Type 0
 Collects (Calls c) (Done s upto at) w =
     let k : ℕ = shard_in c.about s.ask in
-    (w ≡ alone (Calls (collect_to c s upto)) Nothing) × IsLegalAt c.about k upto × Extends c.pass (seen_at c k) s upto × (k < length c.seen)
+    (w ≡ alone (Calls (collect_to c s upto)) Nothing) × IsLegalAt c.about k upto × Extends c.pass (seen_at c k) s upto × (k < length c.seen) × IsFirst s.ask c.pending × IsRested (collect_to c s upto)
 Collects role hand w = Unit {0}
 
 -- a pass takes an answer in
@@ -198,16 +207,17 @@ look_to c k new = record {
   pending = c.pending;
 }
 
--- each of these calls was made, or is pending
-abbrev pub AreHis : List Step → Option Ask → List Ask → Type 0
+-- each of these calls was made, or is open
+abbrev pub AreHis : List Step → List Ask → List Ask → Type 0
 AreHis made pending [] = Unit {0}
-AreHis made pending (a ∷ asks) = (IsMade a made ⊎ (pending ≡ Some a)) × AreHis made pending asks
+AreHis made pending (a ∷ asks) = (IsMade a made ⊎ IsAmong a pending) × AreHis made pending asks
 
--- in these items of shard k the steps of a pass are those that it made, and possibly its pending call, and so are its calls in the mark's list
+-- in these items of shard k the steps of a pass are those that it made and then possibly some of its open calls, in their order. Its calls in the mark's list are of these two kinds
 pub record HasStepsOf (c : Caller) (k : ℕ) (items : List Item) : Type 0 where
   pub rest : List Step
   pub is : steps_by c.pass items ≡ on c.about k c.made ++ rest
-  pub one : (rest ≡ []) ⊎ ((s : Step) × (rest ≡ s ∷ []) × (c.pending ≡ Some s.ask))
+  pub among : AreAmong rest c.pending
+  pub rises : IsRising rest
   pub told : AreHis c.made c.pending (asks_by c.pass items)
 
 abbrev pub Looks : ℕ → ℕ → Role → View → Type 0

@@ -1,5 +1,5 @@
 -- The rule of the table, between any two steps.
-use Rattle.std.specs.Prelude.{◌≡◌, ◌≢◌, ◌⊎◌, ℕ, zero, suc, ◌+◌, ◌<◌, ◌≤◌, List, [], ◌∷◌, ◌++◌, true, if◌then◌else◌, length, replicate, slice_index, slice_index_or, Option, None, Some}
+use Rattle.std.specs.Prelude.{◌≡◌, ◌≢◌, ◌⊎◌, ℕ, zero, suc, ◌+◌, ◌<◌, ◌≤◌, List, [], ◌∷◌, ◌++◌, Bool, true, if◌then◌else◌, length, replicate, slice_index, slice_index_or}
 use mathlib.Core.Option.{some}
 use lib.ListN.{get_elem?}
 use Rattle.atomic_table.specs.Table.{State}
@@ -16,7 +16,7 @@ use Rattle.history.specs.declared.views.Role.{Role}
 use Rattle.history.specs.declared.views.Role.TheVariants.{Nobody, Opener, Keeps, Calls}
 use Rattle.history.specs.declared.views.Token.{Token}
 use Rattle.history.specs.declared.views.Token.TheVariants.{Nothing, Open, Done}
-use Rattle.history.specs.Histories.{Begins, IsLegalAt, shard_in, steps_by, on, asks_by, AllBelow, AreUnder, AreUnused, IsMade, bound}
+use Rattle.history.specs.Histories.{Begins, IsLegalAt, shard_in, steps_by, on, asks_by, AllBelow, IsRising, AreUnder, AreUnused, IsMade, IsAmong, bound}
 
 -- a seat of this role, with no guest
 abbrev pub alone : Role → Token → View
@@ -32,88 +32,97 @@ unnamed sizes = record { shards = sizes.shards; passes = sizes.passes; limits = 
 
 -- a pass that has seen and made nothing
 abbrev pub newcomer : About → ℕ → Caller
-newcomer about p = record { about = about; pass = p; last = 0; seen = replicate about.shards []; made = []; withdrawn = []; pending = None }
+newcomer about p = record { about = about; pass = p; last = 0; seen = replicate about.shards []; made = []; withdrawn = []; pending = [] }
 
--- the shards' histories, what each pass knows, and its call on its way
+-- the shards' histories, what each pass knows, and its calls on their way, by their numbers
 pub record Contents : Type 0 where
   pub items : ℕ → List Item
   pub callers : ℕ → Caller
-  pub tokens : ℕ → Token
+  pub tokens : ℕ → ℕ → Token
 
--- which seat has each shard's history, each pass, and each pass's call
+-- which seat has each shard's history, each pass, and each call of a pass
 pub record Seating : Type 0 where
   pub books : ℕ → ℕ
   pub passes : ℕ → ℕ
-  pub holders : ℕ → ℕ
+  pub holders : ℕ → ℕ → ℕ
 
--- what the pass's word is
-abbrev pub number_of : Token → ℕ
-number_of Nothing = 0
-number_of (Open a f) = a.number
-number_of (Done s upto at) = s.ask.number
+-- what the pass's word is: the last number, or 0 where no call is open
+abbrev pub number_of : ℕ → List Ask → ℕ
+number_of last [] = 0
+number_of last (a ∷ asks) = last
 
--- the call on its way, if there is one
-abbrev pub pending_of : Token → Option Ask
-pending_of Nothing = None
-pending_of (Open a f) = Some a
-pending_of (Done s upto at) = Some s.ask
+-- above each number that the pass used before its open calls
+abbrev pub floor_of : ℕ → List Ask → ℕ
+floor_of last [] = last + 1
+floor_of last (a ∷ asks) = a.number
 
--- the steps that a pass made, and the one that it has not collected yet
-abbrev pub committed : List Step → Token → List Step
-committed made Nothing = made
-committed made (Open a f) = made
-committed made (Done s upto at) = made ++ s ∷ []
-
--- above each number that the pass used before the call on its way
-abbrev pub floor_of : Token → ℕ → ℕ
-floor_of Nothing last = last + 1
-floor_of (Open a f) last = a.number
-floor_of (Done s upto at) last = s.ask.number
-
--- how many numbers the call on its way has used
-abbrev pub used : Token → ℕ
-used Nothing = 0
-used (Open a f) = 1
-used (Done s upto at) = 1
+-- the numbers of open calls rise, up to the last that was used
+abbrev pub IsQueue : ℕ → List Ask → Type 0
+IsQueue last [] = Unit {0}
+IsQueue last (a ∷ asks) = (a.number < floor_of last asks) × IsQueue last asks
 
 -- the call is on its way, and may stand in a mark's list
 abbrev pub IsOut : Ask → Token → Type 0
 IsOut a Nothing = ⊥
-IsOut a (Open b f) = (f ≡ true) × (b ≡ a)
+IsOut a (Open b f e) = (f ≡ true) × (b ≡ a)
 IsOut a (Done s upto at) = s.ask ≡ a
 
 -- each of the calls was made, or is on its way
-abbrev pub AreTold : List Step → Token → List Ask → Type 0
-AreTold made t [] = Unit {0}
-AreTold made t (a ∷ asks) = (IsMade a made ⊎ IsOut a t) × AreTold made t asks
+abbrev pub AreTold : List Step → (ℕ → Token) → List Ask → Type 0
+AreTold made ts [] = Unit {0}
+AreTold made ts (a ∷ asks) = (IsMade a made ⊎ IsOut a (ts a.number)) × AreTold made ts asks
 
--- the call of a token is one of the pass
-abbrev pub TokenOk : About → (ℕ → List Item) → ℕ → ℕ → Token → Type 0
-TokenOk about items p last Nothing = Unit {0}
-TokenOk about items p last (Open a f) = (a.pass ≡ p) × (a.number ≡ last)
-TokenOk about items p last (Done s upto at) =
-    (s.ask.pass ≡ p) × (s.ask.number ≡ last) × Begins upto (items (shard_in about s.ask)) × ((before : List Item) × (upto ≡ before ++ Answered s ∷ []))
+-- the call of a token is an open one of the pass. Where it has no step, all steps of the pass in its shard have smaller numbers
+abbrev pub TokenOk : About → (ℕ → List Item) → ℕ → List Ask → ℕ → Token → Type 0
+TokenOk about items p pending n Nothing = Unit {0}
+TokenOk about items p pending n (Open a f e) = (a.number ≡ n) × (a.pass ≡ p) × IsAmong a pending × AllBelow n (steps_by p (items (shard_in about a)))
+TokenOk about items p pending n (Done s upto at) =
+    (s.ask.number ≡ n) × (s.ask.pass ≡ p) × IsAmong s.ask pending × Begins upto (items (shard_in about s.ask)) × ((before : List Item) × (upto ≡ before ++ Answered s ∷ []))
 
--- a pass, its call on its way, and the histories
-pub record AccountOk (about : About) (items : ℕ → List Item) (p : ℕ) (c : Caller) (t : Token) : Type 0 where
+-- of two calls without a step on one shard, the later one names the earlier one
+abbrev pub IsOrdered : About → (ℕ → Token) → Type 0
+IsOrdered about ts = (a b : Ask) (f g : Bool) (d e : List Ask) → ts a.number ≡ Open a f d → ts b.number ≡ Open b g e → shard_in about a ≡ shard_in about b → a.number < b.number → IsAmong a e
+
+-- the step is of an open call of shard k
+pub record IsWaiting (about : About) (k : ℕ) (ts : ℕ → Token) (s : Step) : Type 0 where
+  pub upto : List Item
+  pub at : ℕ × ℕ
+  pub here : shard_in about s.ask ≡ k
+  pub is : ts s.ask.number ≡ Done s upto at
+
+abbrev pub AreWaiting : About → ℕ → (ℕ → Token) → List Step → Type 0
+AreWaiting about k ts [] = Unit {0}
+AreWaiting about k ts (s ∷ steps) = IsWaiting about k ts s × AreWaiting about k ts steps
+
+-- the steps of pass p in these items of shard k are those that it made, and some that it has not collected yet
+pub record HasOwn (about : About) (p : ℕ) (made : List Step) (ts : ℕ → Token) (k : ℕ) (items : List Item) : Type 0 where
+  pub rest : List Step
+  pub is : steps_by p items ≡ on about k made ++ rest
+  pub waiting : AreWaiting about k ts rest
+
+-- a pass, its calls on their way, and the histories
+pub record AccountOk (about : About) (items : ℕ → List Item) (p : ℕ) (c : Caller) (ts : ℕ → Token) : Type 0 where
   pub named : c.pass ≡ p
   pub within : c.last < bound
-  -- its steps are those that it made, and the one that it has not collected
-  pub own : (k : ℕ) → steps_by p (items k) ≡ on about k (committed c.made t)
+  pub own : (k : ℕ) → HasOwn about p c.made ts k (items k)
+  -- in each history the numbers of its steps rise, up to the last that it used
+  pub rising : (k : ℕ) → IsRising (steps_by p (items k))
+  pub used : (k : ℕ) → AllBelow (c.last + 1) (steps_by p (items k))
   -- what it has seen is a beginning of each history
   pub seen : (k : ℕ) → Begins (slice_index_or c.seen k []) (items k)
   pub wide : length c.seen ≡ about.shards
   -- in which all that it made stands
   pub made_seen : (k : ℕ) → Begins (on about k c.made) (steps_by p (slice_index_or c.seen k []))
-  pub rises : AllBelow (floor_of t c.last) c.made
-  pub gone : AreUnder (floor_of t c.last) c.withdrawn
+  pub rises : AllBelow (floor_of c.last c.pending) c.made
+  pub gone : AreUnder (floor_of c.last c.pending) c.withdrawn
   -- a withdrawn number stands in no step
-  pub unused : AreUnused c.withdrawn (committed c.made t)
-  -- the calls of marks' lists are calls that it made, or the one on its way
-  pub told : (k : ℕ) → AreTold c.made t (asks_by p (items k))
-  pub pending : c.pending ≡ pending_of t
-  pub token : TokenOk about items p c.last t
-  pub count : length c.made + used t ≤ c.last
+  pub unused : (k : ℕ) → AreUnused c.withdrawn (steps_by p (items k))
+  -- the calls of marks' lists are calls that it made, or are on their way
+  pub told : (k : ℕ) → AreTold c.made ts (asks_by p (items k))
+  pub queue : IsQueue c.last c.pending
+  pub few : length c.pending ≤ 64
+  pub tokens : (n : ℕ) → TokenOk about items p c.pending n (ts n)
+  pub order : IsOrdered about ts
 
 -- how many steps the passes below n have in all
 abbrev pub total : ℕ → List Item → ℕ
@@ -127,18 +136,22 @@ pub record IsGood (about : About) (x : Contents) : Type 0 where
   pub counted : (k : ℕ) → length (x.items k) ≤ total about.passes (x.items k) + (if is_marked (x.items k) then 1 else 0)
   pub passes : (p : ℕ) → p < about.passes → AccountOk about x.items p (x.callers p) (x.tokens p)
 
--- a shard's word is the length of its history, a pass's word is 0 or the number of its call on its way
+-- a shard's word is the length of its history, a pass's word is 0 or the last number that it used
 pub record AreWords (about : About) (x : Contents) (words : List ℕ) : Type 0 where
   pub any : 0 < about.shards
   pub few : about.passes ≤ 64
   pub wide : length words ≡ about.shards + about.passes
   pub lengths : (k : ℕ) → k < about.shards → slice_index words k ≡ length (x.items k)
-  pub numbers : (p : ℕ) → p < about.passes → slice_index words (about.shards + p) ≡ number_of (x.tokens p)
+  pub numbers : (p : ℕ) → p < about.passes → slice_index words (about.shards + p) ≡ number_of (x.callers p).last (x.callers p).pending
+
+-- the call has no step, and is in doubt
+abbrev pub IsInDoubt : Ask → Token → Type 0
+IsInDoubt a t = (e : List Ask) × (t ≡ Open a true e)
 
 -- these calls of shard k are open, and in doubt
 abbrev pub AreOpen : About → Contents → ℕ → List Ask → Type 0
 AreOpen about x k [] = Unit {0}
-AreOpen about x k (a ∷ asks) = (a.pass < about.passes) × (shard_in about a ≡ k) × (x.tokens a.pass ≡ Open a true) × AreOpen about x k asks
+AreOpen about x k (a ∷ asks) = (a.pass < about.passes) × (shard_in about a ≡ k) × IsInDoubt a (x.tokens a.pass a.number) × AreOpen about x k asks
 
 module _ (about : About) (x : Contents) (seats : Seating) where
   abbrev pub IsRole : ℕ → Role → Type 0
@@ -151,8 +164,8 @@ module _ (about : About) (x : Contents) (seats : Seating) where
 
   abbrev pub IsHand : ℕ → Token → Type 0
   IsHand j Nothing = Unit {0}
-  IsHand j (Open a f) = (a.pass < about.passes) × (seats.holders a.pass ≡ j) × (x.tokens a.pass ≡ Open a f)
-  IsHand j (Done s upto at) = (s.ask.pass < about.passes) × (seats.holders s.ask.pass ≡ j) × (x.tokens s.ask.pass ≡ Done s upto at)
+  IsHand j (Open a f e) = (a.pass < about.passes) × (seats.holders a.pass a.number ≡ j) × (x.tokens a.pass a.number ≡ Open a f e)
+  IsHand j (Done s upto at) = (s.ask.pass < about.passes) × (seats.holders s.ask.pass s.ask.number ≡ j) × (x.tokens s.ask.pass s.ask.number ≡ Done s upto at)
 
 -- a pass and its guest are two
 abbrev pub AreTwo : Role → Role → Type 0

@@ -3,7 +3,7 @@ ghost use Rattle.accept.specs.declared.history.Ask.{Ask};
 ghost use Rattle.accept.specs.declared.call.Reply.TheVariants.{Unavailable};
 ghost use Rattle.accept.specs.declared.history.Item.TheVariants.{Answered, Failed};
 ghost use Rattle.accept.specs.Histories.{is_marked};
-ghost use Rattle.history.specs.Histories.{Begins, IsLegalAt, doubt_of, reply_of, shard_in, step_of};
+ghost use Rattle.history.specs.Histories.{Begins, IsLegalAt, HaveSteps, doubt_of, reply_of, shard_in, step_of};
 ghost use Rattle.history.specs.Plays.{seen_at, HasStepsOf};
 ghost use Rattle.history.specs.declared.views.Role.TheVariants.{Keeps};
 ghost use Rattle.history.specs.declared.views.Token.TheVariants.{Nothing};
@@ -58,12 +58,14 @@ impl Model for Book {
 }
 
 impl Book {
-    /// Adds the call with its reply to the history, once the disk keeps it, and gives the reply back.
+    /// Adds the call with its reply to the history, once the disk keeps it, and gives the reply back. Calls of a pass to
+    /// one shard go in the order in which they were announced.
     pub fn commit<K: Kept>(&mut self, kept: &K, ticket: Ticket, reply: Reply) -> (Reply, Receipt)
         requires table { ticket.table ≡ self.old.table }
         requires shard { shard_in self.old.about ticket.ask ≡ self.old.shard }
+        requires order { HaveSteps ticket.before self.old.items }
         requires reply { reply ≡ reply_of self.old.about self.old.shard self.old.items ticket.ask.call }
-        requires kept { (doubt : List Ask) × (is_marked self.old.items ≡ true → doubt ≡ doubt_of self.old.items) × K.kept kept.now (longer self.old (Answered (step_of ticket.ask reply))) doubt }
+        requires kept { K.kept kept.now (longer self.old (Answered (step_of ticket.ask reply))) (doubt_of self.old.items) }
         ensures book { self.new ≡ longer self.old (Answered (step_of ticket.ask reply)) }
         ensures reply { result.0 ≡ reply }
         ensures receipt { result.1 ≡ record { table = ticket.table; step = step_of ticket.ask reply; upto = self.new.items; moment = K.moment kept.now } }
@@ -75,6 +77,7 @@ impl Book {
     fn committed<J: At, K: Kept>(&mut self, kept: &K, ticket: Ticket, reply: &Reply) -> Receipt
         requires table { ticket.table ≡ self.old.table }
         requires shard { shard_in self.old.about ticket.ask ≡ self.old.shard }
+        requires order { HaveSteps ticket.before self.old.items }
         requires reply { reply.now ≡ reply_of self.old.about self.old.shard self.old.items ticket.ask.call }
         requires moment { J.moment ≡ K.moment kept.now }
         ensures book { self.new ≡ longer self.old (Answered (step_of ticket.ask reply.now)) }
@@ -82,11 +85,12 @@ impl Book {
     {
         let _ = kept;
         let _ = reply;
-        let Ticket { number: _, seat } = ticket;
+        let Ticket { number, seat } = ticket;
         let shared = &self.table.shared;
         shared.join_seat::<Takes>(&mut self.seat, seat);
         shared.fetch_add::<Commits<J>>(&mut self.seat, self.shard, 1);
         Receipt {
+            number,
             seat: shared.split_seat::<Gives>(&mut self.seat),
         }
     }
@@ -95,6 +99,7 @@ impl Book {
     pub fn refuse<K: Kept>(&mut self, kept: &K, ticket: Ticket) -> (Reply, Receipt)
         requires table { ticket.table ≡ self.old.table }
         requires shard { shard_in self.old.about ticket.ask ≡ self.old.shard }
+        requires order { HaveSteps ticket.before self.old.items }
         requires marked { is_marked self.old.items ≡ true }
         requires kept { K.kept kept.now (longer self.old (Answered (step_of ticket.ask Unavailable))) (doubt_of self.old.items) }
         ensures book { self.new ≡ longer self.old (Answered (step_of ticket.ask Unavailable)) }

@@ -1,6 +1,7 @@
 //! What threads hold: tickets, receipts and passes.
-ghost use Rattle.std.specs.Prelude.{◌≡◌, ◌+◌, ◌<◌, true, false};
-ghost use Rattle.history.specs.Histories.{bound};
+ghost use Rattle.std.specs.Prelude.{◌≡◌, ◌+◌, ◌<◌, ◌==◌, true, false, length};
+ghost use Rattle.history.specs.Histories.{behind_first, bound};
+ghost use Rattle.history.specs.Rule.{number_of};
 ghost use Rattle.history.specs.Handles.{is_closed};
 
 use crate::table::Place;
@@ -35,9 +36,19 @@ impl Model for Ticket {
     ghost invariant = { λ t. IsTicket t.seat t.number };
 }
 
+impl Ticket {
+    /// The number of its call.
+    pub fn number(&self) -> u64
+        ensures { result ≡ self.now.ask.number }
+    {
+        self.number
+    }
+}
+
 /// A call's place in the history of its shard.
 #[derive(Drop)]
 pub struct Receipt {
+    pub(crate) number: u64,
     pub(crate) seat: Place,
 }
 
@@ -54,15 +65,26 @@ impl Model for Receipt {
 
     ghost view = { λ r. received r.seat };
 
-    ghost invariant = { λ r. IsReceipt r.seat };
+    ghost invariant = { λ r. IsReceipt r.seat r.number };
 }
 
-/// A caller's place at the histories of all shards. It makes one call at a time.
+impl Receipt {
+    /// The number of its call.
+    pub fn number(&self) -> u64
+        ensures { result ≡ self.now.step.ask.number }
+    {
+        self.number
+    }
+}
+
+/// A caller's place at the histories of all shards. Up to 64 calls of it may be open at a time.
 #[derive(Drop)]
 pub struct Pass {
     pub(crate) shards: usize,
     pub(crate) word: usize,
     pub(crate) last: u64,
+    // How many calls are open.
+    pub(crate) calls: u64,
     pub(crate) closed: bool,
     pub(crate) seat: Place,
 }
@@ -80,18 +102,35 @@ impl Model for Pass {
 
     ghost view = { λ p. passed p.seat p.closed };
 
-    ghost invariant = { λ p. IsPass p.seat p.shards p.word p.last };
+    ghost invariant = { λ p. IsPass p.seat p.shards p.word p.last p.calls };
 }
 
 impl Pass {
     /// The last number of a call.
     pub(crate) const LAST: u64 = (1 << 56) - 1;
 
+    /// How many calls may be open.
+    pub(crate) const CALLS: u64 = 64;
+
     /// Whether it announces no call any more: it was closed, or has used the last call number, 2^56 - 1.
     pub fn is_closed(&self) -> bool
         ensures { result ≡ is_closed self.now }
     {
         self.closed || self.last == Pass::LAST
+    }
+
+    /// Whether as many calls are open as may be: 64.
+    pub fn is_full(&self) -> bool
+        ensures { result ≡ (length self.now.caller.pending == 64) }
+    {
+        self.calls == Pass::CALLS
+    }
+
+    // What its word is once its first open call has ended: its last number where others are open.
+    pub(crate) fn word_behind_first(&self) -> u64
+        ensures { result ≡ number_of self.now.caller.last (behind_first self.now.caller.pending) }
+    {
+        if self.calls > 1 { self.last } else { 0 }
     }
 
     // The number of its next call.

@@ -1,6 +1,6 @@
-ghost use Rattle.std.specs.Prelude.{◌≡◌, ◌≢◌, ◌↔◌, ℕ, ◌+◌, ◌<◌, ◌≤◌, ◌==◌, [], true, false, length, None, IfOk, OnOk, OnErr, IsOk};
-ghost use Rattle.history.specs.Histories.{Begins, IsLegalAt, shard_in, on, steps_by, bound};
-ghost use Rattle.history.specs.Plays.{seen_at, ask_of, announce_to, withdraw_to, collect_to, look_to, IsRested, Extends, HasStepsOf};
+ghost use Rattle.std.specs.Prelude.{◌≡◌, ◌≢◌, ◌↔◌, ℕ, ◌+◌, ◌<◌, ◌≤◌, ◌==◌, [], true, false, length, IfOk, OnOk, OnErr, IsOk};
+ghost use Rattle.history.specs.Histories.{Begins, IsLegalAt, shard_in, IsFirst, IsFirstNumber, bound};
+ghost use Rattle.history.specs.Plays.{seen_at, ask_of, before_of, announce_to, withdraw_to, collect_to, look_to, IsRested, Extends, HasStepsOf};
 ghost use Rattle.history.specs.Handles.{is_closed, caller_in, pair_of, with_seen, HaveMet};
 
 use crate::handles::{Pass, PassSpent, Receipt, Ticket};
@@ -32,13 +32,14 @@ impl Model for History {
 }
 
 impl History {
-    /// Announces a call under the next number of the pass.
+    /// Announces a call under the next number of the pass. Its ticket names the open calls of the pass to the same shard
+    /// that stand before it.
     pub fn announce(&self, pass: &mut Pass, call: &Call) -> Result<Ticket, PassSpent>
         requires table { pass.old.table ≡ self.now }
-        requires idle { pass.old.caller.pending ≡ None }
-        ensures ticket { IfOk result (λ t. t ≡ record { table = self.now; ask = ask_of pass.old.caller (pass.old.caller.last + 1) call.now; doubted = false }) }
+        requires few { length pass.old.caller.pending < 64 }
+        ensures ticket { IfOk result (λ t. t ≡ record { table = self.now; ask = ask_of pass.old.caller (pass.old.caller.last + 1) call.now; doubted = false; before = before_of pass.old.caller (pass.old.caller.last + 1) call.now }) }
         ensures pass { OnOk result (pass.new ≡ record pass.old { caller = announce_to pass.old.caller (pass.old.caller.last + 1) call.now }) }
-        ensures rested { OnOk result (IsRested pass.old.caller) }
+        ensures rested { OnOk result (pass.old.caller.pending ≡ [] → IsRested pass.old.caller) }
         ensures err { OnErr result (pass.new ≡ pass.old) }
         ensures open { IsOk result ↔ (is_closed pass.old ≡ false) }
     {
@@ -50,12 +51,12 @@ impl History {
 
     fn announced<J: Saying>(&self, pass: &mut Pass, call: &Call) -> Ticket
         requires table { pass.old.table ≡ self.now }
-        requires idle { pass.old.caller.pending ≡ None }
+        requires few { length pass.old.caller.pending < 64 }
         requires open { is_closed pass.old ≡ false }
         requires call { call.now ≡ J.call }
-        ensures ticket { result ≡ record { table = self.now; ask = ask_of pass.old.caller (pass.old.caller.last + 1) call.now; doubted = false } }
+        ensures ticket { result ≡ record { table = self.now; ask = ask_of pass.old.caller (pass.old.caller.last + 1) call.now; doubted = false; before = before_of pass.old.caller (pass.old.caller.last + 1) call.now } }
         ensures pass { pass.new ≡ record pass.old { caller = announce_to pass.old.caller (pass.old.caller.last + 1) call.now } }
-        ensures rested { IsRested pass.old.caller }
+        ensures rested { pass.old.caller.pending ≡ [] → IsRested pass.old.caller }
     {
         let _ = call;
         let number = pass.next_number();
@@ -65,48 +66,59 @@ impl History {
     // Announces the call under a number above all that the pass has used.
     pub(crate) fn announce_under<J: Saying>(&self, pass: &mut Pass, number: u64) -> Ticket
         requires table { pass.old.table ≡ self.now }
-        requires idle { pass.old.caller.pending ≡ None }
+        requires few { length pass.old.caller.pending < 64 }
         requires number { (pass.old.caller.last < number) × (number < bound) }
-        ensures ticket { result ≡ record { table = self.now; ask = ask_of pass.old.caller number J.call; doubted = false } }
+        ensures ticket { result ≡ record { table = self.now; ask = ask_of pass.old.caller number J.call; doubted = false; before = before_of pass.old.caller number J.call } }
         ensures pass { pass.new ≡ record pass.old { caller = announce_to pass.old.caller number J.call } }
-        ensures rested { IsRested pass.old.caller }
+        ensures rested { pass.old.caller.pending ≡ [] → IsRested pass.old.caller }
     {
         let shared = &self.table.shared;
         shared.store::<Announces<J>>(&mut pass.seat, pass.word, number);
         pass.last = number;
+        pass.calls += 1;
         Ticket {
             number,
             seat: shared.split_seat::<Gives>(&mut pass.seat),
         }
     }
 
-    /// Takes an answer in: what the pass has seen of the shard is then what it had seen, items of others, and this step.
+    /// Takes the answer to the first open call in: what the pass has seen of the shard is then what it had seen, items of
+    /// others, and this step. Answers that came in another order are told apart by their numbers.
     pub fn collect(&self, pass: &mut Pass, receipt: Receipt)
         requires table { (pass.old.table ≡ self.now) × (receipt.table ≡ self.now) }
         requires pass { receipt.step.ask.pass ≡ pass.old.caller.pass }
-        requires rested { steps_by pass.old.caller.pass (seen_at pass.old.caller (shard_in pass.old.caller.about receipt.step.ask)) ≡ on pass.old.caller.about (shard_in pass.old.caller.about receipt.step.ask) pass.old.caller.made }
+        requires number { IsFirstNumber receipt.step.ask.number pass.old.caller.pending }
+        requires rested { IsRested pass.old.caller }
+        ensures first { IsFirst receipt.step.ask pass.old.caller.pending }
         ensures pass { pass.new ≡ record pass.old { caller = collect_to pass.old.caller receipt.step receipt.upto } }
         ensures seen { seen_at pass.new.caller (shard_in pass.old.caller.about receipt.step.ask) ≡ receipt.upto }
         ensures others { (k : ℕ) → k ≢ shard_in pass.old.caller.about receipt.step.ask → seen_at pass.new.caller k ≡ seen_at pass.old.caller k }
         ensures legal { IsLegalAt pass.old.caller.about (shard_in pass.old.caller.about receipt.step.ask) receipt.upto }
+        ensures rested { IsRested pass.new.caller }
         ensures extends { Extends pass.old.caller.pass (seen_at pass.old.caller (shard_in pass.old.caller.about receipt.step.ask)) receipt.step receipt.upto }
     {
-        let Receipt { seat } = receipt;
+        let Receipt { number: _, seat } = receipt;
+        let word = pass.word_behind_first();
         let shared = &self.table.shared;
         shared.join_seat::<Takes>(&mut pass.seat, seat);
-        shared.store::<Collects>(&mut pass.seat, pass.word, 0);
+        shared.store::<Collects>(&mut pass.seat, pass.word, word);
+        pass.calls -= 1;
     }
 
-    /// Takes a call back that has no step and is not in doubt. Its number is not used again.
+    /// Takes the first open call back, which has no step and is not in doubt. Its number is not used again.
     pub fn withdraw(&self, pass: &mut Pass, ticket: Ticket)
         requires table { (pass.old.table ≡ self.now) × (ticket.table ≡ self.now) }
         requires pass { (ticket.ask.pass ≡ pass.old.caller.pass) × (ticket.doubted ≡ false) }
-        ensures { pass.new ≡ record pass.old { caller = withdraw_to pass.old.caller ticket.ask.number } }
+        requires number { IsFirstNumber ticket.ask.number pass.old.caller.pending }
+        ensures first { IsFirst ticket.ask pass.old.caller.pending }
+        ensures pass { pass.new ≡ record pass.old { caller = withdraw_to pass.old.caller ticket.ask.number } }
     {
         let Ticket { number: _, seat } = ticket;
+        let word = pass.word_behind_first();
         let shared = &self.table.shared;
         shared.join_seat::<Takes>(&mut pass.seat, seat);
-        shared.store::<Withdraws>(&mut pass.seat, pass.word, 0);
+        shared.store::<Withdraws>(&mut pass.seat, pass.word, word);
+        pass.calls -= 1;
     }
 
     /// Sees the history of a shard as it is, and answers its length.

@@ -4,6 +4,7 @@
 mod book;
 mod handles;
 mod history;
+mod laws;
 mod opening;
 mod table;
 mod views;
@@ -11,6 +12,7 @@ mod views;
 pub use book::{Book, Kept};
 pub use handles::{Pass, PassSpent, Receipt, Ticket};
 pub use history::History;
+pub use laws::refuse_both;
 pub use views::{About, Caller};
 
 #[cfg(test)]

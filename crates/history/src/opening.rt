@@ -131,6 +131,7 @@ fn deal_passes(
             shards,
             word: shards + pass as usize,
             last: 0,
+            calls: 0,
             closed: false,
             seat: shared.split_seat::<NextPass>(seat),
         };

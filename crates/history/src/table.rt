@@ -1,5 +1,6 @@
 //! The table that all threads share, its rule, and what its steps tell.
-//! Word k is the length of shard k's history. Behind the shards' words each pass has one: 0, or the number of its call on its way.
+//! Word k is the length of shard k's history. Behind the shards' words each pass has one: 0, or, while calls of it are
+//! open, the last number that it used.
 
 use crate::views::{Sizes, View};
 use atomic_table::{Join, Play, Seat, Shared, Split, Table, TableRule};
@@ -102,7 +103,7 @@ impl Play<(), View> for Marks {
     ghost then = { marked };
 }
 
-/// A pass takes a call back.
+/// A pass takes its first open call back.
 pub struct Withdraws;
 
 impl Play<(), View> for Withdraws {
@@ -111,7 +112,7 @@ impl Play<(), View> for Withdraws {
     ghost then = { withdrew };
 }
 
-/// A pass takes an answer in.
+/// A pass takes the answer to its first open call in.
 pub struct Collects;
 
 impl Play<(), View> for Collects {

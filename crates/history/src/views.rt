@@ -31,8 +31,8 @@ pub struct Caller {
     pub made: LinkedList<Step>,
     /// The numbers of the calls that it withdrew.
     pub withdrawn: LinkedList<u64>,
-    /// Its announced call that was neither collected nor withdrawn.
-    pub pending: Option<Ask>,
+    /// Its announced calls that were neither collected nor withdrawn, in order.
+    pub pending: LinkedList<Ask>,
 }
 
 /// What a book knows.
@@ -63,8 +63,9 @@ pub enum Role {
 pub enum Token {
     /// There is none.
     Nothing,
-    /// An announced call that has no step, and whether it is in doubt.
-    Open(Ask, bool),
+    /// An announced call that has no step, whether it is in doubt, and the calls of its pass on the same shard that were
+    /// open when it was announced.
+    Open(Ask, bool, LinkedList<Ask>),
     /// A call with its step, the history up to that, and what the clocks of the shard's two slots said.
     Done(Step, LinkedList<Item>, (u64, u64)),
 }

@@ -1,5 +1,5 @@
 -- What a call, a look and a meeting leave of what passes know.
-use Rattle.std.specs.Prelude.{◌≡◌, ◌≢◌, ℕ, ◌+◌, ◌≤◌, None}
+use Rattle.std.specs.Prelude.{◌≡◌, ◌≢◌, ℕ, ◌+◌, ◌≤◌, []}
 use Rattle.atomic_table.specs.Seated.{TableId}
 use Rattle.accept.specs.declared.call.Call.{Call}
 use Rattle.accept.specs.declared.call.Reply.{Reply}
@@ -15,7 +15,7 @@ use Rattle.ingester.specs.Openings.{Opening}
 pub record IsPassOf {D : Type 0} (opening : Opening D) (pass : Passed) : Type 0 where
   pub table : pass.table ≡ opening.table
   pub about : pass.caller.about ≡ opening.about
-  pub idle : pass.caller.pending ≡ None
+  pub idle : pass.caller.pending ≡ []
 
 -- the step of the next call of a pass
 abbrev pub next_step : Caller → Call → Reply → Step
@@ -42,7 +42,7 @@ pub record IsRefused (old new : Passed) : Type 0 where
       seen = old.caller.seen;
       made = old.caller.made;
       withdrawn = new.caller.withdrawn;
-      pending = None;
+      pending = [];
     };
   }
   pub rises : old.caller.last ≤ new.caller.last

@@ -1,5 +1,5 @@
 //! Calls, looks and meetings.
-ghost use Rattle.std.specs.Prelude.{◌≡◌, ◌≢◌, ◌↔◌, ◌<◌, ℕ, true, false, length, IfOk, IfErr, OnErr};
+ghost use Rattle.std.specs.Prelude.{◌≡◌, ◌≢◌, ◌↔◌, ◌<◌, ℕ, [], true, false, length, IfOk, IfErr, OnErr};
 ghost use Rattle.std.specs.Result.{IsErrOf};
 ghost use Rattle.accept.specs.Steps.{AreNumbers};
 ghost use Rattle.history.specs.Histories.{Begins, IsLegalAt, shard_in, step_of};
@@ -65,6 +65,7 @@ impl<D: Disk + Drop> Ingester<D> {
     ) -> Result<(Reply, Receipt), (ApplyFault, Ticket)>
         requires table { ticket.table ≡ self.now.table }
         requires shard { (shard_in self.now.about ticket.ask ≡ shard) × (shard < self.now.about.shards) }
+        requires alone { ticket.before ≡ [] }
         requires call { ticket.ask.call ≡ call.now }
         requires numbers { AreNumbers call.now }
         requires few { HasFewEntries call.now }

@@ -7,7 +7,7 @@ use Rattle.history.specs.declared.views.Token.TheVariants.{Nothing}
 use Rattle.history.specs.Rule.{alone}
 use Rattle.history.specs.Histories.{shard_in}
 use Rattle.history.specs.Plays.{kept_back, given, in_doubt}
-use Rattle.history.specs.Handles.{announced, doubted, asks_of, doubted_to, shelf_in, booked, with_doubt, ask_in, doubt_in}
+use Rattle.history.specs.Handles.{announced, doubted, asks_of, doubted_to, shelf_in, booked, with_doubt, ask_in, doubt_in, before_in}
 use Rattle.history.proofs.HandOvers.{gives}
 use Rattle.history.proofs.Marks.{doubts_as}
 use Rattle.history.proofs.Tickets.{doubted_at, doubted_set, asks_more, of_at}
@@ -34,7 +34,7 @@ join_seat-requires c =
       ap (λ s. s.table_id) c.replace-held.ensures.value ∙ ap (λ t. t.table) ticket ∙ its.0 ∙ c.requires.seat,
       ap (λ s. s.me.1) c.replace-held.ensures.value ∙ ap (λ m. m.1) c.ticket.invariant.0,
       c.requires.words,
-      doubts_as _ _ _ _ shelf' Nobody (ask_in c.ticket.inside.seat.me.0.hand) (doubt_in c.ticket.inside.seat.me.0.hand)
+      doubts_as _ _ _ _ shelf' Nobody (ask_in c.ticket.inside.seat.me.0.hand) (doubt_in c.ticket.inside.seat.me.0.hand) (before_in c.ticket.inside.seat.me.0.hand)
           (ap (λ m. m.0) c.split_seat-blank.ensures.2 ∙ ap (λ m. kept_back m.0) inv.1)
           (ap (λ s. s.me.0) c.replace-held.ensures.value ∙ ap (λ m. m.0) c.ticket.invariant.0)
           (ap (λ t. shard_in shelf.about t.ask) ticket ∙ its.1),
@@ -63,7 +63,8 @@ loop-ticket-preserved c =
     let asks : (shelf.doubt ++ asks_of (take i ts)) ++ a ∷ [] ≡ shelf.doubt ++ asks_of (take (i + 1) ts) =
     append_assoc shelf.doubt (asks_of (take i ts)) (a ∷ []) ∙ ap (λ l. shelf.doubt ++ l) (ap (λ b. asks_of (take i ts) ++ b ∷ []) same ∙ sym (asks_more ts i d lt)) in
     let view : announced c.split_seat.result ≡ doubted (slice_index_or ts i d) =
-    (λ j. record { table = named j; ask = ask_in (right j).0.hand; doubted = doubt_in (right j).0.hand }) ∙ (λ j. record { table = (slice_index_or ts i d).table; ask = same j; doubted = true }) in (
+    (λ j. record { table = named j; ask = ask_in (right j).0.hand; doubted = doubt_in (right j).0.hand; before = before_in (right j).0.hand })
+    ∙ (λ j. record { table = (slice_index_or ts i d).table; ask = same j; doubted = true; before = (ticket j).before }) in (
       c.split_seat.ensures.0 ∙ table,
       c.split_seat.ensures.2 ∙ ap (λ m. (kept_back m.0, m.1)) joined ∙ ap (λ e. (alone (Keeps (with_doubt shelf e)) Nothing, [])) asks,
       ap (λ t. slice_set c.loop-ticket.ticket-items i t) view ∙ ap (λ l. slice_set l i (doubted (slice_index_or ts i d))) inv.2 ∙ doubted_set ts i d lt,

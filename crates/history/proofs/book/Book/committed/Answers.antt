@@ -1,9 +1,9 @@
 use Rattle.std.proofs.Common.{◌<◌, sym, ap, ◌∙◌, subst}
 use Rattle.atomic_table.specs.Table.{Me}
 use Rattle.history.specs.declared.views.View.{View}
-use Rattle.history.specs.Histories.{shard_in}
+use Rattle.history.specs.Histories.{shard_in, HaveSteps}
 use Rattle.history.specs.Plays.{taken}
-use Rattle.history.specs.Handles.{ask_in, doubt_in, shelf_in}
+use Rattle.history.specs.Handles.{Booked, Announced, ask_in, doubt_in, before_in, shelf_in}
 use Rattle.history.proofs.HandOvers.{gives, takes}
 use Rattle.history.proofs.Books.{commits_as}
 use Rattle.history.proofs.Fits.{book_fits}
@@ -27,8 +27,9 @@ fetch_add-requires g c =
     let here = (λ i. shard_in (c.self.view_is i).about (c.ticket.view_is i).ask) ∙ c.requires.shard ∙ ap (λ b. b.shard) (sym c.self.view_is) ∙ book.1 in (
       c.join_seat.ensures.0 ∙ book.0 ∙ there,
       subst (λ z. c.self.inside.shard < z.words) there (book_fits _ _ c.self.inside.seat book).1,
-      commits_as _ _ _ (shelf_in c.self.inside.seat.me.0.role) (ask_in c.ticket.inside.seat.me.0.hand) (doubt_in c.ticket.inside.seat.me.0.hand) _ _
-          (◌∙◌ {A = Me Unit View} {b = (taken c.self.inside.seat.me.0 c.ticket.inside.seat.me.0, c.self.inside.seat.me.1)} c.join_seat.ensures.2 (λ i. (taken (book.4 i).0 (c.ticket.invariant.0 i).0, (book.4 i).1))) book.5 book.1 here,
+      commits_as _ _ _ (shelf_in c.self.inside.seat.me.0.role) (ask_in c.ticket.inside.seat.me.0.hand) (doubt_in c.ticket.inside.seat.me.0.hand) (before_in c.ticket.inside.seat.me.0.hand) _ _
+          (◌∙◌ {A = Me Unit View} {b = (taken c.self.inside.seat.me.0 c.ticket.inside.seat.me.0, c.self.inside.seat.me.1)} c.join_seat.ensures.2 (λ i. (taken (book.4 i).0 (c.ticket.invariant.0 i).0, (book.4 i).1))) book.5 book.1 here
+          (subst (λ (z : Announced × Booked). HaveSteps z.0.before z.1.items) (λ i. (sym c.ticket.view_is i, sym c.self.view_is i)) c.requires.order),
     )
 
 pub split_seat-requires : goal.split_seat-requires

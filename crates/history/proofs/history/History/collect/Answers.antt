@@ -1,6 +1,7 @@
-use Rattle.std.proofs.Common.{◌≡◌, ◌+◌, ◌<◌, sym, ap, ◌∙◌, subst}
-use Rattle.history.specs.Histories.{shard_in, steps_by, on}
-use Rattle.history.specs.Plays.{taken, seen_at}
+use Rattle.std.proofs.Common.{◌+◌, ◌<◌, sym, ap, ◌∙◌, subst}
+use Rattle.history.specs.Histories.{IsFirstNumber, behind_first}
+use Rattle.history.specs.Rule.{number_of}
+use Rattle.history.specs.Plays.{taken, IsRested}
 use Rattle.history.specs.Handles.{Passed, Received, caller_in, step_in, upto_in, moment_in}
 use Rattle.history.proofs.HandOvers.{takes}
 use Rattle.history.proofs.Calls.{collects_as}
@@ -13,8 +14,8 @@ join_seat-requires c =
     let at_table = ap (λ p. p.table) c.pass.view_is ∙ c.requires.table.0 ∙ sym c.self.view_is ∙ there in (
       at_table,
       ap (λ r. r.table) c.receipt.view_is ∙ c.requires.table.1 ∙ sym c.self.view_is ∙ there,
-      ap (λ m. m.1) c.receipt.invariant,
-      subst (λ z. 0 < z.words) at_table (pass_fits c.pass.inside.seat _ _ _ c.pass.invariant).0,
+      ap (λ m. m.1) c.receipt.invariant.0,
+      subst (λ z. 0 < z.words) at_table (pass_fits c.pass.inside.seat _ _ _ _ c.pass.invariant).0,
       takes _ _ _ _,
     )
 
@@ -25,11 +26,12 @@ store-requires c =
     let k = caller_in c.pass.inside.seat.me.0.role in
     let hand = c.receipt.inside.seat.me.0.hand in (
       c.join_seat.ensures.0 ∙ at_table,
-      subst (λ z. c.pass.inside.word < z.words) at_table (pass_fits c.pass.inside.seat _ _ _ pass).1,
-      collects_as _ _ _ k (step_in hand) (upto_in hand) (moment_in hand) _
-          (c.join_seat.ensures.2 ∙ (λ i. (taken (pass.0 i).0 (c.receipt.invariant i).0, (pass.0 i).1)))
+      subst (λ z. c.pass.inside.word < z.words) at_table (pass_fits c.pass.inside.seat _ _ _ _ pass).1,
+      collects_as _ _ _ _ k (step_in hand) (upto_in hand) (moment_in hand) _
+          (c.join_seat.ensures.2 ∙ (λ i. (taken (pass.0 i).0 (c.receipt.invariant.0 i).0, (pass.0 i).1)))
           (ap (λ n. n + k.pass) pass.2 ∙ pass.3)
           (ap (λ r. r.step.ask.pass) c.receipt.view_is ∙ c.requires.pass ∙ ap (λ p. p.caller.pass) (sym c.pass.view_is))
-          (subst (λ (z : Passed × Received). steps_by z.0.caller.pass (seen_at z.0.caller (shard_in z.0.caller.about z.1.step.ask)) ≡ on z.0.caller.about (shard_in z.0.caller.about z.1.step.ask) z.0.caller.made)
-          (λ i. (sym c.pass.view_is i, sym c.receipt.view_is i)) c.requires.rested),
+          (subst (λ (z : Passed × Received). IsFirstNumber z.1.step.ask.number z.0.caller.pending) (λ i. (sym c.pass.view_is i, sym c.receipt.view_is i)) c.requires.number)
+          (c.word_behind_first-word.ensures ∙ ap (λ p. number_of p.caller.last (behind_first p.caller.pending)) (sym c.pass.view_is))
+          (subst (λ (p : Passed). IsRested p.caller) (sym c.pass.view_is) c.requires.rested),
     )

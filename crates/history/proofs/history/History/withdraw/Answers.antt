@@ -1,9 +1,10 @@
 use Rattle.std.proofs.Common.{◌+◌, ◌<◌, [], sym, ap, ◌∙◌, subst}
 use Rattle.history.specs.declared.views.Role.TheVariants.{Calls}
 use Rattle.history.specs.declared.views.Token.TheVariants.{Open}
-use Rattle.history.specs.Rule.{alone}
+use Rattle.history.specs.Histories.{IsFirstNumber, behind_first}
+use Rattle.history.specs.Rule.{alone, number_of}
 use Rattle.history.specs.Plays.{taken}
-use Rattle.history.specs.Handles.{caller_in, ask_in}
+use Rattle.history.specs.Handles.{Passed, Announced, caller_in, ask_in, before_in}
 use Rattle.history.proofs.HandOvers.{takes}
 use Rattle.history.proofs.Calls.{withdraws_as}
 use Rattle.history.proofs.Fits.{pass_fits}
@@ -16,7 +17,7 @@ join_seat-requires c =
       at_table,
       ap (λ t. t.table) c.ticket.view_is ∙ c.requires.table.1 ∙ sym c.self.view_is ∙ there,
       ap (λ m. m.1) c.ticket.invariant.0,
-      subst (λ z. 0 < z.words) at_table (pass_fits c.pass.inside.seat _ _ _ c.pass.invariant).0,
+      subst (λ z. 0 < z.words) at_table (pass_fits c.pass.inside.seat _ _ _ _ c.pass.invariant).0,
       takes _ _ _ _,
     )
 
@@ -25,11 +26,14 @@ store-requires c =
     let pass = c.pass.invariant in
     let at_table = ap (λ p. p.table) c.pass.view_is ∙ c.requires.table.0 ∙ sym c.self.view_is ∙ ap (λ t. t.shared.table_id) (sym c.deref.ensures) in
     let k = caller_in c.pass.inside.seat.me.0.role in
-    let a = ask_in c.ticket.inside.seat.me.0.hand in (
+    let hand = c.ticket.inside.seat.me.0.hand in
+    let a = ask_in hand in (
       c.join_seat.ensures.0 ∙ at_table,
-      subst (λ z. c.pass.inside.word < z.words) at_table (pass_fits c.pass.inside.seat _ _ _ pass).1,
-      withdraws_as _ _ _ k a _
-          (c.join_seat.ensures.2 ∙ (λ i. (taken (pass.0 i).0 (c.ticket.invariant.0 i).0, (pass.0 i).1)) ∙ ap (λ f. (alone (Calls k) (Open a f), [])) (ap (λ t. t.doubted) c.ticket.view_is ∙ c.requires.pass.1))
+      subst (λ z. c.pass.inside.word < z.words) at_table (pass_fits c.pass.inside.seat _ _ _ _ pass).1,
+      withdraws_as _ _ _ _ k a (before_in hand) _
+          (c.join_seat.ensures.2 ∙ (λ i. (taken (pass.0 i).0 (c.ticket.invariant.0 i).0, (pass.0 i).1)) ∙ ap (λ f. (alone (Calls k) (Open a f (before_in hand)), [])) (ap (λ t. t.doubted) c.ticket.view_is ∙ c.requires.pass.1))
           (ap (λ n. n + k.pass) pass.2 ∙ pass.3)
-          (ap (λ t. t.ask.pass) c.ticket.view_is ∙ c.requires.pass.0 ∙ ap (λ p. p.caller.pass) (sym c.pass.view_is)),
+          (ap (λ t. t.ask.pass) c.ticket.view_is ∙ c.requires.pass.0 ∙ ap (λ p. p.caller.pass) (sym c.pass.view_is))
+          (subst (λ (z : Passed × Announced). IsFirstNumber z.1.ask.number z.0.caller.pending) (λ i. (sym c.pass.view_is i, sym c.ticket.view_is i)) c.requires.number)
+          (c.word_behind_first-word.ensures ∙ ap (λ p. number_of p.caller.last (behind_first p.caller.pending)) (sym c.pass.view_is)),
     )

@@ -1,5 +1,11 @@
+use Rattle.std.proofs.Common.{List, sym, subst}
+use Rattle.accept.specs.declared.history.Ask.{Ask}
+use Rattle.history.specs.Histories.{HaveSteps}
 use Rattle.ingester.proofs.Keeping.{still_of, receipted, given_back}
 use Rattle.ingester.proofs.opened.Ingester.apply.Goals as goal
+
+pub apply-applied-requires-clause-order : goal.apply-applied-requires-clause-order
+apply-applied-requires-clause-order g c = subst (λ (l : List Ask). HaveSteps l c.take-state.result.0.book.items) (sym c.requires.alone) tt
 
 pub give-requires-clause-value : goal.give-requires-clause-value
 give-requires-clause-value g c =

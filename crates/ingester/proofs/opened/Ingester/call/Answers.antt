@@ -1,5 +1,6 @@
-use Rattle.std.proofs.Common.{◌<◌, sym, ap, ◌∙◌, subst}
+use Rattle.std.proofs.Common.{◌+◌, ◌<◌, sym, ap, ◌∙◌, subst}
 use Rattle.labels.specs.Shards.{shard}
+use Rattle.history.proofs.Lines.{alone_before}
 use Rattle.ingester.proofs.Routing.{routed}
 use Rattle.ingester.proofs.opened.Ingester.call.Goals as goal
 
@@ -10,3 +11,8 @@ apply-requires-clause-shard g c =
           (c.shard_of-shard.ensures.shard ∙ ap (λ k. shard k c.self.inside.count) c.key.ensures),
       subst (λ n. c.shard_of-shard.result < n) (sym shards) c.shard_of-shard.ensures.within,
     )
+
+pub apply-requires-clause-alone : goal.apply-requires-clause-alone
+apply-requires-clause-alone g c =
+    let k = c.args.pass.now.caller in
+    ap (λ t. t.before) c.in_ok-ticket.ensures.ticket ∙ alone_before k (k.last + 1) c.args.call c.requires.pass.idle

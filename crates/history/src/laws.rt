@@ -1,0 +1,50 @@
+//! What several open calls of a pass come to.
+ghost use Rattle.std.specs.Prelude.{◌≡◌, ◌+◌, [], List, true, OnOk};
+ghost use Rattle.accept.specs.declared.history.Ask.{Ask};
+ghost use Rattle.accept.specs.declared.history.Item.{Item};
+ghost use Rattle.accept.specs.declared.call.Reply.TheVariants.{Unavailable};
+ghost use Rattle.accept.specs.Histories.{is_marked};
+ghost use Rattle.history.specs.Histories.{shard_in};
+ghost use Rattle.history.specs.Plays.{ask_of, call_to};
+ghost use Rattle.history.specs.Handles.{refused_by};
+
+use crate::book::{Book, Kept};
+use crate::handles::{Pass, PassSpent};
+use crate::history::History;
+use accept::Call;
+
+/// Two calls to a shard with a failure mark, both open at once: each is refused in its turn, and the pass is as if the
+/// second was made after the first was answered.
+///
+/// # Errors
+///
+/// The pass announces no call, or none after the first, which is then taken back.
+pub fn refuse_both<K: Kept>(
+    history: &History,
+    book: &mut Book,
+    kept: &K,
+    pass: &mut Pass,
+    one: &Call,
+    two: &Call,
+) -> Result<(), PassSpent>
+    requires table { (pass.old.table ≡ history.now) × (book.old.table ≡ history.now) }
+    requires about { book.old.about ≡ pass.old.caller.about }
+    requires idle { pass.old.caller.pending ≡ [] }
+    requires one { shard_in book.old.about (ask_of pass.old.caller (pass.old.caller.last + 1) one.now) ≡ book.old.shard }
+    requires two { shard_in book.old.about (ask_of pass.old.caller (pass.old.caller.last + 1 + 1) two.now) ≡ book.old.shard }
+    requires marked { is_marked book.old.items ≡ true }
+    requires kept { (items : List Item) (doubt : List Ask) → K.kept kept.now (record book.old { items = items }) doubt }
+    ensures pass { OnOk result (pass.new.caller ≡ call_to (call_to pass.old.caller one.now Unavailable (refused_by book.old.items pass.old.caller one.now)) two.now Unavailable book.new.items) }
+    ensures book { OnOk result (book.new ≡ record book.old { items = refused_by (refused_by book.old.items pass.old.caller one.now) (call_to pass.old.caller one.now Unavailable (refused_by book.old.items pass.old.caller one.now)) two.now }) }
+{
+    let first = history.announce(pass, one)?;
+    let Ok(second) = history.announce(pass, two) else {
+        history.withdraw(pass, first);
+        return Err(PassSpent);
+    };
+    let (_, first) = book.refuse(kept, first);
+    let (_, second) = book.refuse(kept, second);
+    history.collect(pass, first);
+    history.collect(pass, second);
+    Ok(())
+}
