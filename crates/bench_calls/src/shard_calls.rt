@@ -1,5 +1,5 @@
 //! How many calls a second one shard answers, by how much its streams hold.
-ghost use Rattle.std.specs.Prelude.{◌≡◌, None, IfOk};
+ghost use Rattle.std.specs.Prelude.{◌≡◌, [], IfOk};
 
 use crate::pushes::{LINE, LINES, has_few_entries, is_stored, push_of, pushes_of};
 use accept::{Call, Image, Limits};
@@ -73,7 +73,7 @@ struct Desk {
     pass: Pass,
     ghost table: { (shard.book.table ≡ history) × (pass.table ≡ history) },
     ghost only: { (shard.book.about.shards ≡ 1) × (shard.book.shard ≡ 0) × (pass.caller.about.shards ≡ 1) },
-    ghost idle: { pass.caller.pending ≡ None },
+    ghost idle: { pass.caller.pending ≡ [] },
 }
 
 impl Desk {

@@ -1,5 +1,5 @@
 //! A shard alone, without an ingester.
-ghost use Rattle.std.specs.Prelude.{◌≡◌, None};
+ghost use Rattle.std.specs.Prelude.{◌≡◌, []};
 ghost use Rattle.accept.specs.Steps.{AreNumbers};
 ghost use Rattle.streams.specs.Changes.{HasFewEntries};
 
@@ -23,7 +23,7 @@ pub struct Alone {
     pass: Pass,
     ghost table: { (shard.book.table ≡ history) × (pass.table ≡ history) },
     ghost only: { (shard.book.about.shards ≡ 1) × (shard.book.shard ≡ 0) × (pass.caller.about.shards ≡ 1) },
-    ghost idle: { pass.caller.pending ≡ None },
+    ghost idle: { pass.caller.pending ≡ [] },
 }
 
 impl Alone {
