@@ -12,8 +12,6 @@ mod gate;
 mod images;
 mod memory;
 mod plan;
-#[cfg(test)]
-mod tests;
 
 pub use device::{DeviceFault, Disk};
 pub use file::{FileDisk, FileFault, LockedFile};

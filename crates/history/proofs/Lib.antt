@@ -13,4 +13,3 @@ pub mod Fits
 pub mod Tickets
 pub mod Meeting
 pub mod Lines
-pub mod Trial

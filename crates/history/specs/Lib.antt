@@ -3,4 +3,3 @@ pub mod Histories
 pub mod Rule
 pub mod Plays
 pub mod Handles
-pub mod Trial

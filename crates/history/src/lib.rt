@@ -15,5 +15,3 @@ pub use history::History;
 pub use laws::refuse_both;
 pub use views::{About, Caller};
 
-#[cfg(test)]
-mod tests;

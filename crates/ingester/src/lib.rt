@@ -10,8 +10,6 @@ mod opened;
 mod opening;
 mod places;
 mod refusal;
-#[cfg(test)]
-mod tests;
 
 pub use closing::Closed;
 pub use fault::CallFault;

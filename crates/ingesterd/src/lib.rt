@@ -10,8 +10,6 @@ mod server;
 mod serving;
 mod slots;
 mod stopped;
-#[cfg(test)]
-mod tests;
 
 pub use clock::SystemClock;
 pub use ctl::run_ctl;

@@ -6,6 +6,3 @@ mod rule;
 
 pub use locks::{Grip, Locks};
 pub use rule::{Fits, Hold, Under};
-
-#[cfg(test)]
-mod tests;

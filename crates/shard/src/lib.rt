@@ -8,8 +8,6 @@ mod keeping;
 mod parts;
 mod ready;
 mod shard;
-#[cfg(test)]
-mod tests;
 mod writing;
 
 pub use fault::ApplyFault;

@@ -1,4 +1,0 @@
-use Rattle.history.proofs.tests.two_threads_meet.Given as goal
-
-abbrev pub ghosts-both_call : goal.ghosts-both_call
-ghosts-both_call g a = record { table = a.history }
