@@ -42,9 +42,9 @@ pub fn refuse_both<K: Kept>(
         history.withdraw(pass, first);
         return Err(PassSpent);
     };
-    let (_, first) = book.refuse(kept, first);
-    let (_, second) = book.refuse(kept, second);
-    history.collect(pass, first);
-    history.collect(pass, second);
+    let (_, answer_one) = book.refuse(kept, first);
+    let (_, answer_two) = book.refuse(kept, second);
+    history.collect(pass, answer_one);
+    history.collect(pass, answer_two);
     Ok(())
 }
