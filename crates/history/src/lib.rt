@@ -14,4 +14,3 @@ pub use handles::{Pass, PassSpent, Receipt, Ticket};
 pub use history::History;
 pub use laws::refuse_both;
 pub use views::{About, Caller};
-
