@@ -3,9 +3,9 @@
 
 mod case;
 mod ended;
+mod pipes;
 mod repeats;
 mod running;
-mod streams;
 mod wording;
 
 use crate::case::take_row;

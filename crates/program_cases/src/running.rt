@@ -1,7 +1,7 @@
 //! The programs.
 
 use crate::ended::Ended;
-use crate::streams::{Sink, Source};
+use crate::pipes::{Sink, Source};
 use ingesterd::{run_ctl, run_ingest1, run_server};
 use listing::run_walcat;
 use std::alloc::Global;

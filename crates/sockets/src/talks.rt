@@ -278,50 +278,34 @@ fn gate_two_connections(rt: HostRuntime) -> Result<(), Fail> {
 fn clients_are_answered(rt: HostRuntime) -> Result<(), Fail> {
     let alloc = rt.alloc();
     let (lost, push, read) = (push(alloc, LOST)?, push(alloc, SAMPLE)?, read(alloc)?);
+    let texts = [push.as_str(), push.as_str(), read.as_str()];
+    let (slots, listener) = (slots_of_one(alloc)?, listen(&rt)?);
+    let told = talk_and_serve(&rt, alloc, slots, 2, 3, &listener, Talk::Ask(&texts))?;
+    let wanted = format!(in alloc; "{NO_CONTENT}{NO_CONTENT}{X_ALONE}")?;
+    assert_eq!(rt; told, wanted, "the sample and its repeat");
+
     let then = format!(in alloc; "{push}{read}")?;
-    let (push, read, then) = (push.as_str(), read.as_str(), then.as_str());
-    let cut = lost.as_str().strip_suffix("}").ok_or("no body")?;
-    let texts = [push, push, read];
-    for (name, workers, connections, talk, wanted) in [
-        (
-            "the sample and its repeat",
-            2,
-            3,
-            Talk::Ask(&texts),
-            [NO_CONTENT, NO_CONTENT, X_ALONE],
-        ),
-        (
-            "a client leaves inside a body",
-            1,
-            2,
-            Talk::Leave { cut, then },
-            [NO_CONTENT, X_ALONE, ""],
-        ),
-        (
-            "failed accepts are not counted",
-            1,
-            1,
-            Talk::Insist(push),
-            [NO_CONTENT, "", ""],
-        ),
-    ] {
-        let (slots, listener) = (slots_of_one(alloc)?, listen(&rt)?);
-        // Accepting fails while the one client, which insists, is not there yet.
-        listener.set_nonblocking(connections == 1)?;
-        let workers: u32 = workers;
-        let told = talk_and_serve(
-            &rt,
-            alloc,
-            slots,
-            workers.min(64),
-            connections,
-            &listener,
-            talk,
-        )?;
-        let [first, second, third] = wanted;
-        let wanted = format!(in alloc; "{first}{second}{third}")?;
-        assert_eq!(rt; told, wanted, "{name}");
-    }
+    let talk = Talk::Leave {
+        cut: lost.as_str().strip_suffix("}").ok_or("no body")?,
+        then: then.as_str(),
+    };
+    let (slots, listener) = (slots_of_one(alloc)?, listen(&rt)?);
+    let told = talk_and_serve(&rt, alloc, slots, 1, 2, &listener, talk)?;
+    let wanted = format!(in alloc; "{NO_CONTENT}{X_ALONE}")?;
+    assert_eq!(rt; told, wanted, "a client leaves inside a body");
+    Ok(())
+}
+
+#[test]
+fn failed_accepts_are_not_counted(rt: HostRuntime) -> Result<(), Fail> {
+    let alloc = rt.alloc();
+    let push = push(alloc, SAMPLE)?;
+    let (slots, listener) = (slots_of_one(alloc)?, listen(&rt)?);
+    // It fails while no client waits.
+    listener.set_nonblocking(true)?;
+    let talk = Talk::Insist(push.as_str());
+    let told = talk_and_serve(&rt, alloc, slots, 1, 1, &listener, talk)?;
+    assert_eq!(rt; told.as_str(), NO_CONTENT);
     Ok(())
 }
 
