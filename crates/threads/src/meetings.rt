@@ -1,12 +1,12 @@
 //! Passes over the history of one shard: two threads that meet, calls in doubt, and calls that are withdrawn.
-ghost use Rattle.std.specs.Prelude.{◌≡◌, ◌+◌, ◌<◌, ℕ, List, [], ◌∷◌, length, false, None, IfSome, IfOk};
+ghost use Rattle.std.specs.Prelude.{◌≡◌, ◌+◌, ◌<◌, ℕ, List, [], ◌∷◌, length, false, IfSome, IfOk};
 ghost use Rattle.accept.specs.Histories.{is_marked};
 ghost use Rattle.accept.specs.declared.call.Reply.TheVariants.{Entries};
 ghost use Rattle.history.specs.Histories.{shard_in, step_of};
 ghost use Rattle.threads.specs.Reads.{ReadsNothing};
 
 use accept::{Call, EntryList, Image, Limits, Reply};
-use history::{Book, History, Kept, Pass, Receipt, Ticket};
+use history::{Book, History, Kept, Pass, PassSpent, Receipt, Ticket};
 use labels::{LabelPairs, LabelSet, StreamKey, Tenant};
 use std::alloc::Global;
 use std::marker::{Brand, Model, PhantomData};
@@ -17,7 +17,7 @@ use std::test::*;
 use std::thread::{Threads, join};
 
 /// A shard with no disk.
-struct Memory;
+pub(crate) struct Memory;
 
 impl Kept for Memory {
     ghost use Rattle.std.specs.Prelude.{⊤};
@@ -59,6 +59,7 @@ impl<J: Room> Model for Desk<J> {
 impl<J: Room> Desk<J> {
     fn answer(&mut self, ticket: Ticket, reply: Reply) -> Receipt
         requires ticket { (ticket.table ≡ J.table) × ReadsNothing ticket.ask.call }
+        requires alone { ticket.before ≡ [] }
         requires reply { reply ≡ Entries [] }
         ensures receipt { (result.table ≡ J.table) × (result.step ≡ step_of ticket.ask reply) }
     {
@@ -67,13 +68,13 @@ impl<J: Room> Desk<J> {
     }
 }
 
-/// A read of no time.
-fn read_of_nothing(alloc: Global) -> Option<Call>
+/// A read of no time, of the stream with this value of its one label.
+pub(crate) fn read_of(alloc: Global, value: &str) -> Option<Call>
     ensures { IfSome result ReadsNothing }
 {
     let mut pairs = Vec::new(alloc);
     pairs
-        .push(("a".to_string(alloc).ok()?, "1".to_string(alloc).ok()?))
+        .push(("a".to_string(alloc).ok()?, value.to_string(alloc).ok()?))
         .ok()?;
     let key = StreamKey {
         tenant: Tenant::new(alloc, "t").ok()?,
@@ -89,8 +90,8 @@ fn read_of_nothing(alloc: Global) -> Option<Call>
 /// The history of one shard, its book, and two passes.
 fn open(alloc: Global) -> Result<(History, Book, Pass, Pass), Fail>
     ensures book { IfOk result (λ it. (it.1.table ≡ it.0) × (it.1.about.shards ≡ 1) × (it.1.shard ≡ 0) × (it.1.items ≡ [])) }
-    ensures one { IfOk result (λ it. (it.2.table ≡ it.0) × (it.2.caller.about.shards ≡ 1) × (it.2.caller.pending ≡ None) × (it.2.caller.last ≡ 0)) }
-    ensures two { IfOk result (λ it. (it.3.table ≡ it.0) × (it.3.caller.about.shards ≡ 1) × (it.3.caller.pending ≡ None) × (it.3.caller.last ≡ 0)) }
+    ensures one { IfOk result (λ it. (it.2.table ≡ it.0) × (it.2.caller.about.shards ≡ 1) × (it.2.caller.pending ≡ []) × (it.2.caller.last ≡ 0)) }
+    ensures two { IfOk result (λ it. (it.3.table ≡ it.0) × (it.3.caller.about.shards ≡ 1) × (it.3.caller.pending ≡ []) × (it.3.caller.last ≡ 0)) }
 {
     let bases = vec![in alloc; Image::new(alloc)]?;
     let (history, mut books, mut passes) = History::new(alloc, &bases, 2, Limits::PROFILE, 4_096)?;
@@ -107,17 +108,26 @@ fn call<J: Room>(
     history: &History,
     desk: &Mutex<Desk<J>>,
     pass: &mut Pass,
+    read: &Call,
 ) -> Option<()>
     requires history { history.now ≡ J.table }
-    requires pass { (pass.old.table ≡ J.table) × (pass.old.caller.about.shards ≡ 1) × (pass.old.caller.pending ≡ None) }
-    ensures pass { (pass.new.table ≡ J.table) × (pass.new.caller.about.shards ≡ 1) × (pass.new.caller.pending ≡ None) }
+    requires read { ReadsNothing read.now }
+    requires table { pass.old.table ≡ J.table }
+    requires idle { pass.old.caller.pending ≡ [] }
+    ensures table { pass.new.table ≡ J.table }
+    ensures about { pass.new.caller.about ≡ pass.old.caller.about }
+    ensures idle { pass.new.caller.pending ≡ [] }
     ensures number { IfSome result (λ _. pass.new.caller.last ≡ pass.old.caller.last + 1) }
 {
-    let ticket = history.announce(pass, &read_of_nothing(alloc)?).ok()?;
-    let reply = Reply::Entries(EntryList::new(Vec::new(alloc)));
-    let receipt = desk.lock(rt).answer(ticket, reply);
-    history.collect(pass, receipt);
-    Some(())
+    match history.announce(pass, read) {
+        Ok(ticket) => {
+            let reply = Reply::Entries(EntryList::new(Vec::new(alloc)));
+            let receipt = desk.lock(rt).answer(ticket, reply);
+            history.collect(pass, receipt);
+            Some(())
+        }
+        Err(_) => None,
+    }
 }
 
 // A hundred calls.
@@ -129,12 +139,14 @@ fn calls<J: Room>(
     mut pass: Pass,
 ) -> Option<Pass>
     requires history { history.now ≡ J.table }
-    requires pass { (pass.table ≡ J.table) × (pass.caller.about.shards ≡ 1) × (pass.caller.pending ≡ None) × (pass.caller.last ≡ 0) }
-    ensures pass { IfSome result (λ p. (p.table ≡ J.table) × (p.caller.about.shards ≡ 1) × (p.caller.pending ≡ None)) }
+    requires pass { (pass.table ≡ J.table) × (pass.caller.about.shards ≡ 1) × (pass.caller.pending ≡ []) × (pass.caller.last ≡ 0) }
+    ensures pass { IfSome result (λ p. (p.table ≡ J.table) × (p.caller.about.shards ≡ 1) × (p.caller.pending ≡ [])) }
     ensures number { IfSome result (λ p. p.caller.last ≡ 100) }
 {
+    let read = read_of(alloc, "1")?;
+    let read = &read;
     for made in 0..100u64 {
-        call(rt, alloc, history, desk, &mut pass)?;
+        call(rt, alloc, history, desk, &mut pass, read)?;
         let _ = made;
     }
     Some(pass)
@@ -150,8 +162,8 @@ fn both_call<J: Room + Send + Sync, R: Threads + Wait + Abort + Sync>(
 ) -> Result<(), Fail>
     requires history { history ≡ J.table }
     requires book { (book.table ≡ J.table) × (book.about.shards ≡ 1) × (book.shard ≡ 0) × (book.items ≡ []) }
-    requires one { (one.table ≡ J.table) × (one.caller.about.shards ≡ 1) × (one.caller.pending ≡ None) × (one.caller.last ≡ 0) }
-    requires two { (two.table ≡ J.table) × (two.caller.about.shards ≡ 1) × (two.caller.pending ≡ None) × (two.caller.last ≡ 0) }
+    requires one { (one.table ≡ J.table) × (one.caller.about.shards ≡ 1) × (one.caller.pending ≡ []) × (one.caller.last ≡ 0) }
+    requires two { (two.table ≡ J.table) × (two.caller.about.shards ≡ 1) × (two.caller.pending ≡ []) × (two.caller.last ≡ 0) }
 {
     let desk = Mutex::new(Desk::<J> {
         book,
@@ -161,11 +173,11 @@ fn both_call<J: Room + Send + Sync, R: Threads + Wait + Abort + Sync>(
     let (one, two) = join(
         rt,
         move || -> Option<Pass>
-            requires { (history.now ≡ J.table) × (one.table ≡ J.table) × (one.caller.about.shards ≡ 1) × (one.caller.pending ≡ None) × (one.caller.last ≡ 0) }
+            requires { (history.now ≡ J.table) × (one.table ≡ J.table) × (one.caller.about.shards ≡ 1) × (one.caller.pending ≡ []) × (one.caller.last ≡ 0) }
             ensures { IfSome result (λ p. (p.table ≡ J.table) × (p.caller.about.shards ≡ 1)) }
         { calls(rt, alloc, history, desk, one) },
         move || -> Option<Pass>
-            requires { (history.now ≡ J.table) × (two.table ≡ J.table) × (two.caller.about.shards ≡ 1) × (two.caller.pending ≡ None) × (two.caller.last ≡ 0) }
+            requires { (history.now ≡ J.table) × (two.table ≡ J.table) × (two.caller.about.shards ≡ 1) × (two.caller.pending ≡ []) × (two.caller.last ≡ 0) }
             ensures { IfSome result (λ p. (p.table ≡ J.table) × (p.caller.about.shards ≡ 1)) }
         { calls(rt, alloc, history, desk, two) },
     );
@@ -183,19 +195,50 @@ fn two_threads_meet(rt: HostRuntime) -> Result<(), Fail> {
     both_call::<Brand, HostRuntime>(&rt, rt.alloc(), history, book, one, two)
 }
 
+// Marks a shard while a call is open, and refuses the call.
+fn mark_and_refuse(
+    history: &History,
+    book: &mut Book,
+    pass: &mut Pass,
+    call: &Call,
+) -> Result<Reply, PassSpent>
+    requires table { (book.old.table ≡ history.now) × (pass.old.table ≡ history.now) }
+    requires book { (book.old.about.shards ≡ 1) × (book.old.shard ≡ 0) × (book.old.items ≡ []) }
+    requires idle { pass.old.caller.pending ≡ [] }
+    ensures book { book.new.table ≡ history.now }
+    ensures pass { pass.new.table ≡ history.now }
+    ensures about { pass.new.caller.about ≡ pass.old.caller.about }
+{
+    let mut ticket = history.announce(pass, call)?;
+    book.mark(&Memory, slice::from_mut(&mut ticket));
+    let (reply, receipt) = book.refuse(&Memory, ticket);
+    history.collect(pass, receipt);
+    Ok(reply)
+}
+
 #[test]
 fn marked_shard_is_unavailable(rt: HostRuntime) -> Result<(), Fail> {
     let (history, mut book, mut pass, _) = open(rt.alloc())?;
-    let read = read_of_nothing(rt.alloc()).ok_or("a call")?;
-    let mut ticket = history.announce(&mut pass, &read)?;
-    book.mark(&Memory, slice::from_mut(&mut ticket));
-    let (reply, receipt) = book.refuse(&Memory, ticket);
+    let read = read_of(rt.alloc(), "1").ok_or("a call")?;
+    let reply = mark_and_refuse(&history, &mut book, &mut pass, &read)?;
     assert!(rt; matches!(reply, Reply::Unavailable));
-    history.collect(&mut pass, receipt);
     book.settle(&mut pass);
     assert_eq!(rt; history.observe(&mut pass, 0), 2);
     pass.close();
     assert!(rt; pass.is_closed());
+    Ok(())
+}
+
+// Announces a call, and takes it back.
+fn announce_and_withdraw(history: &History, pass: &mut Pass, call: &Call) -> Result<(), PassSpent>
+    requires table { pass.old.table ≡ history.now }
+    requires idle { pass.old.caller.pending ≡ [] }
+    ensures table { pass.new.table ≡ history.now }
+    ensures about { pass.new.caller.about ≡ pass.old.caller.about }
+    ensures idle { pass.new.caller.pending ≡ [] }
+{
+    let ticket = history.announce(pass, call)?;
+    history.withdraw(pass, ticket);
     Ok(())
 }
 
@@ -206,12 +249,10 @@ fn announced_call_is_withdrawn(rt: HostRuntime) -> Result<(), Fail> {
     let (history, books, mut passes) = History::new(alloc, &bases, 3, Limits::PROFILE, 4_096)?;
     assert_eq!(rt; (books.len(), passes.len()), (2, 3));
     let mut pass = passes.pop().ok_or("a pass")?;
-    let read = read_of_nothing(alloc).ok_or("a call")?;
-    let first = history.announce(&mut pass, &read)?;
-    history.withdraw(&mut pass, first);
+    let read = read_of(alloc, "1").ok_or("a call")?;
+    announce_and_withdraw(&history, &mut pass, &read)?;
     assert!(rt; !pass.is_closed());
-    let second = history.announce(&mut pass, &read)?;
-    history.withdraw(&mut pass, second);
+    announce_and_withdraw(&history, &mut pass, &read)?;
     assert_eq!(rt; history.observe(&mut pass, 1), 0);
     pass.close();
     assert!(rt; history.announce(&mut pass, &read).is_err());

@@ -3,6 +3,7 @@ ghost use Rattle.std.specs.Prelude.{◌≡◌, ◌<◌, ◌≤◌, ℕ, IsTrue, 
 ghost use Rattle.streams.specs.Changes.{HasFewEntries};
 ghost use Rattle.history.specs.Handles.{Passed};
 ghost use Rattle.ingester.specs.Calls.{IsPassOf};
+ghost use Rattle.threads.specs.Looks.{CanLook};
 
 use accept::{Call, Entry, EntryList, Limits, Line, Outcome, Reply};
 use disk::{Gate, GateDisk, MemDisk};
@@ -26,21 +27,21 @@ const NOW: u64 = 7_200_000_000_000;
 
 /// Pushes of one entry each to the stream `{a=VALUE}`, at rising times. Each line is the label's value.
 #[derive(Clone, Copy)]
-struct Pushes<'a> {
-    value: &'a str,
+struct Pushes {
+    value: &'static str,
     first: u64,
     count: u64,
 }
 
 /// A push to shard 0, where there are two.
-const HELD: Pushes<'static> = Pushes {
+const HELD: Pushes = Pushes {
     value: "1",
     first: 10,
     count: 1,
 };
 
 /// A push to shard 1, where there are two.
-const FREE: Pushes<'static> = Pushes {
+const FREE: Pushes = Pushes {
     value: "2",
     first: 11,
     count: 1,
@@ -53,7 +54,7 @@ struct Caller<'a, R> {
     alloc: Global,
     ingester: &'a Ingester<Slot>,
     pass: Pass,
-    pushes: Pushes<'a>,
+    pushes: Pushes,
 }
 
 /// The key of `{a=VALUE}` for the tenant `t`.
@@ -123,6 +124,22 @@ fn last_of(ingester: &Ingester<Slot>, passes: &mut Vec<Pass>) -> Result<Pass, Fa
     }
 }
 
+/// Opens these slots with three passes.
+fn open_three(
+    alloc: Global,
+    slots: Vec<[Slot; 2]>,
+) -> Result<(Ingester<Slot>, Pass, Pass, Pass), Fail>
+    requires { (0 < vec_len slots) × (vec_len slots ≤ 64) }
+    ensures passes { IfOk result (λ it. IsPassOf it.0 it.1 × IsPassOf it.0 it.2 × IsPassOf it.0 it.3) }
+    ensures shards { IfOk result (λ it. it.0.about.shards ≡ vec_len slots) }
+{
+    let (ingester, mut passes) = open(alloc, slots, 3)?;
+    let three = last_of(&ingester, &mut passes)?;
+    let two = last_of(&ingester, &mut passes)?;
+    let one = last_of(&ingester, &mut passes)?;
+    Ok((ingester, one, two, three))
+}
+
 fn has_few_entries(call: &Call) -> bool
     ensures { IsTrue result → HasFewEntries call.now }
 {
@@ -181,7 +198,7 @@ fn push_all<R: Wait>(
     alloc: Global,
     ingester: &Ingester<Slot>,
     mut pass: Pass,
-    pushes: Pushes<'_>,
+    pushes: Pushes,
 ) -> Option<Pass>
     requires { IsPassOf ingester.now pass }
     ensures { IfSome result (IsPassOf ingester.now) }
@@ -215,10 +232,9 @@ fn act_and_look<R: Wait + Clock>(
     alloc: Global,
     ingester: &Ingester<Slot>,
     pass: Pass,
-    pushes: Option<Pushes<'_>>,
+    pushes: Option<Pushes>,
 ) -> Option<(Pass, u64)>
-    requires pass { IsPassOf ingester.now pass }
-    requires shards { 0 < ingester.now.about.shards }
+    requires { CanLook ingester.now pass }
     ensures { IfSome result (λ it. IsPassOf ingester.now it.0) }
 {
     let mut pass = match pushes {
@@ -232,7 +248,24 @@ fn act_and_look<R: Wait + Clock>(
     Some((pass, seen))
 }
 
-/// One pass makes the first pushes in a thread of its own. Meanwhile the other makes the second, or waits for a while, looks at
+/// The same, and then opens the gate.
+fn act_and_open<R: Wait + Clock>(
+    rt: &R,
+    alloc: Global,
+    gate: &Gate,
+    ingester: &Ingester<Slot>,
+    pass: Pass,
+    pushes: Option<Pushes>,
+) -> Option<(Pass, u64)>
+    requires { CanLook ingester.now pass }
+    ensures { IfSome result (λ it. IsPassOf ingester.now it.0) }
+{
+    let looked = act_and_look(rt, alloc, ingester, pass, pushes);
+    gate.open();
+    looked
+}
+
+/// One pass makes pushes in a thread of its own. Meanwhile the other makes pushes too, or waits for a while, looks at
 /// shard 0, and opens the gate: the other pass, and the number of steps that it saw.
 fn push_together<R: Threads + Wait + Clock + Sync>(
     rt: &R,
@@ -240,13 +273,12 @@ fn push_together<R: Threads + Wait + Clock + Sync>(
     gate: &Gate,
     ingester: &Ingester<Slot>,
     one: Pass,
-    first: Pushes<'_>,
+    pushes: Pushes,
     two: Pass,
-    second: Option<Pushes<'_>>,
+    meanwhile: Option<Pushes>,
 ) -> Result<(Pass, u64), Fail>
     requires one { IsPassOf ingester.now one }
-    requires two { IsPassOf ingester.now two }
-    requires shards { 0 < ingester.now.about.shards }
+    requires two { CanLook ingester.now two }
     ensures { IfOk result (λ it. IsPassOf ingester.now it.0) }
 {
     let one = Caller {
@@ -254,7 +286,7 @@ fn push_together<R: Threads + Wait + Clock + Sync>(
         alloc,
         ingester,
         pass: one,
-        pushes: first,
+        pushes,
     };
     let (one, two) = join(
         rt,
@@ -262,19 +294,17 @@ fn push_together<R: Threads + Wait + Clock + Sync>(
             requires { IsPassOf one.ingester.now one.pass }
         { push_all_there(one) },
         move || -> Option<(Pass, u64)>
-            requires pass { IsPassOf ingester.now two }
-            requires shards { 0 < ingester.now.about.shards }
+            requires { CanLook ingester.now two }
             ensures { IfSome result (λ it. IsPassOf ingester.entry.now it.0) }
-        {
-            let looked = act_and_look(rt, alloc, ingester, two, second);
-            gate.open();
-            looked
-        },
+        { act_and_open(rt, alloc, gate, ingester, two, meanwhile) },
     );
     if !one {
         return Err(Fail::from("the first thread's pushes"));
     }
-    Ok(two.ok_or("the second thread's pushes")?)
+    let Some(looked) = two else {
+        return Err(Fail::from("the second thread's pushes"));
+    };
+    Ok(looked)
 }
 
 /// What a read of all times gives, where it has entries: each a time and a line.
@@ -300,7 +330,7 @@ fn read<R: Wait>(
 }
 
 /// Whether these are the entries of these pushes.
-fn are_of(entries: Option<EntryList>, pushes: Pushes<'_>) -> bool {
+fn are_of(entries: Option<EntryList>, pushes: Pushes) -> bool {
     let Some(entries) = entries else {
         return false;
     };
@@ -326,10 +356,7 @@ fn lengths(ingester: &Ingester<Slot>, pass: &mut Pass) -> (u64, u64)
 fn gate_two_shards(rt: HostRuntime) -> Result<(), Fail> {
     let alloc = rt.alloc();
     let gate = Gate::new(alloc)?;
-    let (ingester, mut passes) = open(alloc, slots_of_two(alloc, &gate)?, 3)?;
-    let mut three = last_of(&ingester, &mut passes)?;
-    let two = last_of(&ingester, &mut passes)?;
-    let one = last_of(&ingester, &mut passes)?;
+    let (ingester, one, two, mut three) = open_three(alloc, slots_of_two(alloc, &gate)?)?;
     gate.close();
     let (mut two, seen) = push_together(&rt, alloc, &gate, &ingester, one, HELD, two, Some(FREE))?;
     assert_eq!(rt; seen, 0);
@@ -347,9 +374,7 @@ fn gate_two_shards(rt: HostRuntime) -> Result<(), Fail> {
 fn gate_look_while_held(rt: HostRuntime) -> Result<(), Fail> {
     let alloc = rt.alloc();
     let gate = Gate::new(alloc)?;
-    let (ingester, mut passes) = open(alloc, slots_of_two(alloc, &gate)?, 2)?;
-    let two = last_of(&ingester, &mut passes)?;
-    let one = last_of(&ingester, &mut passes)?;
+    let (ingester, one, two, _) = open_three(alloc, slots_of_two(alloc, &gate)?)?;
     gate.close();
     let (mut two, seen) = push_together(&rt, alloc, &gate, &ingester, one, HELD, two, None)?;
     assert_eq!(rt; (seen, ingester.look(&mut two, 0)), (0, 1));
@@ -360,9 +385,7 @@ fn gate_look_while_held(rt: HostRuntime) -> Result<(), Fail> {
 fn two_threads_push_to_one_stream(rt: HostRuntime) -> Result<(), Fail> {
     let alloc = rt.alloc();
     let free = Gate::new(alloc)?;
-    let (ingester, mut passes) = open(alloc, slots_of_one(alloc)?, 2)?;
-    let two = last_of(&ingester, &mut passes)?;
-    let one = last_of(&ingester, &mut passes)?;
+    let (ingester, one, two, _) = open_three(alloc, slots_of_one(alloc)?)?;
     let first = Pushes {
         value: "1",
         first: 1_000,
