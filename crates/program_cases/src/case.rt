@@ -18,8 +18,8 @@ use std::thread::Threads;
 /// The folder that a row's files stand in.
 const FOLDER: &str = "row";
 
-/// The example of the log: a segment of generation 1 of the only shard, of a state with the entry 10 x of `{a="1"}` for the
-/// tenant `t`, and an append of 11 y.
+/// The example of the log: a segment of generation 1 of the only shard, of a state with the entry 10 x of `{a="1"}`
+/// for the tenant `t`, and an append of 11 y.
 const EXAMPLE: [u8; 117] = *b"\x01LWL1\x01\0\0\0\0\0\0\0\0\0\0\0\x01\0\0\0\x01\x35\0\0\0\
 \x03\x01\0t\x07\0\0\0{a=\"1\"}\x0a\0\0\0\0\0\0\0\
 \x0a\0\0\0\0\0\0\0\x01\0\0\0x\x01\0\0\0\
@@ -193,7 +193,8 @@ impl Case {
         run(rt, self.alloc, program, &words, &self.input, self.limits).say(said)
     }
 
-    /// Runs a program once for each place of a stream, from the first up to the last, where that stream fails: how it ends.
+    /// Runs a program once for each place of a stream, from the first up to the last, where that stream fails: how it
+    /// ends.
     fn take_each<R>(&self, rt: &R, line: &str, said: &mut String) -> Result<()>
     where
         R: Files<File = File> + Net<Listener = TcpListener, Stream = TcpStream>,

@@ -23,8 +23,8 @@ impl Ended {
         say_lines("err", &self.errors, said)
     }
 
-    /// Says the same, where standard output has room for so many bytes. In place of what fits, that it is the beginning of
-    /// what is written to enough room.
+    /// Says the same, where standard output has room for so many bytes. In place of what fits, that it is the beginning
+    /// of what is written to enough room.
     pub fn say_cut(&self, room: usize, whole: &Ended, said: &mut String) -> Result<()> {
         let (taken, all) = (self.output.as_slice(), whole.output.as_slice());
         if taken.len() != room || taken.len() >= all.len() || !all.starts_with(taken) {

@@ -67,8 +67,8 @@ enum Talk<'a> {
         cut: &'a str,
         then: &'a str,
     },
-    /// Sends the one while the gate is closed, asks the other over another connection, and opens the gate before it waits for
-    /// the first answer.
+    /// Sends the one while the gate is closed, asks the other over another connection, and opens the gate before it
+    /// waits for the first answer.
     Hold {
         held: &'a str,
         then: &'a str,
