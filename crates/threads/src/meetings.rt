@@ -95,9 +95,9 @@ fn open(alloc: Global) -> Result<(History, Book, Pass, Pass), Fail>
 {
     let bases = vec![in alloc; Image::new(alloc)]?;
     let (history, mut books, mut passes) = History::new(alloc, &bases, 2, Limits::PROFILE, 4_096)?;
-    let book = books.pop().ok_or("a book")?;
-    let two = passes.pop().ok_or("a second pass")?;
-    let one = passes.pop().ok_or("a first pass")?;
+    let (Some(book), Some(two), Some(one)) = (books.pop(), passes.pop(), passes.pop()) else {
+        return Err("an opening of one shard with two passes".into());
+    };
     Ok((history, book, one, two))
 }
 
