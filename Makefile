@@ -1,12 +1,15 @@
 # rt is the command of the Rattle toolchain.
 RT ?= rt
+# the server's shards, which stay the same for a folder, and how many connections it serves at a time
+SHARDS ?= 16
+WORKERS ?= 64
 
 .PHONY: run demo sample test edits faults check fmt bench kill
 
 # the main job: the server, with its log in the folder data
 run:
 	@RT='$(RT)' tests/build server
-	@exec crates/server/out/server "$(CURDIR)/data" 3100 4 8
+	@exec crates/server/out/server "$(CURDIR)/data" 3100 $(SHARDS) $(WORKERS)
 
 # pushes a line to the server, and reads it back
 demo:
