@@ -4,7 +4,7 @@ RT ?= rt
 SHARDS ?= 16
 WORKERS ?= 64
 
-.PHONY: run demo sample test edits faults check fmt bench kill
+.PHONY: run demo sample test edits faults check fmt bench kill deb deb-check
 
 # the main job: the server, with its log in the folder data
 run:
@@ -19,6 +19,16 @@ demo:
 kill:
 	@RT='$(RT)' tests/build server
 	@tests/kill_in_the_middle
+
+# the Debian package of the programs, in deploy/out
+deb:
+	@RT='$(RT)' tests/build server ingestctl ingest1 walcat
+	@deploy/deb
+
+# the package installed into a fresh folder, used there, and removed (as root)
+deb-check:
+	@RT='$(RT)' tests/build server ingestctl ingest1 walcat
+	@tests/deb_check "$$(deploy/deb)"
 
 # one push body, judged on an empty shard in memory and read back
 sample:
