@@ -4,7 +4,7 @@ RT ?= rt
 SHARDS ?= 16
 WORKERS ?= 64
 
-.PHONY: run demo sample test edits faults check fmt bench kill deb deb-check
+.PHONY: run demo sample test edits faults check fmt bench kill deb deb-check edge-check
 
 # the main job: the server, with its log in the folder data
 run:
@@ -29,6 +29,11 @@ deb:
 deb-check:
 	@RT='$(RT)' tests/build server ingestctl ingest1 walcat
 	@tests/deb_check "$$(deploy/deb)"
+
+# deploy/nginx.conf in nginx before two servers: slow clients, a killed server, sizes, lies
+edge-check:
+	@RT='$(RT)' tests/build server
+	@tests/edge_check
 
 # one push body, judged on an empty shard in memory and read back
 sample:
