@@ -4,7 +4,7 @@ RT ?= rt
 SHARDS ?= 16
 WORKERS ?= 64
 
-.PHONY: run demo sample test edits faults check fmt bench kill deb deb-check edge-check
+.PHONY: run demo sample test edits faults check fmt bench kill deb deb-check edge-check pictures
 
 # the main job: the server, with its log in the folder data
 run:
@@ -34,6 +34,11 @@ deb-check:
 edge-check:
 	@RT='$(RT)' tests/build server
 	@tests/edge_check
+
+# the pictures of docs/pictures, by Graphviz
+pictures:
+	@dot -Tsvg -o docs/pictures/push.svg docs/pictures/push.dot
+	@docs/pictures/slots.py | dot -Tsvg -o docs/pictures/slots.svg
 
 # one push body, judged on an empty shard in memory and read back
 sample:
