@@ -4,7 +4,7 @@ RT ?= rt
 SHARDS ?= 16
 WORKERS ?= 64
 
-.PHONY: run demo sample test edits faults check fmt bench kill deb deb-check edge-check pictures
+.PHONY: run demo sample test edits faults check fmt bench kill deb deb-check edge-check drain-check pictures
 
 # the main job: the server, with its log in the folder data
 run:
@@ -34,6 +34,11 @@ deb-check:
 edge-check:
 	@RT='$(RT)' tests/build server
 	@tests/edge_check
+
+# deploy/drain over a server under load, killed ten times
+drain-check:
+	@RT='$(RT)' tests/build server walcat
+	@tests/drain_check
 
 # the pictures of docs/pictures, by Graphviz
 pictures:
