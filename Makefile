@@ -1,11 +1,15 @@
 # rt is the command of the Rattle toolchain.
 RT ?= rt
+# the server's shards, which stay the same for a folder, and how many connections it serves at a time
+SHARDS ?= 16
+WORKERS ?= 64
 
-.PHONY: run demo sample test edits faults check fmt bench kill
+.PHONY: run demo sample test edits faults check fmt bench kill deb deb-check edge-check drain-check pictures
 
 # the main job: the server, with its log in the folder data
 run:
-	@cd crates/server && $(RT) run -- "$(CURDIR)/data" 3100 4 8
+	@RT='$(RT)' tests/build server
+	@exec crates/server/out/server "$(CURDIR)/data" 3100 $(SHARDS) $(WORKERS)
 
 # pushes a line to the server, and reads it back
 demo:
@@ -13,12 +17,38 @@ demo:
 
 # kills a server in the middle of pushes, and reads back what it answered
 kill:
-	@cd crates/server && $(RT) run > /dev/null 2>&1 || true
+	@RT='$(RT)' tests/build server
 	@tests/kill_in_the_middle
+
+# the Debian package of the programs, in deploy/out
+deb:
+	@RT='$(RT)' tests/build server ingestctl ingest1 walcat
+	@deploy/deb
+
+# the package installed into a fresh folder, used there, and removed (as root)
+deb-check:
+	@RT='$(RT)' tests/build server ingestctl ingest1 walcat
+	@tests/deb_check "$$(deploy/deb)"
+
+# deploy/nginx.conf in nginx before two servers: slow clients, a killed server, sizes, lies
+edge-check:
+	@RT='$(RT)' tests/build server
+	@tests/edge_check
+
+# deploy/drain over a server under load, killed ten times
+drain-check:
+	@RT='$(RT)' tests/build server walcat
+	@tests/drain_check
+
+# the pictures of docs/pictures, by Graphviz
+pictures:
+	@dot -Tsvg -o docs/pictures/push.svg docs/pictures/push.dot
+	@docs/pictures/slots.py | dot -Tsvg -o docs/pictures/slots.svg
 
 # one push body, judged on an empty shard in memory and read back
 sample:
-	@cd crates/ingest1 && $(RT) run -- 20 < stdin
+	@RT='$(RT)' tests/build ingest1
+	@crates/ingest1/out/ingest1 20 < crates/ingest1/stdin
 
 # the merge gate: every proof from nothing, the edits that must fail, the tests, the stored runs, and refused memory
 test:
@@ -26,12 +56,11 @@ test:
 
 # the wrong bodies that the gate leaves out: make edits [CRATES="labels accept"] [JOBS=2] [ALL=1, with the gate's]
 edits:
-	@RT=$(RT) tests/edits $(if $(ALL),--all) $(if $(JOBS),--jobs $(JOBS)) $(CRATES)
+	@RT='$(RT)' tests/edits $(if $(ALL),--all) $(if $(JOBS),--jobs $(JOBS)) $(CRATES)
 
 # each request for memory of bench and ingest1 refused in turn
 faults:
-	@cd crates/bench && $(RT) run -- check > /dev/null
-	@cd crates/ingest1 && $(RT) run -- 20 < stdin > /dev/null
+	@RT='$(RT)' tests/build bench ingest1
 	@tests/each_allocation_fails bench ingest1
 
 # every crate, lowest first, over the work of earlier checks
@@ -43,6 +72,6 @@ fmt:
 
 # (calls in memory that the process already has, since page faults would hide what a call costs)
 bench:
-	@cd crates/bench && $(RT) run -- time
-	@cd crates/bench_calls && $(RT) run -- check > /dev/null
+	@RT='$(RT)' tests/build bench bench_calls
+	@cd crates/bench && out/bench time
 	@GLIBC_TUNABLES=glibc.malloc.mmap_max=0:glibc.malloc.trim_threshold=17179869184 crates/bench_calls/out/bench_calls time
