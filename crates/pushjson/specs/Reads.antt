@@ -4,7 +4,6 @@ use Rattle.std.specs.declared.alloc.Global.{Global}
 use Rattle.serde_json.specs.Data.{Data}
 use Rattle.accept.specs.declared.entry.Entry.{Entry}
 use Rattle.pushjson.specs.Bodies.{Stream, TimedLine, body_tree, IsJson, AreTimes, HaveTimes, IsFirstBad, IsFirstBadTime, entry_count, entry_of, batch_of}
-use Rattle.pushjson.specs.declared.push.TheConstants.{MAX_ENTRIES}
 use Rattle.pushjson.specs.declared.push.RawBatch.{RawBatch}
 use Rattle.pushjson.specs.declared.fault.PushFault.{PushFault}
 use Rattle.pushjson.specs.declared.fault.PushFault.TheVariants.{NotJson, WrongShape, BadTime, TooManyEntries, Memory}
@@ -12,11 +11,11 @@ use Rattle.pushjson.specs.declared.fault.PushFault.TheVariants.{NotJson, WrongSh
 -- the answer to a push body of these bytes
 abbrev pub ReadsPush : List ℕ → Result (Vec RawBatch Global) PushFault → Type 0
 ReadsPush bytes (Ok batches) =
-    (streams : List Stream) × IsJson bytes (body_tree streams) × HaveTimes streams × (entry_count streams ≤ MAX_ENTRIES) × (batches.items ≡ map batch_of streams)
+    (streams : List Stream) × IsJson bytes (body_tree streams) × HaveTimes streams × (entry_count streams ≤ 10000) × (batches.items ≡ map batch_of streams)
 ReadsPush bytes (Err NotJson) = (d : Data) → ¬ IsJson bytes d
 ReadsPush bytes (Err WrongShape) = (d : Data) × IsJson bytes d × ((streams : List Stream) → d ≢ body_tree streams)
 ReadsPush bytes (Err (BadTime i j)) = (streams : List Stream) × IsJson bytes (body_tree streams) × IsFirstBadTime streams i j
-ReadsPush bytes (Err TooManyEntries) = (streams : List Stream) × IsJson bytes (body_tree streams) × HaveTimes streams × (MAX_ENTRIES < entry_count streams)
+ReadsPush bytes (Err TooManyEntries) = (streams : List Stream) × IsJson bytes (body_tree streams) × HaveTimes streams × (10000 < entry_count streams)
 ReadsPush bytes (Err Memory) = ⊤
 
 -- an answer, without where its batches lie in memory
