@@ -2,7 +2,7 @@ ghost use Rattle.std.specs.Prelude.{◌≡◌, ◌↔◌, ◌<◌, ◌^◌, IsTr
 ghost use Rattle.labels.specs.Labels.{label_of};
 ghost use Rattle.pushjson.specs.Bodies.{HaveRisingNames};
 ghost use Rattle.pushjson.specs.Reads.{ReadsPush, GivesEntries, GivesBatches};
-ghost use Rattle.pushjson.specs.Shape.{stream_of};
+ghost use Rattle.pushjson.specs.Shape.{stream_texts_of};
 
 use crate::fault::PushFault;
 use crate::shape::{StreamTexts, body_texts, read_tree};
@@ -42,7 +42,7 @@ pub fn read_push(alloc: Global, bytes: &[u8]) -> Result<Vec<RawBatch>, PushFault
 }
 
 fn batches_of(alloc: Global, streams: Vec<StreamTexts>) -> Result<Vec<RawBatch>, PushFault>
-    ensures { GivesBatches (map stream_of streams.items) result }
+    ensures { GivesBatches (map stream_texts_of streams.items) result }
 {
     let mut batches = Vec::with_capacity(alloc, streams.len()).map_err(|_| PushFault::Memory)?;
     for StreamTexts { pairs, values } in streams {
