@@ -11,7 +11,6 @@ pub mod RoomLaws
 pub mod OtherKeys
 pub mod FromBatches
 pub mod ReadLaws
-pub mod Rows
 pub mod Images
 pub mod Running
 pub mod Sorting

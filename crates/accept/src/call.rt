@@ -1,9 +1,11 @@
 ghost use Rattle.std.specs.Prelude.{◌≡◌, ◌↔◌, ◌<◌, ◌^◌, IsTrue};
-ghost use Rattle.accept.specs.Streams.{AreTimes};
 
-use crate::entry::{Entry, EntryList};
+use crate::entry::EntryList;
 use crate::outcome::OutcomeList;
 use labels::StreamKey;
+
+/// The most entries of a push.
+pub const MAX_ENTRIES: usize = 10_000;
 
 /// A call on the stream of a key. Times are in nanoseconds.
 #[derive(Debug, Drop)]
@@ -13,7 +15,7 @@ pub enum Call {
         key: StreamKey,
         /// What the clock says: below 2^63.
         now: u64,
-        /// At most 10,000, with times below 2^63 and lines of any length.
+        /// At most `MAX_ENTRIES`, with times below 2^63 and lines of any length.
         entries: EntryList,
     },
     /// Reads the kept entries with `from <= time < to`.
@@ -62,12 +64,17 @@ impl Call {
         }
     }
 
-    /// Whether the clock and the times of a push are below 2^63.
+    /// Whether the clock and the times of a push are below 2^63, and its entries are at most `MAX_ENTRIES`.
     pub fn has_lawful_numbers(&self) -> bool
         ensures { IsTrue result ↔ AreNumbers self.now }
     {
         match self {
-            Call::Push { now, entries, .. } => is_time(*now) && are_times(entries.as_slice()),
+            Call::Push { now, entries, .. } => {
+                let entries = entries.as_slice();
+                is_time(*now)
+                    && entries.iter().all(|entry| is_time(entry.time))
+                    && entries.len() <= MAX_ENTRIES
+            }
             Call::Read { .. } | Call::Trim { .. } => true,
         }
     }
@@ -77,10 +84,4 @@ fn is_time(time: u64) -> bool
     ensures { IsTrue result ↔ (time < 2 ^ 63) }
 {
     time < 1 << 63
-}
-
-fn are_times(entries: &[Entry]) -> bool
-    ensures { IsTrue result ↔ AreTimes entries.now }
-{
-    entries.iter().all(|entry| is_time(entry.time))
 }

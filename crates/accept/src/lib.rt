@@ -11,13 +11,13 @@ mod outcome;
 mod refusal;
 mod stream;
 
-pub use call::{Call, Reply};
+pub use call::{Call, MAX_ENTRIES, Reply};
 pub use entry::{Entry, EntryList, Line};
 pub use history::{Ask, History, Item, Step};
 pub use image::{Image, StreamImage};
 pub use laws::{
     answer_is_of_stream, answered_in_a_row, answered_step, changes_what_it_says,
-    entries_come_from_batches, equal_meanings_answer_alike, legal_histories,
+    entries_come_from_batches, equal_meanings_answer_alike, legal_histories, limits_of_profile,
     map_stands_for_history, meaning_is_by_key, other_keys_are_no_matter, reads_are_by_time,
     refusals_change_nothing, room_of_change, room_of_stream, stays_within, whole_streams,
 };

@@ -3,7 +3,7 @@ ghost use Rattle.std.specs.Prelude.{◌≡◌, ℕ, Some, slice_get, IfOk};
 ghost use Rattle.history.specs.Handles.{Passed};
 ghost use Rattle.ingester.specs.Calls.{IsPassOf};
 
-use crate::pushes::{LINE, LINES, has_few_entries, is_stored, key_of, pushes_of};
+use crate::pushes::{LINE, LINES, is_stored, key_of, pushes_of};
 use accept::{Call, Limits};
 use anyhow::{Result, bail};
 use crossbeam_channel::{Receiver, Sender, bounded};
@@ -103,7 +103,7 @@ fn push<R: Wait>(
     requires { IsPassOf ingester.now pass.old }
     ensures { IsPassOf ingester.now pass.new }
 {
-    if !call.has_lawful_numbers() || !has_few_entries(&call) {
+    if !call.has_lawful_numbers() {
         return false;
     }
     match ingester.call(rt, alloc, pass, call) {

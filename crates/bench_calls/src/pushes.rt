@@ -1,6 +1,4 @@
 //! The pushes that are timed, and what is answered to them.
-ghost use Rattle.std.specs.Prelude.{IsTrue};
-ghost use Rattle.streams.specs.Changes.{HasFewEntries};
 
 use accept::{Call, Entry, EntryList, Line, Outcome, Reply};
 use anyhow::Result;
@@ -50,16 +48,6 @@ pub fn pushes_of(alloc: Global, stream: u64, before: u64, pushes: u64) -> Result
         calls.push(push_of(alloc, stream, before, LINES)?)?;
     }
     Ok(calls)
-}
-
-/// Whether a push has at most 10,000 entries.
-pub fn has_few_entries(call: &Call) -> bool
-    ensures { IsTrue result → HasFewEntries call.now }
-{
-    match call {
-        Call::Push { entries, .. } => entries.as_slice().len() <= 10_000,
-        Call::Read { .. } | Call::Trim { .. } => true,
-    }
 }
 
 /// Whether all lines of a push were stored.

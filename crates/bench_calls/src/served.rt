@@ -3,10 +3,9 @@
 ghost use Rattle.std.specs.Prelude.{◌≡◌, ℕ, Some, slice_get, IfOk};
 ghost use Rattle.history.specs.Handles.{Passed};
 ghost use Rattle.accept.specs.Steps.{AreNumbers};
-ghost use Rattle.streams.specs.Changes.{HasFewEntries};
 ghost use Rattle.ingester.specs.Calls.{IsPassOf};
 
-use crate::pushes::{LINE, START, has_few_entries, is_stored};
+use crate::pushes::{LINE, START, is_stored};
 use accept::{Call, Limits};
 use anyhow::{Result, anyhow, bail};
 use disk::MemDisk;
@@ -162,8 +161,7 @@ fn time_serve<R: Clock + Wait + AllocGlobal>(rt: &R, load: &Load) -> Result<Dura
 
 /// The push of a stream.
 fn call_of(alloc: Global, batch: RawBatch) -> Result<Call>
-    ensures numbers { IfOk result AreNumbers }
-    ensures few { IfOk result HasFewEntries }
+    ensures { IfOk result AreNumbers }
 {
     let tenant = Tenant::new(alloc, "t")?;
     let labels = LabelSet::new(alloc, batch.pairs)?;
@@ -172,7 +170,7 @@ fn call_of(alloc: Global, batch: RawBatch) -> Result<Call>
         now: START,
         entries: batch.entries,
     };
-    if !call.has_lawful_numbers() || !has_few_entries(&call) {
+    if !call.has_lawful_numbers() {
         bail!("not a push");
     }
     Ok(call)

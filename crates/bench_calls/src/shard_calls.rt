@@ -1,7 +1,7 @@
 //! How many calls a second one shard answers, by how much its streams hold.
 ghost use Rattle.std.specs.Prelude.{◌≡◌, [], IfOk};
 
-use crate::pushes::{LINE, LINES, has_few_entries, is_stored, push_of, pushes_of};
+use crate::pushes::{LINE, LINES, is_stored, push_of, pushes_of};
 use accept::{Call, Image, Limits};
 use anyhow::{Result, bail};
 use disk::MemDisk;
@@ -79,7 +79,7 @@ struct Desk {
 impl Desk {
     /// Makes a push, from its announcement to its answer. All its lines are stored.
     fn push(&mut self, alloc: Global, call: &Call) -> Result<()> {
-        if !call.has_lawful_numbers() || !has_few_entries(call) {
+        if !call.has_lawful_numbers() {
             bail!("a number is out of its bounds");
         }
         let ticket = self.history.announce(&mut self.pass, call)?;

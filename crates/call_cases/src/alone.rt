@@ -1,7 +1,6 @@
 //! A shard alone, without an ingester.
 ghost use Rattle.std.specs.Prelude.{◌≡◌, []};
 ghost use Rattle.accept.specs.Steps.{AreNumbers};
-ghost use Rattle.streams.specs.Changes.{HasFewEntries};
 
 use crate::settings::Settings;
 use crate::slots::Pair;
@@ -59,7 +58,6 @@ impl Alone {
     /// Makes a call from its announcement to its answer, or to its refusal.
     fn attempt(&mut self, alloc: Global, call: &Call) -> Result<Result<Reply, ApplyFault>>
         requires numbers { AreNumbers call.now }
-        requires few { HasFewEntries call.now }
     {
         let ticket = self.history.announce(&mut self.pass, call)?;
         match self.shard.apply(alloc, ticket, call) {
@@ -77,7 +75,6 @@ impl Alone {
     /// Makes a call, and appends its answer, or why it was refused.
     pub fn call(&mut self, alloc: Global, call: &Call, into: &mut String) -> Result<()>
         requires numbers { AreNumbers call.now }
-        requires few { HasFewEntries call.now }
     {
         match self.attempt(alloc, call)? {
             Ok(reply) => write_reply(&reply, into),

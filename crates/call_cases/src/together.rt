@@ -5,7 +5,6 @@ ghost use Rattle.accept.specs.Steps.{AreNumbers};
 ghost use Rattle.accept.specs.contracts.image.Image as image;
 ghost use Rattle.history.specs.Handles.{Passed};
 ghost use Rattle.ingester.specs.Calls.{IsPassOf};
-ghost use Rattle.streams.specs.Changes.{HasFewEntries};
 
 use crate::settings::Settings;
 use crate::slots::{Left, Pair};
@@ -93,7 +92,6 @@ impl Together {
         into: &mut String,
     ) -> Result<()>
         requires numbers { AreNumbers call }
-        requires few { HasFewEntries call }
     {
         match self.ingester.call(rt, alloc, &mut self.pass, call) {
             Ok(reply) => write_reply(&reply, into),

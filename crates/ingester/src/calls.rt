@@ -5,7 +5,6 @@ ghost use Rattle.accept.specs.Steps.{AreNumbers};
 ghost use Rattle.history.specs.Histories.{Begins, IsLegalAt, shard_in, step_of};
 ghost use Rattle.history.specs.Plays.{seen_at, look_to, HasStepsOf};
 ghost use Rattle.history.specs.Handles.{is_closed, with_seen, HaveMet};
-ghost use Rattle.streams.specs.Changes.{HasFewEntries};
 ghost use Rattle.ingester.specs.Calls.{IsPassOf, IsAnswered, IsRefused};
 ghost use Rattle.ingester.specs.declared.fault.CallFault.TheVariants as faults;
 
@@ -34,7 +33,6 @@ impl<D: Disk + Drop> Ingester<D> {
     ) -> Result<Reply, CallFault>
         requires pass { IsPassOf self.now pass.old }
         requires numbers { AreNumbers call }
-        requires few { HasFewEntries call }
         ensures pass { IsPassOf self.now pass.new }
         ensures answered { IfOk result (λ reply. IsAnswered pass.old pass.new call reply) }
         ensures refused { OnErr result (IsRefused pass.old pass.new) }
@@ -68,7 +66,6 @@ impl<D: Disk + Drop> Ingester<D> {
         requires alone { ticket.before ≡ [] }
         requires call { ticket.ask.call ≡ call.now }
         requires numbers { AreNumbers call.now }
-        requires few { HasFewEntries call.now }
         ensures step { IfOk result (λ it. it.1.step ≡ step_of ticket.ask it.0) }
         ensures table { IfOk result (λ it. it.1.table ≡ ticket.table) }
         ensures refused { IfErr result (λ e. e.1 ≡ ticket) }

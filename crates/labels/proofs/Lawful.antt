@@ -18,7 +18,7 @@ use Rattle.labels.specs.Faults.{label_fault, each_fault, repeats_name, first_fau
 use Rattle.labels.specs.Canonical.{IsLabel, NamesRise, IsTextOf, set_text}
 use Rattle.labels.proofs.Order.{pair_cmp, repeats_permuted, rise_once, rise_from_adjacent, stuck_repeats}
 
-no_option : (o p : Option LabelFault) → option_or o p ≡ None → (o ≡ None) × (p ≡ None)
+pub no_option : (o p : Option LabelFault) → option_or o p ≡ None → (o ≡ None) × (p ≡ None)
 no_option None p h = (refl, h)
 no_option (Some e) p h = cc
 

@@ -1,5 +1,6 @@
 pub mod Chars
 pub mod Escapes
+pub mod Existence
 pub mod Lawful
 pub mod Order
 pub mod Parts

@@ -79,7 +79,7 @@ never_named : (name : List ℕ) (ps : List Label) → Above name ps → times_na
 never_named name [] h = refl
 never_named name (p ∷ ps) h = named_cons name p ps ∙ ap (λ b. cond b 1 0 + times_named name ps) (other_name name p.0 h.0) ∙ zero-add (times_named name ps) ∙ never_named name ps h.1
 
-abbrev AreOnce : List Label → List Label → Type 0
+abbrev pub AreOnce : List Label → List Label → Type 0
 AreOnce ps qs = AllByRecursion (λ (q : Label). times_named q.0 ps ≤ 1) qs
 
 once_more : (p : Label) (ps qs : List Label) → Above p.0 qs → AreOnce ps qs → AreOnce (p ∷ ps) qs
@@ -109,10 +109,10 @@ ltb-below m n h = grind (arith, nat_tests)
 pub rise_once : (ps : List Label) → NamesRise ps → repeats_name ps ≡ false
 rise_once ps h = list_any_none (λ p. ltb 1 (times_named p.0 ps)) ps (λ k d l. ltb-above 1 _ (All-from_recursion _ ps (once ps h) k d l))
 
-named_tail : (name : List ℕ) (p : Label) (ps : List Label) → times_named name ps ≤ times_named name (p ∷ ps)
+pub named_tail : (name : List ℕ) (p : Label) (ps : List Label) → times_named name ps ≤ times_named name (p ∷ ps)
 named_tail name p ps = omega (arith, named_cons name p ps)
 
-named_first : (name : List ℕ) (p : Label) (ps : List Label) → name ≡ p.0 → times_named name (p ∷ ps) ≡ 1 + times_named name ps
+pub named_first : (name : List ℕ) (p : Label) (ps : List Label) → name ≡ p.0 → times_named name (p ∷ ps) ≡ 1 + times_named name ps
 named_first name p ps e = named_cons name p ps ∙ ap (λ b. cond b 1 0 + times_named name ps) ((bytes_eq-Decides name p.0).1 e)
 
 twice_at : (ps : List Label) (k : ℕ) (d : Label) → k + 1 < length ps → (get_or ps k d).0 ≡ (get_or ps (k + 1) d).0 → 2 ≤ times_named (get_or ps k d).0 ps

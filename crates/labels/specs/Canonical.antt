@@ -31,6 +31,10 @@ pub record IsLabel (p : Label) : Type 0 where
   pub lawful : label_fault p ≡ None
   pub utf8 : IsUtf8 p.1
 
+-- each value is a text
+abbrev pub AreTexts : List Label → Type 0
+AreTexts ps = AllByRecursion (λ p. IsUtf8 p.1) ps
+
 -- each name is below the next
 abbrev pub NamesRise : List Label → Type 0
 NamesRise [] = ⊤

@@ -1,7 +1,8 @@
-ghost use Rattle.std.specs.Prelude.{◌≡◌, ℕ, List};
+ghost use Rattle.std.specs.Prelude.{◌≡◌, ℕ, List, None};
 ghost use Rattle.std.specs.List.Sorted.{IsPermutation};
 ghost use Rattle.labels.specs.Labels.{Label};
-ghost use Rattle.labels.specs.Canonical.{IsCanonical, IsTextOf};
+ghost use Rattle.labels.specs.Canonical.{AreTexts, IsCanonical, IsTextOf};
+ghost use Rattle.labels.specs.Faults.{first_fault};
 ghost use Rattle.labels.specs.Keys.{key_cmp};
 
 use crate::key::StreamKey;
@@ -11,6 +12,12 @@ use std::cmp::Ordering;
 pub fn one_text()
     ensures list { (t u : List ℕ) (ps : List Label) → IsCanonical t ps → IsCanonical u ps → t ≡ u }
     ensures set { (t u : List ℕ) (pairs others : List Label) → IsPermutation pairs others → IsTextOf t pairs → IsTextOf u others → t ≡ u }
+{}
+
+/// The law that labels whose values are texts have a canonical text exactly where they have no fault.
+pub fn some_text()
+    ensures faultless { (pairs : List Label) → AreTexts pairs → first_fault pairs ≡ None → (text : List ℕ) × IsTextOf text pairs }
+    ensures only { (text : List ℕ) (pairs : List Label) → IsTextOf text pairs → AreTexts pairs × (first_fault pairs ≡ None) }
 {}
 
 /// The law that no two label sets share a canonical text.

@@ -19,7 +19,7 @@ mod writing;
 pub use fault::LabelFault;
 pub use key::StreamKey;
 pub use label_set::LabelSet;
-pub use laws::{one_set, one_text, order_of_keys};
+pub use laws::{one_set, one_text, order_of_keys, some_text};
 pub use pairs::LabelPairs;
 pub use shards::shard_of;
 pub use tenant::Tenant;

@@ -5,7 +5,7 @@ use Rattle.std.proofs.lemmas.List.{map-append, take_all}
 use Rattle.std.proofs.lemmas.List.Elements.{All-append, All-map}
 use Rattle.labels.specs.Labels.{Label}
 use Rattle.pushjson.specs.Times.{IsTime}
-use Rattle.pushjson.specs.Bodies.{Stream, TimedLine, AreTimes, HaveTimes, entry_of, batch_of}
+use Rattle.pushjson.specs.Bodies.{Stream, TimedLine, AreTimed, HaveTimes, entry_of, batch_of}
 
 pub within : {A : Type 0} (all : List A) (n : ℕ) (x : A) (rest : List A) → drop n all ≡ x ∷ rest → n < length all
 within all n x rest e = omega (arith, length-drop n all, ap length e)
@@ -39,7 +39,7 @@ map_more f all n x rest old new e o h = rw (done all n x rest e, map-append) (h 
 pub all_batches : (P : List Label → Type 0) (streams : List Stream) → All (λ s. P s.pairs) streams → All (λ b. P b.pairs) (map batch_of streams)
 all_batches P streams h = All-map (λ b. P b.pairs) batch_of streams h
 
-low_entries : (values : List TimedLine) → AreTimes values → All (λ e. e.time < 2 ^ 63) (map entry_of values)
+low_entries : (values : List TimedLine) → AreTimed values → All (λ e. e.time < 2 ^ 63) (map entry_of values)
 unfolding IsTime
 low_entries values h = All-map (λ e. e.time < 2 ^ 63) entry_of values (λ k d w. (h k d w).2)
 

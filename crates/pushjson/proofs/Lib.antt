@@ -1,3 +1,5 @@
+pub mod Deciding
+pub mod Existence
 pub mod Fronts
 pub mod OneAnswer
 pub mod OneQuery

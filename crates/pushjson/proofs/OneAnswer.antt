@@ -1,13 +1,13 @@
 -- A tree is the body of one list of streams at most, and streams have one answer.
-use Rattle.std.proofs.Common.{◌≡◌, ◌≢◌, inl, inr, ℕ, ◌<◌, List, [], ◌∷◌, length, map, take, get_or, length-take, Result, Ok, Err, Vec, Global, Some, All, refl, ap, sym, ◌∙◌, arith}
+use Rattle.std.proofs.Common.{◌≡◌, ◌≢◌, inl, inr, ℕ, ◌<◌, List, [], ◌∷◌, length, map, take, get_or, length-take, Result, Ok, Err, Some, All, refl, ap, sym, ◌∙◌, arith}
 use Rattle.std.proofs.lemmas.Bool.{cases_order}
 use Rattle.std.proofs.lemmas.List.{get_or-take}
 use Rattle.serde_json.specs.Data.{Data}
 use Rattle.serde_json.specs.View.{items_of}
 use Rattle.labels.specs.Labels.{Label}
 use Rattle.pushjson.specs.Times.{IsTime}
-use Rattle.pushjson.specs.Bodies.{Stream, TimedLine, labels_tree, value_tree, stream_tree, body_tree, IsJson, AreTimes, HaveTimes, IsFirstBad, IsFirstBadTime, entry_count, batch_of}
-use Rattle.pushjson.specs.Reads.{ReadsPush, answer_of, HasOneAnswer}
+use Rattle.pushjson.specs.Bodies.{Stream, TimedLine, labels_tree, value_tree, stream_tree, body_tree, IsJson, AreTimed, HaveTimes, IsFirstBad, IsFirstBadTime, entry_count, batch_of}
+use Rattle.pushjson.specs.Reads.{IsPushAnswer}
 use Rattle.pushjson.specs.declared.push.RawBatch.{RawBatch}
 use Rattle.pushjson.specs.declared.fault.PushFault.{PushFault}
 use Rattle.pushjson.specs.declared.fault.PushFault.TheVariants.{NotJson, WrongShape, BadTime, TooManyEntries, Memory}
@@ -59,7 +59,7 @@ pub same_streams : (bytes : List ℕ) (ss ts : List Stream) → IsJson bytes (bo
 same_streams bytes ss ts j k = same_body ss ts (same_tree bytes _ _ j k)
 
 -- a bad time is no time
-pub bad_among_times : (values : List TimedLine) (j : ℕ) → IsFirstBad values j → AreTimes values → ⊥
+pub bad_among_times : (values : List TimedLine) (j : ℕ) → IsFirstBad values j → AreTimed values → ⊥
 bad_among_times values j b h = b.here ([], []) (h j ([], []) b.within)
 
 pub bad_among_good : (ss : List Stream) (i j : ℕ) → IsFirstBadTime ss i j → HaveTimes ss → ⊥
@@ -81,7 +81,7 @@ same_bad values j k b c = elim (cases_order j k) [ inl e ↦ e | inr o ↦ elim 
 bad_time_before : (ss : List Stream) (i k : ℕ) (j l : ℕ) → IsFirstBadTime ss i j → IsFirstBadTime ss k l → i < k → ⊥
 bad_time_before ss i k j l b c h =
     let d : Stream = record { pairs = []; values = [] } in
-    bad_among_times (get_or ss i d).values j (b.here d) (at_front (λ s. AreTimes s.values) ss i k d h c.within c.earlier)
+    bad_among_times (get_or ss i d).values j (b.here d) (at_front (λ s. AreTimed s.values) ss i k d h c.within c.earlier)
 
 same_place : (ss : List Stream) (i k j l : ℕ) → IsFirstBadTime ss i j → IsFirstBadTime ss k l → i ≡ k
 same_place ss i k j l b c = elim (cases_order i k) [ inl e ↦ e | inr o ↦ elim o [ inl h ↦ absurd (bad_time_before ss i k j l b c h) | inr h ↦ absurd (bad_time_before ss k i l j c b h) ] ]
@@ -92,9 +92,9 @@ same_entry ss i j l b c =
     same_bad (get_or ss i d).values j l (b.here d) (c.here d)
 
 -- an answer beside one of batches
-pub beside_ok : (bytes : List ℕ) (b : Vec RawBatch Global) (s : Result (Vec RawBatch Global) PushFault) → ReadsPush bytes (Ok b) → ReadsPush bytes s → s ≢ Err Memory → Ok b.items ≡ answer_of s
+pub beside_ok : (bytes : List ℕ) (b : List RawBatch) (s : Result (List RawBatch) PushFault) → IsPushAnswer bytes (Ok b) → IsPushAnswer bytes s → s ≢ Err Memory → Ok b ≡ s
 beside_ok bytes b (Ok c) r s m =
-    let same : b.items ≡ c.items = r.4 ∙ ap (map batch_of) (same_streams bytes r.0 s.0 r.1 s.1) ∙ sym s.4 in
+    let same : b ≡ c = r.4 ∙ ap (map batch_of) (same_streams bytes r.0 s.0 r.1 s.1) ∙ sym s.4 in
     ap (λ (bs : List RawBatch). let o : Result (List RawBatch) PushFault = Ok bs in o) same
 beside_ok bytes b (Err NotJson) r s m = absurd (s _ r.1)
 beside_ok bytes b (Err WrongShape) r s m = absurd (s.2 r.0 (same_tree bytes _ _ s.1 r.1))
@@ -105,7 +105,7 @@ beside_ok bytes b (Err TooManyEntries) r s m =
 beside_ok bytes b (Err Memory) r s m = absurd (m refl)
 
 -- an answer beside a fault of the bytes
-pub beside_not_json : (bytes : List ℕ) (s : Result (Vec RawBatch Global) PushFault) → ReadsPush bytes (Err NotJson) → ReadsPush bytes s → s ≢ Err Memory → Err NotJson ≡ answer_of s
+pub beside_not_json : (bytes : List ℕ) (s : Result (List RawBatch) PushFault) → IsPushAnswer bytes (Err NotJson) → IsPushAnswer bytes s → s ≢ Err Memory → Err NotJson ≡ s
 beside_not_json bytes (Ok c) r s m = absurd (r _ s.1)
 beside_not_json bytes (Err NotJson) r s m = refl
 beside_not_json bytes (Err WrongShape) r s m = absurd (r _ s.1)
@@ -114,7 +114,7 @@ beside_not_json bytes (Err TooManyEntries) r s m = absurd (r _ s.1)
 beside_not_json bytes (Err Memory) r s m = absurd (m refl)
 
 -- an answer beside one on the shape
-pub beside_wrong_shape : (bytes : List ℕ) (s : Result (Vec RawBatch Global) PushFault) → ReadsPush bytes (Err WrongShape) → ReadsPush bytes s → s ≢ Err Memory → Err WrongShape ≡ answer_of s
+pub beside_wrong_shape : (bytes : List ℕ) (s : Result (List RawBatch) PushFault) → IsPushAnswer bytes (Err WrongShape) → IsPushAnswer bytes s → s ≢ Err Memory → Err WrongShape ≡ s
 beside_wrong_shape bytes (Ok c) r s m = absurd (r.2 s.0 (same_tree bytes _ _ r.1 s.1))
 beside_wrong_shape bytes (Err NotJson) r s m = absurd (s _ r.1)
 beside_wrong_shape bytes (Err WrongShape) r s m = refl
@@ -123,7 +123,7 @@ beside_wrong_shape bytes (Err TooManyEntries) r s m = absurd (r.2 s.0 (same_tree
 beside_wrong_shape bytes (Err Memory) r s m = absurd (m refl)
 
 -- an answer beside one on a time
-pub beside_bad_time : (bytes : List ℕ) (i j : ℕ) (s : Result (Vec RawBatch Global) PushFault) → ReadsPush bytes (Err (BadTime i j)) → ReadsPush bytes s → s ≢ Err Memory → Err (BadTime i j) ≡ answer_of s
+pub beside_bad_time : (bytes : List ℕ) (i j : ℕ) (s : Result (List RawBatch) PushFault) → IsPushAnswer bytes (Err (BadTime i j)) → IsPushAnswer bytes s → s ≢ Err Memory → Err (BadTime i j) ≡ s
 beside_bad_time bytes i j (Ok c) r s m = absurd (bad_among_good r.0 i j r.2 (rw (← same_streams bytes s.0 r.0 s.1 r.1) s.2))
 beside_bad_time bytes i j (Err NotJson) r s m = absurd (s _ r.1)
 beside_bad_time bytes i j (Err WrongShape) r s m = absurd (s.2 r.0 (same_tree bytes _ _ s.1 r.1))
@@ -136,7 +136,7 @@ beside_bad_time bytes i j (Err TooManyEntries) r s m = absurd (bad_among_good r.
 beside_bad_time bytes i j (Err Memory) r s m = absurd (m refl)
 
 -- an answer beside one on the number of entries
-pub beside_too_many : (bytes : List ℕ) (s : Result (Vec RawBatch Global) PushFault) → ReadsPush bytes (Err TooManyEntries) → ReadsPush bytes s → s ≢ Err Memory → Err TooManyEntries ≡ answer_of s
+pub beside_too_many : (bytes : List ℕ) (s : Result (List RawBatch) PushFault) → IsPushAnswer bytes (Err TooManyEntries) → IsPushAnswer bytes s → s ≢ Err Memory → Err TooManyEntries ≡ s
 beside_too_many bytes (Ok c) r s m =
     let same : entry_count r.0 ≡ entry_count s.0 = ap entry_count (same_streams bytes r.0 s.0 r.1 s.1) in
     absurd (omega (arith, r.3, s.3))
@@ -146,10 +146,10 @@ beside_too_many bytes (Err (BadTime i j)) r s m = absurd (bad_among_good s.0 i j
 beside_too_many bytes (Err TooManyEntries) r s m = refl
 beside_too_many bytes (Err Memory) r s m = absurd (m refl)
 
-pub one_answer : (bytes : List ℕ) → HasOneAnswer bytes
-one_answer bytes (Ok b) s r q n m = beside_ok bytes b s r q m
-one_answer bytes (Err NotJson) s r q n m = beside_not_json bytes s r q m
-one_answer bytes (Err WrongShape) s r q n m = beside_wrong_shape bytes s r q m
-one_answer bytes (Err (BadTime i j)) s r q n m = beside_bad_time bytes i j s r q m
-one_answer bytes (Err TooManyEntries) s r q n m = beside_too_many bytes s r q m
-one_answer bytes (Err Memory) s r q n m = absurd (n refl)
+pub same_answer : (bytes : List ℕ) (r s : Result (List RawBatch) PushFault) → IsPushAnswer bytes r → IsPushAnswer bytes s → r ≢ Err Memory → s ≢ Err Memory → r ≡ s
+same_answer bytes (Ok b) s r q n m = beside_ok bytes b s r q m
+same_answer bytes (Err NotJson) s r q n m = beside_not_json bytes s r q m
+same_answer bytes (Err WrongShape) s r q n m = beside_wrong_shape bytes s r q m
+same_answer bytes (Err (BadTime i j)) s r q n m = beside_bad_time bytes i j s r q m
+same_answer bytes (Err TooManyEntries) s r q n m = beside_too_many bytes s r q m
+same_answer bytes (Err Memory) s r q n m = absurd (n refl)

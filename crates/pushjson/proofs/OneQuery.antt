@@ -2,7 +2,7 @@
 use Rattle.std.proofs.Common.{◌≡◌, ◌≢◌, ℕ, List, Result, Ok, Err, refl, ap, sym, ◌∙◌}
 use Rattle.labels.specs.Labels.{Label}
 use Rattle.pushjson.specs.Bodies.{IsJson}
-use Rattle.pushjson.specs.Queries.{Query, Trim, query_tree, trim_tree, read_of, trim_of, ReadsQuery, ReadsTrim, HasOneQuery, HasOneTrim}
+use Rattle.pushjson.specs.Queries.{Query, Trim, query_tree, trim_tree, raw_read_of, raw_trim_of, ReadsQuery, ReadsTrim}
 use Rattle.pushjson.specs.declared.query.RawRead.{RawRead}
 use Rattle.pushjson.specs.declared.query.RawTrim.{RawTrim}
 use Rattle.pushjson.specs.declared.fault.PushFault.{PushFault}
@@ -40,7 +40,7 @@ trims bytes t u j k = same_trim t u (same_tree bytes _ _ j k)
 
 query_beside_ok : (bytes : List ℕ) (a : RawRead) (s : Result RawRead PushFault) → ReadsQuery bytes (Ok a) → ReadsQuery bytes s → s ≢ Err Memory → Ok a ≡ s
 query_beside_ok bytes a (Ok b) r s m =
-    let same : a ≡ b = r.4 ∙ ap read_of (queries bytes r.0 s.0 r.1 s.1) ∙ sym s.4 in cc
+    let same : a ≡ b = r.4 ∙ ap raw_read_of (queries bytes r.0 s.0 r.1 s.1) ∙ sym s.4 in cc
 query_beside_ok bytes a (Err NotJson) r s m = absurd (s _ r.1)
 query_beside_ok bytes a (Err WrongShape) r s m = absurd (s.2 r.0 (same_tree bytes _ _ s.1 r.1))
 query_beside_ok bytes a (Err (BadTime i j)) r s m = absurd (s.2 (rw (← queries bytes r.0 s.0 r.1 s.1) r.2, rw (← queries bytes r.0 s.0 r.1 s.1) r.3))
@@ -71,17 +71,17 @@ query_beside_bad_time bytes i j (Err (BadTime k l)) r s m = let a = r.3 in let b
 query_beside_bad_time bytes i j (Err TooManyEntries) r s m = absurd s
 query_beside_bad_time bytes i j (Err Memory) r s m = absurd (m refl)
 
-pub one_query : (bytes : List ℕ) → HasOneQuery bytes
-one_query bytes (Ok a) s r q n m = query_beside_ok bytes a s r q m
-one_query bytes (Err NotJson) s r q n m = query_beside_not_json bytes s r q m
-one_query bytes (Err WrongShape) s r q n m = query_beside_wrong_shape bytes s r q m
-one_query bytes (Err (BadTime i j)) s r q n m = query_beside_bad_time bytes i j s r q m
-one_query bytes (Err TooManyEntries) s r q n m = absurd r
-one_query bytes (Err Memory) s r q n m = absurd (n refl)
+pub same_query_answer : (bytes : List ℕ) (r s : Result RawRead PushFault) → ReadsQuery bytes r → ReadsQuery bytes s → r ≢ Err Memory → s ≢ Err Memory → r ≡ s
+same_query_answer bytes (Ok a) s r q n m = query_beside_ok bytes a s r q m
+same_query_answer bytes (Err NotJson) s r q n m = query_beside_not_json bytes s r q m
+same_query_answer bytes (Err WrongShape) s r q n m = query_beside_wrong_shape bytes s r q m
+same_query_answer bytes (Err (BadTime i j)) s r q n m = query_beside_bad_time bytes i j s r q m
+same_query_answer bytes (Err TooManyEntries) s r q n m = absurd r
+same_query_answer bytes (Err Memory) s r q n m = absurd (n refl)
 
 trim_beside_ok : (bytes : List ℕ) (a : RawTrim) (s : Result RawTrim PushFault) → ReadsTrim bytes (Ok a) → ReadsTrim bytes s → s ≢ Err Memory → Ok a ≡ s
 trim_beside_ok bytes a (Ok b) r s m =
-    let same : a ≡ b = r.3 ∙ ap trim_of (trims bytes r.0 s.0 r.1 s.1) ∙ sym s.3 in cc
+    let same : a ≡ b = r.3 ∙ ap raw_trim_of (trims bytes r.0 s.0 r.1 s.1) ∙ sym s.3 in cc
 trim_beside_ok bytes a (Err NotJson) r s m = absurd (s _ r.1)
 trim_beside_ok bytes a (Err WrongShape) r s m = absurd (s.2 r.0 (same_tree bytes _ _ s.1 r.1))
 trim_beside_ok bytes a (Err (BadTime i j)) r s m = absurd (s.2 (rw (← trims bytes r.0 s.0 r.1 s.1) r.2))
@@ -112,10 +112,10 @@ trim_beside_bad_time bytes i j (Err (BadTime k l)) r s m = let a = r.3 in let b 
 trim_beside_bad_time bytes i j (Err TooManyEntries) r s m = absurd s
 trim_beside_bad_time bytes i j (Err Memory) r s m = absurd (m refl)
 
-pub one_trim : (bytes : List ℕ) → HasOneTrim bytes
-one_trim bytes (Ok a) s r q n m = trim_beside_ok bytes a s r q m
-one_trim bytes (Err NotJson) s r q n m = trim_beside_not_json bytes s r q m
-one_trim bytes (Err WrongShape) s r q n m = trim_beside_wrong_shape bytes s r q m
-one_trim bytes (Err (BadTime i j)) s r q n m = trim_beside_bad_time bytes i j s r q m
-one_trim bytes (Err TooManyEntries) s r q n m = absurd r
-one_trim bytes (Err Memory) s r q n m = absurd (n refl)
+pub same_trim_answer : (bytes : List ℕ) (r s : Result RawTrim PushFault) → ReadsTrim bytes r → ReadsTrim bytes s → r ≢ Err Memory → s ≢ Err Memory → r ≡ s
+same_trim_answer bytes (Ok a) s r q n m = trim_beside_ok bytes a s r q m
+same_trim_answer bytes (Err NotJson) s r q n m = trim_beside_not_json bytes s r q m
+same_trim_answer bytes (Err WrongShape) s r q n m = trim_beside_wrong_shape bytes s r q m
+same_trim_answer bytes (Err (BadTime i j)) s r q n m = trim_beside_bad_time bytes i j s r q m
+same_trim_answer bytes (Err TooManyEntries) s r q n m = absurd r
+same_trim_answer bytes (Err Memory) s r q n m = absurd (n refl)

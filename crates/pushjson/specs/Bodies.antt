@@ -44,17 +44,18 @@ HaveRisingNames pairs = IsStrictlySortedBy (slice_cmp nat_cmp) (map (λ p. p.0) 
 abbrev pub IsJson : List ℕ → Data → Type 0
 IsJson bytes d = IsUtf8 bytes × (read bytes ≡ Some d)
 
-abbrev pub AreTimes : List TimedLine → Type 0
-AreTimes values = All (λ v. IsTime v.0) values
+-- each of these lines has a time
+abbrev pub AreTimed : List TimedLine → Type 0
+AreTimed values = All (λ v. IsTime v.0) values
 
 abbrev pub HaveTimes : List Stream → Type 0
-HaveTimes streams = All (λ s. AreTimes s.values) streams
+HaveTimes streams = All (λ s. AreTimed s.values) streams
 
 -- the time at j is none, and those before it are
 pub record IsFirstBad (values : List TimedLine) (j : ℕ) : Type 0 where
   pub within : j < length values
   pub here : HoldsAt (λ v. ¬ IsTime v.0) values j
-  pub earlier : AreTimes (take j values)
+  pub earlier : AreTimed (take j values)
 
 -- the time at j of the stream at i is none, and those before it are
 pub record IsFirstBadTime (streams : List Stream) (i j : ℕ) : Type 0 where

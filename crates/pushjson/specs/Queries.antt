@@ -32,15 +32,16 @@ trim_tree t =
     object (member (codes "bound") (string t.bound)
     (member (codes "stream") (object (labels_tree t.pairs)) no_members))
 
-abbrev pub read_of : Query → RawRead
-read_of q = record { pairs = q.pairs; from = digits_value 10 q.from; to = digits_value 10 q.to }
+-- what is asked for
+abbrev pub raw_read_of : Query → RawRead
+raw_read_of q = record { pairs = q.pairs; from = digits_value 10 q.from; to = digits_value 10 q.to }
 
-abbrev pub trim_of : Trim → RawTrim
-trim_of t = record { pairs = t.pairs; bound = digits_value 10 t.bound }
+abbrev pub raw_trim_of : Trim → RawTrim
+raw_trim_of t = record { pairs = t.pairs; bound = digits_value 10 t.bound }
 
 -- the answer to a query body of these bytes
 abbrev pub ReadsQuery : List ℕ → Result RawRead PushFault → Type 0
-ReadsQuery bytes (Ok r) = (q : Query) × IsJson bytes (query_tree q) × IsTime q.from × IsTime q.to × (r ≡ read_of q)
+ReadsQuery bytes (Ok r) = (q : Query) × IsJson bytes (query_tree q) × IsTime q.from × IsTime q.to × (r ≡ raw_read_of q)
 ReadsQuery bytes (Err NotJson) = (d : Data) → ¬ IsJson bytes d
 ReadsQuery bytes (Err WrongShape) = (d : Data) × IsJson bytes d × ((q : Query) → d ≢ query_tree q)
 ReadsQuery bytes (Err (BadTime i j)) = (q : Query) × IsJson bytes (query_tree q) × (¬ (IsTime q.from × IsTime q.to)) × (i ≡ 0) × (j ≡ 0)
@@ -49,16 +50,20 @@ ReadsQuery bytes (Err Memory) = ⊤
 
 -- the answer to a trim body of these bytes
 abbrev pub ReadsTrim : List ℕ → Result RawTrim PushFault → Type 0
-ReadsTrim bytes (Ok r) = (t : Trim) × IsJson bytes (trim_tree t) × IsTime t.bound × (r ≡ trim_of t)
+ReadsTrim bytes (Ok r) = (t : Trim) × IsJson bytes (trim_tree t) × IsTime t.bound × (r ≡ raw_trim_of t)
 ReadsTrim bytes (Err NotJson) = (d : Data) → ¬ IsJson bytes d
 ReadsTrim bytes (Err WrongShape) = (d : Data) × IsJson bytes d × ((t : Trim) → d ≢ trim_tree t)
 ReadsTrim bytes (Err (BadTime i j)) = (t : Trim) × IsJson bytes (trim_tree t) × (¬ IsTime t.bound) × (i ≡ 0) × (j ≡ 0)
 ReadsTrim bytes (Err TooManyEntries) = ⊥
 ReadsTrim bytes (Err Memory) = ⊤
 
--- while memory lasts, the bytes determine the answer
+-- while memory lasts, bytes have one answer, and one alone
 abbrev pub HasOneQuery : List ℕ → Type 0
-HasOneQuery bytes = (r s : Result RawRead PushFault) → ReadsQuery bytes r → ReadsQuery bytes s → r ≢ Err Memory → s ≢ Err Memory → r ≡ s
+HasOneQuery bytes =
+    (r : Result RawRead PushFault) × (r ≢ Err Memory) × ReadsQuery bytes r
+    × ((s : Result RawRead PushFault) → ReadsQuery bytes s → s ≢ Err Memory → s ≡ r)
 
 abbrev pub HasOneTrim : List ℕ → Type 0
-HasOneTrim bytes = (r s : Result RawTrim PushFault) → ReadsTrim bytes r → ReadsTrim bytes s → r ≢ Err Memory → s ≢ Err Memory → r ≡ s
+HasOneTrim bytes =
+    (r : Result RawTrim PushFault) × (r ≢ Err Memory) × ReadsTrim bytes r
+    × ((s : Result RawTrim PushFault) → ReadsTrim bytes s → s ≢ Err Memory → s ≡ r)

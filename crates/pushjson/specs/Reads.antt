@@ -3,35 +3,38 @@ use Rattle.std.specs.Prelude.{◌≡◌, ◌≢◌, ⊤, ℕ, ◌<◌, ◌≤◌
 use Rattle.std.specs.declared.alloc.Global.{Global}
 use Rattle.serde_json.specs.Data.{Data}
 use Rattle.accept.specs.declared.entry.Entry.{Entry}
-use Rattle.pushjson.specs.Bodies.{Stream, TimedLine, body_tree, IsJson, AreTimes, HaveTimes, IsFirstBad, IsFirstBadTime, entry_count, entry_of, batch_of}
-use Rattle.pushjson.specs.declared.push.TheConstants.{MAX_ENTRIES}
+use Rattle.pushjson.specs.Bodies.{Stream, TimedLine, body_tree, IsJson, AreTimed, HaveTimes, IsFirstBad, IsFirstBadTime, entry_count, entry_of, batch_of}
 use Rattle.pushjson.specs.declared.push.RawBatch.{RawBatch}
 use Rattle.pushjson.specs.declared.fault.PushFault.{PushFault}
 use Rattle.pushjson.specs.declared.fault.PushFault.TheVariants.{NotJson, WrongShape, BadTime, TooManyEntries, Memory}
 
 -- the answer to a push body of these bytes
-abbrev pub ReadsPush : List ℕ → Result (Vec RawBatch Global) PushFault → Type 0
-ReadsPush bytes (Ok batches) =
-    (streams : List Stream) × IsJson bytes (body_tree streams) × HaveTimes streams × (entry_count streams ≤ MAX_ENTRIES) × (batches.items ≡ map batch_of streams)
-ReadsPush bytes (Err NotJson) = (d : Data) → ¬ IsJson bytes d
-ReadsPush bytes (Err WrongShape) = (d : Data) × IsJson bytes d × ((streams : List Stream) → d ≢ body_tree streams)
-ReadsPush bytes (Err (BadTime i j)) = (streams : List Stream) × IsJson bytes (body_tree streams) × IsFirstBadTime streams i j
-ReadsPush bytes (Err TooManyEntries) = (streams : List Stream) × IsJson bytes (body_tree streams) × HaveTimes streams × (MAX_ENTRIES < entry_count streams)
-ReadsPush bytes (Err Memory) = ⊤
+abbrev pub IsPushAnswer : List ℕ → Result (List RawBatch) PushFault → Type 0
+IsPushAnswer bytes (Ok batches) =
+    (streams : List Stream) × IsJson bytes (body_tree streams) × HaveTimes streams × (entry_count streams ≤ 10000) × (batches ≡ map batch_of streams)
+IsPushAnswer bytes (Err NotJson) = (d : Data) → ¬ IsJson bytes d
+IsPushAnswer bytes (Err WrongShape) = (d : Data) × IsJson bytes d × ((streams : List Stream) → d ≢ body_tree streams)
+IsPushAnswer bytes (Err (BadTime i j)) = (streams : List Stream) × IsJson bytes (body_tree streams) × IsFirstBadTime streams i j
+IsPushAnswer bytes (Err TooManyEntries) = (streams : List Stream) × IsJson bytes (body_tree streams) × HaveTimes streams × (10000 < entry_count streams)
+IsPushAnswer bytes (Err Memory) = ⊤
 
 -- an answer, without where its batches lie in memory
 abbrev pub answer_of : Result (Vec RawBatch Global) PushFault → Result (List RawBatch) PushFault
 answer_of (Ok batches) = Ok batches.items
 answer_of (Err fault) = Err fault
 
--- while memory lasts, the bytes determine the answer: its kind, its place and its batches
+abbrev pub ReadsPush : List ℕ → Result (Vec RawBatch Global) PushFault → Type 0
+ReadsPush bytes read = IsPushAnswer bytes (answer_of read)
+
+-- while memory lasts, bytes have one answer, and one alone: its kind, its place and its batches
 abbrev pub HasOneAnswer : List ℕ → Type 0
 HasOneAnswer bytes =
-    (r s : Result (Vec RawBatch Global) PushFault) → ReadsPush bytes r → ReadsPush bytes s → r ≢ Err Memory → s ≢ Err Memory → answer_of r ≡ answer_of s
+    (r : Result (List RawBatch) PushFault) × (r ≢ Err Memory) × IsPushAnswer bytes r
+    × ((s : Result (List RawBatch) PushFault) → IsPushAnswer bytes s → s ≢ Err Memory → s ≡ r)
 
 -- for private clauses: the entries of the stream at i, which has these values
 abbrev pub GivesEntries : ℕ → List TimedLine → Result (Vec Entry Global) PushFault → Type 0
-GivesEntries i values (Ok entries) = AreTimes values × (entries.items ≡ map entry_of values)
+GivesEntries i values (Ok entries) = AreTimed values × (entries.items ≡ map entry_of values)
 GivesEntries i values (Err (BadTime k j)) = (k ≡ i) × IsFirstBad values j
 GivesEntries i values (Err Memory) = ⊤
 GivesEntries i values (Err NotJson) = ⊥

@@ -35,11 +35,11 @@ ReadsData bytes (Err (BadTime i j)) = ⊥
 ReadsData bytes (Err TooManyEntries) = ⊥
 
 -- the texts, without where they lie in memory
-abbrev pub stream_of : StreamTexts → Stream
-stream_of s = record { pairs = map label_of s.pairs.items; values = map label_of s.values.items }
+abbrev pub stream_texts_of : StreamTexts → Stream
+stream_texts_of s = record { pairs = map label_of s.pairs.items; values = map label_of s.values.items }
 
-abbrev pub query_of : QueryTexts → Query
-query_of q = record { pairs = map label_of q.pairs.items; from = string_bytes q.from; to = string_bytes q.to }
+abbrev pub query_texts_of : QueryTexts → Query
+query_texts_of q = record { pairs = map label_of q.pairs.items; from = string_bytes q.from; to = string_bytes q.to }
 
 abbrev pub trim_texts_of : TrimTexts → Trim
 trim_texts_of t = record { pairs = map label_of t.pairs.items; bound = string_bytes t.bound }

@@ -10,6 +10,6 @@ mod time;
 
 pub use fault::PushFault;
 pub use laws::one_answer;
-pub use push::{MAX_ENTRIES, RawBatch, read_push};
+pub use push::{RawBatch, read_push};
 pub use query::{RawRead, RawTrim, read_query, read_trim};
 pub use time::time_of;

@@ -2,17 +2,14 @@ ghost use Rattle.std.specs.Prelude.{◌≡◌, ◌↔◌, ◌<◌, ◌^◌, IsTr
 ghost use Rattle.labels.specs.Labels.{label_of};
 ghost use Rattle.pushjson.specs.Bodies.{HaveRisingNames};
 ghost use Rattle.pushjson.specs.Reads.{ReadsPush, GivesEntries, GivesBatches};
-ghost use Rattle.pushjson.specs.Shape.{stream_of};
+ghost use Rattle.pushjson.specs.Shape.{stream_texts_of};
 
 use crate::fault::PushFault;
 use crate::shape::{StreamTexts, body_texts, read_tree};
 use crate::time::time_of;
-use accept::{Entry, EntryList, Line};
+use accept::{Entry, EntryList, Line, MAX_ENTRIES};
 use labels::LabelPairs;
 use std::alloc::Global;
-
-/// The most entries that the streams of a push body have together.
-pub const MAX_ENTRIES: usize = 10_000;
 
 /// A stream of a push body: its labels, not yet tested, and its entries.
 #[derive(Debug, Drop)]
@@ -45,7 +42,7 @@ pub fn read_push(alloc: Global, bytes: &[u8]) -> Result<Vec<RawBatch>, PushFault
 }
 
 fn batches_of(alloc: Global, streams: Vec<StreamTexts>) -> Result<Vec<RawBatch>, PushFault>
-    ensures { GivesBatches (map stream_of streams.items) result }
+    ensures { GivesBatches (map stream_texts_of streams.items) result }
 {
     let mut batches = Vec::with_capacity(alloc, streams.len()).map_err(|_| PushFault::Memory)?;
     for StreamTexts { pairs, values } in streams {
@@ -82,7 +79,7 @@ fn entries_of(
 }
 
 fn is_too_many(batches: &[RawBatch]) -> bool
-    ensures { IsTrue result ↔ (MAX_ENTRIES < sum_by (λ b. length b.entries) batches.now) }
+    ensures { IsTrue result ↔ (10000 < sum_by (λ b. length b.entries) batches.now) }
 {
     let mut room = MAX_ENTRIES;
     for batch in batches {

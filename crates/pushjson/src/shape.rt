@@ -5,7 +5,7 @@ ghost use Rattle.serde_json.specs.Data.{Data, string, array, object, no_members,
 ghost use Rattle.serde_json.specs.View.{view, items_of};
 ghost use Rattle.pushjson.specs.Bodies.{labels_tree, value_tree, stream_tree, body_tree, HaveRisingNames};
 ghost use Rattle.pushjson.specs.Queries.{query_tree, trim_tree};
-ghost use Rattle.pushjson.specs.Shape.{ReadsTree, ReadsData, stream_of, query_of, trim_texts_of};
+ghost use Rattle.pushjson.specs.Shape.{ReadsTree, ReadsData, stream_texts_of, query_texts_of, trim_texts_of};
 
 use crate::fault::PushFault;
 use serde_json::Value;
@@ -181,7 +181,7 @@ fn values_texts(alloc: Global, value: Value) -> Result<Vec<(String, String)>, Pu
 }
 
 fn stream_texts(alloc: Global, value: Value) -> Result<StreamTexts, PushFault>
-    ensures tree { ReadsTree stream_of stream_tree (view value) result }
+    ensures tree { ReadsTree stream_texts_of stream_tree (view value) result }
     ensures sorted { IfOk result (λ s. HaveRisingNames (map label_of s.pairs.items)) }
 {
     let (labels, values) = two_members(value, "stream", "values")?;
@@ -192,8 +192,8 @@ fn stream_texts(alloc: Global, value: Value) -> Result<StreamTexts, PushFault>
 
 // The streams of a push body.
 pub(crate) fn body_texts(alloc: Global, value: Value) -> Result<Vec<StreamTexts>, PushFault>
-    ensures tree { ReadsTree (λ streams. map stream_of streams.items) body_tree (view value) result }
-    ensures sorted { IfOk result (λ streams. All (λ s. HaveRisingNames s.pairs) (map stream_of streams.items)) }
+    ensures tree { ReadsTree (λ streams. map stream_texts_of streams.items) body_tree (view value) result }
+    ensures sorted { IfOk result (λ streams. All (λ s. HaveRisingNames s.pairs) (map stream_texts_of streams.items)) }
 {
     let items = items_in(only_member(value, "streams")?)?;
     let mut streams = Vec::with_capacity(alloc, items.len()).map_err(|_| PushFault::Memory)?;
@@ -206,7 +206,7 @@ pub(crate) fn body_texts(alloc: Global, value: Value) -> Result<Vec<StreamTexts>
 }
 
 pub(crate) fn query_texts(alloc: Global, value: Value) -> Result<QueryTexts, PushFault>
-    ensures tree { ReadsTree query_of query_tree (view value) result }
+    ensures tree { ReadsTree query_texts_of query_tree (view value) result }
     ensures sorted { IfOk result (λ q. HaveRisingNames (map label_of q.pairs.items)) }
 {
     let (from, labels, to) = three_members(value, "from", "stream", "to")?;

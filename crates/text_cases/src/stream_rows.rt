@@ -109,8 +109,8 @@ impl Opened {
         if self.stream.is_new() {
             return Ok(said.push_str("a new stream has no parts\n")?);
         }
-        let parts = self.stream.parts(self.alloc)?;
-        self.stream = StreamState::of(self.alloc, parts)?;
+        let image = self.stream.to_image(self.alloc)?;
+        self.stream = StreamState::of(self.alloc, image)?;
         Ok(())
     }
 }

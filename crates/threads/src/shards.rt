@@ -1,6 +1,5 @@
 //! Shards whose syncs a gate holds, called by two threads at once.
-ghost use Rattle.std.specs.Prelude.{◌≡◌, ◌<◌, ◌≤◌, ℕ, IsTrue, Some, slice_get, vec_len, IfOk, IfSome};
-ghost use Rattle.streams.specs.Changes.{HasFewEntries};
+ghost use Rattle.std.specs.Prelude.{◌≡◌, ◌<◌, ◌≤◌, ℕ, Some, slice_get, vec_len, IfOk, IfSome};
 ghost use Rattle.history.specs.Handles.{Passed};
 ghost use Rattle.ingester.specs.Calls.{IsPassOf};
 ghost use Rattle.threads.specs.Looks.{CanLook};
@@ -140,15 +139,6 @@ fn open_three(
     Ok((ingester, one, two, three))
 }
 
-fn has_few_entries(call: &Call) -> bool
-    ensures { IsTrue result → HasFewEntries call.now }
-{
-    match call {
-        Call::Push { entries, .. } => entries.as_slice().len() <= 10_000,
-        Call::Read { .. } | Call::Trim { .. } => true,
-    }
-}
-
 fn call<R: Wait>(
     rt: &R,
     alloc: Global,
@@ -159,7 +149,7 @@ fn call<R: Wait>(
     requires { IsPassOf ingester.now pass.old }
     ensures { IsPassOf ingester.now pass.new }
 {
-    if call.has_lawful_numbers() && has_few_entries(&call) {
+    if call.has_lawful_numbers() {
         ingester.call(rt, alloc, pass, call).ok()
     } else {
         None

@@ -1,5 +1,4 @@
-use Rattle.pushjson.proofs.OneAnswer.{one_answer}
-use Rattle.pushjson.proofs.OneQuery.{one_query, one_trim}
+use Rattle.pushjson.proofs.Existence.{one_answer, one_query, one_trim}
 use Rattle.pushjson.proofs.laws.one_answer.Goals as goal
 
 pub returns : goal.returns
