@@ -1,20 +1,31 @@
 -- What a disk in memory shows.
-use Rattle.std.specs.Prelude.{◌≡◌, ◌↔◌, ◌<◌, ◌≤◌, ℕ, List, ◌+◌, ◌-◌, ◌^◌, min, vec_len}
+use Rattle.std.specs.Prelude.{◌≡◌, ◌↔◌, ◌<◌, ◌≤◌, ℕ, List, [], ◌∷◌, ◌++◌, ◌+◌, ◌-◌, ◌^◌, min, vec_len}
 use Rattle.std.specs.Vec.{vec_capacity}
 use Rattle.disk.specs.declared.memory.MemDisk.{MemDisk}
 use Rattle.disk.specs.Sight.{Sight}
-use Rattle.disk.specs.State.{State, nothing, sight_of}
+use Rattle.disk.specs.State.{Act, State, nothing, state_after, sight_of}
 use Rattle.disk.specs.Laws.{now_counts, just_now, always_sound, sound_nothing}
-use Rattle.disk.specs.Memory.{acts, replayed}
+use Rattle.disk.specs.Memory.{acts}
 use Rattle.disk.specs.Plan.{IsAsked}
+
+-- the writes and syncs that it recorded, the first one first
+abbrev pub recorded : MemDisk → List Act
+recorded m = acts m.steps.items m.written.items
+
+-- it recorded one more, or none
+abbrev pub Records : Act → MemDisk → MemDisk → Type 0
+Records a old new = recorded new ≡ recorded old ++ a ∷ []
+
+abbrev pub RecordsNothing : MemDisk → MemDisk → Type 0
+RecordsNothing old new = recorded new ≡ recorded old
 
 -- what the recorded calls made of an empty disk
 abbrev pub state_of : MemDisk → State
-state_of m = replayed m.steps.items m.written.items
+state_of m = state_after nothing (recorded m)
 
 -- the disk at this moment, with a count of failures
 abbrev pub sight_at : MemDisk → ℕ → Sight
-sight_at m failures = sight_of nothing (acts m.steps.items m.written.items) failures
+sight_at m failures = sight_of nothing (recorded m) failures
 
 abbrev pub memory_sight : MemDisk → Sight
 memory_sight m = sight_at m m.failures
@@ -56,10 +67,10 @@ abbrev pub IsSameDisk : MemDisk → MemDisk → Type 0
 IsSameDisk old new = new ≡ record old { plan = new.plan }
 
 pub memory_counts_now : (m : MemDisk) (t : ℕ) (c : List ℕ) → t ≤ (memory_sight m).moment → (memory_sight m).may_leave c → (memory_sight m).left_since t c
-memory_counts_now m t c le image = now_counts nothing (acts m.steps.items m.written.items) m.failures t c le image
+memory_counts_now m t c le image = now_counts nothing (recorded m) m.failures t c le image
 
 pub memory_only_now : (m : MemDisk) (c : List ℕ) → (memory_sight m).left_since (memory_sight m).moment c → (memory_sight m).may_leave c
-memory_only_now m c left = just_now nothing (acts m.steps.items m.written.items) m.failures c left
+memory_only_now m c left = just_now nothing (recorded m) m.failures c left
 
 pub memory_seen_may_stay : (m : MemDisk) → (memory_sight m).may_leave (memory_sight m).seen
-memory_seen_may_stay m = always_sound nothing sound_nothing (acts m.steps.items m.written.items)
+memory_seen_may_stay m = always_sound nothing sound_nothing (recorded m)

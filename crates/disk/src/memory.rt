@@ -1,4 +1,4 @@
-ghost use Rattle.std.specs.Prelude.{◌≡◌, ◌≢◌, ◌≤◌, ◌<◌, ◌↔◌, ◌+◌, ◌++◌, [], ◌∷◌, ℕ, length, take, drop, OnOk, OnErr, List, IfOk, IsOk, IsErr, IsErrOf};
+ghost use Rattle.std.specs.Prelude.{◌≡◌, ◌≢◌, ◌≤◌, ◌<◌, ◌↔◌, ◌+◌, ◌++◌, ◌⊎◌, [], ◌∷◌, ℕ, length, take, drop, Some, None, OnOk, OnErr, List, IfOk, IsOk, IsErr, IsErrOf};
 ghost use Rattle.std.specs.Vec.{vec_capacity};
 ghost use Rattle.disk.specs.Sight.{Holds, Reads, Writes, Looks, IsSynced, Counts};
 ghost use Rattle.disk.specs.Memory.{acts, total, replayed, ranges_after};
@@ -54,7 +54,7 @@ fn overwrite(all: &mut Vec<u8>, at: usize, bytes: &[u8]) -> Result<(), AllocErro
 
 impl MemDisk {
     ghost use Rattle.disk.specs.Images.{IsImageOf, Lists, contents};
-    ghost use Rattle.disk.specs.MemDisk.{HasRoom, KeepsRoom, SameOthers, state_of, IsSameDisk, WillFail, sight_at, memory_sight, calls_of};
+    ghost use Rattle.disk.specs.MemDisk.{HasRoom, KeepsRoom, SameOthers, recorded, Records, RecordsNothing, state_of, IsSameDisk, WillFail, sight_at, memory_sight, calls_of};
 
     /// An empty disk with room for `room` bytes, and for a record of `calls` writes and syncs and of `written` bytes
     /// in all. Within these its trait calls take no memory; beyond them a refused growth is a counted failure.
@@ -63,6 +63,7 @@ impl MemDisk {
     /// `AllocError` where that room was refused.
     pub fn new(alloc: Global, room: u64, calls: u64, written: u64) -> Result<MemDisk, AllocError>
         ensures empty { IfOk result (λ disk. (memory_sight disk).seen ≡ []) }
+        ensures records { IfOk result (λ disk. recorded disk ≡ []) }
         ensures synced { IfOk result (λ disk. IsSynced (memory_sight disk)) }
         ensures room { IfOk result (λ disk. HasRoom disk room calls written) }
         ensures calls { IfOk result (λ disk. calls_of disk ≡ 0) }
@@ -148,6 +149,8 @@ impl MemDisk {
     // Makes a write, and records it.
     fn make_write(&mut self, at: usize, bytes: &[u8]) -> Result<(), AllocError>
         requires { at ≤ length self.old.bytes.items }
+        ensures records { OnOk result (Records (Some (at, bytes.now)) self.old self.new) }
+        ensures refused { OnErr result (RecordsNothing self.old self.new) }
         ensures written { OnOk result (Holds (sight_at self.old 0).seen at bytes.now
             (sight_at self.new 0).seen) }
         ensures writes { (old new : ℕ) → Writes at (length bytes.now)
@@ -167,6 +170,8 @@ impl MemDisk {
 
     // Records a sync.
     fn make_sync(&mut self) -> Result<(), AllocError>
+        ensures records { OnOk result (Records None self.old self.new) }
+        ensures refused { OnErr result (RecordsNothing self.old self.new) }
         ensures synced { OnOk result ((failures : ℕ) → IsSynced (sight_at self.new failures)) }
         ensures looks { (old new : ℕ) → Looks (sight_at self.old old) (sight_at self.new new) }
         ensures others { SameOthers self.old self.new }
@@ -181,7 +186,7 @@ impl MemDisk {
 }
 
 impl Disk for MemDisk {
-    ghost use Rattle.disk.specs.MemDisk.{HasRoom, KeepsRoom, GoesOn, CountsCall, WillFail, calls_of, memory_sight, memory_counts_now, memory_only_now, memory_seen_may_stay};
+    ghost use Rattle.disk.specs.MemDisk.{HasRoom, KeepsRoom, GoesOn, CountsCall, Records, RecordsNothing, WillFail, calls_of, memory_sight, memory_counts_now, memory_only_now, memory_seen_may_stay};
 
     ghost follows = { λ _. Unit {0} };
 
@@ -200,6 +205,7 @@ impl Disk for MemDisk {
 
         // It fails exactly where that was asked for.
         ensures fails { IsErr result ↔ WillFail self.old 1 }
+        ensures records { RecordsNothing self.old self.new }
         ensures goes_on { GoesOn self.old self.new }
         ensures calls { calls_of self.new ≡ calls_of self.old }
         ensures room { KeepsRoom 0 0 self.old self.new }
@@ -224,6 +230,15 @@ impl Disk for MemDisk {
             → Writes at (length bytes.now) (memory_sight self.old) (memory_sight self.new) }
         ensures counts { Counts result (memory_sight self.old).failures (memory_sight self.new).failures }
 
+        // It is recorded whether it fails or not, but where it begins past the end; for want of memory it fails, and
+        // needn't be.
+        ensures records { OnOk result (Records (Some (at, bytes.now)) self.old self.new) }
+        ensures records_failed { at ≤ length (memory_sight self.old).seen
+            → HasRoom self.old (at + length bytes.now) 1 (length bytes.now)
+            → Records (Some (at, bytes.now)) self.old self.new }
+        ensures refused { length (memory_sight self.old).seen < at → RecordsNothing self.old self.new }
+        ensures either { Records (Some (at, bytes.now)) self.old self.new ⊎ RecordsNothing self.old self.new }
+
         // It fails where that was asked for, where it begins past the end, and else only for want of memory.
         ensures asked { WillFail self.old 1 → IsErr result }
         ensures past_end { length (memory_sight self.old).seen < at → IsErr result }
@@ -246,6 +261,10 @@ impl Disk for MemDisk {
         ensures looks { Looks (memory_sight self.old) (memory_sight self.new) }
         ensures counts { Counts result (memory_sight self.old).failures (memory_sight self.new).failures }
 
+        // It is recorded exactly where it doesn't fail.
+        ensures records { OnOk result (Records None self.old self.new) }
+        ensures refused { OnErr result (RecordsNothing self.old self.new) }
+
         // It fails where that was asked for, and else only for want of memory.
         ensures asked { WillFail self.old 1 → IsErr result }
         ensures works { ¬ WillFail self.old 1 → HasRoom self.old 0 1 0 → IsOk result }
@@ -267,6 +286,7 @@ impl Disk for MemDisk {
 
         // It fails exactly where that was asked for.
         ensures fails { IsErr result ↔ WillFail self.old 1 }
+        ensures records { RecordsNothing self.old self.new }
         ensures goes_on { GoesOn self.old self.new }
         ensures calls { calls_of self.new ≡ calls_of self.old }
         ensures room { KeepsRoom 0 0 self.old self.new }

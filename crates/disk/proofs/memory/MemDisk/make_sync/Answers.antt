@@ -19,3 +19,6 @@ returns-clause-synced c = λ f. memory-synced (acts c.args.self.now.steps.items 
 pub returns-clause-looks : goal.returns-clause-looks
 returns-clause-looks c = λ f f'. memory-looks (acts c.args.self.now.steps.items c.args.self.now.written.items) _ f f'
     (memory-sync c.args.self.now.steps.items _ c.args.self.now.written.items _ (c.in_ok-push.ensures.items, refl))
+
+pub returns-clause-records : goal.returns-clause-records
+returns-clause-records c = memory-sync c.args.self.now.steps.items _ c.args.self.now.written.items _ (c.in_ok-push.ensures.items, refl)

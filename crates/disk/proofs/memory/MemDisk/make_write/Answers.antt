@@ -16,3 +16,8 @@ pub returns-clause-writes : goal.returns-clause-writes
 returns-clause-writes c = λ f f'. memory-writes (acts c.args.self.now.steps.items c.args.self.now.written.items) _ c.args.at c.args.bytes.now f f'
     (memory-write c.args.self.now.steps.items c.push.new.self.items c.args.self.now.written.items c.extend_from_slice.new.self.items c.args.bytes.now c.args.at c.args.self.now.whole (search rules))
     (omega (arith, ap length c.args.self.now.same, c.requires))
+
+pub returns-clause-records : goal.returns-clause-records
+returns-clause-records c =
+    memory-write c.args.self.now.steps.items c.push.new.self.items c.args.self.now.written.items c.extend_from_slice.new.self.items
+    c.args.bytes.now c.args.at c.args.self.now.whole (search rules)
