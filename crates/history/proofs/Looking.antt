@@ -11,7 +11,7 @@ use Rattle.history.specs.declared.views.View.{View}
 use Rattle.history.specs.declared.views.Role.TheVariants.{Nobody, Keeps, Calls}
 use Rattle.history.specs.declared.views.Token.{Token}
 use Rattle.history.specs.declared.views.Token.TheVariants.{Nothing, Open, Done}
-use Rattle.history.specs.Histories.{Begins, IsLegalAt}
+use Rattle.history.specs.Histories.{Begins, IsLegalAt, IsByPasses}
 use Rattle.history.specs.Rule.{alone, Contents, Seating, AccountOk, IsHand, number_of, Holds}
 use Rattle.history.specs.Plays.{seen_at, look_to, looked, met, settled, HasStepsOf}
 use Rattle.history.proofs.Lists.{put, put_at, put_else, put_other}
@@ -58,7 +58,7 @@ looks slots id k c lt s h wide e fits =
               (record { role = (mine.0, mine.1, mine.2, put_at x.callers c.pass c' c.pass refl); guest = tt; two = tt; hand = tt });
         },
       ),
-      ((x.items k, refl, ok.seen k, r.good.legal k, sym (r.words.lengths k lt), steps_of x.items c ts k ok, (let w = ok.wide in omega arith)), refl),
+      ((x.items k, refl, ok.seen k, r.good.legal k, sym (r.words.lengths k lt), steps_of x.items c ts k ok, (let w = ok.wide in omega arith), r.good.by_passes k), refl),
     )
 
 pub looks_as : (slots id k : ℕ) (c : Caller) (m : Me Unit View) → m ≡ (alone (Calls c) Nothing, []) → k < c.about.shards → Allows Holds slots id m k (λ n. n) (looked (step slots k 0 0 none) m)
@@ -115,7 +115,7 @@ meets slots id k c d lt s h wide e fits =
               });
         },
       ),
-      ((x.items k, refl, (ok.seen k, okay.seen k, r.good.legal k, steps_of x.items c ts k ok, steps_of x.items d us k okayed, its.0), (let o = ok.wide in omega arith), (let o = okay.wide in omega arith)), refl),
+      ((x.items k, refl, (ok.seen k, okay.seen k, r.good.legal k, steps_of x.items c ts k ok, steps_of x.items d us k okayed, its.0, r.good.by_passes k), (let o = ok.wide in omega arith), (let o = okay.wide in omega arith)), refl),
     )
 
 pub meets_as : (slots id k : ℕ) (c d : Caller) (m : Me Unit View) → m ≡ (record { role = Calls c; guest = Calls d; hand = Nothing }, []) → k < c.about.shards → Allows Holds slots id m k (λ n. n) (met (step slots k 0 0 none) m)
@@ -151,6 +151,7 @@ settles slots id k shelf c s h wide e fits =
           subst (λ l. IsLegalAt shelf.about shelf.shard l) mine.3 (r.good.legal shelf.shard),
           subst (λ l. HasStepsOf c shelf.shard l) mine.3 (steps_of x.items c ts shelf.shard ok),
           its.0,
+          subst (λ l. IsByPasses shelf.about.passes l) mine.3 (r.good.by_passes shelf.shard),
         ),
       ),
     )
