@@ -22,7 +22,7 @@ use Rattle.history.specs.declared.views.Token.{Token}
 use Rattle.history.specs.declared.views.Token.TheVariants.{Nothing, Open, Done}
 use Rattle.history.specs.Histories.{Begins, IsLegalAt, terms_of, history_of, reply_of, shard_in, steps_by, asks_by, IsByPasses, AllBelow, HaveSteps, bound}
 use Rattle.history.specs.Rule.{alone, Contents, AccountOk, IsGood, AreWords, AreTold, Holds, total}
-use Rattle.history.specs.Plays.{keeper, answered, committed_at}
+use Rattle.history.specs.Plays.{keeper, answered, IsShort, committed_at}
 use Rattle.history.proofs.Lists.{put, put_at, put_all, put_other, put_two, put_two_at, begins_same}
 use Rattle.history.proofs.Past.{rising_count, asks_step, steps_else, all_new, legal_more, by_passes_append, marked_step, total_step, total_least}
 use Rattle.history.proofs.Accounts.{token_ok, grown_ok, committed_ok}
@@ -32,9 +32,9 @@ mark_least : (b : Bool) → cond b 1 0 ≤ 1
 mark_least true = omega arith
 mark_least false = omega arith
 
--- one more item fits into a word
-pub room : (about : About) (x : Contents) (k : ℕ) → IsGood about x → about.passes ≤ 64 → length (x.items k) + 1 < 18446744073709551616
-room about x k good few =
+-- a history has at most a step under each number of each pass, and the mark
+pub short : (about : About) (x : Contents) (k : ℕ) → IsGood about x → IsShort about (x.items k)
+short about x k good =
     let least : total about.passes (x.items k) ≤ about.passes * bound = total_least about.passes (x.items k) (λ p lt.
     let ok = good.passes p lt in
     let rises : length (steps_by p (x.items k)) ≤ (x.callers p).last + 1 = rising_count ((x.callers p).last + 1) (steps_by p (x.items k)) (ok.rising k) (ok.used k) in
@@ -42,6 +42,12 @@ room about x k good few =
     omega arith) in
     let counted = good.counted k in
     let mark = mark_least (is_marked (x.items k)) in
+    omega arith
+
+-- one more item fits into a word
+pub room : (about : About) (x : Contents) (k : ℕ) → IsGood about x → about.passes ≤ 64 → length (x.items k) + 1 < 18446744073709551616
+room about x k good few =
+    let least : length (x.items k) ≤ about.passes * bound + 1 = short about x k good in
     let most : about.passes * bound ≤ 64 * bound = omega arith in
     omega arith
 

@@ -1,5 +1,6 @@
 -- Looks at a shard's word keep the rule.
-use Rattle.std.proofs.Common.{◌≡◌, ℕ, ◌<◌, [], refl, sym, ap, ◌∙◌, subst, arith}
+use Rattle.std.proofs.Common.{◌≡◌, ℕ, ◌<◌, [], length, refl, sym, ap, ◌∙◌, subst, arith}
+use Rattle.std.specs.Prelude.{slice_index}
 use mathlib.Core.Option.{some, none}
 use lib.ListN.{get_elem?}
 use Rattle.atomic_table.specs.Table.{Me, Allows, step, keeps}
@@ -13,8 +14,9 @@ use Rattle.history.specs.declared.views.Token.{Token}
 use Rattle.history.specs.declared.views.Token.TheVariants.{Nothing, Open, Done}
 use Rattle.history.specs.Histories.{Begins, IsLegalAt, IsByPasses}
 use Rattle.history.specs.Rule.{alone, Contents, Seating, AccountOk, IsHand, number_of, Holds}
-use Rattle.history.specs.Plays.{seen_at, look_to, looked, met, settled, HasStepsOf}
+use Rattle.history.specs.Plays.{seen_at, look_to, looked, met, settled, counted, IsShort, HasStepsOf}
 use Rattle.history.proofs.Lists.{put, put_at, put_else, put_other}
+use Rattle.history.proofs.Books.{short}
 use Rattle.history.proofs.Accounts.{looked_ok, steps_of}
 use Rattle.history.proofs.Seats.{Frame, seats_set, account_at, with_caller, good_caller, words_look, words_same, pass_of, book_of}
 
@@ -158,3 +160,34 @@ settles slots id k shelf c s h wide e fits =
 
 pub settles_as : (slots id k : ℕ) (shelf : Shelf) (c : Caller) (m : Me Unit View) → m ≡ (record { role = Keeps shelf; guest = Calls c; hand = Nothing }, []) → Allows Holds slots id m k (λ n. n) (settled (step slots k 0 0 none) m)
 settles_as slots id k shelf c m is = subst (λ (u : Me Unit View). Allows Holds slots id u k (λ n. n) (settled (step slots k 0 0 none) u)) (sym is) (settles slots id k shelf c)
+
+counts : (slots id k : ℕ) (shelf : Shelf) → k ≡ shelf.shard → Allows Holds slots id (alone (Keeps shelf) Nothing, []) k (λ n. n) (counted (step slots k 0 0 none) (alone (Keeps shelf) Nothing, []))
+counts slots id k shelf here s h wide e fits =
+    let v : View = alone (Keeps shelf) Nothing in
+    let r = book_of s id shelf Nobody Nothing h e in
+    let x = r.contents in
+    let mine = (r.seats id v e).role in (
+      v,
+      keeps,
+      tt,
+      (
+        shelf.about,
+        record {
+          contents = x;
+          seating = r.seating;
+          words = words_same shelf.about x s.words k r.words;
+          good = r.good;
+          seats = λ j u q. r.seats j u (subst (λ l. get_elem? l j ≡ some u) (set_again s.views id v e) q);
+        },
+      ),
+      (
+        refl,
+        (
+          ap (slice_index s.words) here ∙ r.words.lengths shelf.shard mine.1 ∙ ap length mine.3,
+          subst (λ l. IsShort shelf.about l) mine.3 (short shelf.about x shelf.shard r.good),
+        ),
+      ),
+    )
+
+pub counts_as : (slots id k : ℕ) (shelf : Shelf) (m : Me Unit View) → m ≡ (alone (Keeps shelf) Nothing, []) → k ≡ shelf.shard → Allows Holds slots id m k (λ n. n) (counted (step slots k 0 0 none) m)
+counts_as slots id k shelf m is here = subst (λ (u : Me Unit View). Allows Holds slots id u k (λ n. n) (counted (step slots k 0 0 none) u)) (sym is) (counts slots id k shelf here)

@@ -1,5 +1,5 @@
 -- What each step of a seat leaves it with, and tells it.
-use Rattle.std.specs.Prelude.{◌≡◌, ◌⊎◌, ℕ, ◌+◌, ◌<◌, List, [], ◌∷◌, ◌++◌, true, false, length, slice_index_or, slice_set}
+use Rattle.std.specs.Prelude.{◌≡◌, ◌⊎◌, ℕ, ◌+◌, ◌*◌, ◌<◌, ◌≤◌, List, [], ◌∷◌, ◌++◌, true, false, length, slice_index_or, slice_set}
 use Rattle.atomic_table.specs.Table.{Step as TableStep, Me}
 use Rattle.accept.specs.declared.call.Call.{Call}
 use Rattle.accept.specs.declared.call.Reply.{Reply}
@@ -14,7 +14,7 @@ use Rattle.history.specs.declared.views.Role.{Role}
 use Rattle.history.specs.declared.views.Role.TheVariants.{Nobody, Opener, Keeps, Calls}
 use Rattle.history.specs.declared.views.Token.{Token}
 use Rattle.history.specs.declared.views.Token.TheVariants.{Nothing, Open, Done}
-use Rattle.history.specs.Histories.{Begins, IsLegalAt, reply_of, shard_in, step_of, steps_by, on, asks_by, asks_on, IsByPasses, IsMade, IsRising, IsAmong, AreAmong, IsFirst, behind_first}
+use Rattle.history.specs.Histories.{Begins, IsLegalAt, reply_of, shard_in, step_of, steps_by, on, asks_by, asks_on, IsByPasses, IsMade, IsRising, IsAmong, AreAmong, IsFirst, behind_first, bound}
 use Rattle.history.specs.Rule.{alone, opener, newcomer}
 
 -- a seat that knows nothing
@@ -250,3 +250,15 @@ IsSettled role guest = Unit {0}
 -- a look that compares a book with a pass, and changes neither
 abbrev pub settled : TableStep Unit → Me Unit View → ℕ → Me Unit View → Type 0
 settled st m found m' = (m' ≡ m) × IsSettled m.0.role m.0.guest
+
+-- so many items have room for a step under each number of each pass, and the mark
+abbrev pub IsShort : About → List Item → Type 0
+IsShort about items = length items ≤ about.passes * bound + 1
+
+abbrev pub Counts : ℕ → Role → Type 0
+Counts found (Keeps shelf) = (found ≡ length shelf.items) × IsShort shelf.about shelf.items
+Counts found role = Unit {0}
+
+-- a look that counts a book's items, and changes nothing
+abbrev pub counted : TableStep Unit → Me Unit View → ℕ → Me Unit View → Type 0
+counted st m found m' = (m' ≡ m) × Counts found m.0.role
