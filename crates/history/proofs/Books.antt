@@ -20,11 +20,11 @@ use Rattle.history.specs.declared.views.View.{View}
 use Rattle.history.specs.declared.views.Role.TheVariants.{Nobody, Keeps}
 use Rattle.history.specs.declared.views.Token.{Token}
 use Rattle.history.specs.declared.views.Token.TheVariants.{Nothing, Open, Done}
-use Rattle.history.specs.Histories.{Begins, IsLegalAt, terms_of, history_of, reply_of, shard_in, steps_by, asks_by, AllBelow, HaveSteps, bound}
+use Rattle.history.specs.Histories.{Begins, IsLegalAt, terms_of, history_of, reply_of, shard_in, steps_by, asks_by, IsByPasses, AllBelow, HaveSteps, bound}
 use Rattle.history.specs.Rule.{alone, Contents, AccountOk, IsGood, AreWords, AreTold, Holds, total}
-use Rattle.history.specs.Plays.{keeper, answered, committed_at}
+use Rattle.history.specs.Plays.{keeper, answered, IsShort, committed_at}
 use Rattle.history.proofs.Lists.{put, put_at, put_all, put_other, put_two, put_two_at, begins_same}
-use Rattle.history.proofs.Past.{rising_count, asks_step, steps_else, all_new, legal_more, marked_step, total_step, total_least}
+use Rattle.history.proofs.Past.{rising_count, asks_step, steps_else, all_new, legal_more, by_passes_append, marked_step, total_step, total_least}
 use Rattle.history.proofs.Accounts.{token_ok, grown_ok, committed_ok}
 use Rattle.history.proofs.Seats.{seats_set, hand_put, doubt_put, held_by, book_of}
 
@@ -32,9 +32,9 @@ mark_least : (b : Bool) → cond b 1 0 ≤ 1
 mark_least true = omega arith
 mark_least false = omega arith
 
--- one more item fits into a word
-pub room : (about : About) (x : Contents) (k : ℕ) → IsGood about x → about.passes ≤ 64 → length (x.items k) + 1 < 18446744073709551616
-room about x k good few =
+-- a history has at most a step under each number of each pass, and the mark
+pub short : (about : About) (x : Contents) (k : ℕ) → IsGood about x → IsShort about (x.items k)
+short about x k good =
     let least : total about.passes (x.items k) ≤ about.passes * bound = total_least about.passes (x.items k) (λ p lt.
     let ok = good.passes p lt in
     let rises : length (steps_by p (x.items k)) ≤ (x.callers p).last + 1 = rising_count ((x.callers p).last + 1) (steps_by p (x.items k)) (ok.rising k) (ok.used k) in
@@ -42,6 +42,12 @@ room about x k good few =
     omega arith) in
     let counted = good.counted k in
     let mark = mark_least (is_marked (x.items k)) in
+    omega arith
+
+-- one more item fits into a word
+pub room : (about : About) (x : Contents) (k : ℕ) → IsGood about x → about.passes ≤ 64 → length (x.items k) + 1 < 18446744073709551616
+room about x k good few =
+    let least : length (x.items k) ≤ about.passes * bound + 1 = short about x k good in
     let most : about.passes * bound ≤ 64 * bound = omega arith in
     omega arith
 
@@ -104,6 +110,9 @@ good_step about x k now a f b at good lt here has had is =
           let m : cond {A = ℕ} (is_marked (x.items k ++ Answered s ∷ [])) 1 0 ≡ cond {A = ℕ} (is_marked (x.items k)) 1 0 = ap (λ b. cond b 1 0) (marked_step (x.items k) s) in
           omega arith))
           (λ j n. good.counted j);
+      by_passes = put_all x.items k now (λ j l. IsByPasses about.passes l)
+          (subst (λ l. IsByPasses about.passes l) (sym is) (by_passes_append about.passes (x.items k) (Answered s ∷ []) (good.by_passes k) (lt, tt)))
+          (λ j n. good.by_passes j);
       passes = put_all x.tokens a.pass (put ts a.number (Done s now at)) (λ q u. q < about.passes → AccountOk about (put x.items k now) q (x.callers q) u)
           (λ _. subst (λ l. AccountOk about (put x.items k l) a.pass c (put ts a.number (Done s l at))) (sym is) (committed_ok about x.items a.pass c ts a f b s.reply k at here has had ok))
           (λ q n l. grown_ok about x.items (put x.items k now) q (x.callers q) (x.tokens q) (longer_begins x k now (Answered s) is)

@@ -16,7 +16,7 @@ use Rattle.history.specs.Histories.{shard_in, IsFirstNumber, behind_first, bound
 use Rattle.history.specs.Rule.{alone, Contents, Seating, IsInDoubt, number_of, Holds}
 use Rattle.history.specs.Plays.{IsRested, ask_of, before_of, announce_to, withdraw_to, collect_to, announced_as, withdrew, collected}
 use Rattle.history.proofs.Lists.{put, put_at, put_other, put_two, put_two_at}
-use Rattle.history.proofs.Past.{legal_front, number_last}
+use Rattle.history.proofs.Past.{legal_front, by_passes_front, number_last}
 use Rattle.history.proofs.Sharding.{shard_below}
 use Rattle.history.proofs.Accounts.{free_number, token_ok, announced_ok, withdrawn_ok, collected_ok, extends_of, rested_then, answers_first, returns_first, rested_of}
 use Rattle.history.proofs.Seats.{Frame, seats_set, hand_put, doubt_put, account_at, with_pass, held_by, good_pass, words_pass, pass_of}
@@ -144,6 +144,7 @@ collects slots id word c r upto at own number due rested s h wide e fits =
           there,
           first,
           rested_then x.items c ts r upto at ok has first rested there,
+          by_passes_front c.about.passes upto (x.items (shard_in c.about r.ask)) (token_ok c.about x.items c.pass c ts ok n (Done r upto at) has).3 (k.good.by_passes (shard_in c.about r.ask)),
         ),
         refl,
       ),

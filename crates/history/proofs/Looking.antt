@@ -1,5 +1,6 @@
 -- Looks at a shard's word keep the rule.
-use Rattle.std.proofs.Common.{◌≡◌, ℕ, ◌<◌, [], refl, sym, ap, ◌∙◌, subst, arith}
+use Rattle.std.proofs.Common.{◌≡◌, ℕ, ◌<◌, [], length, refl, sym, ap, ◌∙◌, subst, arith}
+use Rattle.std.specs.Prelude.{slice_index}
 use mathlib.Core.Option.{some, none}
 use lib.ListN.{get_elem?}
 use Rattle.atomic_table.specs.Table.{Me, Allows, step, keeps}
@@ -11,10 +12,11 @@ use Rattle.history.specs.declared.views.View.{View}
 use Rattle.history.specs.declared.views.Role.TheVariants.{Nobody, Keeps, Calls}
 use Rattle.history.specs.declared.views.Token.{Token}
 use Rattle.history.specs.declared.views.Token.TheVariants.{Nothing, Open, Done}
-use Rattle.history.specs.Histories.{Begins, IsLegalAt}
+use Rattle.history.specs.Histories.{Begins, IsLegalAt, IsByPasses}
 use Rattle.history.specs.Rule.{alone, Contents, Seating, AccountOk, IsHand, number_of, Holds}
-use Rattle.history.specs.Plays.{seen_at, look_to, looked, met, settled, HasStepsOf}
+use Rattle.history.specs.Plays.{seen_at, look_to, looked, met, settled, counted, IsShort, HasStepsOf}
 use Rattle.history.proofs.Lists.{put, put_at, put_else, put_other}
+use Rattle.history.proofs.Books.{short}
 use Rattle.history.proofs.Accounts.{looked_ok, steps_of}
 use Rattle.history.proofs.Seats.{Frame, seats_set, account_at, with_caller, good_caller, words_look, words_same, pass_of, book_of}
 
@@ -58,7 +60,7 @@ looks slots id k c lt s h wide e fits =
               (record { role = (mine.0, mine.1, mine.2, put_at x.callers c.pass c' c.pass refl); guest = tt; two = tt; hand = tt });
         },
       ),
-      ((x.items k, refl, ok.seen k, r.good.legal k, sym (r.words.lengths k lt), steps_of x.items c ts k ok, (let w = ok.wide in omega arith)), refl),
+      ((x.items k, refl, ok.seen k, r.good.legal k, sym (r.words.lengths k lt), steps_of x.items c ts k ok, (let w = ok.wide in omega arith), r.good.by_passes k), refl),
     )
 
 pub looks_as : (slots id k : ℕ) (c : Caller) (m : Me Unit View) → m ≡ (alone (Calls c) Nothing, []) → k < c.about.shards → Allows Holds slots id m k (λ n. n) (looked (step slots k 0 0 none) m)
@@ -115,7 +117,7 @@ meets slots id k c d lt s h wide e fits =
               });
         },
       ),
-      ((x.items k, refl, (ok.seen k, okay.seen k, r.good.legal k, steps_of x.items c ts k ok, steps_of x.items d us k okayed, its.0), (let o = ok.wide in omega arith), (let o = okay.wide in omega arith)), refl),
+      ((x.items k, refl, (ok.seen k, okay.seen k, r.good.legal k, steps_of x.items c ts k ok, steps_of x.items d us k okayed, its.0, r.good.by_passes k), (let o = ok.wide in omega arith), (let o = okay.wide in omega arith)), refl),
     )
 
 pub meets_as : (slots id k : ℕ) (c d : Caller) (m : Me Unit View) → m ≡ (record { role = Calls c; guest = Calls d; hand = Nothing }, []) → k < c.about.shards → Allows Holds slots id m k (λ n. n) (met (step slots k 0 0 none) m)
@@ -151,9 +153,41 @@ settles slots id k shelf c s h wide e fits =
           subst (λ l. IsLegalAt shelf.about shelf.shard l) mine.3 (r.good.legal shelf.shard),
           subst (λ l. HasStepsOf c shelf.shard l) mine.3 (steps_of x.items c ts shelf.shard ok),
           its.0,
+          subst (λ l. IsByPasses shelf.about.passes l) mine.3 (r.good.by_passes shelf.shard),
         ),
       ),
     )
 
 pub settles_as : (slots id k : ℕ) (shelf : Shelf) (c : Caller) (m : Me Unit View) → m ≡ (record { role = Keeps shelf; guest = Calls c; hand = Nothing }, []) → Allows Holds slots id m k (λ n. n) (settled (step slots k 0 0 none) m)
 settles_as slots id k shelf c m is = subst (λ (u : Me Unit View). Allows Holds slots id u k (λ n. n) (settled (step slots k 0 0 none) u)) (sym is) (settles slots id k shelf c)
+
+counts : (slots id k : ℕ) (shelf : Shelf) → k ≡ shelf.shard → Allows Holds slots id (alone (Keeps shelf) Nothing, []) k (λ n. n) (counted (step slots k 0 0 none) (alone (Keeps shelf) Nothing, []))
+counts slots id k shelf here s h wide e fits =
+    let v : View = alone (Keeps shelf) Nothing in
+    let r = book_of s id shelf Nobody Nothing h e in
+    let x = r.contents in
+    let mine = (r.seats id v e).role in (
+      v,
+      keeps,
+      tt,
+      (
+        shelf.about,
+        record {
+          contents = x;
+          seating = r.seating;
+          words = words_same shelf.about x s.words k r.words;
+          good = r.good;
+          seats = λ j u q. r.seats j u (subst (λ l. get_elem? l j ≡ some u) (set_again s.views id v e) q);
+        },
+      ),
+      (
+        refl,
+        (
+          ap (slice_index s.words) here ∙ r.words.lengths shelf.shard mine.1 ∙ ap length mine.3,
+          subst (λ l. IsShort shelf.about l) mine.3 (short shelf.about x shelf.shard r.good),
+        ),
+      ),
+    )
+
+pub counts_as : (slots id k : ℕ) (shelf : Shelf) (m : Me Unit View) → m ≡ (alone (Keeps shelf) Nothing, []) → k ≡ shelf.shard → Allows Holds slots id m k (λ n. n) (counted (step slots k 0 0 none) m)
+counts_as slots id k shelf m is here = subst (λ (u : Me Unit View). Allows Holds slots id u k (λ n. n) (counted (step slots k 0 0 none) u)) (sym is) (counts slots id k shelf here)

@@ -18,11 +18,11 @@ use Rattle.history.specs.declared.views.Role.TheVariants.{Nobody, Keeps}
 use Rattle.history.specs.declared.views.Token.{Token}
 use Rattle.history.specs.declared.views.Token.TheVariants.{Nothing, Open, Done}
 use Rattle.history.specs.Shards.{is_of_shard}
-use Rattle.history.specs.Histories.{IsLegalAt, terms_of, history_of, shard_in, steps_by, of_pass, asks_by, AllBelow}
+use Rattle.history.specs.Histories.{IsLegalAt, terms_of, history_of, shard_in, steps_by, of_pass, asks_by, HavePassesBelow, IsByPasses, AllBelow}
 use Rattle.history.specs.Rule.{alone, Contents, Seating, AccountOk, IsGood, AreWords, IsInDoubt, AreOpen, IsOut, AreTold, IsHand, HoldsFor, Holds, total}
 use Rattle.history.specs.Plays.{loose, keeper, in_doubt, marked}
 use Rattle.history.proofs.Lists.{put, put_at, put_all, put_other, put_two, put_two_at}
-use Rattle.history.proofs.Past.{asks_append, steps_mark, no_step, legal_more, marked_mark, total_mark}
+use Rattle.history.proofs.Past.{asks_append, steps_mark, no_step, legal_more, by_passes_append, marked_mark, total_mark}
 use Rattle.history.proofs.Accounts.{one_open, token_ok, told_append, grown_ok, doubted_ok}
 use Rattle.history.proofs.Seats.{Frame, role_kept, seats_set, seats_join, still_there, hand_put, doubt_put, held_by, book_of}
 use Rattle.history.proofs.Books.{room, words_longer, longer_begins}
@@ -64,6 +64,7 @@ doubts id shelf other role a f b here s h e n there =
         good = record {
           legal = r.good.legal;
           counted = r.good.counted;
+          by_passes = r.good.by_passes;
           passes = put_all x.tokens a.pass (put (x.tokens a.pass) a.number t') (λ q u. q < about.passes → AccountOk about x.items q (x.callers q) u)
               (λ l. doubted_ok about x.items a.pass (x.callers a.pass) (x.tokens a.pass) (r.good.passes a.pass l) a f b hand.2)
               (λ q m. r.good.passes q);
@@ -96,6 +97,11 @@ told_doubt about x k q made (a ∷ asks) h = cond_told made (x.tokens q) (eqb q 
     eqb_same : (a b : ℕ) → eqb a b ≡ true → a ≡ b
     eqb_same a b e = ⊎_elim (λ (same : a ≡ b). same) (λ (n : a ≢ b). absurd (clash (sym e ∙ ne_eqb a b n))) (cases_eq a b)
 
+-- calls that are open are of the passes
+open_passes : (about : About) (x : Contents) (k : ℕ) (asks : List Ask) → AreOpen about x k asks → HavePassesBelow about.passes asks
+open_passes about x k [] h = tt
+open_passes about x k (a ∷ asks) h = (h.0, open_passes about x k asks h.3)
+
 -- calls that are open may stand in a mark's list
 may_doubt : (about : About) (x : Contents) (k : ℕ) → IsGood about x → (asks : List Ask) → AreOpen about x k asks
     → IsTrue (list_all (λ a. not (list_any (is_step_of a) (x.items k)) && is_of_shard about.shards k (key_of a.call)) asks)
@@ -124,6 +130,9 @@ good_mark about x k now asks good open_calls unmarked is =
           let o : cond {A = ℕ} (is_marked (x.items k)) 1 0 ≡ 0 = ap (λ b. cond b 1 0) unmarked in
           omega arith))
           (λ j n. good.counted j);
+      by_passes = put_all x.items k now (λ j l. IsByPasses about.passes l)
+          (subst (λ l. IsByPasses about.passes l) (sym is) (by_passes_append about.passes (x.items k) (Failed asks ∷ []) (good.by_passes k) (open_passes about x k asks open_calls, tt)))
+          (λ j n. good.by_passes j);
       passes = λ q l. grown_ok about x.items (put x.items k now) q (x.callers q) (x.tokens q) (longer_begins x k now (Failed asks) is)
           (put_all x.items k now (λ j y. steps_by q y ≡ steps_by q (x.items j)) (ap (steps_by q) is ∙ steps_mark q (x.items k) asks) (λ j m. refl))
           (put_all x.items k now (λ j y. AreTold (x.callers q).made (x.tokens q) (asks_by q y))

@@ -28,7 +28,7 @@ met_look c d n lc ld m m' is met told =
     let lc' : List (List Item) = slice_set lc n new in
     let ld' : List (List Item) = slice_set ld n new in
     let same : m' ≡ (pair_of (with_seen c lc') (with_seen d ld'), []) = λ i. (w i, t.1 i) in
-    let here : IsMeeting c d n new = (subst (λ l. Begins l new) (met.first_above n (omega arith)) all.0, subst (λ l. Begins l new) (met.second_above n (omega arith)) all.1, all.2, steps_same c lc n new all.3, steps_same d ld n new all.4, all.5) in
+    let here : IsMeeting c d n new = (subst (λ l. Begins l new) (met.first_above n (omega arith)) all.0, subst (λ l. Begins l new) (met.second_above n (omega arith)) all.1, all.2, steps_same c lc n new all.3, steps_same d ld n new all.4, all.5, all.6) in
     subst (λ (u : Me Unit View). (u ≡ (pair_of (with_seen c (caller_in u.0.role).seen) (with_seen d (caller_in u.0.guest).seen), [])) × HaveMet c d (n + 1) (caller_in u.0.role).seen (caller_in u.0.guest).seen) (sym same) (
       refl,
       record {

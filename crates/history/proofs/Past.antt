@@ -10,7 +10,7 @@ use Rattle.accept.specs.declared.history.Item.{Item}
 use Rattle.accept.specs.declared.history.Item.TheVariants.{Answered, Failed}
 use Rattle.accept.specs.Histories.{MayFollow, is_marked, is_new, is_step_of}
 use Rattle.history.specs.declared.views.About.{About}
-use Rattle.history.specs.Histories.{Begins, IsLegalAt, terms_of, base_at, history_of, shard_in, steps_by, on, of_pass, asks_by, AllBelow, AllAbove, IsRising, AreUnder, IsUnused, AreUnused, IsMade, HaveSteps, IsAmong, AreAmong, IsFirst, IsFirstNumber, behind_first, asks_on, bound}
+use Rattle.history.specs.Histories.{Begins, IsLegalAt, terms_of, base_at, history_of, shard_in, steps_by, on, of_pass, asks_by, HavePassesBelow, IsByPasses, AllBelow, AllAbove, IsRising, AreUnder, IsUnused, AreUnused, IsMade, HaveSteps, IsAmong, AreAmong, IsFirst, IsFirstNumber, behind_first, asks_on, bound}
 use Rattle.history.specs.Rule.{number_of, floor_of, IsQueue, total}
 use Rattle.history.proofs.Lists.{head_or, tail_of}
 
@@ -335,6 +335,20 @@ legal_more about k items x legal may = record {
 
 pub legal_none : (about : About) (k : ℕ) → IsLegalAt about k []
 legal_none about k = record { is = λ n i e. let f : None ≡ Some i = e in absurd (cc) }
+
+-- what stands in histories is of the passes
+pub by_passes_append : (n : ℕ) (xs ys : List Item) → IsByPasses n xs → IsByPasses n ys → IsByPasses n (xs ++ ys)
+by_passes_append n [] ys h g = g
+by_passes_append n (Answered s ∷ xs) ys h g = (h.0, by_passes_append n xs ys h.1 g)
+by_passes_append n (Failed asks ∷ xs) ys h g = (h.0, by_passes_append n xs ys h.1 g)
+
+by_passes_left : (n : ℕ) (xs ys : List Item) → IsByPasses n (xs ++ ys) → IsByPasses n xs
+by_passes_left n [] ys h = tt
+by_passes_left n (Answered s ∷ xs) ys h = (h.0, by_passes_left n xs ys h.1)
+by_passes_left n (Failed asks ∷ xs) ys h = (h.0, by_passes_left n xs ys h.1)
+
+pub by_passes_front : (n : ℕ) (a b : List Item) → Begins a b → IsByPasses n b → IsByPasses n a
+by_passes_front n a b h g = by_passes_left n a h.rest (subst (λ l. IsByPasses n l) h.is g)
 
 pub marked_step : (xs : List Item) (s : Step) → is_marked (xs ++ Answered s ∷ []) ≡ is_marked xs
 marked_step [] s = refl

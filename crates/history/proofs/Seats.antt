@@ -140,6 +140,7 @@ pub good_pass : (about : About) (x : Contents) (p n : ℕ) (c : Caller) (t : Tok
 good_pass about x p n c t good ok = record {
   legal = good.legal;
   counted = good.counted;
+  by_passes = good.by_passes;
   passes = put_both x.callers x.tokens p c (put (x.tokens p) n t) (λ q d u. q < about.passes → AccountOk about x.items q d u) (λ _. ok) (λ q m. good.passes q);
 }
 
@@ -147,6 +148,7 @@ pub good_caller : (about : About) (x : Contents) (p : ℕ) (c : Caller) → IsGo
 good_caller about x p c good ok = record {
   legal = good.legal;
   counted = good.counted;
+  by_passes = good.by_passes;
   passes = put_all x.callers p c (λ q d. q < about.passes → AccountOk about x.items q d (x.tokens q)) (λ _. ok) (λ q n. good.passes q);
 }
 

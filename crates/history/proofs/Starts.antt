@@ -31,7 +31,7 @@ abbrev all_at : ℕ → Seating
 all_at id = record { books = λ _. id; passes = λ _. id; holders = λ _ _. id }
 
 nothing_good : (about : About) → IsGood about (nothing_yet about)
-nothing_good about = record { legal = λ k. legal_none about k; counted = λ k. omega arith; passes = λ p l. newcomer_ok about p }
+nothing_good about = record { legal = λ k. legal_none about k; counted = λ k. omega arith; by_passes = λ k. tt; passes = λ p l. newcomer_ok about p }
 
 opener_seat : (about : About) (id : ℕ) → IsSeat about (nothing_yet about) (all_at id) id (opener about 0 0)
 opener_seat about id = record { role = (refl, (λ k l. (refl, refl)), (λ p l. (refl, refl))); guest = tt; two = tt; hand = tt }

@@ -72,6 +72,17 @@ asks_by p [] = []
 asks_by p (Answered s ∷ items) = asks_by p items
 asks_by p (Failed asks ∷ items) = of_pass p asks ++ asks_by p items
 
+-- these calls are of passes below n
+abbrev pub HavePassesBelow : ℕ → List Ask → Type 0
+HavePassesBelow n [] = Unit {0}
+HavePassesBelow n (a ∷ asks) = (a.pass < n) × HavePassesBelow n asks
+
+-- each step, and each call in a mark's list, is of one of n passes
+abbrev pub IsByPasses : ℕ → List Item → Type 0
+IsByPasses n [] = Unit {0}
+IsByPasses n (Answered s ∷ items) = (s.ask.pass < n) × IsByPasses n items
+IsByPasses n (Failed asks ∷ items) = HavePassesBelow n asks × IsByPasses n items
+
 -- the numbers of these steps are below n
 abbrev pub AllBelow : ℕ → List Step → Type 0
 AllBelow n [] = Unit {0}

@@ -1,5 +1,5 @@
 -- What each step of a seat leaves it with, and tells it.
-use Rattle.std.specs.Prelude.{◌≡◌, ◌⊎◌, ℕ, ◌+◌, ◌<◌, List, [], ◌∷◌, ◌++◌, true, false, length, slice_index_or, slice_set}
+use Rattle.std.specs.Prelude.{◌≡◌, ◌⊎◌, ℕ, ◌+◌, ◌*◌, ◌<◌, ◌≤◌, List, [], ◌∷◌, ◌++◌, true, false, length, slice_index_or, slice_set}
 use Rattle.atomic_table.specs.Table.{Step as TableStep, Me}
 use Rattle.accept.specs.declared.call.Call.{Call}
 use Rattle.accept.specs.declared.call.Reply.{Reply}
@@ -14,7 +14,7 @@ use Rattle.history.specs.declared.views.Role.{Role}
 use Rattle.history.specs.declared.views.Role.TheVariants.{Nobody, Opener, Keeps, Calls}
 use Rattle.history.specs.declared.views.Token.{Token}
 use Rattle.history.specs.declared.views.Token.TheVariants.{Nothing, Open, Done}
-use Rattle.history.specs.Histories.{Begins, IsLegalAt, reply_of, shard_in, step_of, steps_by, on, asks_by, asks_on, IsMade, IsRising, IsAmong, AreAmong, IsFirst, behind_first}
+use Rattle.history.specs.Histories.{Begins, IsLegalAt, reply_of, shard_in, step_of, steps_by, on, asks_by, asks_on, IsByPasses, IsMade, IsRising, IsAmong, AreAmong, IsFirst, behind_first, bound}
 use Rattle.history.specs.Rule.{alone, opener, newcomer}
 
 -- a seat that knows nothing
@@ -188,7 +188,7 @@ pub record Extends (p : ℕ) (old : List Item) (s : Step) (new : List Item) : Ty
 abbrev pub Collects : Role → Token → View → Type 0
 Collects (Calls c) (Done s upto at) w =
     let k : ℕ = shard_in c.about s.ask in
-    (w ≡ alone (Calls (collect_to c s upto)) Nothing) × IsLegalAt c.about k upto × Extends c.pass (seen_at c k) s upto × (k < length c.seen) × IsFirst s.ask c.pending × IsRested (collect_to c s upto)
+    (w ≡ alone (Calls (collect_to c s upto)) Nothing) × IsLegalAt c.about k upto × Extends c.pass (seen_at c k) s upto × (k < length c.seen) × IsFirst s.ask c.pending × IsRested (collect_to c s upto) × IsByPasses c.about.passes upto
 Collects role hand w = Unit {0}
 
 -- a pass takes an answer in
@@ -222,16 +222,16 @@ pub record HasStepsOf (c : Caller) (k : ℕ) (items : List Item) : Type 0 where
 
 abbrev pub Looks : ℕ → ℕ → Role → View → Type 0
 Looks k found (Calls c) w =
-    (new : List Item) × (w ≡ alone (Calls (look_to c k new)) Nothing) × Begins (seen_at c k) new × IsLegalAt c.about k new × (length new ≡ found) × HasStepsOf c k new × (k < length c.seen)
+    (new : List Item) × (w ≡ alone (Calls (look_to c k new)) Nothing) × Begins (seen_at c k) new × IsLegalAt c.about k new × (length new ≡ found) × HasStepsOf c k new × (k < length c.seen) × IsByPasses c.about.passes new
 Looks k found role w = Unit {0}
 
 -- a pass sees the history of a shard
 abbrev pub looked : TableStep Unit → Me Unit View → ℕ → Me Unit View → Type 0
 looked st m found m' = Looks st.word found m.0.role m'.0 × (m'.1 ≡ m.1)
 
--- what two passes see of shard k begins with what each had seen, is legal, and has of each the steps that it made
+-- what two passes see of shard k begins with what each had seen, is legal, has of each the steps that it made, and no steps but those of passes of the opening
 abbrev pub IsMeeting : Caller → Caller → ℕ → List Item → Type 0
-IsMeeting c d k new = Begins (seen_at c k) new × Begins (seen_at d k) new × IsLegalAt c.about k new × HasStepsOf c k new × HasStepsOf d k new × (d.about ≡ c.about)
+IsMeeting c d k new = Begins (seen_at c k) new × Begins (seen_at d k) new × IsLegalAt c.about k new × HasStepsOf c k new × HasStepsOf d k new × (d.about ≡ c.about) × IsByPasses c.about.passes new
 
 abbrev pub Meets : ℕ → Role → Role → View → Type 0
 Meets k (Calls c) (Calls d) w =
@@ -242,11 +242,23 @@ Meets k role guest w = Unit {0}
 abbrev pub met : TableStep Unit → Me Unit View → ℕ → Me Unit View → Type 0
 met st m found m' = Meets st.word m.0.role m.0.guest m'.0 × (m'.1 ≡ m.1)
 
--- the book's history begins with what the pass has seen, and has just its steps
+-- the book's history begins with what the pass has seen, has just its steps, and no steps but those of passes of the opening
 abbrev pub IsSettled : Role → Role → Type 0
-IsSettled (Keeps shelf) (Calls c) = Begins (seen_at c shelf.shard) shelf.items × IsLegalAt shelf.about shelf.shard shelf.items × HasStepsOf c shelf.shard shelf.items × (c.about ≡ shelf.about)
+IsSettled (Keeps shelf) (Calls c) = Begins (seen_at c shelf.shard) shelf.items × IsLegalAt shelf.about shelf.shard shelf.items × HasStepsOf c shelf.shard shelf.items × (c.about ≡ shelf.about) × IsByPasses shelf.about.passes shelf.items
 IsSettled role guest = Unit {0}
 
 -- a look that compares a book with a pass, and changes neither
 abbrev pub settled : TableStep Unit → Me Unit View → ℕ → Me Unit View → Type 0
 settled st m found m' = (m' ≡ m) × IsSettled m.0.role m.0.guest
+
+-- so many items have room for a step under each number of each pass, and the mark
+abbrev pub IsShort : About → List Item → Type 0
+IsShort about items = length items ≤ about.passes * bound + 1
+
+abbrev pub Counts : ℕ → Role → Type 0
+Counts found (Keeps shelf) = (found ≡ length shelf.items) × IsShort shelf.about shelf.items
+Counts found role = Unit {0}
+
+-- a look that counts a book's items, and changes nothing
+abbrev pub counted : TableStep Unit → Me Unit View → ℕ → Me Unit View → Type 0
+counted st m found m' = (m' ≡ m) × Counts found m.0.role

@@ -16,7 +16,7 @@ use Rattle.history.specs.declared.views.Role.{Role}
 use Rattle.history.specs.declared.views.Role.TheVariants.{Nobody, Opener, Keeps, Calls}
 use Rattle.history.specs.declared.views.Token.{Token}
 use Rattle.history.specs.declared.views.Token.TheVariants.{Nothing, Open, Done}
-use Rattle.history.specs.Histories.{Begins, IsLegalAt, shard_in, steps_by, on, asks_by, AllBelow, IsRising, AreUnder, AreUnused, IsMade, IsAmong, bound}
+use Rattle.history.specs.Histories.{Begins, IsLegalAt, shard_in, steps_by, on, asks_by, AllBelow, IsRising, AreUnder, AreUnused, IsMade, IsAmong, IsByPasses, bound}
 
 -- a seat of this role, with no guest
 abbrev pub alone : Role → Token → View
@@ -134,6 +134,7 @@ pub record IsGood (about : About) (x : Contents) : Type 0 where
   pub legal : (k : ℕ) → IsLegalAt about k (x.items k)
   -- each item is a step of a pass, or the one mark
   pub counted : (k : ℕ) → length (x.items k) ≤ total about.passes (x.items k) + (if is_marked (x.items k) then 1 else 0)
+  pub by_passes : (k : ℕ) → IsByPasses about.passes (x.items k)
   pub passes : (p : ℕ) → p < about.passes → AccountOk about x.items p (x.callers p) (x.tokens p)
 
 -- a shard's word is the length of its history, a pass's word is 0 or the last number that it used

@@ -3,8 +3,8 @@ ghost use Rattle.accept.specs.declared.history.Ask.{Ask};
 ghost use Rattle.accept.specs.declared.call.Reply.TheVariants.{Unavailable};
 ghost use Rattle.accept.specs.declared.history.Item.TheVariants.{Answered, Failed};
 ghost use Rattle.accept.specs.Histories.{is_marked};
-ghost use Rattle.history.specs.Histories.{Begins, IsLegalAt, HaveSteps, doubt_of, reply_of, shard_in, step_of};
-ghost use Rattle.history.specs.Plays.{seen_at, HasStepsOf};
+ghost use Rattle.history.specs.Histories.{Begins, IsLegalAt, IsByPasses, HaveSteps, doubt_of, reply_of, shard_in, step_of};
+ghost use Rattle.history.specs.Plays.{seen_at, HasStepsOf, IsShort};
 ghost use Rattle.history.specs.declared.views.Role.TheVariants.{Keeps};
 ghost use Rattle.history.specs.declared.views.Token.TheVariants.{Nothing};
 ghost use Rattle.history.specs.Rule.{alone};
@@ -12,7 +12,7 @@ ghost use Rattle.history.specs.Handles.{longer, asks_of, doubted_to, AreOf, shel
 
 use crate::handles::{Pass, Receipt, Ticket};
 use crate::table::{
-    At, Board, Commits, Doubts, Gives, Leaves, Marks, Place, Settles, Sits, Steps, Takes,
+    At, Board, Commits, Counts, Doubts, Gives, Leaves, Marks, Place, Settles, Sits, Steps, Takes,
 };
 use accept::Reply;
 use std::marker::{Brand, Model};
@@ -123,7 +123,16 @@ impl Book {
         shared.fetch_add::<Marks>(&mut self.seat, self.shard, 1);
     }
 
-    /// Compares the book with a pass, and changes neither: the history begins with what the pass has seen, and has just its steps.
+    /// How many items the history has: at most a step under each number of each pass, and the mark.
+    pub fn len(&mut self) -> u64
+        ensures book { self.new ≡ self.old }
+        ensures len { result ≡ length self.old.items }
+        ensures short { IsShort self.old.about self.old.items }
+    {
+        self.table.shared.load::<Counts>(&mut self.seat, self.shard)
+    }
+
+    /// Compares the book with a pass, and changes neither: the history begins with what the pass has seen, has just its steps, and no steps but those of passes of the opening.
     pub fn settle(&mut self, pass: &mut Pass)
         requires table { pass.old.table ≡ self.old.table }
         ensures book { self.new ≡ self.old }
@@ -131,6 +140,7 @@ impl Book {
         ensures begins { Begins (seen_at pass.old.caller self.old.shard) self.old.items }
         ensures legal { IsLegalAt self.old.about self.old.shard self.old.items }
         ensures steps { HasStepsOf pass.old.caller self.old.shard self.old.items }
+        ensures by_passes { IsByPasses self.old.about.passes self.old.items }
         ensures about { pass.old.caller.about ≡ self.old.about }
     {
         let shared = &self.table.shared;

@@ -1,5 +1,5 @@
 ghost use Rattle.std.specs.Prelude.{◌≡◌, ◌≢◌, ◌↔◌, ℕ, ◌+◌, ◌<◌, ◌≤◌, ◌==◌, [], true, false, length, IfOk, OnOk, OnErr, IsOk};
-ghost use Rattle.history.specs.Histories.{Begins, IsLegalAt, shard_in, IsFirst, IsFirstNumber, bound};
+ghost use Rattle.history.specs.Histories.{Begins, IsLegalAt, IsByPasses, shard_in, IsFirst, IsFirstNumber, bound};
 ghost use Rattle.history.specs.Plays.{seen_at, ask_of, before_of, announce_to, withdraw_to, collect_to, look_to, IsRested, Extends, HasStepsOf};
 ghost use Rattle.history.specs.Handles.{is_closed, caller_in, pair_of, with_seen, HaveMet};
 
@@ -95,6 +95,7 @@ impl History {
         ensures others { (k : ℕ) → k ≢ shard_in pass.old.caller.about receipt.step.ask → seen_at pass.new.caller k ≡ seen_at pass.old.caller k }
         ensures legal { IsLegalAt pass.old.caller.about (shard_in pass.old.caller.about receipt.step.ask) receipt.upto }
         ensures rested { IsRested pass.new.caller }
+        ensures by_passes { IsByPasses pass.old.caller.about.passes receipt.upto }
         ensures extends { Extends pass.old.caller.pass (seen_at pass.old.caller (shard_in pass.old.caller.about receipt.step.ask)) receipt.step receipt.upto }
     {
         let Receipt { number: _, seat } = receipt;
@@ -121,7 +122,7 @@ impl History {
         pass.calls -= 1;
     }
 
-    /// Sees the history of a shard as it is, and answers its length.
+    /// Sees the history of a shard as it is, and answers its length. There are no steps but those of passes of the opening.
     pub fn observe(&self, pass: &mut Pass, shard: usize) -> u64
         requires table { pass.old.table ≡ self.now }
         requires shard { shard < pass.old.caller.about.shards }
@@ -130,6 +131,7 @@ impl History {
         ensures begins { Begins (seen_at pass.old.caller shard) (seen_at pass.new.caller shard) }
         ensures legal { IsLegalAt pass.old.caller.about shard (seen_at pass.new.caller shard) }
         ensures length { result ≡ length (seen_at pass.new.caller shard) }
+        ensures by_passes { IsByPasses pass.old.caller.about.passes (seen_at pass.new.caller shard) }
         ensures steps { HasStepsOf pass.old.caller shard (seen_at pass.new.caller shard) }
     {
         self.table.shared.load::<Looks>(&mut pass.seat, shard)

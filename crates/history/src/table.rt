@@ -148,6 +148,15 @@ impl Play<(), View> for Settles {
     ghost then = { settled };
 }
 
+/// A book counts its items.
+pub struct Counts;
+
+impl Play<(), View> for Counts {
+    ghost use Rattle.history.specs.Plays.{counted};
+
+    ghost then = { counted };
+}
+
 /// The opening gives the next book out.
 pub struct NextBook;
 

@@ -1,5 +1,5 @@
 -- What is shown of a call that has its step.
-use Rattle.std.proofs.Common.{◌≡◌, ℕ, ◌+◌, inl, inr, Bool, true, false, List, [], ◌∷◌, refl, sym, ◌∙◌, subst, arith}
+use Rattle.std.proofs.Common.{◌≡◌, ℕ, ◌+◌, ◌≤◌, inl, inr, Bool, true, false, List, [], ◌∷◌, refl, sym, ◌∙◌, subst, arith}
 use Rattle.accept.specs.declared.limits.Limits.{Limits}
 use Rattle.accept.specs.declared.call.Call.{Call}
 use Rattle.accept.specs.declared.call.Reply.{Reply}
@@ -76,6 +76,11 @@ placed_behind log n Next placed fits = absurd (placed fits)
 pub placed_next : {D : Type 0} (log : Wal D) (n : ℕ) (place : Place) → IsPlaced log n place → ¬ Fits log n → place ≡ Next
 placed_next log n Behind placed full = absurd (full placed)
 placed_next log n Next placed full = refl
+
+-- the generation rises by at most one
+pub at_most_one : (n m : ℕ) (place : Place) → (place ≡ Behind → n ≡ m) → (place ≡ Next → n ≡ m + 1) → n ≤ m + 1
+at_most_one n m Behind same next = let e = same refl in omega arith
+at_most_one n m Next same next = let e = next refl in omega arith
 
 -- a change that was written
 pub applied_made : {D : Type 0} (sight : D → Sight) (follows : D → Type 0) → IsClocked sight follows → (old new : Wal D) (book : Booked) (opened : Wal D) (before states : Mapped) (limits : Limits)

@@ -1,5 +1,5 @@
 -- What a shard is after a step, after a written change, and after a failure.
-use Rattle.std.proofs.Common.{◌≡◌, ℕ, inl, inr, Bool, true, false, List, [], ◌∷◌, take, None, refl, sym, ap, ◌∙◌, subst, arith}
+use Rattle.std.proofs.Common.{◌≡◌, ℕ, ◌+◌, ◌≤◌, ◌++◌, length, length-append, inl, inr, Bool, true, false, List, [], ◌∷◌, take, None, refl, sym, ap, ◌∙◌, subst, arith}
 use Rattle.accept.specs.declared.limits.Limits.{Limits}
 use Rattle.accept.specs.declared.call.Reply.{Reply}
 use Rattle.accept.specs.declared.history.Ask.{Ask}
@@ -56,6 +56,8 @@ shard_answered sight follows log book opened states flag limits ask reply s same
       (keeps_more (slots sight log) book (Answered (step_of ask reply)) (doubt_of book.items) same s.within within (s.covers f));
   not_failed = s.not_failed;
   failed = s.failed;
+  before = s.before;
+  rolled = λ u. let was = s.rolled u in let long = length-append book.items (Answered (step_of ask reply) ∷ []) in omega arith;
 }
 
 -- what a commit asks for, of a shard with the step
@@ -76,9 +78,9 @@ kept_mark sight follows log book opened states flag limits asks unmarked s f =
 pub shard_written : {D : Type 0} (sight : D → Sight) (follows : D → Type 0) (old new : Wal D) (book : Booked) (opened : Wal D) (before states : Mapped) (limits : Limits) (ask : Ask) (reply : Reply)
     → IsShard sight follows old book opened before false limits → Writes book ask.call → reply ≡ answer_in book ask.call
     → states.owner ≡ before.owner → states.change ≡ None → states.streams ≡ after_in book ask.call
-    → owner new ≡ owner old → new.cap ≡ old.cap → new.failed ≡ false → (Follow follows new → IsSettled sight new (after_in book ask.call)) → HasNoFailure (slots sight old) (slots sight new)
+    → owner new ≡ owner old → new.cap ≡ old.cap → new.failed ≡ false → (Follow follows new → Follow follows old) → new.generation ≤ old.generation + 1 → (Follow follows new → IsSettled sight new (after_in book ask.call)) → HasNoFailure (slots sight old) (slots sight new)
     → IsShard sight follows new (longer book (Answered (step_of ask reply))) opened states false limits
-shard_written sight follows old new book opened before states limits ask reply s writes replied owned idle streams same_owner same_cap usable settled none =
+shard_written sight follows old new book opened before states limits ask reply s writes replied owned idle streams same_owner same_cap usable back grew settled none =
     let means : meaning (history_in (longer book (Answered (step_of ask reply)))) ≡ after_in book ask.call =
     ap (λ (r : Reply). meaning (then_step (history_in book) ask r)) replied ∙ meaning-answered book.about.limits (history_in book) ask in
     let whose : owner new ≡ owner_in book = same_owner ∙ s.same_owner in
@@ -100,6 +102,8 @@ shard_written sight follows old new book opened before states limits ask reply s
           (settled_covers sight new book.about.limits (history_in (longer book (Answered (step_of ask reply)))) (doubt_of (longer book (Answered (step_of ask reply))).items) (now f));
       not_failed = λ u. never_failed (slots sight opened) (slots sight old) (slots sight new) (s.not_failed u) none;
       failed = λ e. absurd (cc);
+      before = λ f. s.before (back f);
+      rolled = λ u. let was = s.rolled u in let long = length-append book.items (Answered (step_of ask reply) ∷ []) in omega arith;
     }
 
 -- the old streams or the new: the history with the mark, or with this call behind it
@@ -120,11 +124,11 @@ lost_keeps now book ask within either a b x y =
 
 -- a change that may be in the log or not
 pub shard_lost : {D : Type 0} (sight : D → Sight) (follows : D → Type 0) → IsClocked sight follows → (old new : Wal D) (book : Booked) (opened : Wal D) (before states : Mapped) (limits : Limits) (ask : Ask)
-    → IsShard sight follows old book opened before false limits → states.owner ≡ before.owner → owner new ≡ owner old → new.cap ≡ old.cap
+    → IsShard sight follows old book opened before false limits → states.owner ≡ before.owner → owner new ≡ owner old → new.cap ≡ old.cap → (Follow follows new → Follow follows old)
     → (Follow follows new → PairLeavesOnly (slots sight old) (slots sight new) (IsEither (owner old) (meaning (history_in book)) (after_in book ask.call)))
     → HasFailed (slots sight old) (slots sight new)
     → IsShard sight follows new (longer book (Failed (ask ∷ []))) opened states true limits
-shard_lost sight follows clocked old new book opened before states limits ask s owned same_owner same_cap run failure =
+shard_lost sight follows clocked old new book opened before states limits ask s owned same_owner same_cap back run failure =
     let unmarked : is_marked book.items ≡ false = sym s.marked in
     record {
       marked = sym (marked_mark book.items (ask ∷ []));
@@ -145,4 +149,6 @@ shard_lost sight follows clocked old new book opened before states limits ask s 
           (left_by_now sight follows clocked new f (slots sight old) (IsEither (owner old) (meaning (history_in book)) (after_in book ask.call)) (run f))));
       not_failed = λ e. absurd (cc);
       failed = λ _. failed_since (slots sight opened) (slots sight old) (slots sight new) (s.not_failed refl) failure;
+      before = λ f. s.before (back f);
+      rolled = λ e. absurd (cc);
     }

@@ -1,5 +1,5 @@
 -- What a shard is.
-use Rattle.std.specs.Prelude.{◌≡◌, ◌≤◌, ◌^◌, Bool, true, false, None}
+use Rattle.std.specs.Prelude.{◌≡◌, ◌≤◌, ◌+◌, ◌^◌, Bool, true, false, None, length}
 use Rattle.accept.specs.declared.limits.Limits.{Limits}
 use Rattle.accept.specs.Streams.{AreLimits}
 use Rattle.accept.specs.Histories.{meaning, is_marked, IsWithin}
@@ -35,3 +35,6 @@ pub record IsShard {D : Type 0} (sight : D → Sight) (follows : D → Type 0) (
   pub covers : Follow follows log → Keeps (slots sight log) book (doubt_of book.items)
   pub not_failed : flag ≡ false → HasNoFailure (slots sight opened) (slots sight log)
   pub failed : flag ≡ true → HasFailed (slots sight opened) (slots sight log)
+  pub before : Follow follows log → Follow follows opened
+  -- each roll took a call
+  pub rolled : flag ≡ false → log.generation ≤ opened.generation + length book.items
