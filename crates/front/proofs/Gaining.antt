@@ -15,9 +15,9 @@ use Rattle.front.specs.declared.calling.Asked.{Asked}
 use Rattle.front.specs.declared.calling.Came.{Came}
 use Rattle.front.specs.declared.calling.Came.TheVariants.{Refused, Replied}
 use Rattle.front.specs.Calls.{CallGives}
-use Rattle.front.specs.Courses.{Course, Unread, Whole, Broken, Comes, Each, Fails, Goes}
-use Rattle.front.specs.Serving.{Exchange, Serves, Handles, IsExchange}
-use Rattle.front.specs.Laws.{AreSteps, AreStepsOf, AreStepsBy, AreTheirSteps, Gains, MakesTheirCalls, MakesItsCalls}
+use Rattle.front.specs.Courses.{Course, Unread, Whole, Broken, Each, Fails, Goes, GivesUp}
+use Rattle.front.specs.Serving.{Exchange, Serves, Handles, Abandons, IsExchange}
+use Rattle.front.specs.Laws.{AreSteps, AreStepsOf, AreFirstStepsOf, AreStepsBy, AreFirstStepsBy, AreTheirSteps, Gains, MakesTheirCalls, MakesItsCalls, MakesItsFirstCalls}
 
 none : (h h' : Passed) → h' ≡ h → Gains h [] h'
 none h h' same = ap (λ p. p.caller.made) same ∙ sym (append-nil h.caller.made)
@@ -59,9 +59,24 @@ handled now body h h' (Call route tenant) course takes =
     let (steps, gains, are) = goes tenant h h' takes.asked course takes.goes in (steps, gains, (takes.asked, takes.asks, are))
 handled now body h h' NoMemory course (what, same) = ([], none h h' same, refl)
 
+gives_up : (tenant : List ℕ) (h h' : Passed) (asked : Result (List Asked) PushFault) → GivesUp CallGives tenant h asked h' → (steps : List Step) × Gains h steps h' × AreFirstStepsOf tenant asked steps
+gives_up tenant h h' (Err fault) (told, same) = ([], none h h' same, refl)
+gives_up tenant h h' (Ok all) (cames, last, stops) =
+    let (steps, gains, are) = each tenant h h' stops.done (cames ++ last ∷ []) stops.each in
+    (steps, gains, (stops.done, stops.more, cames ++ last ∷ [], stops.split, are))
+
+abandoned : (now : ℕ) (body : List ℕ) (h h' : Passed) (verdict : Verdict) → Abandons CallGives now body verdict h h' → (steps : List Step) × Gains h steps h' × AreFirstStepsBy now body verdict steps
+abandoned now body h h' (Fixed answer) never = absurd never
+abandoned now body h h' (Call route tenant) left =
+    let (steps, gains, are) = gives_up tenant h h' left.asked left.left in (steps, gains, (left.asked, left.asks, are))
+abandoned now body h h' NoMemory never = absurd never
+
 module _ {C : Type 0} (ticks : C → ℕ → C → Type 0) where
   pub its_calls : (bytes : List ℕ) (h : Passed) (c : C) (e : Exchange) (rest : List ℕ) (h' : Passed) (c' : C) → MakesItsCalls ticks bytes h c e rest h' c'
   its_calls bytes h c e rest h' c' x = handled e.now e.request.body h h' e.verdict e.course x.calls
+
+  pub its_first_calls : (bytes : List ℕ) (h : Passed) (c : C) (h' : Passed) (c' : C) → MakesItsFirstCalls ticks bytes h c h' c'
+  its_first_calls bytes h c h' c' left = abandoned left.now left.request.body h h' left.verdict left.calls
 
   pub their_calls : (bytes : List ℕ) (h : Passed) (c : C) (es : List Exchange) (rest : List ℕ) (h' : Passed) (c' : C) → MakesTheirCalls ticks bytes h c es rest h' c'
   their_calls bytes h c [] rest h' c' (same, still, clock) = ([], none h h' still, refl)

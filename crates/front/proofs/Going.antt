@@ -25,15 +25,15 @@ use Rattle.front.specs.declared.lines.PushLines.{PushLines}
 use Rattle.pushjson.specs.Bodies.{Stream, batch_of, entry_of, entry_count}
 use Rattle.std.proofs.lemmas.List.{length-map}
 use Rattle.std.proofs.lemmas.List.Sums.{sum_by-cons, get_or-le-sum_by}
-use Rattle.front.specs.Courses.{Course, Unread, Whole, Broken, Comes, Each}
+use Rattle.front.specs.Courses.{Course, Unread, Whole, Broken, fault_failure, Comes, Each}
 use Rattle.front.specs.Parts.{Refuses, OneGoes, PushGoes, NextGoes, Pushing}
-use Rattle.front.specs.Responses.{Responds, status_for, text_for, failure_in, fault_status, fault_text, fault_failure}
+use Rattle.front.specs.Responses.{Responds, status_for, text_for, failure_in, fault_status, fault_text}
 
 module _ {H : Type 0} (gives : H → Call → Result Reply CallFault → H → Type 0) (now : ℕ) (tenant body : List ℕ) where
   pub refused : (route : Route) (h : H) (fault : PushFault) (result : Result Answer Halt) → AsksFor route now body (Err fault) → Refuses fault result → Responds gives route now tenant body h result h
   refused route h fault (Ok answer) asks (none, shows) = (Unread fault, record { asked = Err fault; asks = asks; goes = (refl, refl) }, none, shows)
   refused route h fault (Err (Failed failure)) asks some = (Unread fault, record { asked = Err fault; asks = asks; goes = (refl, refl) }, some)
-  refused route h fault (Err GivenUp) asks any = record { asked = Err fault; asks = asks; left = refl }
+  refused route h fault (Err GivenUp) asks none = record { asked = Err fault; asks = asks; left = (none, refl) }
 
   pub read : (h h' : H) (asked : Asked) (result : Result Answer Halt) → AsksFor Read now body (Ok (asked ∷ [])) → OneGoes gives tenant h asked result h' → Responds gives Read now tenant body h result h'
   read h h' asked (Ok answer) asks (came, comes, shows) =
@@ -41,7 +41,7 @@ module _ {H : Type 0} (gives : H → Call → Result Reply CallFault → H → T
   read h h' asked (Err (Failed failure)) asks fails =
       (Broken [] failure, record { asked = Ok (asked ∷ []); asks = asks; goes = (asked ∷ [], refl, record { done = []; asked = asked; more = []; mid = h; split = refl; each = refl; fails = fails }) }, refl)
   read h h' asked (Err GivenUp) asks (came, comes) =
-      record { asked = Ok (asked ∷ []); asks = asks; left = (came ∷ [], record { done = asked ∷ []; more = []; split = refl; each = (h', comes, refl) }) }
+      record { asked = Ok (asked ∷ []); asks = asks; left = ([], came, record { done = asked ∷ []; more = []; split = refl; each = (h', comes, refl) }) }
 
   pub trim : (h h' : H) (asked : Asked) (result : Result Answer Halt) → AsksFor Trim now body (Ok (asked ∷ [])) → OneGoes gives tenant h asked result h' → Responds gives Trim now tenant body h result h'
   trim h h' asked (Ok answer) asks (came, comes, shows) =
@@ -49,12 +49,12 @@ module _ {H : Type 0} (gives : H → Call → Result Reply CallFault → H → T
   trim h h' asked (Err (Failed failure)) asks fails =
       (Broken [] failure, record { asked = Ok (asked ∷ []); asks = asks; goes = (asked ∷ [], refl, record { done = []; asked = asked; more = []; mid = h; split = refl; each = refl; fails = fails }) }, refl)
   trim h h' asked (Err GivenUp) asks (came, comes) =
-      record { asked = Ok (asked ∷ []); asks = asks; left = (came ∷ [], record { done = asked ∷ []; more = []; split = refl; each = (h', comes, refl) }) }
+      record { asked = Ok (asked ∷ []); asks = asks; left = ([], came, record { done = asked ∷ []; more = []; split = refl; each = (h', comes, refl) }) }
 
   pub push : (h h' : H) (all : List Asked) (result : Result Answer Halt) → AsksFor Push now body (Ok all) → PushGoes gives tenant h all result h' → Responds gives Push now tenant body h result h'
   push h h' all (Ok answer) asks (cames, each, shows) = (Whole cames, record { asked = Ok all; asks = asks; goes = (all, refl, each) }, refl, shows)
   push h h' all (Err (Failed failure)) asks (cames, ends) = (Broken cames failure, record { asked = Ok all; asks = asks; goes = (all, refl, ends) }, refl)
-  push h h' all (Err GivenUp) asks (cames, stops) = record { asked = Ok all; asks = asks; left = (cames, stops) }
+  push h h' all (Err GivenUp) asks (cames, last, stops) = record { asked = Ok all; asks = asks; left = (cames, last, stops) }
 
 -- a failure is answered by 500 and its text
 fault_is_500 : (fault : PushFault) (failure : Failure) → fault_failure fault ≡ Some failure → (500 ≡ fault_status fault) × (failure_body failure ≡ fault_text fault)
@@ -118,7 +118,8 @@ module _ {H : Type 0} (gives : H → Call → Result Reply CallFault → H → T
         },
       )
       halts GivenUp new (c, comes) = (
-        pushing.cames ++ c ∷ [],
+        pushing.cames,
+        c,
         record {
           done = pushing.done ++ asked_push now b ∷ [];
           more = map (asked_push now) next;

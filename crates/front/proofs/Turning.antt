@@ -1,5 +1,5 @@
 -- From one turn of a connection to all of them.
-use Rattle.std.proofs.Common.{◌≡◌, ℕ, Bool, true, false, List, [], ◌∷◌, ◌++◌, take, drop, slice_range, Option, Result, Ok, Err, refl, sym, ap, ◌∙◌, subst, inl, inr}
+use Rattle.std.proofs.Common.{◌≡◌, ℕ, Bool, true, false, List, [], ◌∷◌, ◌++◌, take, drop, slice_range, Option, None, Result, Ok, Err, refl, sym, ap, ◌∙◌, subst, inl, inr}
 use Rattle.std.proofs.lemmas.List.{append-nil}
 use Rattle.std.proofs.lemmas.List.Concat.{flat_map-append}
 use Rattle.std.proofs.Math.Seq.{take-length}
@@ -21,10 +21,14 @@ use Rattle.requests.specs.declared.incoming.Message.{Message}
 use Rattle.requests.specs.declared.verdict.Verdict.{Verdict}
 use Rattle.requests.proofs.Unique.{keeps_request}
 use Rattle.front.specs.Courses.{Course}
-use Rattle.front.specs.Serving.{Exchange, response, closes, response_text, ends_behind, Handles, Abandons, IsExchange, Serves, Finishes, ServesBytes}
+use Rattle.front.specs.Serving.{Exchange, response, closes, response_text, failure_at, ends_behind, Handles, Abandons, IsExchange, Serves, Finishes, ServesBytes}
 use Rattle.front.specs.Turns.{Replies, RepliesTo, TurnGives, Turns, Progress}
 use Rattle.front.specs.declared.serving.Turn.{Turn}
 use Rattle.front.specs.declared.serving.Turn.TheVariants.{Answered, Closed, Ended}
+
+-- a failure of the writer is none of memory
+pub not_memory : (fault : ServeFault) → fault ≡ Write → fault ≡ Memory → ⊥
+not_memory fault written none = cc
 
 module _ {H : Type 0} (gives : H → Asking → Result Reply CallFault → H → Type 0) (now : ℕ) (body : List ℕ) (verdict : Verdict) (close : Bool) (course : Course) (h h' : H) (before after : Option (List ℕ))
     (handles : Handles gives now body verdict h course h') where
@@ -36,12 +40,12 @@ module _ {H : Type 0} (gives : H → Asking → Result Reply CallFault → H →
     replies = (course, handles, ap (λ k. take k (response_text verdict close course)) all ∙ take-length (response_text verdict close course), end);
   }
 
-  -- a beginning of it is, or nothing
-  pub not_out : (fault : ServeFault) → Writes before after (response_text verdict close course) (Err fault) → RepliesTo gives now body before after verdict close h h' (Err fault)
-  not_out Read (n, appends, some) = absurd some
-  not_out CutShort (n, appends, some) = absurd some
-  not_out Write (n, appends, some) = record { text = take n (response_text verdict close course); appends = appends; replies = (course, handles, (n, refl)) }
-  not_out Memory (n, appends, none) = record { text = take n (response_text verdict close course); appends = appends; replies = (ap (λ k. take k (response_text verdict close course)) none, inl (course, handles)) }
+  -- a beginning of it is, or nothing, which is not for want of memory where a failure is told
+  pub not_out : (fault : ServeFault) → Writes before after (response_text verdict close course) (Err fault) → (fault ≡ Memory → failure_at verdict course ≡ None) → RepliesTo gives now body before after verdict close h h' (Err fault)
+  not_out Read (n, appends, some) said = absurd some
+  not_out CutShort (n, appends, some) said = absurd some
+  not_out Write (n, appends, some) said = record { text = take n (response_text verdict close course); appends = appends; replies = (course, handles, (n, refl)) }
+  not_out Memory (n, appends, none) said = record { text = take n (response_text verdict close course); appends = appends; replies = (ap (λ k. take k (response_text verdict close course)) none, inl (course, handles, said refl)) }
 
 module _ {H C : Type 0} (gives : H → Asking → Result Reply CallFault → H → Type 0) (ticks : C → ℕ → C → Type 0) where
   -- what a turn read stands behind what had come
@@ -87,7 +91,7 @@ module _ {H C : Type 0} (gives : H → Asking → Result Reply CallFault → H �
     fails text rest Read left replies = absurd replies
     fails text rest CutShort left replies = absurd replies
     fails text rest Write left (course, handles, (n, out)) = (n, response (exchange r m now course), inl (exchange r m now course, drop m.end bytes, is_exchange course handles, refl), out ∙ ap (take n) (same_text course))
-    fails text rest Memory left (none, inl (course, handles)) = (none, inr (inl (response (exchange r m now course), inl (exchange r m now course, drop m.end bytes, is_exchange course handles, refl))))
+    fails text rest Memory left (none, inl (course, handles, said)) = (none, inr (inl (inl (exchange r m now course, drop m.end bytes, is_exchange course handles, said))))
     fails text rest Memory left (none, inr abandons) = (
       none,
       inr (inr (record {
@@ -121,7 +125,7 @@ module _ {H C : Type 0} (gives : H → Asking → Result Reply CallFault → H �
   turned_away_err bytes rest left before after h c why Write refused (n, appends, out) =
       (take n (fixed_text why true), appends, (n, fixed_text why true, inr (why, refused, refl, refl, refl), refl))
   turned_away_err bytes rest left before after h c why Memory refused (n, appends, out) =
-      (take n (fixed_text why true), appends, (ap (λ k. take k (fixed_text why true)) out, inr (inl (fixed_text why true, inr (why, refused, refl, refl, refl)))))
+      (take n (fixed_text why true), appends, (ap (λ k. take k (fixed_text why true)) out, inr (inl (inr (fixed_text why true, (why, refused, refl, refl, refl))))))
 
   -- more bytes change nothing of the requests before them
   serves_more : (bytes more : List ℕ) (h : H) (c : C) (es : List Exchange) (rest : List ℕ) (h' : H) (c' : C) → Serves gives ticks bytes h c es rest h' c' → Serves gives ticks (bytes ++ more) h c es (rest ++ more) h' c'

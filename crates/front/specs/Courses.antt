@@ -1,9 +1,10 @@
 -- What comes of the streams that a request asks for, one call each in the order of the body.
-use Rattle.std.specs.Prelude.{◌≡◌, ◌⊎◌, ℕ, List, [], ◌∷◌, ◌++◌, Result, Ok, Err, Some}
+use Rattle.std.specs.Prelude.{◌≡◌, ◌⊎◌, ℕ, List, [], ◌∷◌, ◌++◌, Result, Ok, Err, Option, None, Some}
 use Rattle.labels.specs.Faults.{first_fault}
 use Rattle.accept.specs.declared.call.Call.{Call}
 use Rattle.accept.specs.declared.call.Reply.{Reply}
 use Rattle.pushjson.specs.declared.fault.PushFault.{PushFault}
+use Rattle.pushjson.specs.declared.fault.PushFault.TheVariants.{NotJson, WrongShape, BadTime, TooManyEntries, Memory}
 use Rattle.ingester.specs.declared.fault.CallFault.{CallFault}
 use Rattle.ingester.specs.declared.fault.CallFault.TheVariants as faults
 use Rattle.requests.specs.declared.failure.Failure.{Failure}
@@ -18,6 +19,14 @@ abbrev pub failure_of : CallFault → Failure
 failure_of faults.Memory = OutOfMemory
 failure_of faults.PassClosed = PassClosed
 failure_of faults.LogSpent = LogSpent
+
+-- the failure at a body's form, which is answered by a 500
+abbrev pub fault_failure : PushFault → Option Failure
+fault_failure NotJson = None
+fault_failure WrongShape = None
+fault_failure (BadTime i j) = None
+fault_failure TooManyEntries = None
+fault_failure Memory = Some OutOfMemory
 
 -- how the calls of a request went: its body was refused at its form; or this came of each stream; or
 -- the calls ended at a failure, behind streams of which this came
@@ -68,10 +77,10 @@ module _ {H : Type 0} (gives : H → Call → Result Reply CallFault → H → T
   Goes h asked (Whole cames) h' = (all : List Asked) × (asked ≡ Ok all) × Each h all cames h'
   Goes h asked (Broken cames failure) h' = (all : List Asked) × (asked ≡ Ok all) × EndsAt h all cames failure h'
 
-  -- it was given up between two calls, or before the first
+  -- it was given up behind a stream of which there was something to say, or at a body's form that is not answered by a 500
   abbrev pub GivesUp : H → Result (List Asked) PushFault → H → Type 0
-  GivesUp h (Err fault) h' = h' ≡ h
-  GivesUp h (Ok all) h' = (cames : List Came) × StopsIn h all cames h'
+  GivesUp h (Err fault) h' = (fault_failure fault ≡ None) × (h' ≡ h)
+  GivesUp h (Ok all) h' = (cames : List Came) × (last : Came) × StopsIn h all (cames ++ last ∷ []) h'
 
   -- for private clauses: the one stream went so
   abbrev pub StreamGoes : H → Asked → Result Came Failure → H → Type 0

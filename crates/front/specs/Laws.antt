@@ -12,7 +12,7 @@ use Rattle.front.specs.declared.calling.Came.TheVariants.{Refused, Replied}
 use Rattle.front.specs.Asking.{AsksFor, IsCallOf}
 use Rattle.front.specs.Calls.{CallGives}
 use Rattle.front.specs.Courses.{Course, Unread, Whole, Broken}
-use Rattle.front.specs.Serving.{Exchange, Serves, IsExchange}
+use Rattle.front.specs.Serving.{Exchange, Serves, IsExchange, IsAbandoned}
 
 -- a step for each stream that got a reply: its call, and the reply
 abbrev pub AreSteps : List ℕ → List Asked → List Came → List Step → Type 0
@@ -29,11 +29,22 @@ AreStepsOf tenant asked (Unread fault) steps = steps ≡ []
 AreStepsOf tenant asked (Whole cames) steps = (all : List Asked) × (asked ≡ Ok all) × AreSteps tenant all cames steps
 AreStepsOf tenant asked (Broken cames failure) steps = (done : List Asked) × (more : List Asked) × (asked ≡ Ok (done ++ more)) × AreSteps tenant done cames steps
 
+-- the steps of a beginning of it
+abbrev pub AreFirstStepsOf : List ℕ → Result (List Asked) PushFault → List Step → Type 0
+AreFirstStepsOf tenant (Err fault) steps = steps ≡ []
+AreFirstStepsOf tenant (Ok all) steps = (done : List Asked) × (more : List Asked) × (cames : List Came) × (all ≡ done ++ more) × AreSteps tenant done cames steps
+
 -- the steps of a request
 abbrev pub AreStepsBy : ℕ → List ℕ → Verdict → Course → List Step → Type 0
 AreStepsBy now body (Fixed answer) course steps = steps ≡ []
 AreStepsBy now body (Call route tenant) course steps = (asked : Result (List Asked) PushFault) × AsksFor route now body asked × AreStepsOf tenant asked course steps
 AreStepsBy now body NoMemory course steps = steps ≡ []
+
+-- the steps of a request whose calls were given up
+abbrev pub AreFirstStepsBy : ℕ → List ℕ → Verdict → List Step → Type 0
+AreFirstStepsBy now body (Fixed answer) steps = ⊥
+AreFirstStepsBy now body (Call route tenant) steps = (asked : Result (List Asked) PushFault) × AsksFor route now body asked × AreFirstStepsOf tenant asked steps
+AreFirstStepsBy now body NoMemory steps = ⊥
 
 -- the steps of these requests, in their order
 abbrev pub AreTheirSteps : List Exchange → List Step → Type 0
@@ -53,3 +64,8 @@ MakesTheirCalls ticks bytes h c es rest h' c' = Serves CallGives ticks bytes h c
 abbrev pub MakesItsCalls : {C : Type 0} → (C → ℕ → C → Type 0) → List ℕ → Passed → C → Exchange → List ℕ → Passed → C → Type 0
 MakesItsCalls ticks bytes h c e rest h' c' =
     IsExchange CallGives ticks bytes h c e rest h' c' → (steps : List Step) × Gains h steps h' × AreStepsBy e.now e.request.body e.verdict e.course steps
+
+-- and so of a request that was given up for want of memory: the calls of a beginning of its streams
+abbrev pub MakesItsFirstCalls : {C : Type 0} → (C → ℕ → C → Type 0) → List ℕ → Passed → C → Passed → C → Type 0
+MakesItsFirstCalls ticks bytes h c h' c' =
+    (left : IsAbandoned CallGives ticks bytes h c h' c') → (steps : List Step) × Gains h steps h' × AreFirstStepsBy left.now left.request.body left.verdict steps

@@ -1,5 +1,5 @@
 -- What the parts of an answer say; for private clauses.
-use Rattle.std.specs.Prelude.{◌≡◌, ⊤, ℕ, ◌+◌, List, [], ◌∷◌, ◌++◌, map, length, None, Some, Result, Ok, Err}
+use Rattle.std.specs.Prelude.{◌≡◌, ℕ, ◌+◌, List, [], ◌∷◌, ◌++◌, map, length, None, Some, Result, Ok, Err}
 use Rattle.accept.specs.declared.call.Call.{Call}
 use Rattle.accept.specs.declared.call.Reply.{Reply}
 use Rattle.pushjson.specs.declared.fault.PushFault.{PushFault}
@@ -15,15 +15,15 @@ use Rattle.front.specs.Asking.{asked_push}
 use Rattle.front.specs.Telling.{Tells}
 use Rattle.front.specs.Lines.{push_status, lines_from}
 use Rattle.front.specs.Replies.{one_status, one_text}
-use Rattle.front.specs.Courses.{Comes, Each, Fails, EndsAt, StopsIn}
-use Rattle.front.specs.Responses.{fault_failure, fault_status, fault_text}
+use Rattle.front.specs.Courses.{fault_failure, Comes, Each, Fails, EndsAt, StopsIn}
+use Rattle.front.specs.Responses.{fault_status, fault_text}
 use Rattle.front.specs.Showing.{Shows}
 
 -- a body is refused
 abbrev pub Refuses : PushFault → Result Answer Halt → Type 0
 Refuses fault (Ok answer) = (fault_failure fault ≡ None) × Shows (fault_status fault) (fault_text fault) answer
 Refuses fault (Err (Failed failure)) = fault_failure fault ≡ Some failure
-Refuses fault (Err GivenUp) = ⊤
+Refuses fault (Err GivenUp) = fault_failure fault ≡ None
 
 module _ {H : Type 0} (gives : H → Call → Result Reply CallFault → H → Type 0) (tenant : List ℕ) where
   -- the one stream of a read or a trim
@@ -36,7 +36,7 @@ module _ {H : Type 0} (gives : H → Call → Result Reply CallFault → H → T
   abbrev pub PushGoes : H → List Asked → Result Answer Halt → H → Type 0
   PushGoes h all (Ok answer) h' = (cames : List Came) × Each gives tenant h all cames h' × Shows (push_status cames) (lines_from 0 cames) answer
   PushGoes h all (Err (Failed failure)) h' = (cames : List Came) × EndsAt gives tenant h all cames failure h'
-  PushGoes h all (Err GivenUp) h' = (cames : List Came) × StopsIn gives tenant h all cames h'
+  PushGoes h all (Err GivenUp) h' = (cames : List Came) × (last : Came) × StopsIn gives tenant h all (cames ++ last ∷ []) h'
 
   -- the next stream of a push, and its lines
   abbrev pub NextGoes : H → Asked → ℕ → PushLines → Result (Unit {0}) Halt → H → PushLines → Type 0

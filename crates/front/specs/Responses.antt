@@ -21,7 +21,7 @@ use Rattle.front.specs.declared.responding.Halt.TheVariants.{Failed, GivenUp}
 use Rattle.front.specs.Lines.{push_status, lines_from}
 use Rattle.front.specs.Replies.{one_status, one_text}
 use Rattle.front.specs.Showing.{Shows}
-use Rattle.front.specs.Courses.{Course, Unread, Whole, Broken, Takes, IsLeft}
+use Rattle.front.specs.Courses.{Course, Unread, Whole, Broken, fault_failure, Takes, IsLeft}
 
 abbrev pub bad_time_text : ℕ → ℕ → List ℕ
 bad_time_text i j = codes "bad time at stream " ++ decimal i ++ codes " entry " ++ decimal j
@@ -71,13 +71,6 @@ abbrev pub text_for : Route → Course → List ℕ
 text_for route (Unread fault) = fault_text fault
 text_for route (Whole cames) = cames_text route cames
 text_for route (Broken cames failure) = failure_body failure
-
-abbrev pub fault_failure : PushFault → Option Failure
-fault_failure NotJson = None
-fault_failure WrongShape = None
-fault_failure (BadTime i j) = None
-fault_failure TooManyEntries = None
-fault_failure Memory = Some OutOfMemory
 
 -- the failure that ended the calls, which is answered by a 500 that closes
 abbrev pub failure_in : Course → Option Failure

@@ -30,6 +30,12 @@ pub record Exchange : Type 0 where
   pub now : ℕ
   pub course : Course
 
+-- the failure that is answered by a 500
+abbrev pub failure_at : Verdict → Course → Option Failure
+failure_at (Fixed answer) course = None
+failure_at (Call route tenant) course = failure_in course
+failure_at NoMemory course = Some OutOfMemory
+
 abbrev pub is_failed : Option Failure → Bool
 is_failed None = false
 is_failed (Some failure) = true
@@ -107,6 +113,11 @@ module _ {H C : Type 0} (gives : H → Asking → Result Reply CallFault → H �
   IsNextResponse bytes h c text h' c' =
       ((e : Exchange) × (rest : List ℕ) × IsExchange bytes h c e rest h' c' × (text ≡ response e)) ⊎ IsTurnedAway bytes h c text h' c'
 
+  -- there was no memory for the response, which is not of status 500
+  abbrev pub IsUnanswered : List ℕ → H → C → H → C → Type 0
+  IsUnanswered bytes h c h' c' =
+      ((e : Exchange) × (rest : List ℕ) × IsExchange bytes h c e rest h' c' × (failure_at e.verdict e.course ≡ None)) ⊎ ((text : List ℕ) × IsTurnedAway bytes h c text h' c')
+
   -- and it closes
   abbrev pub IsLastResponse : List ℕ → H → C → List ℕ → H → C → Type 0
   IsLastResponse bytes h c text h' c' =
@@ -125,7 +136,7 @@ module _ {H C : Type 0} (gives : H → Asking → Result Reply CallFault → H �
   Finishes rest left h c text h' c' (Err faults.Read) = ((rest ≡ []) ⊎ IsCut rest) × IsIdle h c text h' c'
   Finishes rest left h c text h' c' (Err faults.Write) = (n : ℕ) × (all : List ℕ) × IsNextResponse rest h c all h' c' × (text ≡ take n all)
   Finishes rest left h c text h' c' (Err faults.Memory) =
-      (text ≡ []) × ((((rest ≡ []) ⊎ IsCut rest) × IsIdle h c text h' c') ⊎ ((all : List ℕ) × IsNextResponse rest h c all h' c') ⊎ IsAbandoned rest h c h' c')
+      (text ≡ []) × ((((rest ≡ []) ⊎ IsCut rest) × IsIdle h c text h' c') ⊎ IsUnanswered rest h c h' c' ⊎ IsAbandoned rest h c h' c')
 
   -- from the bytes read to the text written
   pub record IsServed (bytes : List ℕ) (left : Option (List ℕ)) (h : H) (c : C) (text : List ℕ) (h' : H) (c' : C) (result : Result Served ServeFault) : Type 0 where

@@ -1,5 +1,5 @@
 -- What one turn of a connection says; for private clauses.
-use Rattle.std.specs.Prelude.{◌≡◌, ◌⊎◌, ℕ, Bool, false, List, [], ◌++◌, take, drop, Option, Result, Ok, Err}
+use Rattle.std.specs.Prelude.{◌≡◌, ◌⊎◌, ℕ, Bool, false, List, [], ◌++◌, take, drop, Option, None, Result, Ok, Err}
 use Rattle.std.specs.List.{flat_map}
 use Rattle.std.specs.Io.KnownBytes.{Appends, Consumes}
 use Rattle.accept.specs.declared.call.Call.{Call as Asking}
@@ -12,7 +12,7 @@ use Rattle.requests.specs.declared.fault.ServeFault.TheVariants as faults
 use Rattle.requests.specs.declared.fault.Served.TheVariants as served
 use Rattle.requests.specs.declared.verdict.Verdict.{Verdict}
 use Rattle.front.specs.Courses.{Course}
-use Rattle.front.specs.Serving.{Exchange, response, closes, response_text, ends_behind, Handles, Abandons, IsExchange, Serves, Finishes}
+use Rattle.front.specs.Serving.{Exchange, response, closes, response_text, failure_at, ends_behind, Handles, Abandons, IsExchange, Serves, Finishes}
 use Rattle.front.specs.declared.serving.Turn.{Turn}
 use Rattle.front.specs.declared.serving.Turn.TheVariants as turns
 
@@ -24,7 +24,7 @@ module _ {H : Type 0} (gives : H → Asking → Result Reply CallFault → H →
   Replies verdict close h text h' (Err faults.Write) =
       (course : Course) × Handles gives now body verdict h course h' × ((n : ℕ) × (text ≡ take n (response_text verdict close course)))
   Replies verdict close h text h' (Err faults.Memory) =
-      (text ≡ []) × (((course : Course) × Handles gives now body verdict h course h') ⊎ Abandons gives now body verdict h h')
+      (text ≡ []) × (((course : Course) × Handles gives now body verdict h course h' × (failure_at verdict course ≡ None)) ⊎ Abandons gives now body verdict h h')
   Replies verdict close h text h' (Err faults.Read) = ⊥
   Replies verdict close h text h' (Err faults.CutShort) = ⊥
 

@@ -212,6 +212,7 @@ fn take_turns<D: Disk + Drop, R: Wait, C: Clock, I: Read, O: Write>(
 /// # Errors
 ///
 /// `Read`, `Memory` and `CutShort`: what is written are whole answers of a beginning of the requests.
+/// `Memory` never comes in place of an answer of status 500.
 /// `Write`: a beginning of the answers is written. Calls made before stand.
 pub fn serve<D: Disk + Drop, R: Wait, C: Clock, I: Read, O: Write>(
     rt: &R,

@@ -1,5 +1,5 @@
 -- What a whole request is: one that has a fixed answer, or one that makes calls.
-use Rattle.std.specs.Prelude.{◌≡◌, ◌⊎◌, ℕ, Bool, ◌||◌, List, [], ◌∷◌, bytes_eq, codes, ◌==◌, if◌then◌else◌, IsTrue, Option, Some, None, length}
+use Rattle.std.specs.Prelude.{◌≡◌, ◌⊎◌, ℕ, Bool, ◌||◌, List, [], ◌∷◌, bytes_eq, codes, ◌==◌, if◌then◌else◌, Option, Some, None, length}
 use Rattle.httparse.specs.Grammar.{trim_ows}
 use Rattle.labels.specs.Tenants.{is_tenant}
 use Rattle.requests.specs.Fields.{Field, is_same_word, values_of, has_field, has_word, before}
@@ -75,14 +75,17 @@ verdict_of_endpoint method (Some endpoint) fields =
 abbrev pub verdict_of : List ℕ → List ℕ → List Field → Verdict
 verdict_of method target fields = verdict_of_endpoint method (endpoint_of (path_of target)) fields
 
--- the one tenant, which is lawful
-abbrev pub HasTenant : List Field → Type 0
-HasTenant fields = (tenant : List ℕ) × (tenants_of fields ≡ tenant ∷ []) × IsTrue (is_tenant tenant)
+-- a request for calls
+abbrev pub AsksForCalls : Verdict → Type 0
+AsksForCalls verdict = (route : Route) × (tenant : List ℕ) × (verdict ≡ Is.Call route tenant)
 
--- the verdict, unless there was no memory for a lawful tenant
+-- for a request of this verdict it is found, unless there was no memory for the tenant of its calls
+abbrev pub IsFound : Verdict → Verdict → Type 0
+IsFound verdict found = (found ≡ verdict) ⊎ ((found ≡ Is.NoMemory) × AsksForCalls verdict)
+
+-- what is found of a request with this method, target and these fields
 abbrev pub IsVerdict : List ℕ → List ℕ → List Field → Verdict → Type 0
-IsVerdict method target fields verdict =
-    (verdict ≡ verdict_of method target fields) ⊎ ((verdict ≡ Is.NoMemory) × HasTenant fields)
+IsVerdict method target fields found = IsFound (verdict_of method target fields) found
 
 -- HTTP/1.0, or a field `Connection: close`
 abbrev pub asks_close : ℕ → List Field → Bool

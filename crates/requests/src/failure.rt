@@ -1,4 +1,4 @@
-ghost use Rattle.std.specs.Prelude.{◌≡◌};
+ghost use Rattle.std.specs.Prelude.{◌≡◌, IfErr};
 ghost use Rattle.requests.specs.Answers.{failure_bytes, failure_text};
 ghost use Rattle.requests.specs.Writing.{Writes};
 
@@ -40,7 +40,8 @@ impl Failure {
 ///
 /// `Write`, with a beginning of the text out.
 pub fn write_failure<W: Write>(writer: &mut W, failure: Failure) -> Result<(), ServeFault>
-    ensures { Writes (W.contents writer.old) (W.contents writer.new) (failure_text failure) result }
+    ensures writes { Writes (W.contents writer.old) (W.contents writer.new) (failure_text failure) result }
+    ensures fault { IfErr result (λ e. e ≡ ServeFault.Write) }
 {
     write_text(writer, failure.text())
 }

@@ -2,7 +2,7 @@ ghost use Rattle.std.specs.Prelude.{◌≡◌, ◌⊎◌, length, map, All, IsTr
 ghost use Rattle.httparse.specs.Spans.{IsHeaderWithin, header_bytes};
 ghost use Rattle.labels.specs.Tenants.{is_tenant};
 ghost use Rattle.requests.specs.Fields.{values_of};
-ghost use Rattle.requests.specs.Verdicts.{is_json_type, path_of, verdict_of_content, verdict_of_tenants, tenants_of, HasTenant, IsVerdict, asks_close};
+ghost use Rattle.requests.specs.Verdicts.{is_json_type, path_of, verdict_of_content, verdict_of_tenants, tenants_of, IsFound, IsVerdict, asks_close};
 
 use crate::fields::{Found, before, find, has_field, has_word, is_same_word, trim_spaces};
 use crate::fixed::FixedAnswer;
@@ -19,7 +19,7 @@ pub enum Verdict {
     Fixed(FixedAnswer),
     /// It asks for calls of this tenant.
     Call(Route, Tenant),
-    /// There was no memory for its tenant, which is lawful.
+    /// It asks for calls, and there was no memory for its tenant.
     NoMemory,
 }
 
@@ -57,8 +57,7 @@ fn tenant_of(alloc: Global, name: &[u8]) -> Result<Tenant, LabelFault>
 /// The tests from the tenant's on.
 fn verdict_of_tenants(alloc: Global, bytes: &[u8], fields: &[HeaderSpan], route: Route) -> Verdict
     requires { All (IsHeaderWithin (length bytes.now)) fields.now }
-    ensures { let all = map (header_bytes bytes.now) fields.now in
-        (result ≡ verdict_of_tenants route (tenants_of all) all) ⊎ ((result ≡ Verdict.NoMemory) × HasTenant all) }
+    ensures { let all = map (header_bytes bytes.now) fields.now in IsFound (verdict_of_tenants route (tenants_of all) all) result }
 {
     let name = match find(bytes, fields, b"x-scope-orgid") {
         Found::Nothing => return Verdict::Fixed(FixedAnswer::NoOrgId),
@@ -70,7 +69,7 @@ fn verdict_of_tenants(alloc: Global, bytes: &[u8], fields: &[HeaderSpan], route:
     }
     match tenant_of(alloc, name) {
         Ok(tenant) => verdict_of_content(bytes, fields, Verdict::Call(route, tenant)),
-        Err(LabelFault::Memory) => Verdict::NoMemory,
+        Err(LabelFault::Memory) => verdict_of_content(bytes, fields, Verdict::NoMemory),
         Err(_) => Verdict::Fixed(FixedAnswer::BadTenant),
     }
 }

@@ -1,4 +1,4 @@
-ghost use Rattle.std.specs.Prelude.{◌≡◌};
+ghost use Rattle.std.specs.Prelude.{◌≡◌, IfErr};
 ghost use Rattle.requests.specs.Writing.{Writes};
 
 use crate::fault::ServeFault;
@@ -6,7 +6,8 @@ use std::io::{ErrorKind, Write};
 
 /// Writes all the bytes, in one write where the writer takes them.
 pub(crate) fn write_text<W: Write>(writer: &mut W, text: &[u8]) -> Result<(), ServeFault>
-    ensures { Writes (W.contents writer.old) (W.contents writer.new) text.now result }
+    ensures writes { Writes (W.contents writer.old) (W.contents writer.new) text.now result }
+    ensures fault { IfErr result (λ e. e ≡ ServeFault.Write) }
 {
     let mut done = 0;
     for _turn in 0..u64::MAX {

@@ -1,7 +1,7 @@
 -- The place that words give.
-use Rattle.std.proofs.Common.{◌≡◌, ℕ, ◌<◌, ◌≤◌, List, [], ◌∷◌, length, get_or, Option, Some, None, MatchOption, String, Global, string_bytes, sym, subst, ap, ◌∙◌}
-use Rattle.words.specs.Words.{value, NameShard, GiveShard}
-use Rattle.words.specs.declared.Place.{Place}
+use Rattle.std.proofs.Common.{◌≡◌, ℕ, ◌<◌, ◌≤◌, List, [], ◌∷◌, length, get_or, Option, Some, None, MatchOption, IfSome, String, Global, string_bytes, sym, subst, ap, ◌∙◌}
+use Rattle.words.specs.Words.{value, NameShard, GiveShard, SaysPlace}
+use Rattle.words.specs.declared.said.Place.{Place}
 use Rattle.words.proofs.Listed.{listed_3}
 
 same_shard : (words : List (String Global)) (f s c g t d : String Global) → words ≡ f ∷ s ∷ c ∷ [] → words ≡ g ∷ t ∷ d ∷ [] → t ≡ s
@@ -24,3 +24,15 @@ gives_shard words f s c shard count (Some p) e a b h = record { file = f; shard 
 -- what was read of the three words
 pub place_of_three : (words : List (String Global)) (f s c : String Global) (shard count : List ℕ) (found : Option Place) → 3 ≤ length words → length words < 4 → f ≡ get_or words 0 f → s ≡ get_or words 1 s → c ≡ get_or words 2 c → shard ≡ string_bytes s → count ≡ string_bytes c → MatchOption found (¬ NameShard shard count) (λ p. NameShard shard count × (p.shard ≡ value shard) × (p.count ≡ value count)) → MatchOption found (¬ GiveShard words) (λ _. GiveShard words)
 place_of_three words f s c shard count found some few x y z a b h = gives_shard words f s c shard count found (listed_3 words f s c some few x y z) a b h
+
+says_place : (words : List (String Global)) (f s c : String Global) (shard count : List ℕ) (found : Option Place) → words ≡ f ∷ s ∷ c ∷ [] → shard ≡ string_bytes s → count ≡ string_bytes c → MatchOption found (¬ NameShard shard count) (λ p. NameShard shard count × (p.shard ≡ value shard) × (p.count ≡ value count)) → IfSome found (SaysPlace words)
+says_place words f s c shard count None e a b h = tt
+says_place words f s c shard count (Some p) e a b h = record {
+  given = record { file = f; shard = s; count = c; words_are = e; named = named_again shard count _ _ a b h.0 };
+  shard_is = h.1 ∙ ap value a;
+  count_is = h.2 ∙ ap value b;
+}
+
+-- and what they say
+pub place_said : (words : List (String Global)) (f s c : String Global) (shard count : List ℕ) (found : Option Place) → 3 ≤ length words → length words < 4 → f ≡ get_or words 0 f → s ≡ get_or words 1 s → c ≡ get_or words 2 c → shard ≡ string_bytes s → count ≡ string_bytes c → MatchOption found (¬ NameShard shard count) (λ p. NameShard shard count × (p.shard ≡ value shard) × (p.count ≡ value count)) → IfSome found (SaysPlace words)
+place_said words f s c shard count found some few x y z a b h = says_place words f s c shard count found (listed_3 words f s c some few x y z) a b h

@@ -1,6 +1,7 @@
 -- The server that words give.
-use Rattle.std.proofs.Common.{◌≡◌, ℕ, ◌<◌, ◌≤◌, List, [], ◌∷◌, length, get_or, Option, Some, None, MatchOption, String, Global, string_bytes, sym, subst, ap}
-use Rattle.words.specs.Words.{IsNumberIn, NameServer, IsLimit, GiveServer}
+use Rattle.std.proofs.Common.{◌≡◌, ℕ, ◌<◌, ◌≤◌, List, [], ◌∷◌, length, get_or, Option, Some, None, MatchOption, IfSome, String, Global, string_bytes, sym, subst, ap, ◌∙◌}
+use Rattle.words.specs.Words.{value, IsNumberIn, NameServer, IsLimit, SaysOfServer, GiveServer, SaysServer}
+use Rattle.words.specs.declared.said.ServerWords.{ServerWords}
 use Rattle.words.proofs.Listed.{listed_4, listed_5}
 
 -- the names in texts that are the same
@@ -60,4 +61,49 @@ module _ (words : List (String Global)) (f p s w : String Global) where
     words_are = listed_5 words f p s w l some few a b c d e;
     named = named_again _ _ _ _ _ _ x y z h.0;
     limited = subst (IsNumberIn 1 4294967295) u h.1;
+  }
+
+  -- and what they say
+  pub said_by_four : (folder port shards workers : List ℕ) (found : Option ServerWords) → 4 ≤ length words → length words < 5 → f ≡ get_or words 0 f → p ≡ get_or words 1 p → s ≡ get_or words 2 s → w ≡ get_or words 3 w → folder ≡ string_bytes f → port ≡ string_bytes p → shards ≡ string_bytes s → workers ≡ string_bytes w → MatchOption found (¬ NameServer port shards workers) (λ _. NameServer port shards workers) → IfSome found (SaysOfServer folder port shards workers None) → IfSome found (SaysServer words)
+  said_by_four folder port shards workers None some few a b c d v x y z h says = tt
+  said_by_four folder port shards workers (Some it) some few a b c d v x y z h says = record {
+    given = record {
+      folder = f;
+      port = p;
+      shards = s;
+      workers = w;
+      limit = [];
+      words_are = listed_4 words f p s w some few a b c d;
+      named = named_again _ _ _ _ _ _ x y z h;
+      limited = tt;
+    };
+    says = record {
+      folder_is = says.folder_is ∙ v;
+      port_is = says.port_is ∙ ap value x;
+      shards_are = says.shards_are ∙ ap value y;
+      workers_are = says.workers_are ∙ ap value z;
+      connections_are = says.connections_are;
+    };
+  }
+
+  pub said_by_five : (l : String Global) (folder port shards workers limit : List ℕ) (found : Option ServerWords) → 5 ≤ length words → length words < 6 → f ≡ get_or words 0 f → p ≡ get_or words 1 p → s ≡ get_or words 2 s → w ≡ get_or words 3 w → l ≡ get_or words 4 l → folder ≡ string_bytes f → port ≡ string_bytes p → shards ≡ string_bytes s → workers ≡ string_bytes w → limit ≡ string_bytes l → MatchOption found (¬ (NameServer port shards workers × IsNumberIn 1 4294967295 limit)) (λ _. NameServer port shards workers × IsNumberIn 1 4294967295 limit) → IfSome found (SaysOfServer folder port shards workers (Some (value limit))) → IfSome found (SaysServer words)
+  said_by_five l folder port shards workers limit None some few a b c d e v x y z u h says = tt
+  said_by_five l folder port shards workers limit (Some it) some few a b c d e v x y z u h says = record {
+    given = record {
+      folder = f;
+      port = p;
+      shards = s;
+      workers = w;
+      limit = l ∷ [];
+      words_are = listed_5 words f p s w l some few a b c d e;
+      named = named_again _ _ _ _ _ _ x y z h.0;
+      limited = subst (IsNumberIn 1 4294967295) u h.1;
+    };
+    says = record {
+      folder_is = says.folder_is ∙ v;
+      port_is = says.port_is ∙ ap value x;
+      shards_are = says.shards_are ∙ ap value y;
+      workers_are = says.workers_are ∙ ap value z;
+      connections_are = says.connections_are ∙ ap (λ t. Some (value t)) u;
+    };
   }

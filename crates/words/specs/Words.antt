@@ -1,9 +1,14 @@
 -- The words that programs are given.
-use Rattle.std.specs.Prelude.{codes, ℕ, ◌≡◌, ◌⊎◌, ◌≤◌, ◌<◌, IsTrue, List, [], ◌∷◌, String, string_bytes}
+use Rattle.std.specs.Prelude.{codes, ℕ, ◌≡◌, ◌⊎◌, ◌≤◌, ◌<◌, IsTrue, IfOk, List, [], ◌∷◌, Option, None, Some, String, string_bytes}
 use Rattle.std.specs.Str.Parse.{digits_value}
 use Rattle.std.specs.declared.alloc.Global.{Global}
 use Rattle.labels.specs.Tenants.{is_tenant}
 use Rattle.pushjson.specs.Times.{IsTime}
+use Rattle.requests.specs.declared.route.Route.{Route}
+use Rattle.requests.specs.declared.route.Route.TheVariants.{Push, Read, Trim}
+use Rattle.words.specs.declared.said.Place.{Place}
+use Rattle.words.specs.declared.said.ServerWords.{ServerWords}
+use Rattle.words.specs.declared.said.CallWords.{CallWords}
 
 -- the number that decimal digits write
 abbrev pub value : List ℕ → ℕ
@@ -25,9 +30,19 @@ pub record GiveShard (words : List (String Global)) : Type 0 where
   pub words_are : words ≡ file ∷ shard ∷ count ∷ []
   pub named : NameShard (string_bytes shard) (string_bytes count)
 
+-- the place that they say
+pub record SaysPlace (words : List (String Global)) (place : Place) : Type 0 where
+  pub given : GiveShard words
+  pub shard_is : place.shard ≡ value (string_bytes given.shard)
+  pub count_is : place.count ≡ value (string_bytes given.count)
+
 -- one word, which is a time
 abbrev pub GiveClock : List (String Global) → Type 0
 GiveClock words = (word : String Global) × (words ≡ word ∷ []) × IsTime (string_bytes word)
+
+-- the time that it says
+abbrev pub SaysClock : List (String Global) → ℕ → Type 0
+SaysClock words now = (given : GiveClock words) × (now ≡ value (string_bytes given.0))
 
 -- a port, 1 to 64 shards and 1 to 64 workers
 abbrev pub NameServer : List ℕ → List ℕ → List ℕ → Type 0
@@ -50,7 +65,30 @@ pub record GiveServer (words : List (String Global)) : Type 0 where
   pub named : NameServer (string_bytes port) (string_bytes shards) (string_bytes workers)
   pub limited : IsLimit limit
 
+-- what names a server says of it
+pub record SaysOfServer (folder port shards workers : List ℕ) (connections : Option ℕ) (server : ServerWords) : Type 0 where
+  pub folder_is : server.folder.now ≡ folder
+  pub port_is : server.port ≡ value port
+  pub shards_are : server.shards ≡ value shards
+  pub workers_are : server.workers ≡ value workers
+  pub connections_are : server.connections ≡ connections
+
+-- after how many connections it ends, where that is said
+abbrev pub connections_of : List (String Global) → Option ℕ
+connections_of [] = None
+connections_of (limit ∷ more) = Some (value (string_bytes limit))
+
+-- the server that the words say
+pub record SaysServer (words : List (String Global)) (server : ServerWords) : Type 0 where
+  pub given : GiveServer words
+  pub says : SaysOfServer (string_bytes given.folder) (string_bytes given.port) (string_bytes given.shards) (string_bytes given.workers) (connections_of given.limit) server
+
 -- what is asked for
+abbrev pub verb_of : Route → List ℕ
+verb_of Push = codes "push"
+verb_of Read = codes "read"
+verb_of Trim = codes "trim"
+
 abbrev pub IsVerb : List ℕ → Type 0
 IsVerb verb = (verb ≡ codes "push") ⊎ ((verb ≡ codes "read") ⊎ (verb ≡ codes "trim"))
 
@@ -67,3 +105,16 @@ pub record GiveCall (words : List (String Global)) : Type 0 where
   pub now : String Global
   pub words_are : words ≡ verb ∷ folder ∷ shards ∷ tenant ∷ now ∷ []
   pub named : NameCall (string_bytes verb) (string_bytes shards) (string_bytes tenant) (string_bytes now)
+
+-- what names a call says of it, where there is memory for its tenant's name
+pub record SaysOfCall (verb folder shards tenant now : List ℕ) (call : CallWords) : Type 0 where
+  pub route_is : verb_of call.route ≡ verb
+  pub folder_is : call.folder.now ≡ folder
+  pub shards_are : call.shards ≡ value shards
+  pub tenant_is : IfOk call.tenant (λ name. name ≡ tenant)
+  pub now_is : call.now ≡ value now
+
+-- the call that the words say
+pub record SaysCall (words : List (String Global)) (call : CallWords) : Type 0 where
+  pub given : GiveCall words
+  pub says : SaysOfCall (string_bytes given.verb) (string_bytes given.folder) (string_bytes given.shards) (string_bytes given.tenant) (string_bytes given.now) call

@@ -1,13 +1,16 @@
 //! The words that programs are given.
 #![tactic(auto)]
 
-ghost use Rattle.std.specs.Prelude.{◌≡◌, ◌<◌, ◌≤◌, ◌^◌, IsTrue, MatchOption};
+mod said;
+
+ghost use Rattle.std.specs.Prelude.{◌≡◌, ◌<◌, ◌≤◌, ◌^◌, None, Some, IsTrue, IfOk, IfSome, MatchOption};
 ghost use Rattle.labels.specs.Tenants.{is_tenant};
-ghost use Rattle.words.specs.Words.{value, IsNumberIn, NameShard, GiveShard, GiveClock, NameServer, GiveServer, IsVerb, NameCall, GiveCall};
+ghost use Rattle.words.specs.Words.{value, IsNumberIn, NameShard, GiveShard, SaysPlace, GiveClock, SaysClock, NameServer, SaysOfServer, GiveServer, SaysServer, verb_of, IsVerb, NameCall, SaysOfCall, GiveCall, SaysCall};
 
 use labels::{LabelFault, Tenant};
 use pushjson::time_of;
 use requests::Route;
+pub use said::{CallWords, Place, ServerWords};
 use std::alloc::{AllocError, Global};
 use std::rt::Env;
 use std::{env, io};
@@ -20,55 +23,6 @@ const MAX_PORT: u64 = 65_535;
 
 /// The greatest number of connections after which a server may end.
 const MAX_CONNECTIONS: u64 = 4_294_967_295;
-
-/// A shard, and among how many.
-#[derive(Clone, Copy, Debug)]
-pub struct Place {
-    /// The shard's number, from 0 on.
-    pub shard: u32,
-    /// The number of shards, 1 to 64.
-    pub count: u32,
-    ghost some: { 1 ≤ count },
-    ghost few: { count ≤ 64 },
-    ghost below: { shard < count },
-}
-
-/// The words of `ingesterd DIR PORT SHARDS WORKERS [CONNECTIONS]`.
-#[derive(Clone, Copy, Debug)]
-pub struct ServerWords<'a> {
-    /// The folder of the slots.
-    pub folder: &'a str,
-    /// The port to listen on.
-    pub port: u16,
-    /// The number of shards, 1 to 64.
-    pub shards: u32,
-    /// The number of workers, 1 to 64.
-    pub workers: u32,
-    /// After how many connections the server ends, where it does.
-    pub connections: Option<u64>,
-    ghost some_shard: { 1 ≤ shards },
-    ghost few_shards: { shards ≤ 64 },
-    ghost some_worker: { 1 ≤ workers },
-    ghost few_workers: { workers ≤ 64 },
-}
-
-/// The words of `ingestctl push|read|trim DIR SHARDS TENANT NOW`.
-#[derive(Drop)]
-pub struct CallWords<'a> {
-    /// What the body asks for.
-    pub route: Route,
-    /// The folder of the slots.
-    pub folder: &'a str,
-    /// The number of shards, 1 to 64.
-    pub shards: u32,
-    /// Whose streams they are, where there was memory for the name.
-    pub tenant: Result<Tenant, AllocError>,
-    /// The clock, in nanoseconds.
-    pub now: u64,
-    ghost some_shard: { 1 ≤ shards },
-    ghost few_shards: { shards ≤ 64 },
-    ghost small: { now < 2 ^ 63 },
-}
 
 /// The words behind the program's name: none, where one of them is no text, since such words are no program's.
 pub fn words_of<R: Env + AllocGlobal>(rt: &R) -> Result<Vec<String>, AllocError> {
@@ -85,7 +39,8 @@ fn read_words<R: Env + AllocGlobal>(rt: &R) -> io::Result<Vec<String>> {
 
 /// The place of the words `FILE SHARD COUNT`; `None` where they are not such words.
 pub fn place_in(words: &[String]) -> Option<Place>
-    ensures { MatchOption result (¬ GiveShard words.now) (λ _. GiveShard words.now) }
+    ensures given { MatchOption result (¬ GiveShard words.now) (λ _. GiveShard words.now) }
+    ensures says { IfSome result (SaysPlace words.now) }
 {
     match words {
         [_file, shard, count] => place_of(shard.as_str(), count.as_str()),
@@ -109,7 +64,8 @@ fn place_of(shard: &str, count: &str) -> Option<Place>
 
 /// The clock that the word `NOW` gives; `None` where the words are no such word.
 pub fn clock_in(words: &[String]) -> Option<u64>
-    ensures { MatchOption result (¬ GiveClock words.now) (λ now. (now < 2 ^ 63) × GiveClock words.now) }
+    ensures given { MatchOption result (¬ GiveClock words.now) (λ now. (now < 2 ^ 63) × GiveClock words.now) }
+    ensures says { IfSome result (SaysClock words.now) }
 {
     match words {
         [word] => time_of(word.as_str()),
@@ -130,7 +86,8 @@ fn number_in(text: &str, least: u64, most: u64) -> Option<u64>
 
 /// The words of a server; `None` where they are not such words.
 pub fn server_in(words: &[String]) -> Option<ServerWords<'_>>
-    ensures { MatchOption result (¬ GiveServer words.now) (λ _. GiveServer words.now) }
+    ensures given { MatchOption result (¬ GiveServer words.now) (λ _. GiveServer words.now) }
+    ensures says { IfSome result (SaysServer words.now) }
 {
     match words {
         [folder, port, shards, workers] => endless_of(
@@ -156,7 +113,8 @@ fn endless_of<'a>(
     shards: &str,
     workers: &str,
 ) -> Option<ServerWords<'a>>
-    ensures { MatchOption result (¬ NameServer port.now shards.now workers.now) (λ _. NameServer port.now shards.now workers.now) }
+    ensures named { MatchOption result (¬ NameServer port.now shards.now workers.now) (λ _. NameServer port.now shards.now workers.now) }
+    ensures says { IfSome result (SaysOfServer folder.now port.now shards.now workers.now None) }
 {
     let port = number_in(port, 0, MAX_PORT)?;
     let shards = number_in(shards, 1, MAX_SHARDS)?;
@@ -177,7 +135,8 @@ fn ending_of<'a>(
     workers: &str,
     limit: &str,
 ) -> Option<ServerWords<'a>>
-    ensures { MatchOption result (¬ (NameServer port.now shards.now workers.now × IsNumberIn 1 4294967295 limit.now)) (λ _. NameServer port.now shards.now workers.now × IsNumberIn 1 4294967295 limit.now) }
+    ensures named { MatchOption result (¬ (NameServer port.now shards.now workers.now × IsNumberIn 1 4294967295 limit.now)) (λ _. NameServer port.now shards.now workers.now × IsNumberIn 1 4294967295 limit.now) }
+    ensures says { IfSome result (SaysOfServer folder.now port.now shards.now workers.now (Some (value limit.now))) }
 {
     let endless = endless_of(folder, port, shards, workers)?;
     let limit = number_in(limit, 1, MAX_CONNECTIONS)?;
@@ -192,7 +151,8 @@ fn ending_of<'a>(
 
 /// The words of a call; `None` where they are not such words.
 pub fn call_in(alloc: Global, words: &[String]) -> Option<CallWords<'_>>
-    ensures { MatchOption result (¬ GiveCall words.now) (λ _. GiveCall words.now) }
+    ensures given { MatchOption result (¬ GiveCall words.now) (λ _. GiveCall words.now) }
+    ensures says { IfSome result (SaysCall words.now) }
 {
     match words {
         [verb, folder, shards, tenant, now] => call_of(
@@ -215,7 +175,8 @@ fn call_of<'a>(
     tenant: &str,
     now: &str,
 ) -> Option<CallWords<'a>>
-    ensures { MatchOption result (¬ NameCall verb.now shards.now tenant.now now.now) (λ _. NameCall verb.now shards.now tenant.now now.now) }
+    ensures named { MatchOption result (¬ NameCall verb.now shards.now tenant.now now.now) (λ _. NameCall verb.now shards.now tenant.now now.now) }
+    ensures says { IfSome result (SaysOfCall verb.now folder.now shards.now tenant.now now.now) }
 {
     let route = route_of(verb)?;
     let shards = number_in(shards, 1, MAX_SHARDS)?;
@@ -231,7 +192,8 @@ fn call_of<'a>(
 }
 
 fn route_of(verb: &str) -> Option<Route>
-    ensures { MatchOption result (¬ IsVerb verb.now) (λ _. IsVerb verb.now) }
+    ensures named { MatchOption result (¬ IsVerb verb.now) (λ _. IsVerb verb.now) }
+    ensures says { IfSome result (λ route. verb_of route ≡ verb.now) }
 {
     match verb {
         "push" => Some(Route::Push),
@@ -243,7 +205,8 @@ fn route_of(verb: &str) -> Option<Route>
 
 // A lawful tenant, where there is memory for its name.
 fn tenant_of(alloc: Global, text: &str) -> Option<Result<Tenant, AllocError>>
-    ensures { MatchOption result (¬ IsTrue (is_tenant text.now)) (λ _. IsTrue (is_tenant text.now)) }
+    ensures named { MatchOption result (¬ IsTrue (is_tenant text.now)) (λ _. IsTrue (is_tenant text.now)) }
+    ensures says { IfSome result (λ tenant. IfOk tenant (λ name. name ≡ text.now)) }
 {
     match Tenant::new(alloc, text) {
         Ok(tenant) => Some(Ok(tenant)),

@@ -4,22 +4,22 @@ use Rattle.pushjson.specs.declared.fault.PushFault.TheVariants.{Memory}
 use Rattle.requests.specs.declared.verdict.Verdict.TheVariants.{Fixed, NoMemory}
 use Rattle.front.specs.Calls.{CallGives}
 use Rattle.front.specs.Courses.{Unread, Whole}
-use Rattle.front.proofs.Turning.{out, not_out}
+use Rattle.front.proofs.Turning.{out, not_out, not_memory}
 use Rattle.front.proofs.serving.reply_to.Goals as goal
 
 pub returns-in_err-fixed-in-Fixed-clause-replies : goal.returns-in_err-fixed-in-Fixed-clause-replies
 returns-in_err-fixed-in-Fixed-clause-replies g c =
     let p = err_from_is_err_and c.from_residual.result c.from_residual.ensures.1 in
-    rw (p.1, p.2, c.in-Fixed.is) (not_out CallGives c.args.now c.args.body.now (Fixed c.in-Fixed.answer) c.args.closes (Whole []) c.args.pass.now c.args.pass.now _ _ (refl, refl) c.in_err-fixed-in-Fixed.field-0.0 c.in_err-fixed-in-Fixed.ensures)
+    rw (p.1, p.2, c.in-Fixed.is) (not_out CallGives c.args.now c.args.body.now (Fixed c.in-Fixed.answer) c.args.closes (Whole []) c.args.pass.now c.args.pass.now _ _ (refl, refl) c.in_err-fixed-in-Fixed.field-0.0 c.in_err-fixed-in-Fixed.ensures (λ none. refl))
 
 pub returns-in_err-write_failure-in-NoMemory-clause-replies : goal.returns-in_err-write_failure-in-NoMemory-clause-replies
 returns-in_err-write_failure-in-NoMemory-clause-replies g c =
     let p = err_from_is_err_and c.from_residual-in_err-write_failure-in-NoMemory.result c.from_residual-in_err-write_failure-in-NoMemory.ensures.1 in
-    rw (p.1, p.2, c.in-NoMemory.is) (not_out CallGives c.args.now c.args.body.now NoMemory c.args.closes (Unread Memory) c.args.pass.now c.args.pass.now _ _ (refl, refl) c.in_err-write_failure-in-NoMemory.field-0.0 c.in_err-write_failure-in-NoMemory.ensures)
+    rw (p.1, p.2, c.in-NoMemory.is) (not_out CallGives c.args.now c.args.body.now NoMemory c.args.closes (Unread Memory) c.args.pass.now c.args.pass.now _ _ (refl, refl) c.in_err-write_failure-in-NoMemory.field-0.0 c.in_err-write_failure-in-NoMemory.ensures.writes (λ none. absurd (not_memory c.in_err-write_failure-in-NoMemory.field-0.0 c.in_err-write_failure-in-NoMemory.ensures.fault none)))
 
 pub returns-in_ok-write_failure-in-NoMemory-clause-replies : goal.returns-in_ok-write_failure-in-NoMemory-clause-replies
 returns-in_ok-write_failure-in-NoMemory-clause-replies g c =
-    rw c.in-NoMemory.is (out CallGives c.args.now c.args.body.now NoMemory c.args.closes (Unread Memory) c.args.pass.now c.args.pass.now _ _ (refl, refl) _ tt c.in_ok-write_failure-in-NoMemory.ensures refl)
+    rw c.in-NoMemory.is (out CallGives c.args.now c.args.body.now NoMemory c.args.closes (Unread Memory) c.args.pass.now c.args.pass.now _ _ (refl, refl) _ tt c.in_ok-write_failure-in-NoMemory.ensures.writes refl)
 
 pub returns-in_ok-fixed-in-Fixed-clause-replies : goal.returns-in_ok-fixed-in-Fixed-clause-replies
 returns-in_ok-fixed-in-Fixed-clause-replies g c =

@@ -1,0 +1,55 @@
+//! What the words of programs say.
+ghost use Rattle.std.specs.Prelude.{◌<◌, ◌≤◌, ◌^◌};
+
+use labels::Tenant;
+use requests::Route;
+use std::alloc::AllocError;
+
+/// A shard, and among how many.
+#[derive(Clone, Copy, Debug)]
+pub struct Place {
+    /// The shard's number, from 0 on.
+    pub shard: u32,
+    /// The number of shards, 1 to 64.
+    pub count: u32,
+    ghost some: { 1 ≤ count },
+    ghost few: { count ≤ 64 },
+    ghost below: { shard < count },
+}
+
+/// The words of `ingesterd DIR PORT SHARDS WORKERS [CONNECTIONS]`.
+#[derive(Clone, Copy, Debug)]
+pub struct ServerWords<'a> {
+    /// The folder of the slots.
+    pub folder: &'a str,
+    /// The port to listen on.
+    pub port: u16,
+    /// The number of shards, 1 to 64.
+    pub shards: u32,
+    /// The number of workers, 1 to 64.
+    pub workers: u32,
+    /// After how many connections the server ends, where it does.
+    pub connections: Option<u64>,
+    ghost some_shard: { 1 ≤ shards },
+    ghost few_shards: { shards ≤ 64 },
+    ghost some_worker: { 1 ≤ workers },
+    ghost few_workers: { workers ≤ 64 },
+}
+
+/// The words of `ingestctl push|read|trim DIR SHARDS TENANT NOW`.
+#[derive(Drop)]
+pub struct CallWords<'a> {
+    /// What the body asks for.
+    pub route: Route,
+    /// The folder of the slots.
+    pub folder: &'a str,
+    /// The number of shards, 1 to 64.
+    pub shards: u32,
+    /// Whose streams they are, where there was memory for the name.
+    pub tenant: Result<Tenant, AllocError>,
+    /// The clock, in nanoseconds.
+    pub now: u64,
+    ghost some_shard: { 1 ≤ shards },
+    ghost few_shards: { shards ≤ 64 },
+    ghost small: { now < 2 ^ 63 },
+}
