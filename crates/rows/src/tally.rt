@@ -1,5 +1,9 @@
+ghost use Rattle.std.specs.Prelude.{◌≡◌, IfOk, string_bytes};
+ghost use Rattle.rows.specs.Tallies.{one_more, told};
+
 use crate::row::Row;
 use anyhow::Result;
+use std::alloc::Global;
 
 /// How many rows were run, and how many of them said something else.
 #[derive(Clone, Copy, Debug, Drop)]
@@ -9,15 +13,21 @@ pub struct Tally {
 }
 
 impl Tally {
-    pub fn new() -> Tally {
+    pub fn new() -> Tally
+        ensures { result ≡ record { rows = 0; differ = 0 } }
+    {
         Tally { rows: 0, differ: 0 }
     }
 
     /// Counts a row, and prints it where what was said isn't what must be.
     ///
     /// # Errors
-    /// A failing output.
-    pub fn judge<R: Print>(&mut self, rt: &R, row: &Row<'_>, said: &str) -> Result<()> {
+    /// A failing output. The row is counted all the same.
+    pub fn judge<R: Print>(&mut self, rt: &R, row: &Row<'_>, said: &str) -> Result<()>
+        ensures rows { self.new.rows ≡ one_more self.old.rows }
+        ensures same { said.now ≡ string_bytes row.now.wanted → self.new.differ ≡ self.old.differ }
+        ensures other { ¬ (said.now ≡ string_bytes row.now.wanted) → self.new.differ ≡ one_more self.old.differ }
+    {
         self.rows = self.rows.saturating_add(1);
         let (name, wanted) = (row.name, row.wanted.as_str());
         if said != wanted {
@@ -30,10 +40,17 @@ impl Tally {
     /// Prints the counts.
     ///
     /// # Errors
-    /// A failing output.
-    pub fn end<R: Print>(&self, rt: &R) -> Result<()> {
-        let (rows, differ) = (self.rows, self.differ);
-        println!(rt; "{rows} rows, {differ} differ")?;
+    /// A failing output, and want of memory.
+    pub fn end<R: Print + AllocGlobal>(&self, rt: &R) -> Result<()> {
+        let text = self.text(rt.alloc())?;
+        println!(rt; "{text}")?;
         Ok(())
+    }
+
+    fn text(&self, alloc: Global) -> Result<String>
+        ensures { IfOk result (λ text. string_bytes text ≡ told self.now.rows self.now.differ) }
+    {
+        let (rows, differ) = (self.rows, self.differ);
+        Ok(format!(in alloc; "{rows} rows, {differ} differ")?)
     }
 }

@@ -1,4 +1,4 @@
-use crate::given::{entries_of, entry_of, key_of};
+use crate::given::{append_of, key_of, state_of, trim_of};
 use crate::reading::{say_front, say_header, say_records, say_segment};
 use crate::runs::{say_cuts, say_each};
 use crate::trimming::trimmed;
@@ -66,32 +66,15 @@ impl Desk {
     }
 
     fn take_record(&mut self, word: &str, rest: &str) -> Result<()> {
-        let key = match &self.key {
-            Some(key) => key.clone()?,
-            None => bail!("no key"),
+        let Some(key) = &self.key else {
+            bail!("no key");
         };
         let record = match word {
-            "append" => Record::Append {
-                key,
-                entries: entries_of(self.alloc, rest)?,
-            },
-            "trim" => Record::Trim {
-                key,
-                bound: number_of(rest)?,
-            },
-            _ => {
-                let (highest, rest) = word_of(rest);
-                let (last, entries) = word_of(rest);
-                Record::State {
-                    key,
-                    highest: number_of(highest)?,
-                    last: entry_of(self.alloc, last)?,
-                    entries: entries_of(self.alloc, entries)?,
-                }
-            }
+            "append" => append_of(self.alloc, key, rest)?,
+            "trim" => trim_of(key, rest)?,
+            _ => state_of(self.alloc, key, rest)?,
         };
-        self.records.push(record)?;
-        Ok(())
+        Ok(self.records.push(record)?)
     }
 
     fn trim(&mut self, rest: &str, said: &mut String) -> Result<()> {
@@ -108,10 +91,22 @@ impl Desk {
         let (word, rest) = word_of(words);
         let records = mem::replace(&mut self.records, Vec::new(self.alloc));
         match word {
-            "block" => put_records(&records, &mut self.slot),
-            "parts" => put_parts(&records, &mut self.slot, said),
-            "states" => put_states(&records, number_of(rest)?, &mut self.slot),
             "segment" => put_streams(self.alloc, records, rest, &mut self.slot, said),
+            _ => self.write_blocks(word, rest, &records, said),
+        }
+    }
+
+    fn write_blocks(
+        &mut self,
+        word: &str,
+        rest: &str,
+        records: &[Record],
+        said: &mut String,
+    ) -> Result<()> {
+        match word {
+            "block" => put_records(records, &mut self.slot),
+            "parts" => put_parts(records, &mut self.slot, said),
+            "states" => put_states(records, number_of(rest)?, &mut self.slot),
             "head" => put_head(rest, &mut self.slot),
             "gate" => Ok(put_closed_gate(&mut self.slot)?),
             _ => bail!("nothing to write"),

@@ -1,10 +1,11 @@
-//! Keys and entries as words.
+//! Keys, entries and records as words.
 
 use accept::{Entry, EntryList, Line};
 use anyhow::{Context, Result};
 use labels::{LabelSet, StreamKey, Tenant};
 use log_words::number_of;
 use rows::{text_of, word_of};
+use segment::Record;
 use std::alloc::Global;
 
 /// The key of `TENANT LABELS`.
@@ -17,25 +18,28 @@ pub fn key_of(alloc: Global, words: &str) -> Result<StreamKey> {
 }
 
 /// The entry of `TIME:LINE`, or of `TIME*COUNT:LINE` with the line so often.
-pub fn entry_of(alloc: Global, word: &str) -> Result<Entry> {
+fn entry_of(alloc: Global, word: &str) -> Result<Entry> {
     let (time, line) = word.split_once(':').context("no entry")?;
     let (time, count) = match time.split_once('*') {
         Some((time, count)) => (time, number_of(count)?),
         None => (time, 1),
     };
-    let part = text_of(alloc, line)?;
-    let mut text = String::new(alloc);
+    let time = number_of(time)?;
+    let line = Line::new(line_of(alloc, line, count)?);
+    Ok(Entry { time, line })
+}
+
+fn line_of(alloc: Global, part: &str, count: u64) -> Result<String> {
+    let part = text_of(alloc, part)?;
+    let mut line = String::new(alloc);
     for _ in 0..count {
-        text.push_str(part.as_str())?;
+        line.push_str(part.as_str())?;
     }
-    Ok(Entry {
-        time: number_of(time)?,
-        line: Line::new(text),
-    })
+    Ok(line)
 }
 
 /// The entries of words with a blank between them.
-pub fn entries_of(alloc: Global, words: &str) -> Result<EntryList> {
+fn entries_of(alloc: Global, words: &str) -> Result<EntryList> {
     let mut entries = Vec::new(alloc);
     for word in words.split(' ') {
         if !word.is_empty() {
@@ -43,4 +47,33 @@ pub fn entries_of(alloc: Global, words: &str) -> Result<EntryList> {
         }
     }
     Ok(EntryList::new(entries))
+}
+
+/// The append of `ENTRY ..`.
+pub fn append_of(alloc: Global, key: &StreamKey, words: &str) -> Result<Record> {
+    let entries = entries_of(alloc, words)?;
+    let key = key.clone()?;
+    Ok(Record::Append { key, entries })
+}
+
+/// The trim of `BOUND`.
+pub fn trim_of(key: &StreamKey, words: &str) -> Result<Record> {
+    let bound = number_of(words)?;
+    let key = key.clone()?;
+    Ok(Record::Trim { key, bound })
+}
+
+/// The state of `HIGHEST LAST ENTRY ..`.
+pub fn state_of(alloc: Global, key: &StreamKey, words: &str) -> Result<Record> {
+    let (highest, rest) = word_of(words);
+    let (last, entries) = word_of(rest);
+    let highest = number_of(highest)?;
+    let last = entry_of(alloc, last)?;
+    let entries = entries_of(alloc, entries)?;
+    Ok(Record::State {
+        key: key.clone()?,
+        highest,
+        last,
+        entries,
+    })
 }

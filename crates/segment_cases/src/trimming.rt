@@ -1,5 +1,6 @@
-use accept::{EntryList, Limits, StreamImage, StreamState, TrimRefusal};
-use anyhow::{Context, Result, bail};
+use crate::writing::stream_of;
+use accept::{Limits, StreamImage, StreamState, TrimRefusal};
+use anyhow::{Result, bail};
 use log_words::write_stream;
 use segment::Record;
 use std::alloc::Global;
@@ -13,31 +14,36 @@ pub fn trimmed(
     half_age: u64,
     said: &mut String,
 ) -> Result<Record> {
-    let Record::State {
-        key,
+    let (key, stream) = stream_of(record)?;
+    let StreamImage {
         highest,
         last,
-        entries,
-    } = record
-    else {
-        bail!("no state");
-    };
-    let image = StreamImage {
-        highest,
-        last,
-        kept: entries,
-    };
-    let mut state = StreamState::of(alloc, image)?;
-    say_trim(&mut state, bound, half_age, said)?;
-    let (highest, last) = (state.highest(), state.last().context("no entry")?.clone()?);
-    write_stream(highest, &last, state.kept(), said)?;
-    said.push('\n')?;
+        kept,
+    } = trimmed_stream(alloc, stream, bound, half_age, said)?;
     Ok(Record::State {
         key,
         highest,
         last,
-        entries: EntryList::new(state.kept().to_vec(alloc)?),
+        entries: kept,
     })
+}
+
+fn trimmed_stream(
+    alloc: Global,
+    stream: StreamImage,
+    bound: u64,
+    half_age: u64,
+    said: &mut String,
+) -> Result<StreamImage> {
+    let mut state = StreamState::of(alloc, stream)?;
+    say_trim(&mut state, bound, half_age, said)?;
+    if state.is_new() {
+        bail!("no entry");
+    }
+    let stream = state.parts(alloc)?;
+    write_stream(stream.highest, &stream.last, stream.kept.as_slice(), said)?;
+    said.push('\n')?;
+    Ok(stream)
 }
 
 fn say_trim(state: &mut StreamState, bound: u64, half_age: u64, said: &mut String) -> Result<()> {

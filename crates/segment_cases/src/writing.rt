@@ -100,36 +100,46 @@ pub fn put_streams(
     slot: &mut Vec<u8>,
     said: &mut String,
 ) -> Result<()> {
+    let image = image_of(alloc, records)?;
+    put_image(&image, words, slot, said)
+}
+
+fn put_image(image: &Image, words: &str, slot: &mut Vec<u8>, said: &mut String) -> Result<()> {
     let (generation, owner) = word_of(words);
     let generation = number_of(generation)?;
     let (shard, count) = owner_of(owner)?;
-    let image = image_of(alloc, records)?;
-    if !is_small_image(&image) {
+    if !is_small_image(image) {
         bail!("too large");
     }
-    writeln!(said, "room {}", state_size(&image))?;
-    put_segment(generation, shard, count, &image, slot)?;
-    Ok(())
+    writeln!(said, "room {}", state_size(image))?;
+    Ok(put_segment(generation, shard, count, image, slot)?)
 }
 
 fn image_of(alloc: Global, records: Vec<Record>) -> Result<Image> {
     let mut image = Image::new(alloc);
     for record in records {
-        let Record::State {
+        let (key, stream) = stream_of(record)?;
+        image.insert(key, stream)?;
+    }
+    Ok(image)
+}
+
+/// The stream of a state.
+pub fn stream_of(record: Record) -> Result<(StreamKey, StreamImage)> {
+    match record {
+        Record::State {
             key,
             highest,
             last,
             entries,
-        } = record
-        else {
-            bail!("no state");
-        };
-        let stream = StreamImage {
-            highest,
-            last,
-            kept: entries,
-        };
-        image.insert(key, stream)?;
+        } => {
+            let stream = StreamImage {
+                highest,
+                last,
+                kept: entries,
+            };
+            Ok((key, stream))
+        }
+        _ => bail!("no state"),
     }
-    Ok(image)
 }
