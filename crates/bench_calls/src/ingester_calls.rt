@@ -69,7 +69,7 @@ fn open(alloc: Global, load: Load) -> Result<(Ingester<MemDisk>, Vec<Pass>)>
     ensures { IfOk result (λ it. (p : ℕ) (pass : Passed) → slice_get it.1.items p ≡ Some pass → IsPassOf it.0 pass) }
 {
     let slots = slots_of(alloc, load)?;
-    if slots.is_empty() || slots.len() > 64 || load.passes > 64 {
+    if slots.is_empty() || slots.len() > 64 || load.passes == 0 || load.passes > 64 {
         bail!("what is opened is out of its bounds");
     }
     match Ingester::open(alloc, slots, load.passes, Limits::PROFILE, CAPACITY) {

@@ -60,7 +60,7 @@ impl Together {
             passes,
         } = settings;
         let slots = slots_of(alloc, pairs)?;
-        if slots.is_empty() || slots.len() > 64 || passes > 64 {
+        if slots.is_empty() || slots.len() > 64 || passes == 0 || passes > 64 {
             bail!("there are 1 to 64 shards and passes");
         }
         if !limits.are_lawful() || capacity > 1 << 30 {

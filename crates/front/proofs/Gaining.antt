@@ -5,8 +5,9 @@ use Rattle.accept.specs.declared.call.Call.{Call as Asking}
 use Rattle.accept.specs.declared.call.Reply.{Reply}
 use Rattle.accept.specs.declared.history.Step.{Step}
 use Rattle.history.specs.Handles.{Passed}
-use Rattle.ingester.specs.Calls.{next_step}
+use Rattle.ingester.specs.Calls.{next_step, IsRefused}
 use Rattle.ingester.specs.declared.fault.CallFault.{CallFault}
+use Rattle.ingester.specs.declared.fault.CallFault.TheVariants.{Memory, PassClosed, LogSpent}
 use Rattle.pushjson.specs.declared.fault.PushFault.{PushFault}
 use Rattle.requests.specs.declared.failure.Failure.{Failure}
 use Rattle.requests.specs.declared.verdict.Verdict.{Verdict}
@@ -25,8 +26,13 @@ none h h' same = ap (λ p. p.caller.made) same ∙ sym (append-nil h.caller.made
 one : (h h' : Passed) (call : Asking) (reply : Reply) → CallGives h call (Ok reply) h' → Gains h (next_step h.caller call reply ∷ []) h'
 one h h' call reply given = ap (λ p. p.caller.made) given.answered.pass
 
+made_kept : (h h' : Passed) (fault : CallFault) → IsRefused h h' fault → h'.caller.made ≡ h.caller.made
+made_kept h h' Memory is = ap (λ p. p.caller.made) is
+made_kept h h' PassClosed is = ap (λ p. p.caller.made) is
+made_kept h h' LogSpent is = ap (λ p. p.caller.made) is
+
 kept : (h h' : Passed) (call : Asking) (fault : CallFault) → CallGives h call (Err fault) h' → Gains h [] h'
-kept h h' call fault given = ap (λ p. p.caller.made) given.refused.pass ∙ sym (append-nil h.caller.made)
+kept h h' call fault given = made_kept h h' fault given.refused ∙ sym (append-nil h.caller.made)
 
 both : (h m h' : Passed) (first others : List Step) → Gains h first m → Gains m others h' → Gains h (first ++ others) h'
 both h m h' first others a b = b ∙ ap (λ l. l ++ others) a ∙ append_assoc h.caller.made first others

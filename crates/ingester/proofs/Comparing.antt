@@ -18,7 +18,7 @@ use Rattle.accept.specs.declared.limits.Limits.{Limits}
 use Rattle.accept.specs.declared.history.Ask.{Ask}
 use Rattle.accept.specs.declared.history.History.{History}
 use Rattle.history.specs.declared.views.About.{About}
-use Rattle.history.specs.Histories.{IsLegalAt, doubt_of, history_of}
+use Rattle.history.specs.Histories.{IsLegalAt, IsByPasses, doubt_of, history_of}
 use Rattle.history.specs.Handles.{Booked, Passed}
 use Rattle.shard.specs.Keeping.{Keeps}
 use Rattle.shard.specs.Shards.{Sharded}
@@ -67,23 +67,26 @@ module _ {D : Type 0} (sight : D → Sight) (follows : D → Type 0) where
       → AreComparedTo shard.book passes (length passes)
       → out ≡ disks shard.log
       → (Follow follows shard.log → Keeps (slots sight shard.log) shard.book (doubt_of shard.book.items))
+      → (AllFollow follows out → Follow follows shard.opened)
       → (is_marked shard.book.items ≡ true → HasFailed (slots sight shard.opened) (slots sight shard.log))
       → (is_marked shard.book.items ≡ false → HasNoFailure (slots sight shard.opened) (slots sight shard.log))
       → marked ≡ is_marked shard.book.items
       → shard.book.about ≡ opening.about → slice_get opening.logs shard.book.shard ≡ Some shard.opened
       → IsHandedOut sight follows opening passes shard.book.shard (out, marked)
-  handed opening passes shard out marked some_pass compared is keeps failed not_failed flag about opened =
+  handed opening passes shard out marked some_pass compared is keeps before failed not_failed flag about opened =
       let there = first_of passes some_pass in
       let are = ordered shard.log out is in
       record {
         items = shard.book.items;
         legal = subst (λ (a : About). IsLegalAt a shard.book.shard shard.book.items) about (compared 0 there.0 some_pass there.1).legal;
         told = λ i pass e. (compared i pass (slice_get_within passes i pass e) e).told;
+        by_passes = subst (λ (a : About). IsByPasses a.passes shard.book.items) about (compared 0 there.0 some_pass there.1).by_passes;
         marked_is = flag;
         covers = λ f. subst (λ (z : About). Covers (owner_of shard.book.shard z.shards) z.limits (slots_of sight out) (history_of z shard.book.shard shard.book.items) (doubt_of shard.book.items)) about
             (are.covers _ _ _ _ (keeps (are.both f)));
         opened = shard.opened;
         opened_as = opened;
+        before = before;
         failed = λ e. are.failed shard.opened (failed (sym flag ∙ e));
         not_failed = λ e. are.not_failed shard.opened (not_failed (sym flag ∙ e));
       }

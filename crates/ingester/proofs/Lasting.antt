@@ -10,7 +10,7 @@ use Rattle.wal.specs.declared.log.Wal.{Wal}
 use Rattle.wal.specs.Recovery.{is_even}
 use Rattle.wal.specs.Moments.{HasFailed, HasNoFailure}
 use Rattle.wal.specs.Logs.{Follow, slots}
-use Rattle.wal.specs.Opening.{disks}
+use Rattle.wal.specs.Opening.{disks, AllFollow}
 use Rattle.history.specs.Histories.{doubt_of}
 use Rattle.history.specs.Handles.{Booked, Passed}
 use Rattle.shard.specs.Keeping.{Keeps}
@@ -66,11 +66,12 @@ module _ {D : Type 0} (sight : D → Sight) (follows : D → Type 0) where
       → shards ≡ front ++ shard ∷ [] → AreLast opening passes shards
       → out ≡ disks shard.log
       → (Follow follows shard.log → Keeps (slots sight shard.log) shard.book (doubt_of shard.book.items))
+      → (AllFollow follows out → Follow follows shard.opened)
       → (is_marked shard.book.items ≡ true → HasFailed (slots sight shard.opened) (slots sight shard.log))
       → (is_marked shard.book.items ≡ false → HasNoFailure (slots sight shard.opened) (slots sight shard.log))
       → marked ≡ is_marked shard.book.items → IsHandedOut sight follows opening passes (length front) (out, marked)
-  last_handed opening passes shards front shard out marked e h is keeps failed not_failed flag =
+  last_handed opening passes shards front shard out marked e h is keeps before failed not_failed flag =
       let last = the_last opening passes shards front shard e h in
       let opened : slice_get opening.logs shard.book.shard ≡ Some shard.opened = ap (slice_get opening.logs) last.number ∙ last.opened in
       subst (λ n. IsHandedOut sight follows opening passes n (out, marked)) last.number
-      (handed sight follows opening passes shard out marked h.some_pass last.compared is keeps failed not_failed flag last.about opened)
+      (handed sight follows opening passes shard out marked h.some_pass last.compared is keeps before failed not_failed flag last.about opened)

@@ -1,14 +1,18 @@
 -- What a call, a look and a meeting leave of what passes know.
-use Rattle.std.specs.Prelude.{◌≡◌, ◌≢◌, ℕ, ◌+◌, ◌≤◌, []}
+use Rattle.std.specs.Prelude.{◌≡◌, ◌≢◌, ℕ, ◌+◌, ◌-◌, ◌^◌, ◌≤◌, [], ◌∷◌, ◌++◌, Some, slice_get}
 use Rattle.atomic_table.specs.Seated.{TableId}
 use Rattle.accept.specs.declared.call.Call.{Call}
 use Rattle.accept.specs.declared.call.Reply.{Reply}
 use Rattle.accept.specs.declared.history.Step.{Step}
 use Rattle.history.specs.declared.views.About.{About}
 use Rattle.history.specs.declared.views.Caller.{Caller}
-use Rattle.history.specs.Histories.{IsLegalAt, shard_in, step_of}
+use Rattle.history.specs.Histories.{IsLegalAt, IsByPasses, shard_in, step_of}
 use Rattle.history.specs.Plays.{seen_at, ask_of, announce_to, collect_to, Extends}
 use Rattle.history.specs.Handles.{Passed}
+use Rattle.shard.specs.Shards.{Sharded}
+use Rattle.shard.specs.Calls.{Writes, FitsBehind, IsLate}
+use Rattle.ingester.specs.declared.fault.CallFault.{CallFault}
+use Rattle.ingester.specs.declared.fault.CallFault.TheVariants.{PassClosed}
 use Rattle.ingester.specs.Openings.{Opening}
 
 -- the pass is of this opening, and waits for no answer
@@ -30,19 +34,35 @@ pub record IsAnswered (old new : Passed) (call : Call) (reply : Reply) : Type 0 
   pub pass : new ≡ record old { caller = collect_to (announce_to old.caller (old.caller.last + 1) call) (next_step old.caller call reply) (seen_at new.caller (shard_for old.caller call)) }
   pub extends : Extends old.caller.pass (seen_at old.caller (shard_for old.caller call)) (next_step old.caller call reply) (seen_at new.caller (shard_for old.caller call))
   pub legal : IsLegalAt old.caller.about (shard_for old.caller call) (seen_at new.caller (shard_for old.caller call))
+  pub by_passes : IsByPasses old.caller.about.passes (seen_at new.caller (shard_for old.caller call))
   pub others : (k : ℕ) → k ≢ shard_for old.caller call → seen_at new.caller k ≡ seen_at old.caller k
 
--- The call has no step. What the pass has seen and made is as it was, and a number that it used is not used again.
-pub record IsRefused (old new : Passed) : Type 0 where
-  pub pass : new ≡ record old {
-    caller = record {
-      about = old.caller.about;
-      pass = old.caller.pass;
-      last = new.caller.last;
-      seen = old.caller.seen;
-      made = old.caller.made;
-      withdrawn = new.caller.withdrawn;
-      pending = [];
-    };
-  }
-  pub rises : old.caller.last ≤ new.caller.last
+-- the pass with its next number used up, which no call has
+abbrev pub without_next : Passed → Passed
+without_next pass = record pass {
+  caller = record {
+    about = pass.caller.about;
+    pass = pass.caller.pass;
+    last = pass.caller.last + 1;
+    seen = pass.caller.seen;
+    made = pass.caller.made;
+    withdrawn = pass.caller.withdrawn ++ (pass.caller.last + 1) ∷ [];
+    pending = [];
+  };
+}
+
+-- The call has no step. A closed pass is as it was; else one number is used up, and the rest is as it was.
+abbrev pub IsRefused : Passed → Passed → CallFault → Type 0
+IsRefused old new PassClosed = new ≡ old
+IsRefused old new fault = new ≡ without_next old
+
+-- The call needs another generation of its shard's log, which has used its last one. The log was opened so late that a history may have rolled it there.
+pub record HasSpentLog {D : Type 0} (opening : Opening D) (k : ℕ) (call : Call) : Type 0 where
+  pub shard : Sharded D
+  pub about : shard.book.about ≡ opening.about
+  pub number : shard.book.shard ≡ k
+  pub opened : slice_get opening.logs k ≡ Some shard.opened
+  pub last : 2 ^ 63 - 1 ≤ shard.log.generation
+  pub writes : Writes shard.book call
+  pub full : ¬ FitsBehind shard.log shard.book call
+  pub late : IsLate shard.opened shard.book

@@ -6,10 +6,10 @@ use Rattle.disk.specs.Sight.{Sight}
 use Rattle.segment.specs.Segments.{owner_of}
 use Rattle.wal.specs.declared.log.Wal.{Wal}
 use Rattle.wal.specs.Moments.{HasFailed, HasNoFailure}
-use Rattle.wal.specs.Logs.{slots}
+use Rattle.wal.specs.Logs.{Follow, slots}
 use Rattle.wal.specs.Covers.{Covers}
 use Rattle.wal.specs.Opening.{slots_of, AllFollow}
-use Rattle.history.specs.Histories.{Begins, IsLegalAt, doubt_of, history_of}
+use Rattle.history.specs.Histories.{Begins, IsLegalAt, IsByPasses, doubt_of, history_of}
 use Rattle.history.specs.Plays.{seen_at, HasStepsOf}
 use Rattle.history.specs.Handles.{Booked, Passed}
 use Rattle.shard.specs.Shards.{Sharded}
@@ -26,21 +26,24 @@ pub record IsTold (k : ℕ) (items : List Item) (pass : Passed) : Type 0 where
   pub begins : Begins (seen_at pass.caller k) items
   pub steps : HasStepsOf pass.caller k items
 
--- one legal history of shard k over what its opening found, which the slots keep
+-- one legal history of shard k over what its opening found, which the slots keep. It has no steps but those of the opening's passes. What was opened followed the model where this does.
 pub record IsHandedOut {D : Type 0} (sight : D → Sight) (follows : D → Type 0) (opening : Opening D) (passes : List Passed) (k : ℕ) (handed : List D × Bool) : Type 0 where
   pub items : List Item
   pub legal : IsLegalAt opening.about k items
   pub told : (i : ℕ) (pass : Passed) → slice_get passes i ≡ Some pass → IsTold k items pass
+  pub by_passes : IsByPasses opening.about.passes items
   pub marked_is : handed.1 ≡ is_marked items
   pub covers : AllFollow follows handed.0 → Covers (owner_of k opening.about.shards) opening.about.limits (slots_of sight handed.0) (history_of opening.about k items) (doubt_of items)
   pub opened : Wal D
   pub opened_as : slice_get opening.logs k ≡ Some opened
+  pub before : AllFollow follows handed.0 → Follow follows opened
   pub failed : handed.1 ≡ true → HasFailed (slots sight opened) (slots_of sight handed.0)
   pub not_failed : handed.1 ≡ false → HasNoFailure (slots sight opened) (slots_of sight handed.0)
 
 -- a book was compared with a pass
 pub record IsComparedTo (book : Booked) (pass : Passed) : Type 0 where
   pub legal : IsLegalAt book.about book.shard book.items
+  pub by_passes : IsByPasses book.about.passes book.items
   pub told : IsTold book.shard book.items pass
 
 -- with each of the first n passes

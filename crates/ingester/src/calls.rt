@@ -1,11 +1,12 @@
 //! Calls, looks and meetings.
-ghost use Rattle.std.specs.Prelude.{◌≡◌, ◌≢◌, ◌↔◌, ◌<◌, ℕ, [], true, false, length, IfOk, IfErr, OnErr};
+ghost use Rattle.std.specs.Prelude.{◌≡◌, ◌≢◌, ◌↔◌, ◌<◌, ℕ, [], true, false, length, IfOk, IfErr};
 ghost use Rattle.std.specs.Result.{IsErrOf};
 ghost use Rattle.accept.specs.Steps.{AreNumbers};
-ghost use Rattle.history.specs.Histories.{Begins, IsLegalAt, shard_in, step_of};
+ghost use Rattle.history.specs.Histories.{Begins, IsLegalAt, IsByPasses, shard_in, step_of};
 ghost use Rattle.history.specs.Plays.{seen_at, look_to, HasStepsOf};
 ghost use Rattle.history.specs.Handles.{is_closed, with_seen, HaveMet};
-ghost use Rattle.ingester.specs.Calls.{IsPassOf, IsAnswered, IsRefused};
+ghost use Rattle.ingester.specs.Calls.{IsPassOf, IsAnswered, IsRefused, HasSpentLog, shard_for};
+ghost use Rattle.shard.specs.declared.fault.ApplyFault.TheVariants as causes;
 ghost use Rattle.ingester.specs.declared.fault.CallFault.TheVariants as faults;
 
 use crate::fault::CallFault;
@@ -23,7 +24,8 @@ impl<D: Disk + Drop> Ingester<D> {
     ///
     /// # Errors
     ///
-    /// `Memory`; `PassClosed` exactly for a pass that is closed; `LogSpent`. Then the call has no step.
+    /// `Memory`; `PassClosed` exactly for a pass that is closed; `LogSpent`, for a call that writes and a log that was
+    /// opened at generation 2^63 - 2 - 2^56 for each pass or later. Then the call has no step.
     pub fn call<R: Wait>(
         &self,
         rt: &R,
@@ -35,8 +37,9 @@ impl<D: Disk + Drop> Ingester<D> {
         requires numbers { AreNumbers call }
         ensures pass { IsPassOf self.now pass.new }
         ensures answered { IfOk result (λ reply. IsAnswered pass.old pass.new call reply) }
-        ensures refused { OnErr result (IsRefused pass.old pass.new) }
+        ensures refused { IfErr result (λ fault. IsRefused pass.old pass.new fault) }
         ensures closed { IsErrOf result faults.PassClosed ↔ (is_closed pass.old ≡ true) }
+        ensures spent { IsErrOf result faults.LogSpent → HasSpentLog self.now (shard_for pass.old.caller call) call }
     {
         let shard = shard_of(call.key(), self.count) as usize;
         let ticket = self.history.announce(pass, &call)?;
@@ -69,6 +72,7 @@ impl<D: Disk + Drop> Ingester<D> {
         ensures step { IfOk result (λ it. it.1.step ≡ step_of ticket.ask it.0) }
         ensures table { IfOk result (λ it. it.1.table ≡ ticket.table) }
         ensures refused { IfErr result (λ e. e.1 ≡ ticket) }
+        ensures spent { IfErr result (λ e. e.0 ≡ causes.GenerationSpent → HasSpentLog self.now shard call.now) }
     {
         let (mut state, grip) = self.shards.take(rt, shard);
         let applied = state.apply(alloc, ticket, call);
@@ -85,6 +89,7 @@ impl<D: Disk + Drop> Ingester<D> {
         ensures begins { Begins (seen_at pass.old.caller shard) (seen_at pass.new.caller shard) }
         ensures legal { IsLegalAt pass.old.caller.about shard (seen_at pass.new.caller shard) }
         ensures length { result ≡ length (seen_at pass.new.caller shard) }
+        ensures by_passes { IsByPasses pass.old.caller.about.passes (seen_at pass.new.caller shard) }
         ensures steps { HasStepsOf pass.old.caller shard (seen_at pass.new.caller shard) }
     {
         self.history.observe(pass, shard as usize)

@@ -48,7 +48,7 @@ impl<D: Disk> Model for Ingester<D> {
 }
 
 impl<D: Disk + Drop> Ingester<D> {
-    /// Opens a shard over each pair of slots, with so many passes. `capacity` is how many bytes a segment may have, at most 2^30.
+    /// Opens a shard over each pair of slots, with so many passes, 1 to 64. `capacity` is how many bytes a segment may have, at most 2^30.
     /// What the slots hold is the base of the shard's history; nothing is written.
     ///
     /// # Errors
@@ -62,7 +62,7 @@ impl<D: Disk + Drop> Ingester<D> {
         capacity: u64,
     ) -> Result<(Ingester<D>, Vec<Pass>), (OpenFault, Vec<[D; 2]>)>
         requires slots { (0 < vec_len slots) × (vec_len slots ≤ 64) }
-        requires passes { passes ≤ 64 }
+        requires passes { (0 < passes) × (passes ≤ 64) }
         requires limits { AreLimits limits }
         requires capacity { capacity ≤ 2 ^ 30 }
         ensures found { IfOk result (λ it. AreOpenedFrom D.sight D.follows (vec_len slots) capacity 0 slots.items it.0.logs it.0.about.bases) }
@@ -88,7 +88,7 @@ fn open_all<D: Disk + Drop>(
     capacity: u64,
 ) -> Result<(Ingester<D>, Vec<Pass>), OpenFault>
     requires slots { (0 < deque_len slots.old) × (deque_len slots.old ≤ 64) × (deque_len slots.old ≤ deque_capacity slots.old) }
-    requires passes { passes ≤ 64 }
+    requires passes { (0 < passes) × (passes ≤ 64) }
     requires limits { AreLimits limits }
     requires capacity { capacity ≤ 2 ^ 30 }
     ensures found { IfOk result (λ it. AreOpenedFrom D.sight D.follows (deque_len slots.old) capacity 0 slots.old.items it.0.logs it.0.about.bases) }

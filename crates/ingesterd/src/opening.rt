@@ -13,14 +13,14 @@ use std::alloc::Global;
 /// How many bytes a segment may have.
 const CAPACITY: u64 = 67_108_864;
 
-/// Opens shards over these slots under the profile's limits and capacity, with so many passes.
+/// Opens shards over these slots under the profile's limits and capacity, with so many passes, 1 to 64.
 pub fn open_shards<D: Disk + Drop>(
     alloc: Global,
     slots: Vec<[D; 2]>,
     passes: u32,
 ) -> Result<(Ingester<D>, Vec<Pass>), Stopped>
     requires slots { (0 < vec_len slots) × (vec_len slots ≤ 64) }
-    requires passes { passes ≤ 64 }
+    requires passes { (0 < passes) × (passes ≤ 64) }
     ensures passes { IfOk result (λ it. (p : ℕ) (pass : Passed) → slice_get it.1.items p ≡ Some pass → IsPassOf it.0 pass) }
 {
     match Ingester::open(alloc, slots, passes, Limits::PROFILE, CAPACITY) {

@@ -195,7 +195,7 @@ fn talk_and_serve<R>(
 where
     R: Net<Listener = TcpListener, Stream = TcpStream> + Threads + Wait + rt::Clock + Sync,
     requires slots { (0 < vec_len slots) × (vec_len slots ≤ 64) }
-    requires workers { workers ≤ 64 }
+    requires workers { (0 < workers) × (workers ≤ 64) }
 {
     let client = Client {
         rt,

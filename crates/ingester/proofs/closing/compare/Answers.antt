@@ -14,7 +14,7 @@ loop-i-preserved g c =
     let same : c.settle.new.pass ≡ pass = done.pass ∙ sym at in
     let within : c.loop-i.i < length c.loop-i.passes = omega arith in
     let there : slice_get c.args.passes.now c.loop-i.i ≡ Some pass = ap (λ l. slice_get l c.loop-i.i) (sym was.passes) ∙ slice_get_read c.loop-i.passes _ c.loop-i.i pass (λ _. length c.loop-i.passes) within at in
-    let compared : IsComparedTo c.loop-i.shard.book pass = subst (IsComparedTo c.loop-i.shard.book) (sym at) (record { legal = done.legal; told = record { begins = done.begins; steps = done.steps } }) in
+    let compared : IsComparedTo c.loop-i.shard.book pass = subst (IsComparedTo c.loop-i.shard.book) (sym at) (record { legal = done.legal; by_passes = done.by_passes; told = record { begins = done.begins; steps = done.steps } }) in
     record {
       passes = set_alike c.loop-i.passes c.loop-i.i pass c.settle.new.pass same at ∙ was.passes;
       shard = done.shard ∙ was.shard;

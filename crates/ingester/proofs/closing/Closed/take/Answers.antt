@@ -10,4 +10,4 @@ pub returns-clause-kept : goal.returns-clause-kept
 returns-clause-kept g c =
     let slots = c.into_slots.ensures in
     subst (λ (h : Handed g.row.D.Denot). IsHandedOut g.D.Disk.sight g.D.Disk.follows h.opening h.passes (length c.pop.new.self.items) (c.into_slots.result, c.is_marked-marked.result)) c.self.view_is
-    (last_handed g.D.Disk.sight g.D.Disk.follows _ _ _ _ c.in_ok-shard.shard _ _ c.in_ok-shard.ensures.items c.self.invariant slots.slots slots.covers slots.marked slots.unmarked c.is_marked-marked.ensures)
+    (last_handed g.D.Disk.sight g.D.Disk.follows _ _ _ _ c.in_ok-shard.shard _ _ c.in_ok-shard.ensures.items c.self.invariant slots.slots slots.covers slots.before slots.marked slots.unmarked c.is_marked-marked.ensures)

@@ -1,7 +1,8 @@
-use Rattle.std.proofs.Common.{List, sym, subst}
+use Rattle.std.proofs.Common.{List, sym, ap, ◌∙◌, subst}
 use Rattle.accept.specs.declared.history.Ask.{Ask}
 use Rattle.history.specs.Histories.{HaveSteps}
-use Rattle.ingester.proofs.Keeping.{still_of, receipted, given_back}
+use Rattle.ingester.specs.Openings.{opening_of}
+use Rattle.ingester.proofs.Keeping.{still_of, spent_of, receipted, given_back}
 use Rattle.ingester.proofs.opened.Ingester.apply.Goals as goal
 
 pub apply-applied-requires-clause-order : goal.apply-applied-requires-clause-order
@@ -20,3 +21,8 @@ returns-clause-table g c = (receipted _ _ c.args.ticket _ c.apply-applied.ensure
 
 pub returns-clause-refused : goal.returns-clause-refused
 returns-clause-refused g c = given_back c.take-state.result.0 c.apply-applied.new.self c.args.ticket _ c.apply-applied.ensures.err
+
+pub returns-clause-spent : goal.returns-clause-spent
+returns-clause-spent g c =
+    let did = c.apply-applied.ensures in
+    spent_of c.args.self.now _ _ c.args.shard c.take-state.result.0 c.args.call.now _ (ap (λ o. opening_of o.first.value o.logs.value.items) c.self.invariant.1 ∙ c.self.view_is) c.take-state.ensures.value did.spent did.late
