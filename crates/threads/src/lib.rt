@@ -8,4 +8,6 @@ mod locks;
 #[cfg(test)]
 mod meetings;
 #[cfg(test)]
+mod open_calls;
+#[cfg(test)]
 mod shards;
