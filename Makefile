@@ -15,10 +15,10 @@ run:
 demo:
 	@tests/demo 3100
 
-# kills a server in the middle of pushes, and reads back what it answered
+# kills a server in the middle of pushes, reads and trims, and reads all back, as often as asked: make kill [CYCLES=100]
 kill:
 	@RT='$(RT)' tests/build server
-	@tests/kill_in_the_middle
+	@tests/kill_in_the_middle $(CYCLES)
 
 # the Debian package of the programs, in deploy/out
 deb:

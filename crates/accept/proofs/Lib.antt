@@ -11,6 +11,7 @@ pub mod RoomLaws
 pub mod OtherKeys
 pub mod FromBatches
 pub mod ReadLaws
+pub mod Rows
 pub mod Images
 pub mod Running
 pub mod Sorting
