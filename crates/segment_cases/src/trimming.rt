@@ -40,7 +40,7 @@ fn trimmed_stream(
     if state.is_new() {
         bail!("no entry");
     }
-    let stream = state.parts(alloc)?;
+    let stream = state.to_image(alloc)?;
     write_stream(stream.highest, &stream.last, stream.kept.as_slice(), said)?;
     said.push('\n')?;
     Ok(stream)
