@@ -1,10 +1,10 @@
 -- One more act.
-use Rattle.std.proofs.Common.{◌≡◌, ◌≤◌, ◌<◌, ◌⊎◌, ℕ, ◌+◌, List, [], ◌∷◌, ◌++◌, length, take, drop, Some, None, refl, ap, subst, sym, inl, inr, ◌∙◌, arith, length-drop}
+use Rattle.std.proofs.Common.{◌≡◌, ◌≤◌, ◌<◌, ◌⊎◌, ℕ, ◌+◌, List, [], ◌∷◌, ◌++◌, length, take, drop, refl, ap, subst, sym, inl, inr, ◌∙◌, arith, length-drop}
 use Rattle.std.proofs.lemmas.List.{take_all, take-append-le, drop-append-le, length_push, nil_from_length}
 use Rattle.disk.specs.declared.memory.Step.{Step}
 use Rattle.disk.specs.declared.memory.Step.TheVariants.{Wrote, Synced}
 use Rattle.disk.specs.Sight.{Elapses}
-use Rattle.disk.specs.State.{Act, State, act, state_after, IsImage, sight_of}
+use Rattle.disk.specs.State.{Act, Write, Break, Sync, State, act, state_after, IsImage, sight_of}
 use Rattle.disk.proofs.Lists.{ltb_cases}
 use Rattle.disk.specs.Memory.{acts, total, ranges_after}
 
@@ -35,24 +35,24 @@ elapses-push start acts a f f' = record {
 
 -- the acts of one more write
 pub acts-write : (steps : List Step) (written bytes : List ℕ) (at : ℕ) → total steps ≡ length written
-    → acts (steps ++ Wrote at (length bytes) ∷ []) (written ++ bytes) ≡ acts steps written ++ Some (at, bytes) ∷ []
+    → acts (steps ++ Wrote at (length bytes) ∷ []) (written ++ bytes) ≡ acts steps written ++ Write at bytes ∷ []
 acts-write [] written bytes at whole =
     let e : written ≡ [] = nil_from_length written (omega arith) in
-    ap (λ (xs : List ℕ). Some (at, xs) ∷ []) (ap (λ (w : List ℕ). take (length bytes) (w ++ bytes)) e ∙ take_all (length bytes) bytes (omega arith))
+    ap (λ (xs : List ℕ). Write at xs ∷ []) (ap (λ (w : List ℕ). take (length bytes) (w ++ bytes)) e ∙ take_all (length bytes) bytes (omega arith))
 acts-write ((Wrote a n) ∷ steps) written bytes at whole =
     let le : n ≤ length written = omega arith in
     let head : take n (written ++ bytes) ≡ take n written = take-append-le n written bytes le in
     let rest : drop n (written ++ bytes) ≡ drop n written ++ bytes = drop-append-le n written bytes le in
-    let more : acts (steps ++ Wrote at (length bytes) ∷ []) (drop n written ++ bytes) ≡ acts steps (drop n written) ++ Some (at, bytes) ∷ []
+    let more : acts (steps ++ Wrote at (length bytes) ∷ []) (drop n written ++ bytes) ≡ acts steps (drop n written) ++ Write at bytes ∷ []
     = acts-write steps (drop n written) bytes at (omega (arith, length-drop n written)) in
-    rw (head, rest) (ap (λ (xs : List Act). Some (a, take n written) ∷ xs) more)
-acts-write (Synced ∷ steps) written bytes at whole = ap (λ (xs : List Act). None ∷ xs) (acts-write steps written bytes at whole)
+    rw (head, rest) (ap (λ (xs : List Act). Write a (take n written) ∷ xs) more)
+acts-write (Synced ∷ steps) written bytes at whole = ap (λ (xs : List Act). Sync ∷ xs) (acts-write steps written bytes at whole)
 
 -- the acts of one more sync
-pub acts-sync : (steps : List Step) (written : List ℕ) → acts (steps ++ Synced ∷ []) written ≡ acts steps written ++ None ∷ []
+pub acts-sync : (steps : List Step) (written : List ℕ) → acts (steps ++ Synced ∷ []) written ≡ acts steps written ++ Sync ∷ []
 acts-sync [] written = refl
-acts-sync ((Wrote a n) ∷ steps) written = ap (λ (xs : List Act). Some (a, take n written) ∷ xs) (acts-sync steps (drop n written))
-acts-sync (Synced ∷ steps) written = ap (λ (xs : List Act). None ∷ xs) (acts-sync steps written)
+acts-sync ((Wrote a n) ∷ steps) written = ap (λ (xs : List Act). Write a (take n written) ∷ xs) (acts-sync steps (drop n written))
+acts-sync (Synced ∷ steps) written = ap (λ (xs : List Act). Sync ∷ xs) (acts-sync steps written)
 
 pub total-write : (steps : List Step) (at n : ℕ) → total (steps ++ Wrote at n ∷ []) ≡ total steps + n
 total-write [] at n = omega arith

@@ -1,48 +1,53 @@
 -- What a call on a file does to what is known of it.
-use Rattle.std.proofs.Common.{◌≡◌, ◌≤◌, ℕ, ◌+◌, ◌-◌, List, [], ◌∷◌, ◌++◌, length, take, drop, Some, None, refl, ap, subst, sym, inl, inr, ◌∙◌, arith, length-append, length-take, length-drop, append_assoc}
+use Rattle.std.proofs.Common.{◌≡◌, ◌≤◌, ℕ, ◌+◌, ◌-◌, List, [], ◌∷◌, ◌++◌, length, get_or, take, drop, refl, ap, subst, sym, inl, inr, ◌∙◌, arith, length-append, length-take, length-drop, append_assoc}
 use borrow.Rule.Slice.PartMut.{put_mid, post_of}
 use Rattle.std.proofs.lemmas.List.{take_all, take_rest, take-append-drop, take-take, drop-take, drop-drop, length-take-le, take-append-le, take_at, drop_at}
 use Rattle.std.proofs.lemmas.Slice.{take-put_mid_below}
 use Rattle.disk.specs.declared.calls.Record.{Record}
 use Rattle.disk.specs.Sight.{Sight, Elapses, Looks, Writes, IsSynced, Torn, Holds}
-use Rattle.disk.specs.State.{Act, State, over, state_after, IsImage}
+use Rattle.disk.specs.State.{Act, Write, Sync, State, over, state_after, IsImage}
 use Rattle.disk.specs.Laws.{length-over}
-use Rattle.disk.specs.Calls.{acts_of, IsRead, start_sound}
-use Rattle.disk.specs.Record.{HasFollowed, sight_by, OnlyAsks, Goes, ReadsSoFar, WritesSoFar}
+use Rattle.disk.specs.Calls.{Call, acts_by, IsRead, start_sound}
+use Rattle.disk.specs.Record.{HasFollowed, acts_in, sight_by, OnlyAsks, Goes, ReadsSoFar, WritesSoFar}
 use Rattle.disk.proofs.Acts.{state_after-push}
-use Rattle.disk.proofs.Crash.{made, seen-write, writes-push, synced-push, looks-sync}
+use Rattle.disk.proofs.Crash.{IsOver, seen-write, writes-push, synced-push, looks-sync}
 
--- each earlier outcome of a crash stays one after a write
-stays-push : (start : State) (acts : List Act) (at : ℕ) (b c : List ℕ) → at ≤ length (state_after start acts).now → IsImage (state_after start acts) c
-    → IsImage (state_after start (acts ++ Some (at, b) ∷ [])) c
-stays-push start acts at b c le image =
+-- one more call
+pub acts-more : (old new : Record) (call : Call) → new.start ≡ old.start → new.calls ≡ call ∷ old.calls
+    → acts_in new ≡ acts_in old ++ acts_by (get_or old.start.left (length old.calls) []) call
+acts-more old new call es ec = rw (es, ec) refl
+
+-- each earlier outcome of a crash stays one after a write, done or failed
+stays-push : (start : State) (acts : List Act) (a : Act) (at n : ℕ) (b c : List ℕ) → IsOver (state_after start acts) a at n b → IsImage (state_after start acts) c
+    → IsImage (state_after start (acts ++ a ∷ [])) c
+stays-push start acts a at n b c one image =
     let s : State = state_after start acts in
-    let later : IsImage (over s at b) c = record {
+    let later : IsImage (over s at n b) c = record {
       no_shorter = image.no_shorter;
-      no_longer = omega (arith, image.no_longer, length-over s.now b at le);
+      no_longer = omega (arith, image.no_longer, length-over s.now b at one.place);
       same = λ i h outside. image.same i h outside.1;
     } in
-    subst (λ (t : State). IsImage t c) (sym (state_after-push start acts (Some (at, b)) ∙ made s at b le)) later
+    subst (λ (t : State). IsImage t c) (sym (state_after-push start acts a ∙ one.state)) later
 
--- a record with one more write
-pub record-goes : (old new : Record) (at : ℕ) (b : List ℕ) (f f' : ℕ) → new.start ≡ old.start → acts_of new.calls ≡ acts_of old.calls ++ Some (at, b) ∷ []
-    → HasFollowed old → at ≤ length (sight_by old 0).seen → Goes at (length b) (sight_by old f) (sight_by new f')
-record-goes old new at b f f' es ea follows le = rw (es, ea) (record {
-  writes = writes-push old.start (start_sound old.start old.calls follows) (acts_of old.calls) at b f f' le;
-  stays = λ c image. stays-push old.start (acts_of old.calls) at b c le image;
+-- a record with one more write, done or failed
+pub record-goes : (old new : Record) (a : Act) (at n : ℕ) (b : List ℕ) (f f' : ℕ) → new.start ≡ old.start → acts_in new ≡ acts_in old ++ a ∷ []
+    → HasFollowed old → IsOver (state_after old.start.state (acts_in old)) a at n b → Goes at n (sight_by old f) (sight_by new f')
+record-goes old new a at n b f f' es ea follows one = rw (ea, es) (record {
+  writes = writes-push old.start.state (start_sound old.start old.calls follows) (acts_in old) a at n b f f' one;
+  stays = λ c image. stays-push old.start.state (acts_in old) a at n b c one image;
 })
 
-pub record-holds : (old new : Record) (at : ℕ) (b : List ℕ) → new.start ≡ old.start → acts_of new.calls ≡ acts_of old.calls ++ Some (at, b) ∷ []
+pub record-holds : (old new : Record) (at : ℕ) (b : List ℕ) → new.start ≡ old.start → acts_in new ≡ acts_in old ++ Write at b ∷ []
     → at ≤ length (sight_by old 0).seen → Holds (sight_by old 0).seen at b (sight_by new 0).seen
-record-holds old new at b es ea le = rw (es, ea) (seen-write old.start (acts_of old.calls) at b le)
+record-holds old new at b es ea le = rw (ea, es) (seen-write old.start.state (acts_in old) at b le)
 
 -- a record with one more sync
-pub record-looks : (old new : Record) (f f' : ℕ) → new.start ≡ old.start → acts_of new.calls ≡ acts_of old.calls ++ None ∷ []
+pub record-looks : (old new : Record) (f f' : ℕ) → new.start ≡ old.start → acts_in new ≡ acts_in old ++ Sync ∷ []
     → HasFollowed old → Looks (sight_by old f) (sight_by new f')
-record-looks old new f f' es ea follows = rw (es, ea) (looks-sync old.start (start_sound old.start old.calls follows) (acts_of old.calls) f f')
+record-looks old new f f' es ea follows = rw (ea, es) (looks-sync old.start.state (start_sound old.start old.calls follows) (acts_in old) f f')
 
-pub record-synced : (old new : Record) (f : ℕ) → new.start ≡ old.start → acts_of new.calls ≡ acts_of old.calls ++ None ∷ [] → IsSynced (sight_by new f)
-record-synced old new f es ea = rw (es, ea) (synced-push old.start (acts_of old.calls) f)
+pub record-synced : (old new : Record) (f : ℕ) → new.start ≡ old.start → acts_in new ≡ acts_in old ++ Sync ∷ [] → IsSynced (sight_by new f)
+record-synced old new f es ea = rw (ea, es) (synced-push old.start.state (acts_in old) f)
 
 pub asks-on : (a b c : Record) → OnlyAsks a b → OnlyAsks b c → OnlyAsks a c
 asks-on a b c one more = record {
@@ -53,7 +58,7 @@ asks-on a b c one more = record {
 
 -- what a read gives, after calls that did nothing
 pub asks-seen : (a b : Record) → OnlyAsks a b → (sight_by b 0).seen ≡ (sight_by a 0).seen
-asks-seen a b one = rw (one.start, one.acts) refl
+asks-seen a b one = rw (one.acts, one.start) refl
 
 -- What a loop of reads has done so far.
 pub record ReadLoop (r r' : Record) (at from : ℕ) (buf : List ℕ) : Type 0 where
@@ -240,7 +245,7 @@ pub write-loop-again : (r r' r'' : Record) (at from : ℕ) (bytes : List ℕ) �
 write-loop-again r r' r'' at from bytes old one = record {
   fits = old.fits;
   before = λ follows. old.before (one.before follows);
-  written = λ follows le f f'. rw (one.start, one.acts) (old.written (one.before follows) le f f');
+  written = λ follows le f f'. rw (one.acts, one.start) (old.written (one.before follows) le f f');
 }
 
 -- after a write that failed

@@ -1,6 +1,6 @@
 -- What the list of fronts has to do with what a crash may leave.
 use Rattle.std.proofs.Common.{◌≡◌, ◌≢◌, ◌≤◌, ◌<◌, ◌⊎◌, ℕ, ◌+◌, ◌-◌, List, [], ◌∷◌, length, get_or, Bool, true, false, cond, AllPairs, Contains, refl, ap, sym, subst, inl, inr, ◌∙◌, arith}
-use Rattle.disk.specs.State.{State, IsOutside, IsImage}
+use Rattle.disk.specs.State.{State, furthest, IsOutside, IsImage}
 use Rattle.disk.specs.Images.{IsSyncedAt, IsImageOf, Lists}
 use Rattle.disk.specs.Fronts.{IsMarked, open_bytes, of_lengths}
 use Rattle.disk.proofs.Lists.{Among, Distinct, among-Contains, Contains-among, All-among, AllPairs-distinct, distinct-AllPairs}
@@ -52,7 +52,7 @@ drawn-image : (s : State) (mask : List Bool) (values unique c : List ℕ) → Is
 drawn-image s mask values unique c sound mark subset from to fits = record {
   image = record {
     no_shorter = from;
-    no_longer = to;
+    no_longer = omega (arith, to);
     same = λ i h outside.
         synced-byte s mask unique (get_or c i 0) i (get_or mask i false) refl mark (omega (arith, mark.long)) (fits i (omega arith)) (h, outside) ∙ sound.same i h outside;
   };
@@ -60,15 +60,15 @@ drawn-image s mask values unique c sound mark subset from to fits = record {
 }
 
 -- and each such is out of the open bytes
-image-drawn : (s : State) (mask : List Bool) (values unique c : List ℕ) → IsImage s s.now → IsMask s mask → ((v : ℕ) → Contains values v → Contains unique v)
+image-drawn : (s : State) (mask : List Bool) (values unique c : List ℕ) → IsImage s s.now → furthest s.ranges ≤ length s.now → IsMask s mask → ((v : ℕ) → Contains values v → Contains unique v)
     → IsImageOf s values c → Fits (open_bytes mask s.now unique) c
-image-drawn s mask values unique c sound mark subset image i h =
-    open-byte s mask values unique (get_or c i 0) i (get_or mask i false) refl mark (omega (arith, mark.long, image.image.no_longer)) subset
+image-drawn s mask values unique c sound far mark subset image i h =
+    open-byte s mask values unique (get_or c i 0) i (get_or mask i false) refl mark (omega (arith, mark.long, image.image.no_longer, far)) subset
     (λ synced. image.image.same i synced.0 synced.1 ∙ sym (sound.same i synced.0 synced.1)) (image.drawn i h)
 
-pub lists-images : (s : State) (mask : List Bool) (values unique : List ℕ) → IsImage s s.now → IsMask s mask → SameValues values unique
+pub lists-images : (s : State) (mask : List Bool) (values unique : List ℕ) → IsImage s s.now → furthest s.ranges ≤ length s.now → IsMask s mask → SameValues values unique
     → Lists (IsImageOf s values) (of_lengths (open_bytes mask s.now unique) (length s.base) (length s.now - length s.base + 1))
-lists-images s mask values unique sound mark same =
+lists-images s mask values unique sound far mark same =
     let options : ℕ → List ℕ = open_bytes mask s.now unique in
     let k : ℕ = length s.now - length s.base + 1 in
     record {
@@ -76,17 +76,17 @@ lists-images s mask values unique sound mark same =
           let facts : (length s.base ≤ length c) × (length c < length s.base + k) × Fits options c = lengths-of options (length s.base) k c in_all in
           drawn-image s mask values unique c sound mark same.none_new facts.0 (omega (arith, facts.1, sound.no_shorter)) facts.2);
       complete = λ c image. Contains-among (of_lengths options (length s.base) k) c
-          (of-lengths options (length s.base) k c image.image.no_shorter (omega (arith, image.image.no_longer, sound.no_shorter))
-          (image-drawn s mask values unique c sound mark same.none_lost image));
+          (of-lengths options (length s.base) k c image.image.no_shorter (omega (arith, image.image.no_longer, far, sound.no_shorter))
+          (image-drawn s mask values unique c sound far mark same.none_lost image));
       once = AllPairs-distinct (of_lengths options (length s.base) k)
           (distinct-lengths options (distinct-open mask s.now unique (distinct-AllPairs unique same.once)) (length s.base) k);
     }
 
 -- what is known of a disk, its mask and its values, in one
-pub all-listed : (s : State) (mask : List Bool) (values unique bytes : List ℕ) (ranges : List (ℕ × ℕ)) (low : ℕ) → IsImage s s.now
+pub all-listed : (s : State) (mask : List Bool) (values unique bytes : List ℕ) (ranges : List (ℕ × ℕ)) (low : ℕ) → IsImage s s.now → furthest s.ranges ≤ length s.now
     → s.now ≡ bytes → length s.base ≡ low → s.ranges ≡ ranges → length mask ≡ length bytes → IsMarked low ranges mask → SameValues values unique
     → Lists (IsImageOf s values) (of_lengths (open_bytes mask bytes unique) low (length bytes - low + 1))
-all-listed s mask values unique bytes ranges low sound now base since long mark same =
+all-listed s mask values unique bytes ranges low sound far now base since long mark same =
     let is_mask : IsMask s mask = record {
       long = long ∙ sym (ap length now);
       unsynced = λ i h yes facts. mark.marked i h yes (omega (arith, facts.0, base), subst (λ (rs : List (ℕ × ℕ)). IsOutside rs i) since facts.1);
@@ -94,7 +94,7 @@ all-listed s mask values unique bytes ranges low sound now base since long mark 
           (omega (arith, facts.0, base), subst (λ (rs : List (ℕ × ℕ)). IsOutside rs i) (sym since) facts.1));
     } in
     let all : Lists (IsImageOf s values) (of_lengths (open_bytes mask s.now unique) (length s.base) (length s.now - length s.base + 1))
-    = lists-images s mask values unique sound is_mask same in
+    = lists-images s mask values unique sound far is_mask same in
     let at_low : Lists (IsImageOf s values) (of_lengths (open_bytes mask s.now unique) low (length s.now - low + 1))
     = subst (λ (n : ℕ). Lists (IsImageOf s values) (of_lengths (open_bytes mask s.now unique) n (length s.now - n + 1))) base all in
     subst (λ (xs : List ℕ). Lists (IsImageOf s values) (of_lengths (open_bytes mask xs unique) low (length xs - low + 1))) now at_low

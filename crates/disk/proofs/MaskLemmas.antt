@@ -1,12 +1,12 @@
 -- How the mask of the unsynced bytes grows.
-use Rattle.std.proofs.Common.{◌≡◌, ◌≤◌, ◌<◌, ◌⊎◌, ℕ, zero, suc, ◌+◌, List, [], ◌∷◌, ◌++◌, length, get_or, take, Bool, true, false, refl, ap, sym, inl, inr, ◌∙◌, arith, max, nat_le, Some, None}
+use Rattle.std.proofs.Common.{◌≡◌, ◌≤◌, ◌<◌, ◌⊎◌, ℕ, zero, suc, ◌+◌, List, [], ◌∷◌, ◌++◌, length, get_or, take, drop, Bool, true, false, refl, ap, sym, inl, inr, ◌∙◌, arith, max, nat_le}
 use Rattle.std.proofs.lemmas.Bool.{leb-true}
 use Rattle.std.proofs.lemmas.List.{take_more}
 use Rattle.disk.specs.declared.memory.Step.{Step}
 use Rattle.disk.specs.declared.memory.Step.TheVariants.{Wrote, Synced}
-use Rattle.disk.specs.State.{State, Act, act, over, wrote, state_after, IsOutside}
+use Rattle.disk.specs.State.{State, Sync, act, over, wrote, state_after, furthest, IsOutside}
 use Rattle.disk.specs.Laws.{length-over}
-use Rattle.disk.specs.Memory.{ranges_after, AreWithin}
+use Rattle.disk.specs.Memory.{acts, ranges_after, AreWithin}
 use Rattle.disk.specs.Fronts.{IsMarked}
 use Rattle.disk.proofs.Lists.{within_or_not}
 use Rattle.disk.proofs.Acts.{ranges_after-write}
@@ -71,15 +71,21 @@ within-longer [] m n le all = tt
 within-longer (range ∷ ranges) m n le all = (omega (arith, all.0), within-longer ranges m n le all.1)
 
 within-wrote : (s : State) (at : ℕ) (bytes : List ℕ) (b : Bool) → nat_le at (length s.now) ≡ b → AreWithin s.ranges (length s.now)
-    → AreWithin (wrote s at bytes).ranges (length (wrote s at bytes).now)
+    → AreWithin (wrote s at (length bytes) bytes).ranges (length (wrote s at (length bytes) bytes).now)
 within-wrote s at bytes true e all =
-    let size : length (over s at bytes).now ≡ max (length s.now) (at + length bytes) = length-over s.now bytes at (leb-true at (length s.now) e) in
-    rw e (omega (arith, size), within-longer s.ranges (length s.now) (length (over s at bytes).now) (omega (arith, size)) all)
+    let size : length (over s at (length bytes) bytes).now ≡ max (length s.now) (at + length bytes) = length-over s.now bytes at (leb-true at (length s.now) e) in
+    rw e (omega (arith, size), within-longer s.ranges (length s.now) (length (over s at (length bytes) bytes).now) (omega (arith, size)) all)
 within-wrote s at bytes false e all = rw e all
 
 -- each range that was written ends within the disk
-pub within-after : (s : State) (acts : List Act) → AreWithin s.ranges (length s.now) → AreWithin (state_after s acts).ranges (length (state_after s acts).now)
-within-after s [] all = all
-within-after s (Some write ∷ acts) all =
-    within-after (wrote s write.0 write.1) acts (within-wrote s write.0 write.1 (nat_le write.0 (length s.now)) refl all)
-within-after s (None ∷ acts) all = within-after (act s None) acts tt
+pub within-after : (s : State) (steps : List Step) (written : List ℕ) → AreWithin s.ranges (length s.now)
+    → AreWithin (state_after s (acts steps written)).ranges (length (state_after s (acts steps written)).now)
+within-after s [] written all = all
+within-after s ((Wrote at n) ∷ steps) written all =
+    within-after (wrote s at (length (take n written)) (take n written)) steps (drop n written)
+    (within-wrote s at (take n written) (nat_le at (length s.now)) refl all)
+within-after s (Synced ∷ steps) written all = within-after (act s Sync) steps written tt
+
+pub furthest-within : (ranges : List (ℕ × ℕ)) (n : ℕ) → AreWithin ranges n → furthest ranges ≤ n
+furthest-within [] n all = omega arith
+furthest-within (range ∷ ranges) n all = omega (arith, all.0, furthest-within ranges n all.1)

@@ -1,14 +1,14 @@
 -- What a disk in memory keeps over a write and a sync.
-use Rattle.std.proofs.Common.{◌≡◌, ◌≤◌, ℕ, ◌+◌, List, [], ◌∷◌, ◌++◌, length, take, drop, Some, None, Ok, Err, Result, OnOk, is_err, false, refl, inl, ap, sym, ◌∙◌, arith, length-append}
+use Rattle.std.proofs.Common.{◌≡◌, ◌≤◌, ℕ, ◌+◌, List, [], ◌∷◌, ◌++◌, length, take, drop, Ok, Err, Result, OnOk, is_err, false, refl, inl, ap, sym, ◌∙◌, arith, length-append}
 use Rattle.std.proofs.lemmas.List.{drop-append-le, length_push, drop_all}
 use Rattle.disk.specs.declared.memory.Step.{Step}
 use Rattle.disk.specs.declared.memory.Step.TheVariants.{Wrote, Synced}
-use Rattle.disk.specs.State.{Act, State, nothing, act, over, state_after, sight_of}
+use Rattle.disk.specs.State.{Act, Write, Sync, State, nothing, act, over, state_after, sight_of}
 use Rattle.disk.specs.Memory.{acts, total, replayed, ranges_after}
 use Rattle.disk.proofs.Acts.{state_after-push, acts-write, acts-sync, total-write, total-sync, ranges_after-write}
 use Rattle.disk.specs.Sight.{Writes, Looks, IsSynced}
 use Rattle.disk.specs.Laws.{sound_nothing}
-use Rattle.disk.proofs.Crash.{made, writes-push, synced-push, looks-sync}
+use Rattle.disk.proofs.Crash.{made, write-push, synced-push, looks-sync}
 
 -- the ghost fields of a disk in memory
 pub record IsRecord (steps : List Step) (written bytes : List ℕ) (synced_steps synced_len : ℕ) : Type 0 where
@@ -20,20 +20,20 @@ pub record IsRecord (steps : List Step) (written bytes : List ℕ) (synced_steps
 
 -- what one more write makes of the state
 pub replayed-write : (steps : List Step) (written b : List ℕ) (at : ℕ) → total steps ≡ length written → at ≤ length (replayed steps written).now
-    → replayed (steps ++ Wrote at (length b) ∷ []) (written ++ b) ≡ over (replayed steps written) at b
+    → replayed (steps ++ Wrote at (length b) ∷ []) (written ++ b) ≡ over (replayed steps written) at (length b) b
 replayed-write steps written b at whole le =
     ap (λ (xs : List Act). state_after nothing xs) (acts-write steps written b at whole)
-    ∙ state_after-push nothing (acts steps written) (Some (at, b)) ∙ made (replayed steps written) at b le
+    ∙ state_after-push nothing (acts steps written) (Write at b) ∙ made (replayed steps written) at (length b) b le
 
-pub replayed-sync : (steps : List Step) (written : List ℕ) → replayed (steps ++ Synced ∷ []) written ≡ act (replayed steps written) None
+pub replayed-sync : (steps : List Step) (written : List ℕ) → replayed (steps ++ Synced ∷ []) written ≡ act (replayed steps written) Sync
 replayed-sync steps written =
-    ap (λ (xs : List Act). state_after nothing xs) (acts-sync steps written) ∙ state_after-push nothing (acts steps written) None
+    ap (λ (xs : List Act). state_after nothing xs) (acts-sync steps written) ∙ state_after-push nothing (acts steps written) Sync
 
 pub record-write : (steps steps' : List Step) (written written' bytes bytes' b : List ℕ) (k n at : ℕ) → IsRecord steps written bytes k n → at ≤ length bytes
     → steps' ≡ steps ++ Wrote at (length b) ∷ [] → written' ≡ written ++ b → bytes' ≡ take at bytes ++ b ++ drop (at + length b) bytes
     → IsRecord steps' written' bytes' k n
 record-write steps steps' written written' bytes bytes' b k n at old le es ew eb =
-    let there : replayed (steps ++ Wrote at (length b) ∷ []) (written ++ b) ≡ over (replayed steps written) at b
+    let there : replayed (steps ++ Wrote at (length b) ∷ []) (written ++ b) ≡ over (replayed steps written) at (length b) b
     = replayed-write steps written b at old.whole (omega (arith, ap length old.same)) in
     rw (es, ew, eb) (record {
       whole = omega (arith, total-write steps at (length b), length-append written b, old.whole);
@@ -48,7 +48,7 @@ record-write steps steps' written written' bytes bytes' b k n at old le es ew eb
 pub record-sync : (steps steps' : List Step) (written bytes : List ℕ) (k n k' n' : ℕ) → IsRecord steps written bytes k n
     → steps' ≡ steps ++ Synced ∷ [] → k' ≡ length steps' → n' ≡ length bytes → IsRecord steps' written bytes k' n'
 record-sync steps steps' written bytes k n k' n' old es ek en =
-    let there : replayed (steps ++ Synced ∷ []) written ≡ act (replayed steps written) None = replayed-sync steps written in
+    let there : replayed (steps ++ Synced ∷ []) written ≡ act (replayed steps written) Sync = replayed-sync steps written in
     rw (en, ek, es) (record {
       whole = total-sync steps ∙ old.whole;
       same = ap (λ (s : State). s.now) there ∙ old.same;
@@ -61,12 +61,12 @@ record-sync steps steps' written bytes k n k' n' old es ek en =
 -- what a recorded write does to a disk
 pub memory-write : (steps steps' : List Step) (written written' b : List ℕ) (at : ℕ) → total steps ≡ length written
     → (steps' ≡ steps ++ Wrote at (length b) ∷ []) × (written' ≡ written ++ b)
-    → acts steps' written' ≡ acts steps written ++ Some (at, b) ∷ []
+    → acts steps' written' ≡ acts steps written ++ Write at b ∷ []
 memory-write steps steps' written written' b at whole es = rw (es.0, es.1) (acts-write steps written b at whole)
 
-pub memory-writes : (old new : List Act) (at : ℕ) (b : List ℕ) (f f' : ℕ) → new ≡ old ++ Some (at, b) ∷ []
+pub memory-writes : (old new : List Act) (at : ℕ) (b : List ℕ) (f f' : ℕ) → new ≡ old ++ Write at b ∷ []
     → at ≤ length (state_after nothing old).now → Writes at (length b) (sight_of nothing old f) (sight_of nothing new f')
-memory-writes old new at b f f' e le = rw e (writes-push nothing sound_nothing old at b f f' le)
+memory-writes old new at b f f' e le = rw e (write-push nothing sound_nothing old at b f f' le)
 
 -- of a call that did nothing
 pub memory-idle : (old new : List Act) (at n f f' : ℕ) → new ≡ old → Writes at n (sight_of nothing old f) (sight_of nothing new f')
@@ -76,13 +76,13 @@ memory-idle old new at n f f' e = rw e (record {
 })
 
 pub memory-sync : (steps steps' : List Step) (written written' : List ℕ) → (steps' ≡ steps ++ Synced ∷ []) × (written' ≡ written)
-    → acts steps' written' ≡ acts steps written ++ None ∷ []
+    → acts steps' written' ≡ acts steps written ++ Sync ∷ []
 memory-sync steps steps' written written' es = rw (es.0, es.1) (acts-sync steps written)
 
-pub memory-synced : (old new : List Act) (f : ℕ) → new ≡ old ++ None ∷ [] → IsSynced (sight_of nothing new f)
+pub memory-synced : (old new : List Act) (f : ℕ) → new ≡ old ++ Sync ∷ [] → IsSynced (sight_of nothing new f)
 memory-synced old new f e = rw e (synced-push nothing old f)
 
-pub memory-looks : (old new : List Act) (f f' : ℕ) → new ≡ old ++ None ∷ [] → Looks (sight_of nothing old f) (sight_of nothing new f')
+pub memory-looks : (old new : List Act) (f f' : ℕ) → new ≡ old ++ Sync ∷ [] → Looks (sight_of nothing old f) (sight_of nothing new f')
 memory-looks old new f f' e = rw e (looks-sync nothing sound_nothing old f f')
 
 pub when_ok : {T E P : Type 0} (r : Result T E) → is_err r ≡ false → OnOk r P → P

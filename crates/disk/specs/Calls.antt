@@ -1,11 +1,11 @@
 -- The calls of the system on a file, and what the model says that they answer.
-use Rattle.std.specs.Prelude.{◌≡◌, ◌≤◌, ℕ, ◌-◌, min, List, [], ◌∷◌, ◌++◌, length, take, drop, ◌==◌, if◌then◌else◌, slice_index, Some, None}
-use Rattle.disk.specs.State.{Act, State, state_after, IsImage}
+use Rattle.std.specs.Prelude.{◌≡◌, ◌≤◌, ℕ, ◌-◌, min, List, [], ◌∷◌, ◌++◌, length, take, drop, ◌==◌, if◌then◌else◌, slice_index, slice_index_or}
+use Rattle.disk.specs.State.{Act, Write, Break, Sync, State, nothing, state_after, IsImage}
 
 pub data Call : Type 0 where
   -- these bytes were read at this place into a buffer of this length
   Read : ℕ → ℕ → List ℕ → Call
-  -- so many of these bytes were written at this place
+  -- so many of these bytes were written at this place, perhaps none
   Wrote : ℕ → ℕ → List ℕ → Call
   -- a write of these bytes at this place failed
   Broke : ℕ → List ℕ → Call
@@ -26,19 +26,29 @@ call_of numbers bytes =
     else (if slice_index numbers 0 == 4 then Measured (slice_index numbers 1)
     else Refused))))
 
--- what a call did: a write that failed counts as done, in any form until a sync
-abbrev pub acts_by : Call → List Act
-acts_by (Read at n bytes) = []
-acts_by (Wrote at n bytes) = Some (at, take n bytes) ∷ []
-acts_by (Broke at bytes) = Some (at, bytes) ∷ []
-acts_by Synced = None ∷ []
-acts_by (Measured n) = []
-acts_by Refused = []
+-- A file as it is opened: its state, and which bytes the first call, the second and so on will leave in its range, if
+-- it is a write that fails.
+pub record Start : Type 0 where
+  pub state : State
+  pub left : List (List ℕ)
 
--- of calls, the last of them first
-abbrev pub acts_of : List Call → List Act
-acts_of [] = []
-acts_of (call ∷ calls) = acts_of calls ++ acts_by call
+-- an empty file, in which no failed write leaves a byte
+abbrev pub from_nothing : Start
+from_nothing = record { state = nothing; left = [] }
+
+-- what a call did, if it is one that leaves these bytes where it fails
+abbrev pub acts_by : List ℕ → Call → List Act
+acts_by left (Read at n bytes) = []
+acts_by left (Wrote at n bytes) = Write at (take n bytes) ∷ []
+acts_by left (Broke at bytes) = Break at (length bytes) left ∷ []
+acts_by left Synced = Sync ∷ []
+acts_by left (Measured n) = []
+acts_by left Refused = []
+
+-- what calls did, the last of them first
+abbrev pub acts_of : List (List ℕ) → List Call → List Act
+acts_of left [] = []
+acts_of left (call ∷ calls) = acts_of left calls ++ acts_by (slice_index_or left (length calls) []) call
 
 -- Bytes of a file that a read of n gives: those at its place, none only where there are none.
 pub record IsRead (file : List ℕ) (at n : ℕ) (bytes : List ℕ) : Type 0 where
@@ -56,11 +66,11 @@ IsAnswer file (Measured n) = n ≡ length file
 IsAnswer file Refused = Unit {0}
 
 -- Each call answered what the model gives, from the state at the start on. The last call is first.
-abbrev pub AreAnswers : State → List Call → Type 0
-AreAnswers start [] = IsImage start start.now
-AreAnswers start (call ∷ calls) = AreAnswers start calls × IsAnswer (state_after start (acts_of calls)).now call
+abbrev pub AreAnswers : Start → List Call → Type 0
+AreAnswers start [] = IsImage start.state start.state.now
+AreAnswers start (call ∷ calls) = AreAnswers start calls × IsAnswer (state_after start.state (acts_of start.left calls)).now call
 
 -- the state at the start is one that there can be
-pub start_sound : (start : State) (calls : List Call) → AreAnswers start calls → IsImage start start.now
+pub start_sound : (start : Start) (calls : List Call) → AreAnswers start calls → IsImage start.state start.state.now
 start_sound start [] sound = sound
 start_sound start (call ∷ calls) answers = start_sound start calls answers.0

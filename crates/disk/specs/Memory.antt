@@ -1,14 +1,14 @@
 -- What a disk in memory has recorded.
-use Rattle.std.specs.Prelude.{◌≤◌, ℕ, ◌+◌, List, [], ◌∷◌, take, drop, Some, None}
+use Rattle.std.specs.Prelude.{◌≤◌, ℕ, ◌+◌, List, [], ◌∷◌, take, drop}
 use Rattle.disk.specs.declared.memory.Step.{Step}
 use Rattle.disk.specs.declared.memory.Step.TheVariants.{Wrote, Synced}
-use Rattle.disk.specs.State.{Act, State, nothing, state_after}
+use Rattle.disk.specs.State.{Act, Write, Sync, State, nothing, state_after}
 
 -- the steps, each write with its bytes
 abbrev pub acts : List Step → List ℕ → List Act
 acts [] written = []
-acts ((Wrote at n) ∷ steps) written = Some (at, take n written) ∷ acts steps (drop n written)
-acts (Synced ∷ steps) written = None ∷ acts steps written
+acts ((Wrote at n) ∷ steps) written = Write at (take n written) ∷ acts steps (drop n written)
+acts (Synced ∷ steps) written = Sync ∷ acts steps written
 
 -- how many bytes the steps wrote
 abbrev pub total : List Step → ℕ

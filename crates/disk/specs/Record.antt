@@ -2,21 +2,25 @@
 use Rattle.std.specs.Prelude.{◌≡◌, ◌≤◌, ℕ, ◌-◌, List, length, take, drop}
 use Rattle.disk.specs.declared.calls.Record.{Record}
 use Rattle.disk.specs.Sight.{Sight, Holds, Writes}
-use Rattle.disk.specs.State.{sight_of}
+use Rattle.disk.specs.State.{Act, sight_of}
 use Rattle.disk.specs.Calls.{acts_of, AreAnswers}
 
 -- so far each call answered what the model gives
 abbrev pub HasFollowed : Record → Type 0
 HasFollowed r = AreAnswers r.start r.calls
 
+-- what the calls did
+abbrev pub acts_in : Record → List Act
+acts_in r = acts_of r.start.left r.calls
+
 -- the file at this moment, with a count of failures
 abbrev pub sight_by : Record → ℕ → Sight
-sight_by r failures = sight_of r.start (acts_of r.calls) failures
+sight_by r failures = sight_of r.start.state (acts_in r) failures
 
 -- the calls between did nothing to the file
 pub record OnlyAsks (old new : Record) : Type 0 where
   pub start : new.start ≡ old.start
-  pub acts : acts_of new.calls ≡ acts_of old.calls
+  pub acts : acts_in new ≡ acts_in old
   pub before : HasFollowed new → HasFollowed old
 
 -- one write, of which each earlier outcome stays an outcome

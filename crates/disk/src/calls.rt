@@ -1,9 +1,9 @@
 //! The four calls of the system on a file, each with its note. What a reader has to trust stands here: that
-//! `read_some`, `write_some`, `sync_once` and `measure` note the call that they made, with its place, count and bytes.
+//! `read_some`, `write_some`, `sync_once` and `measure` make one call of the system, and return what it answered.
+//! That they note just this is proved, and so is what it means for the file.
 ghost use Rattle.std.specs.Prelude.{◌≡◌, ◌≤◌, ◌<◌, ◌+◌, ℕ, List, [], ◌∷◌, length, take, IfOk, OnOk, OnErr, IsErrOf};
 ghost use Rattle.std.specs.Borrow.{ftrue};
-ghost use Rattle.disk.specs.State.{State};
-ghost use Rattle.disk.specs.Calls.{Call, call_of, IsRead};
+ghost use Rattle.disk.specs.Calls.{Call, Start, Read, Wrote, Broke, Synced, Measured, Refused, call_of, IsRead};
 
 use std::fs::File;
 use std::io;
@@ -23,12 +23,12 @@ const MEASURED: u64 = 4;
 
 const REFUSED: u64 = 5;
 
-/// The calls that were made on a file, the last first, and the state that the file was in before them. It holds no
-/// byte: only clauses read it.
+/// The calls that were made on a file, the last first, what state the file was in before them, and what each that is
+/// a failed write leaves. It holds no byte: only clauses read it.
 #[derive(Drop)]
 pub struct Record {
     marker: PhantomData<u8>,
-    pub ghost start: { State },
+    pub ghost start: { Start },
     pub ghost calls: { List Call },
 }
 
@@ -40,9 +40,9 @@ impl Model for Record {
 unsafe impl Send for Record {}
 
 impl Record {
-    // A record with no call, from any state.
+    // A record with no call, from any start.
     fn new() -> Record
-        ghost start: { State }
+        ghost start: { Start }
         ensures { (result.start ≡ start) × (result.calls ≡ []) }
     {
         Record {
@@ -75,9 +75,9 @@ impl NotedFile {
     ghost use Rattle.disk.specs.Record.{HasFollowed, OnlyAsks, Goes, sight_by};
     ghost use Rattle.disk.specs.Sight.{Holds, IsSynced, Looks};
 
-    /// A file that was in this state. No call was made on it.
+    /// A file that starts so. No call was made on it.
     pub fn new(file: File) -> NotedFile
-        ghost start: { State }
+        ghost start: { Start }
         ensures { (result.noted.start ≡ start) × (result.noted.calls ≡ []) }
     {
         NotedFile {
@@ -89,6 +89,9 @@ impl NotedFile {
     /// Reads at a place, fewer bytes than fit if the system likes, none only at the end.
     pub fn read_some(&mut self, at: u64, buf: &mut [u8]) -> Result<usize, Stop>
         ensures noted { length self.new.noted.calls ≡ length self.old.noted.calls + 1 }
+        ensures ok { IfOk result (λ n.
+            self.new.noted.calls ≡ Read at (length buf.old) (take n buf.new) ∷ self.old.noted.calls) }
+        ensures err { OnErr result (self.new.noted.calls ≡ Refused ∷ self.old.noted.calls) }
         ensures within { IfOk result (λ n. n ≤ length buf.old) }
         ensures bytes { IfOk result (λ n. HasFollowed self.new.noted
             → IsRead (sight_by self.old.noted 0).seen at (length buf.old) (take n buf.new)) }
@@ -110,11 +113,16 @@ impl NotedFile {
         }
     }
 
-    /// Writes at a place, fewer bytes than there are if the system likes, but some.
+    /// Writes at a place, fewer bytes than there are if the system likes, or none.
     pub fn write_some(&mut self, at: u64, bytes: &[u8]) -> Result<usize, Stop>
         ensures noted { length self.new.noted.calls ≡ length self.old.noted.calls + 1 }
+        ensures ok { IfOk result (λ n. self.new.noted.calls ≡ Wrote at n bytes.now ∷ self.old.noted.calls) }
+        ensures failed { IsErrOf result Stop.Failed
+            → self.new.noted.calls ≡ Broke at bytes.now ∷ self.old.noted.calls }
+        ensures tried { IsErrOf result Stop.Interrupted
+            → self.new.noted.calls ≡ Refused ∷ self.old.noted.calls }
         ensures before { HasFollowed self.new.noted → HasFollowed self.old.noted }
-        ensures within { IfOk result (λ n. (0 < n) × (n ≤ length bytes.now)) }
+        ensures within { IfOk result (λ n. n ≤ length bytes.now) }
         ensures holds { IfOk result (λ n. HasFollowed self.new.noted
             → at ≤ length (sight_by self.old.noted 0).seen
             → Holds (sight_by self.old.noted 0).seen at (take n bytes.now) (sight_by self.new.noted 0).seen) }
@@ -127,7 +135,7 @@ impl NotedFile {
             → Goes at (length bytes.now) (sight_by self.old.noted old) (sight_by self.new.noted new)) }
     {
         match self.file.write_at(bytes, at) {
-            Ok(n) if n > 0 => {
+            Ok(n) => {
                 self.noted.note(&[WROTE, at, n as u64], bytes);
                 Ok(n)
             }
@@ -135,7 +143,7 @@ impl NotedFile {
                 self.noted.note(&[REFUSED, 0, 0], &[]);
                 Err(Stop::Interrupted)
             }
-            _ => {
+            Err(_) => {
                 self.noted.note(&[BROKE, at, 0], bytes);
                 Err(Stop::Failed)
             }
@@ -145,6 +153,8 @@ impl NotedFile {
     /// Syncs the file's bytes and its length.
     pub fn sync_once(&mut self) -> io::Result<()>
         ensures noted { length self.new.noted.calls ≡ length self.old.noted.calls + 1 }
+        ensures ok { OnOk result (self.new.noted.calls ≡ Synced ∷ self.old.noted.calls) }
+        ensures err { OnErr result (self.new.noted.calls ≡ Refused ∷ self.old.noted.calls) }
         ensures before { HasFollowed self.new.noted → HasFollowed self.old.noted }
         ensures synced { OnOk result ((failures : ℕ) → IsSynced (sight_by self.new.noted failures)) }
         ensures looks { (old new : ℕ) → HasFollowed self.new.noted
@@ -165,6 +175,8 @@ impl NotedFile {
     /// Asks for the length.
     pub fn measure(&mut self) -> io::Result<u64>
         ensures noted { length self.new.noted.calls ≡ length self.old.noted.calls + 1 }
+        ensures ok { IfOk result (λ n. self.new.noted.calls ≡ Measured n ∷ self.old.noted.calls) }
+        ensures err { OnErr result (self.new.noted.calls ≡ Refused ∷ self.old.noted.calls) }
         ensures length { IfOk result (λ n. HasFollowed self.new.noted
             → n ≡ length (sight_by self.old.noted 0).seen) }
         ensures asks { OnlyAsks self.old.noted self.new.noted }

@@ -1,4 +1,6 @@
-ghost use Rattle.disk.specs.State.{State};
+ghost use Rattle.std.specs.Prelude.{◌≡◌, ◌∷◌, length, IfOk, OnOk, OnErr};
+ghost use Rattle.disk.specs.Sight.{IsSynced, Looks, Counts};
+ghost use Rattle.disk.specs.Calls.{Start, Synced, Measured, Refused};
 
 use crate::calls::{NotedFile, Stop};
 use crate::device::failed;
@@ -37,9 +39,9 @@ pub struct FileDisk {
 impl FileDisk {
     ghost use Rattle.disk.specs.FileDisk.{IsFresh};
 
-    /// A disk over a file, for all states that the file may have been in.
+    /// A disk over a file, for all states that the file may have been in, and all that failed writes may leave.
     pub fn new(file: LockedFile) -> FileDisk
-        ghost start: { State }
+        ghost start: { Start }
         ensures { IsFresh start result }
     {
         let LockedFile { file } = file;
@@ -94,7 +96,7 @@ fn folder_of(path: &str) -> &str {
 }
 
 impl Disk for FileDisk {
-    ghost use Rattle.disk.specs.FileDisk.{FileFollows, file_sight, file_counts_now, file_only_now, file_seen_may_stay};
+    ghost use Rattle.disk.specs.FileDisk.{FileFollows, calls_on, file_sight, file_counts_now, file_only_now, file_seen_may_stay};
 
     ghost follows = { FileFollows };
 
@@ -135,6 +137,7 @@ impl Disk for FileDisk {
                 return Ok(());
             }
             match self.calls.write_some(at + from as u64, &bytes[from..]) {
+                Ok(0) => return Err(failed(&mut self.failures)),
                 Ok(n) => from += n,
                 Err(Stop::Interrupted) => {}
                 Err(Stop::Failed) => return Err(failed(&mut self.failures)),
@@ -143,14 +146,32 @@ impl Disk for FileDisk {
         Err(failed(&mut self.failures))
     }
 
-    fn sync(&mut self) -> Result<(), DeviceFault> {
+    fn sync(&mut self) -> Result<(), DeviceFault>
+        ensures before { FileFollows self.new → FileFollows self.old }
+        ensures synced { OnOk result (FileFollows self.new → IsSynced (file_sight self.new)) }
+        ensures looks { FileFollows self.new → Looks (file_sight self.old) (file_sight self.new) }
+        ensures counts { Counts result (file_sight self.old).failures (file_sight self.new).failures }
+
+        // It is one call of the system, and answers as that did.
+        ensures ok { OnOk result (calls_on self.new ≡ Synced ∷ calls_on self.old) }
+        ensures err { OnErr result (calls_on self.new ≡ Refused ∷ calls_on self.old) }
+    {
         match self.calls.sync_once() {
             Ok(()) => Ok(()),
             Err(_) => Err(failed(&mut self.failures)),
         }
     }
 
-    fn len(&mut self) -> Result<u64, DeviceFault> {
+    fn len(&mut self) -> Result<u64, DeviceFault>
+        ensures before { FileFollows self.new → FileFollows self.old }
+        ensures length { IfOk result (λ n. FileFollows self.new → n ≡ length (file_sight self.old).seen) }
+        ensures looks { FileFollows self.new → Looks (file_sight self.old) (file_sight self.new) }
+        ensures counts { Counts result (file_sight self.old).failures (file_sight self.new).failures }
+
+        // It is one call of the system, and answers as that did.
+        ensures ok { IfOk result (λ n. calls_on self.new ≡ Measured n ∷ calls_on self.old) }
+        ensures err { OnErr result (calls_on self.new ≡ Refused ∷ calls_on self.old) }
+    {
         match self.calls.measure() {
             Ok(len) => Ok(len),
             Err(_) => Err(failed(&mut self.failures)),

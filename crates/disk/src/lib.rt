@@ -10,6 +10,7 @@ mod device;
 mod file;
 mod gate;
 mod images;
+mod laws;
 mod memory;
 mod plan;
 
@@ -17,4 +18,5 @@ pub use device::{DeviceFault, Disk};
 pub use file::{FileDisk, FileFault, LockedFile};
 pub use gate::{Gate, GateDisk};
 pub use images::ImagesFault;
+pub use laws::failed_writes_leave_any;
 pub use memory::MemDisk;

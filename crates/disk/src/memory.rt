@@ -1,6 +1,7 @@
-ghost use Rattle.std.specs.Prelude.{◌≡◌, ◌≢◌, ◌≤◌, ◌<◌, ◌↔◌, ◌+◌, ◌++◌, ◌⊎◌, [], ◌∷◌, ℕ, length, take, drop, Some, None, OnOk, OnErr, List, IfOk, IsOk, IsErr, IsErrOf};
+ghost use Rattle.std.specs.Prelude.{◌≡◌, ◌≢◌, ◌≤◌, ◌<◌, ◌↔◌, ◌+◌, ◌++◌, ◌⊎◌, [], ◌∷◌, ℕ, length, take, drop, OnOk, OnErr, List, IfOk, IsOk, IsErr, IsErrOf};
 ghost use Rattle.std.specs.Vec.{vec_capacity};
 ghost use Rattle.disk.specs.Sight.{Holds, Reads, Writes, Looks, IsSynced, Counts};
+ghost use Rattle.disk.specs.State.{Write, Sync};
 ghost use Rattle.disk.specs.Memory.{acts, total, replayed, ranges_after};
 ghost use Rattle.disk.specs.declared.memory.Step.TheVariants.{Wrote, Synced};
 
@@ -149,7 +150,7 @@ impl MemDisk {
     // Makes a write, and records it.
     fn make_write(&mut self, at: usize, bytes: &[u8]) -> Result<(), AllocError>
         requires { at ≤ length self.old.bytes.items }
-        ensures records { OnOk result (Records (Some (at, bytes.now)) self.old self.new) }
+        ensures records { OnOk result (Records (Write at bytes.now) self.old self.new) }
         ensures refused { OnErr result (RecordsNothing self.old self.new) }
         ensures written { OnOk result (Holds (sight_at self.old 0).seen at bytes.now
             (sight_at self.new 0).seen) }
@@ -170,7 +171,7 @@ impl MemDisk {
 
     // Records a sync.
     fn make_sync(&mut self) -> Result<(), AllocError>
-        ensures records { OnOk result (Records None self.old self.new) }
+        ensures records { OnOk result (Records Sync self.old self.new) }
         ensures refused { OnErr result (RecordsNothing self.old self.new) }
         ensures synced { OnOk result ((failures : ℕ) → IsSynced (sight_at self.new failures)) }
         ensures looks { (old new : ℕ) → Looks (sight_at self.old old) (sight_at self.new new) }
@@ -232,12 +233,12 @@ impl Disk for MemDisk {
 
         // It is recorded whether it fails or not, but where it begins past the end; for want of memory it fails, and
         // needn't be.
-        ensures records { OnOk result (Records (Some (at, bytes.now)) self.old self.new) }
+        ensures records { OnOk result (Records (Write at bytes.now) self.old self.new) }
         ensures records_failed { at ≤ length (memory_sight self.old).seen
             → HasRoom self.old (at + length bytes.now) 1 (length bytes.now)
-            → Records (Some (at, bytes.now)) self.old self.new }
+            → Records (Write at bytes.now) self.old self.new }
         ensures refused { length (memory_sight self.old).seen < at → RecordsNothing self.old self.new }
-        ensures either { Records (Some (at, bytes.now)) self.old self.new ⊎ RecordsNothing self.old self.new }
+        ensures either { Records (Write at bytes.now) self.old self.new ⊎ RecordsNothing self.old self.new }
 
         // It fails where that was asked for, where it begins past the end, and else only for want of memory.
         ensures asked { WillFail self.old 1 → IsErr result }
@@ -262,7 +263,7 @@ impl Disk for MemDisk {
         ensures counts { Counts result (memory_sight self.old).failures (memory_sight self.new).failures }
 
         // It is recorded exactly where it doesn't fail.
-        ensures records { OnOk result (Records None self.old self.new) }
+        ensures records { OnOk result (Records Sync self.old self.new) }
         ensures refused { OnErr result (RecordsNothing self.old self.new) }
 
         // It fails where that was asked for, and else only for want of memory.

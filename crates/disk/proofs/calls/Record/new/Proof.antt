@@ -21,7 +21,7 @@ use denote.Triple.Entry.{on_entry}
 use denote.Triple.Spec.{Meets, triple_of}
 use denote.Triple.Table.{entered}
 use denote.Triple.Walked.{says, ends_at, walked, walk_Meets}
-use Rattle.disk.specs.State.{State}
+use Rattle.disk.specs.Calls.{Start}
 use Rattle.disk.specs.declared.calls.Record.{Record}
 use Rattle.disk.specs.contracts.calls.Record as T
 use Rattle.disk.specs.contracts.calls.Record.new.Key.{name as #it}
@@ -32,7 +32,7 @@ use Rattle.disk.proofs.calls.Record.new.Code as code
 abbrev v : Val
 v = vstruct (vcons (vstruct vnil) vnil)
 
-abbrev r : State → Record
+abbrev r : Start → Record
 r start = record { marker = record {}; start = start; calls = [] }
 
 meets : {M : Type 1} {𝓤 : Ura M} (𝓛 : Logic 𝓤) → (at_mem : Memory → SProp 𝓤) (run : Routine → Fun 𝓤) (𝓣 : Tables 𝓤 𝓛.H)

@@ -2,13 +2,13 @@ use Rattle.std.proofs.Common.{arith, refl, sym, ap, subst, ◌∙◌, ◌≡◌,
 use Rattle.std.proofs.lemmas.List.{take_rest}
 use Rattle.disk.specs.declared.memory.Step.{Step}
 use Rattle.disk.specs.declared.memory.MemDisk.{MemDisk}
-use Rattle.disk.specs.State.{IsImage, nothing}
+use Rattle.disk.specs.State.{IsImage, nothing, furthest}
 use Rattle.disk.specs.Laws.{always_sound, sound_nothing}
 use Rattle.disk.specs.Memory.{acts, ranges_after, AreWithin}
 use Rattle.disk.specs.MemDisk.{state_of}
 use Rattle.disk.specs.Images.{Lists, IsImageOf, contents}
 use Rattle.disk.specs.Fronts.{IsMarked, open_bytes, of_lengths}
-use Rattle.disk.proofs.MaskLemmas.{within-after}
+use Rattle.disk.proofs.MaskLemmas.{within-after, furthest-within}
 use Rattle.disk.proofs.ImageLemmas.{all-listed}
 use Rattle.disk.proofs.memory.MemDisk.images.Goals as goal
 
@@ -19,7 +19,10 @@ synced_fits : (m : MemDisk) → m.synced_len ≤ length m.bytes.items
 synced_fits m = omega (arith, (sound_of m).no_shorter, m.synced, ap length m.same)
 
 within_of : (m : MemDisk) → AreWithin (ranges_after [] (drop m.synced_steps m.steps.items)) (length m.bytes.items)
-within_of m = rw (← m.since, ← m.same) (within-after nothing (acts m.steps.items m.written.items) tt)
+within_of m = rw (← m.since, ← m.same) (within-after nothing m.steps.items m.written.items tt)
+
+far_of : (m : MemDisk) → furthest (state_of m).ranges ≤ length (state_of m).now
+far_of m = furthest-within _ _ (within-after nothing m.steps.items m.written.items tt)
 
 -- the steps since the last sync, as the slice of them has it
 since_of : (m : MemDisk) (steps : List Step) → steps ≡ m.steps.items
@@ -32,7 +35,7 @@ listed_by : (m : MemDisk) (values unique : List ℕ) (mask : List Bool) (steps :
     → ((v : ℕ) → (Contains unique v) ↔ (Contains values v)) → AllPairs (λ x y. x ≢ y) unique
     → Lists (IsImageOf (state_of m) values) (of_lengths (open_bytes mask m.bytes.items unique) m.synced_len (length m.bytes.items - m.synced_len + 1))
 listed_by m values unique mask steps len es el mark same once =
-    all-listed (state_of m) mask values unique m.bytes.items (ranges_after [] (drop m.synced_steps m.steps.items)) m.synced_len (sound_of m)
+    all-listed (state_of m) mask values unique m.bytes.items (ranges_after [] (drop m.synced_steps m.steps.items)) m.synced_len (sound_of m) (far_of m)
     m.same m.synced m.since (mark.0 ∙ el)
     (subst (λ (xs : List Step). IsMarked m.synced_len (ranges_after [] xs) mask) (since_of m steps es) mark.1)
     (record { none_new = λ v. (same v).0; none_lost = λ v. (same v).1; once = once })
