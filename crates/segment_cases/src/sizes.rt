@@ -11,7 +11,7 @@ use labels::StreamKey;
 use segment::Record;
 
 /// Fewer bytes than so many are small.
-const MANY: usize = 1 << 30;
+pub const MANY: usize = 1 << 30;
 
 #[tactic(auto, using(segment::proofs::Lengths::lengths))]
 fn key_size(key: &StreamKey) -> Option<usize>

@@ -1,17 +1,15 @@
 //! Records written, where they are small enough.
-ghost use Rattle.std.specs.Prelude.{◌<◌, ◌^◌, length};
-ghost use Rattle.segment.specs.Spelling.{record_text};
-ghost use Rattle.segment.specs.declared.record.Record.TheVariants.{Append, Trim};
+ghost use Rattle.std.specs.Prelude.{ℕ, OnOk};
+ghost use Rattle.segment.specs.Blocks.{IsOpenAt, EndsOpen};
 
-use crate::sizes::{are_small, is_small, is_small_image};
-use accept::{Entry, Image, StreamImage};
+use crate::sizes::{MANY, are_small, is_small, is_small_image};
+use accept::{Image, StreamImage};
 use anyhow::{Result, bail};
-use labels::StreamKey;
 use log_words::{number_of, owner_of};
 use rows::word_of;
 use segment::{
-    Record, append_block_size, put_append_block, put_block, put_segment, put_state_parts,
-    put_trim_block, state_size, trim_block_size,
+    Record, append_size, close_block, open_block, put_append_record, put_block, put_segment,
+    put_state_parts, put_trim_record, state_size, trim_size,
 };
 use std::alloc::Global;
 use std::fmt::Write;
@@ -25,45 +23,44 @@ pub fn put_records(records: &[Record], slot: &mut Vec<u8>) -> Result<()> {
     Ok(())
 }
 
-/// Writes a block of each record from its parts, and answers what size was announced.
+/// Writes one block of all records, each of which is added from its parts, and answers what sizes were announced.
 pub fn put_parts(records: &[Record], slot: &mut Vec<u8>, said: &mut String) -> Result<()> {
+    let at = slot.len();
+    open_block(slot)?;
     for record in records {
         let size = put_one(record, slot)?;
         writeln!(said, "{size} bytes announced")?;
     }
+    if slot.len() - at > MANY {
+        bail!("too large");
+    }
+    close_block(slot, at);
     Ok(())
 }
 
-fn put_one(record: &Record, slot: &mut Vec<u8>) -> Result<u64> {
+fn put_one(record: &Record, slot: &mut Vec<u8>) -> Result<usize>
+    requires { EndsOpen slot.old.items }
+    ensures { OnOk result ((at : ℕ) → IsOpenAt at slot.old.items → IsOpenAt at slot.new.items) }
+{
     if !is_small(record) {
         bail!("too large");
     }
     match record {
-        Record::Append { key, entries } => put_append(key, entries.as_slice(), slot),
-        Record::Trim { key, bound } => put_trim(key, *bound, slot),
+        Record::Append { key, entries } => {
+            put_append_record(key, entries.as_slice(), slot)?;
+            Ok(append_size(key, entries.as_slice()))
+        }
+        Record::Trim { key, bound } => {
+            put_trim_record(key, *bound, slot)?;
+            Ok(trim_size(key))
+        }
         Record::State {
             key: _,
             highest: _,
             last: _,
             entries: _,
-        } => bail!("a state stands in no block of its own"),
+        } => bail!("a state is no record of a later block"),
     }
-}
-
-fn put_append(key: &StreamKey, entries: &[Entry], slot: &mut Vec<u8>) -> Result<u64>
-    requires { length (record_text (Append key.now entries.now)) < 2 ^ 30 }
-{
-    let size = append_block_size(key, entries);
-    put_append_block(key, entries, slot)?;
-    Ok(size)
-}
-
-fn put_trim(key: &StreamKey, bound: u64, slot: &mut Vec<u8>) -> Result<u64>
-    requires { length (record_text (Trim key.now bound)) < 2 ^ 30 }
-{
-    let size = trim_block_size(key);
-    put_trim_block(key, bound, slot)?;
-    Ok(size)
 }
 
 /// Writes each state with its first entries as one part and the others as another.

@@ -1,5 +1,6 @@
 pub mod Sent
 pub mod Bytes
+pub mod Gathered
 pub mod Written
 pub mod Growing
 pub mod Replies
