@@ -52,17 +52,28 @@ fn time_bodies<R: Clock + Print + AllocGlobal>(rt: &R) -> Result<()> {
 
 /// Calls what no other program calls yet.
 fn check<R: Print + AllocGlobal>(rt: &R) -> Result<()> {
-    let labels = LabelSet::parse_text(rt.alloc(), r#"{a="1", b="2"}"#)?;
-    let text = labels.text(rt.alloc())?;
-    rt.println(format_args!("labels {text}"))?;
-    let query = read_query(rt.alloc(), br#"{"stream":{"a":"1"},"from":"1","to":"2"}"#)?;
-    let (from, to) = (query.from, query.to);
-    rt.println(format_args!("query from {from} to {to}"))?;
-    let trim = read_trim(rt.alloc(), br#"{"stream":{"a":"1"},"bound":"3"}"#)?;
-    let bound = trim.bound;
-    rt.println(format_args!("trim bound {bound}"))?;
+    check_labels(rt)?;
+    check_bodies(rt)?;
     slots::check_slot(rt)?;
     write_ahead::check(rt)
+}
+
+fn check_labels<R: Print + AllocGlobal>(rt: &R) -> Result<()> {
+    let labels = LabelSet::parse_text(rt.alloc(), r#"{a="1", b="2"}"#)?;
+    let text = labels.text(rt.alloc())?;
+    Ok(rt.println(format_args!("labels {text}"))?)
+}
+
+fn check_bodies<R: Print + AllocGlobal>(rt: &R) -> Result<()> {
+    let (from, to) = bounds_of(rt.alloc())?;
+    rt.println(format_args!("query from {from} to {to}"))?;
+    let bound = read_trim(rt.alloc(), br#"{"stream":{"a":"1"},"bound":"3"}"#)?.bound;
+    Ok(rt.println(format_args!("trim bound {bound}"))?)
+}
+
+fn bounds_of(alloc: Global) -> Result<(u64, u64)> {
+    let query = read_query(alloc, br#"{"stream":{"a":"1"},"from":"1","to":"2"}"#)?;
+    Ok((query.from, query.to))
 }
 
 /// A push body of one stream.
@@ -74,32 +85,45 @@ fn body_of(alloc: Global, entries: u64, line: usize) -> Result<Vec<u8>> {
         if entry > 0 {
             body.push(b',')?;
         }
-        let time = START.saturating_add(entry);
-        let head = format!(in alloc; "[\"{time}\",\"")?;
-        body.extend_from_slice(head.as_bytes())?;
-        body.extend_from_slice(&text)?;
-        body.extend_from_slice(b"\"]")?;
+        put_entry(alloc, &mut body, START.saturating_add(entry), &text)?;
     }
     body.extend_from_slice(b"]}]}")?;
     Ok(body)
+}
+
+fn put_entry(alloc: Global, body: &mut Vec<u8>, time: u64, text: &[u8]) -> Result<()> {
+    let head = format!(in alloc; "[\"{time}\",\"")?;
+    body.extend_from_slice(head.as_bytes())?;
+    body.extend_from_slice(text)?;
+    Ok(body.extend_from_slice(b"\"]")?)
 }
 
 fn report<R: Clock + Print + AllocGlobal>(rt: &R, body: &[u8]) -> Result<()> {
     let mut json = Duration::MAX;
     let mut push = Duration::MAX;
     for _ in 0..RUNS {
-        let start = Instant::now(rt)?;
-        drop(Value::from_slice(rt.alloc(), body)?);
-        json = json.min(start.elapsed(rt)?);
-        let start = Instant::now(rt)?;
-        drop(read_push(rt.alloc(), body)?);
-        push = push.min(start.elapsed(rt)?);
+        json = json.min(time_json(rt, body)?);
+        push = push.min(time_push(rt, body)?);
     }
-    let size = body.len();
-    for (name, time) in [("serde_json", json), ("read_push", push)] {
-        let micros = time.as_micros().max(1);
-        let speed = size as u128 / micros;
-        rt.println(format_args!("  {name}: {micros} us, {speed} MB/s"))?;
-    }
-    Ok(())
+    report_speed(rt, "serde_json", body.len(), json)?;
+    report_speed(rt, "read_push", body.len(), push)
+}
+
+fn time_json<R: Clock + AllocGlobal>(rt: &R, body: &[u8]) -> Result<Duration> {
+    let start = Instant::now(rt)?;
+    drop(Value::from_slice(rt.alloc(), body)?);
+    Ok(start.elapsed(rt)?)
+}
+
+fn time_push<R: Clock + AllocGlobal>(rt: &R, body: &[u8]) -> Result<Duration> {
+    let start = Instant::now(rt)?;
+    drop(read_push(rt.alloc(), body)?);
+    Ok(start.elapsed(rt)?)
+}
+
+/// Prints how long so many bytes took.
+fn report_speed<R: Print>(rt: &R, name: &str, size: usize, time: Duration) -> Result<()> {
+    let micros = time.as_micros().max(1);
+    let speed = size as u128 / micros;
+    Ok(rt.println(format_args!("  {name}: {micros} us, {speed} MB/s"))?)
 }

@@ -1,5 +1,6 @@
 //! How fast the segment in a slot is read.
 
+use crate::report_speed;
 use anyhow::{Result, bail};
 use segment_reader::{read_records, read_segment};
 use std::alloc::Global;
@@ -48,7 +49,10 @@ fn segment_of(alloc: Global, blocks: u64) -> Result<Vec<u8>> {
 
 /// Prints how fast a segment of 64 MiB is read, and how fast its bytes are looked at alone.
 pub fn time_slot<R: Clock + Print + AllocGlobal>(rt: &R) -> Result<()> {
-    let slot = segment_of(rt.alloc(), BLOCKS)?;
+    report(rt, &segment_of(rt.alloc(), BLOCKS)?)
+}
+
+fn report<R: Clock + Print + AllocGlobal>(rt: &R, slot: &[u8]) -> Result<()> {
     let mut bytes = Duration::MAX;
     let mut segment = Duration::MAX;
     let mut records = Duration::MAX;
@@ -57,41 +61,51 @@ pub fn time_slot<R: Clock + Print + AllocGlobal>(rt: &R) -> Result<()> {
         let start = Instant::now(rt)?;
         open_gates = slot.iter().filter(|byte| **byte == 1).count();
         bytes = bytes.min(start.elapsed(rt)?);
-        let start = Instant::now(rt)?;
-        let read = read_segment(rt.alloc(), &slot, 0, 1)?;
-        segment = segment.min(start.elapsed(rt)?);
-        drop(read);
-        let start = Instant::now(rt)?;
-        let read = read_records(rt.alloc(), &slot, 0, 1)?;
-        records = records.min(start.elapsed(rt)?);
-        drop(read);
+        segment = segment.min(time_segment(rt, slot)?);
+        records = records.min(time_records(rt, slot)?);
     }
     let size = slot.len();
     rt.println(format_args!("a segment of {size} bytes, lines of 200, {open_gates} bytes of 1"))?;
-    for (name, time) in [
-        ("its bytes alone", bytes),
-        ("read_segment", segment),
-        ("read_records", records),
-    ] {
-        let micros = time.as_micros().max(1);
-        let speed = size as u128 / micros;
-        rt.println(format_args!("  {name}: {micros} us, {speed} MB/s"))?;
-    }
-    Ok(())
+    report_speed(rt, "its bytes alone", size, bytes)?;
+    report_speed(rt, "read_segment", size, segment)?;
+    report_speed(rt, "read_records", size, records)
+}
+
+fn time_segment<R: Clock + AllocGlobal>(rt: &R, slot: &[u8]) -> Result<Duration> {
+    let start = Instant::now(rt)?;
+    let read = read_segment(rt.alloc(), slot, 0, 1)?;
+    let time = start.elapsed(rt)?;
+    drop(read);
+    Ok(time)
+}
+
+fn time_records<R: Clock + AllocGlobal>(rt: &R, slot: &[u8]) -> Result<Duration> {
+    let start = Instant::now(rt)?;
+    let read = read_records(rt.alloc(), slot, 0, 1)?;
+    let time = start.elapsed(rt)?;
+    drop(read);
+    Ok(time)
 }
 
 /// Reads a segment of two blocks, both ways.
 pub fn check_slot<R: Print + AllocGlobal>(rt: &R) -> Result<()> {
     let slot = segment_of(rt.alloc(), 2)?;
-    let Some((_generation, records, end)) = read_records(rt.alloc(), &slot, 0, 1)? else {
+    check_records(rt, &slot)?;
+    check_segment(rt, &slot)
+}
+
+fn check_records<R: Print + AllocGlobal>(rt: &R, slot: &[u8]) -> Result<()> {
+    let Some((_generation, records, end)) = read_records(rt.alloc(), slot, 0, 1)? else {
         bail!("closed");
     };
     let count = records.len();
-    rt.println(format_args!("records {count} end {end}"))?;
-    let Some((generation, image, end)) = read_segment(rt.alloc(), &slot, 0, 1)? else {
+    Ok(rt.println(format_args!("records {count} end {end}"))?)
+}
+
+fn check_segment<R: Print + AllocGlobal>(rt: &R, slot: &[u8]) -> Result<()> {
+    let Some((generation, image, end)) = read_segment(rt.alloc(), slot, 0, 1)? else {
         bail!("closed");
     };
     let streams = image.iter().count();
-    rt.println(format_args!("segment {generation} streams {streams} end {end}"))?;
-    Ok(())
+    Ok(rt.println(format_args!("segment {generation} streams {streams} end {end}"))?)
 }

@@ -3,8 +3,9 @@ ghost use Rattle.std.specs.Prelude.{◌≡◌, []};
 ghost use Rattle.accept.specs.Steps.{AreNumbers};
 
 use crate::settings::Settings;
-use crate::slots::Pair;
+use crate::slots::{Left, Pair};
 use crate::texts::write_reply;
+use crate::words::call_of;
 use accept::{Call, Reply};
 use anyhow::{Result, bail};
 use disk::MemDisk;
@@ -82,6 +83,19 @@ impl Alone {
         }
     }
 
+    /// Makes the call of a line, and appends its answer, or why it was refused.
+    pub fn say(&mut self, alloc: Global, line: &str, into: &mut String) -> Result<()> {
+        let call = call_of(alloc, line)?;
+        self.call(alloc, &call, into)
+    }
+
+    /// The answer of the call of a line, or why it was refused.
+    pub fn answer(&mut self, alloc: Global, line: &str) -> Result<String> {
+        let mut answer = String::new(alloc);
+        self.say(alloc, line, &mut answer)?;
+        Ok(answer)
+    }
+
     /// How long the history is, once it was compared with what the pass has seen.
     pub fn steps(&mut self) -> u64 {
         self.shard.settle(&mut self.pass);
@@ -90,6 +104,18 @@ impl Alone {
 
     pub fn is_marked(&self) -> bool {
         self.shard.is_marked()
+    }
+
+    /// What is left of the shard.
+    pub fn end(self) -> Left {
+        let mut alone = self;
+        let steps = Some(alone.steps());
+        let is_marked = alone.is_marked();
+        Left {
+            pair: alone.close(),
+            steps,
+            is_marked,
+        }
     }
 
     pub fn close(self) -> Pair {

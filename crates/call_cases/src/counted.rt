@@ -45,4 +45,10 @@ impl Counted {
         }
         Ok(())
     }
+
+    /// Appends the texts as lines.
+    pub fn end(&self, into: &mut String) -> Result<()> {
+        self.write("\n", into)?;
+        Ok(into.push('\n')?)
+    }
 }

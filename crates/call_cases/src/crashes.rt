@@ -54,15 +54,10 @@ impl fmt::Display for Tried {
 
 /// What a read gives of the only shard in these slots, or why they are refused.
 fn found_in(alloc: Global, pair: Pair, settings: Settings, read: &str) -> Result<String> {
-    let mut found = String::new(alloc);
     match Alone::open(alloc, pair, settings)? {
-        Ok(mut alone) => alone.call(alloc, &call_of(alloc, read)?, &mut found)?,
-        Err(refusal) => {
-            let fault = refusal.0;
-            write!(found, "{fault}")?;
-        }
+        Ok(mut alone) => alone.answer(alloc, read),
+        Err((fault, _)) => Ok(format!(in alloc; "{fault}")?),
     }
-    Ok(found)
 }
 
 /// Says what a read gives of each pair of contents that a crash may leave, with these values for unsynced bytes.
@@ -79,13 +74,22 @@ pub fn say_contents(
     let mut found = Counted::new(alloc);
     for first in firsts.iter() {
         for second in seconds.iter() {
-            let left = Pair::of_bytes(alloc, first, second)?;
-            found.add(found_in(alloc, left, settings, read)?)?;
+            found.add(found_on(alloc, first, second, settings, read)?)?;
         }
     }
-    found.write("\n", said)?;
-    said.push('\n')?;
-    Ok(())
+    found.end(said)
+}
+
+/// What a read gives of the only shard in slots with these bytes.
+fn found_on(
+    alloc: Global,
+    first: &[u8],
+    second: &[u8],
+    settings: Settings,
+    read: &str,
+) -> Result<String> {
+    let pair = Pair::of_bytes(alloc, first, second)?;
+    found_in(alloc, pair, settings, read)
 }
 
 /// What a crash may leave on a disk: each content where few bytes are unsynced, else every 61st of those with 1 for
@@ -115,13 +119,16 @@ struct Trial<'a> {
 impl Trial<'_> {
     /// What becomes of the call in these slots.
     fn attempt(&self, pair: Pair) -> Result<Tried> {
-        let mut alone = match Alone::open(self.alloc, pair, self.settings)? {
-            Ok(alone) => alone,
-            Err(refusal) if matches!(refusal.0, OpenFault::Device) => return Ok(Tried::Unopened),
-            Err(refusal) => return Err(refusal.0.into()),
-        };
-        let mut answer = String::new(self.alloc);
-        alone.call(self.alloc, &call_of(self.alloc, self.call)?, &mut answer)?;
+        match Alone::open(self.alloc, pair, self.settings)? {
+            Ok(alone) => self.attempt_in(alone),
+            Err((OpenFault::Device, _)) => Ok(Tried::Unopened),
+            Err((fault, _)) => Err(fault.into()),
+        }
+    }
+
+    fn attempt_in(&self, alone: Alone) -> Result<Tried> {
+        let mut alone = alone;
+        let answer = alone.answer(self.alloc, self.call)?;
         if answer.as_str() != "Unavailable" {
             return Ok(Tried::Answered);
         }
@@ -134,12 +141,10 @@ impl Trial<'_> {
         let (mut is_before, mut is_after) = (false, false);
         for first in some_contents(self.alloc, &pair.first)?.iter() {
             for second in seconds.iter() {
-                let left = Pair::of_bytes(self.alloc, first, second)?;
-                let found = found_in(self.alloc, left, self.settings, self.read)?;
-                match found.as_str() {
-                    found if found == self.before => is_before = true,
-                    found if found == self.after => is_after = true,
-                    _ => return Ok(Tried::Another),
+                match self.sight(first, second)? {
+                    Some(Tried::Before) => is_before = true,
+                    Some(_) => is_after = true,
+                    None => return Ok(Tried::Another),
                 }
             }
         }
@@ -151,13 +156,21 @@ impl Trial<'_> {
         })
     }
 
+    /// Whether slots with these bytes have the streams before the call or those after it.
+    fn sight(&self, first: &[u8], second: &[u8]) -> Result<Option<Tried>> {
+        let found = found_on(self.alloc, first, second, self.settings, self.read)?;
+        Ok(match found.as_str() {
+            found if found == self.before => Some(Tried::Before),
+            found if found == self.after => Some(Tried::After),
+            _ => None,
+        })
+    }
+
     /// What becomes of the call where a slot does not work at its first call, at its second, and so on, until it is answered.
     fn attempt_each(&self, pair: &mut Pair, slot: u64, way: Way) -> Result<Counted> {
         let mut all = Counted::new(self.alloc);
         for call in 1..CALLS {
-            let mut copy = pair.copy(self.alloc)?;
-            copy.plan(slot, way, call)?;
-            let tried = self.attempt(copy)?;
+            let tried = self.attempt(planned(self.alloc, pair, slot, way, call)?)?;
             all.add(format!(in self.alloc; "{tried}")?)?;
             if tried == Tried::Answered {
                 return Ok(all);
@@ -165,15 +178,38 @@ impl Trial<'_> {
         }
         bail!("the call is never answered");
     }
+
+    /// Says for each slot what becomes of the call where it does not work.
+    fn say_slots(&self, pair: &mut Pair, way: Way, said: &mut String) -> Result<()> {
+        for slot in 0..2 {
+            write!(said, "slot {slot}: ")?;
+            self.attempt_each(pair, slot, way)?.write(", ", said)?;
+            said.push('\n')?;
+        }
+        Ok(())
+    }
 }
 
-/// The slots once a call was made on copies of these, and its answer.
-fn made(alloc: Global, pair: Pair, settings: Settings, call: &str) -> Result<(String, Pair)> {
-    let mut answer = String::new(alloc);
+/// Copies of slots, of which one does not work at its call of this number.
+fn planned(alloc: Global, pair: &mut Pair, slot: u64, way: Way, call: u64) -> Result<Pair> {
+    let mut copy = pair.copy(alloc)?;
+    copy.plan(slot, way, call)?;
+    Ok(copy)
+}
+
+/// Makes a call, and says its answer: the slots after it.
+fn say_made(
+    alloc: Global,
+    pair: Pair,
+    settings: Settings,
+    call: &str,
+    said: &mut String,
+) -> Result<Pair> {
     match Alone::open(alloc, pair, settings)? {
         Ok(mut alone) => {
-            alone.call(alloc, &call_of(alloc, call)?, &mut answer)?;
-            Ok((answer, alone.close()))
+            alone.say(alloc, call, said)?;
+            said.push('\n')?;
+            Ok(alone.close())
         }
         Err(refusal) => Err(refusal.0.into()),
     }
@@ -192,22 +228,18 @@ pub fn say_trials(
     let (_, rest) = word_of(call);
     let (stream, _) = word_of(rest);
     let read = format!(in alloc; "read {stream}")?;
-    let before = found_in(alloc, pair.copy(alloc)?, settings, read.as_str())?;
-    let (answer, mut next) = made(alloc, pair.copy(alloc)?, settings, call)?;
-    let after = found_in(alloc, next.copy(alloc)?, settings, read.as_str())?;
+    let read = read.as_str();
+    let before = found_in(alloc, pair.copy(alloc)?, settings, read)?;
+    let mut next = say_made(alloc, pair.copy(alloc)?, settings, call, said)?;
+    let after = found_in(alloc, next.copy(alloc)?, settings, read)?;
     let trial = Trial {
         alloc,
         settings,
         call,
-        read: read.as_str(),
+        read,
         before: before.as_str(),
         after: after.as_str(),
     };
-    writeln!(said, "{answer}")?;
-    for slot in 0..2 {
-        write!(said, "slot {slot}: ")?;
-        trial.attempt_each(pair, slot, way)?.write(", ", said)?;
-        said.push('\n')?;
-    }
+    trial.say_slots(pair, way, said)?;
     Ok(next)
 }

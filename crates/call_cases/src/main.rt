@@ -36,11 +36,19 @@ fn judge_file<R: Files + Print + Wait + AllocGlobal>(
     let alloc = rt.alloc();
     let text = fs::read_to_string(rt, name)?;
     for row in rows_of(alloc, text.as_str())?.iter() {
-        let mut said = String::new(alloc);
-        take_row(rt, row, &mut said).context(format_args!("row {}", row.name))?;
-        tally.judge(rt, row, said.as_str())?;
+        judge_row(rt, row, tally)?;
     }
     Ok(())
+}
+
+fn judge_row<R: Print + Wait + AllocGlobal>(
+    rt: &R,
+    row: &Row<'_>,
+    tally: &mut Tally,
+) -> Result<()> {
+    let mut said = String::new(rt.alloc());
+    take_row(rt, row, &mut said).context(format_args!("row {}", row.name))?;
+    tally.judge(rt, row, said.as_str())
 }
 
 /// Does what the lines of a row say, and appends what is said to that.

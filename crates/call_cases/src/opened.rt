@@ -1,5 +1,7 @@
 use crate::alone::Alone;
-use crate::slots::Left;
+use crate::counted::Counted;
+use crate::settings::Settings;
+use crate::slots::{Left, Pair};
 use crate::together::Together;
 use crate::words::call_of;
 use anyhow::{Result, bail};
@@ -14,7 +16,61 @@ pub enum Opened {
     Together(Together),
 }
 
+/// Slots that were not opened.
+#[derive(Drop)]
+pub struct Refused {
+    /// A line that says why.
+    pub why: String,
+    pub pairs: Vec<Pair>,
+}
+
 impl Opened {
+    /// Opens an ingester over these slots, or their only shard without one.
+    pub fn open(
+        alloc: Global,
+        pairs: Vec<Pair>,
+        settings: Settings,
+        is_alone: bool,
+    ) -> Result<Result<Opened, Refused>> {
+        if is_alone {
+            return Opened::alone(alloc, only_of(pairs)?, settings);
+        }
+        match Together::open(alloc, pairs, settings)? {
+            Ok(together) => Ok(Ok(Opened::Together(together))),
+            Err((fault, pairs)) => {
+                let why = format!(in alloc; "refused: {fault}\n")?;
+                Ok(Err(Refused { why, pairs }))
+            }
+        }
+    }
+
+    fn alone(alloc: Global, pair: Pair, settings: Settings) -> Result<Result<Opened, Refused>> {
+        match Alone::open(alloc, pair, settings)? {
+            Ok(alone) => Ok(Ok(Opened::Alone(alone))),
+            Err((fault, pair)) => {
+                let pairs = vec![in alloc; pair]?;
+                let why = format!(in alloc; "refused: {fault}\n")?;
+                Ok(Err(Refused { why, pairs }))
+            }
+        }
+    }
+
+    /// Makes the call of a line with each pass in its turn: their answers.
+    pub fn call_each<R: Wait>(&mut self, rt: &R, alloc: Global, line: &str) -> Result<Counted> {
+        let mut answers = Counted::new(alloc);
+        for _ in 0..self.passes() {
+            answers.add(self.answer(rt, alloc, line)?)?;
+            self.turn()?;
+        }
+        Ok(answers)
+    }
+
+    fn answer<R: Wait>(&mut self, rt: &R, alloc: Global, line: &str) -> Result<String> {
+        let mut answer = String::new(alloc);
+        self.call(rt, alloc, line, &mut answer)?;
+        Ok(answer)
+    }
+
     /// Makes the call of a line, and appends its answer, or why it was refused.
     pub fn call<R: Wait>(
         &mut self,
@@ -65,19 +121,16 @@ impl Opened {
     /// What is left of each shard, the first in front.
     pub fn close<R: Wait>(self, rt: &R, alloc: Global) -> Result<Vec<Left>> {
         match self {
-            Opened::Alone(alone) => {
-                let mut alone = alone;
-                let steps = Some(alone.steps());
-                let is_marked = alone.is_marked();
-                let pair = alone.close();
-                let left = Left {
-                    pair,
-                    steps,
-                    is_marked,
-                };
-                Ok(vec![in alloc; left]?)
-            }
+            Opened::Alone(alone) => Ok(vec![in alloc; alone.end()]?),
             Opened::Together(together) => together.close(rt, alloc),
         }
+    }
+}
+
+fn only_of(pairs: Vec<Pair>) -> Result<Pair> {
+    let mut pairs = pairs;
+    match (pairs.pop(), pairs.pop()) {
+        (Some(pair), None) => Ok(pair),
+        _ => bail!("there is not one shard alone"),
     }
 }

@@ -4,7 +4,7 @@ use anyhow::{Result, bail};
 use disk::{Disk, MemDisk};
 use std::alloc::Global;
 use std::fmt::Write;
-use wal::Wal;
+use wal::{OpenFault, Wal};
 
 /// The most bytes of a segment whose length is said.
 const MEASURED: u64 = 16_384;
@@ -131,29 +131,35 @@ fn bytes_of(alloc: Global, slot: &mut MemDisk) -> Result<Vec<u8>> {
 }
 
 /// Appends ` segment GENERATION LENGTH` of the segment in use, ` no segment`, or why there is none to be used.
-pub fn write_segment(
+fn write_segment(
     alloc: Global,
     pair: &mut Pair,
     shard: u32,
     count: u32,
     into: &mut String,
 ) -> Result<()> {
+    match segment_in(alloc, pair, shard, count)? {
+        Ok((0, _)) => Ok(into.push_str(" no segment")?),
+        Ok((generation, length)) => Ok(write!(into, " segment {generation} {length}")?),
+        Err(fault) => Ok(write!(into, " {fault}")?),
+    }
+}
+
+/// The generation of the segment in use, 0 where there is none, and its length.
+fn segment_in(
+    alloc: Global,
+    pair: &mut Pair,
+    shard: u32,
+    count: u32,
+) -> Result<Result<(u64, u64), OpenFault>> {
     if count == 0 || count > 64 {
         bail!("there are 1 to 64 shards");
     }
     let slots = pair.copy(alloc)?.into_slots();
     match Wal::open(alloc, slots, shard, count, MEASURED) {
-        Ok((log, _image)) if log.generation() == 0 => into.push_str(" no segment")?,
-        Ok((log, _image)) => {
-            let (generation, length) = (log.generation(), length_in(&log));
-            write!(into, " segment {generation} {length}")?;
-        }
-        Err(refusal) => {
-            let fault = refusal.0;
-            write!(into, " {fault}")?;
-        }
+        Ok((log, _image)) => Ok(Ok((log.generation(), length_in(&log)))),
+        Err(refusal) => Ok(Err(refusal.0)),
     }
-    Ok(())
 }
 
 /// The length of the segment in use, by what fits behind it.
@@ -194,22 +200,26 @@ impl Left {
         count: u32,
         before: (u64, u64),
     ) -> Result<String> {
-        let mut state = match self.steps {
-            Some(steps) => format!(in alloc; "steps {steps}")?,
-            None => String::from_str(alloc, "unopened")?,
-        };
-        write_segment(alloc, &mut self.pair, shard, count, &mut state)?;
-        let after = self.pair.calls();
-        let calls = (
-            after.0.saturating_sub(before.0),
-            after.1.saturating_sub(before.1),
-        );
-        write!(state, " calls {} {}", calls.0, calls.1)?;
-        let lengths = (self.pair.first.len()?, self.pair.second.len()?);
-        write!(state, " slots {} {}", lengths.0, lengths.1)?;
-        if self.is_marked {
-            state.push_str(" marked")?;
+        let mut state = String::new(alloc);
+        match self.steps {
+            Some(steps) => write!(state, "steps {steps}")?,
+            None => state.push_str("unopened")?,
         }
+        write_segment(alloc, &mut self.pair, shard, count, &mut state)?;
+        self.say_slots(before, &mut state)?;
         Ok(state)
+    }
+
+    fn say_slots(&mut self, before: (u64, u64), into: &mut String) -> Result<()> {
+        let after = self.pair.calls();
+        let first = after.0.saturating_sub(before.0);
+        let second = after.1.saturating_sub(before.1);
+        write!(into, " calls {first} {second}")?;
+        let (first, second) = (self.pair.first.len()?, self.pair.second.len()?);
+        write!(into, " slots {first} {second}")?;
+        if self.is_marked {
+            into.push_str(" marked")?;
+        }
+        Ok(())
     }
 }

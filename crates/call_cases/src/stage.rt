@@ -1,13 +1,11 @@
 //! What the lines of a row do.
 
-use crate::alone::Alone;
 use crate::counted::Counted;
 use crate::crashes::{say_contents, say_trials};
-use crate::opened::Opened;
+use crate::opened::{Opened, Refused};
 use crate::prepared::{End, Prepared};
 use crate::settings::Settings;
 use crate::slots::{Left, Pair, Way};
-use crate::together::Together;
 use crate::words::number_of;
 use anyhow::{Result, bail};
 use rows::{escape, unescape, word_of};
@@ -51,7 +49,9 @@ impl Stage {
             "push" | "read" | "trim" | "each" => self.take_call(rt, line, said),
             "look" => self.look(rest, said),
             "turn" => self.turn(),
-            "store" | "forget" | "block" | "segment" => self.take_change(word, rest, said),
+            "store" => self.take_change(End::Store, rest, said),
+            "forget" => self.take_change(End::Forget, rest, said),
+            "block" | "segment" => self.say_change(word, said),
             "crash" => self.crash(rest, said),
             "fails" => self.try_each(Way::Fails, rest, said),
             "stops" => self.try_each(Way::Stops, rest, said),
@@ -90,31 +90,22 @@ impl Stage {
 
     /// `open`: an ingester over all slots; `open alone`: the only shard without one.
     fn open(&mut self, text: &str, said: &mut String) -> Result<()> {
-        let alloc = self.alloc;
-        let mut pairs = mem::replace(&mut self.pairs, Vec::new(alloc));
-        self.before = calls_of(alloc, &pairs)?;
-        match text {
-            "alone" => {
-                let (Some(pair), None) = (pairs.pop(), pairs.pop()) else {
-                    bail!("there is not one shard alone");
-                };
-                match Alone::open(alloc, pair, self.settings)? {
-                    Ok(alone) => self.opened = Some(Opened::Alone(alone)),
-                    Err((fault, pair)) => {
-                        writeln!(said, "refused: {fault}")?;
-                        self.put_back(vec![in alloc; pair]?, said)?;
-                    }
-                }
+        self.before = calls_of(self.alloc, &self.pairs)?;
+        let pairs = mem::replace(&mut self.pairs, Vec::new(self.alloc));
+        match Opened::open(self.alloc, pairs, self.settings, text == "alone")? {
+            Ok(opened) => {
+                self.opened = Some(opened);
+                Ok(())
             }
-            _ => match Together::open(alloc, pairs, self.settings)? {
-                Ok(together) => self.opened = Some(Opened::Together(together)),
-                Err((fault, pairs)) => {
-                    writeln!(said, "refused: {fault}")?;
-                    self.put_back(pairs, said)?;
-                }
-            },
+            Err(refused) => self.refuse(refused, said),
         }
-        Ok(())
+    }
+
+    /// Says why slots were not opened, and takes them back.
+    fn refuse(&mut self, refused: Refused, said: &mut String) -> Result<()> {
+        let Refused { why, pairs } = refused;
+        said.push_str(why.as_str())?;
+        self.put_back(pairs, said)
     }
 
     /// Takes slots back that were not opened.
@@ -143,18 +134,19 @@ impl Stage {
     fn say_left(&mut self, all: Vec<Left>, said: &mut String) -> Result<()> {
         let count = u32::try_from(all.len())?;
         let mut states = Counted::new(self.alloc);
-        let mut shard: u32 = 0;
         for left in all {
-            let mut left = left;
-            left.pair.mend();
-            let before = self.before.get(shard as usize).copied().unwrap_or((0, 0));
-            states.add(left.state(self.alloc, shard, count, before)?)?;
-            self.pairs.push(left.pair)?;
-            shard = shard.saturating_add(1);
+            self.take_left(left, count, &mut states)?;
         }
-        states.write("\n", said)?;
-        said.push('\n')?;
-        Ok(())
+        states.end(said)
+    }
+
+    /// Adds the state of the next shard, and keeps its slots.
+    fn take_left(&mut self, left: Left, count: u32, states: &mut Counted) -> Result<()> {
+        let mut left = left;
+        let shard = self.pairs.len();
+        let before = self.before.get(shard).copied().unwrap_or((0, 0));
+        states.add(left.state(self.alloc, shard as u32, count, before)?)?;
+        Ok(self.pairs.push(left.pair)?)
     }
 
     /// A call, or `each` and a call, which each pass makes in its turn.
@@ -168,16 +160,7 @@ impl Stage {
             said.push('\n')?;
             return Ok(());
         };
-        let mut answers = Counted::new(alloc);
-        for _ in 0..opened.passes() {
-            let mut answer = String::new(alloc);
-            opened.call(rt, alloc, call, &mut answer)?;
-            answers.add(answer)?;
-            opened.turn()?;
-        }
-        answers.write("\n", said)?;
-        said.push('\n')?;
-        Ok(())
+        opened.call_each(rt, alloc, call)?.end(said)
     }
 
     /// `look [SHARD]`
@@ -203,41 +186,41 @@ impl Stage {
         }
     }
 
-    /// `store CALL` and `forget CALL`, and the bytes of the last change, `block` and `segment`.
-    fn take_change(&mut self, word: &str, text: &str, said: &mut String) -> Result<()> {
+    /// `store CALL` and `forget CALL`.
+    fn take_change(&mut self, end: End, call: &str, said: &mut String) -> Result<()> {
         let prepared = match self.prepared.take() {
             Some(prepared) => prepared,
             None => Prepared::new(self.alloc)?,
         };
-        let (alloc, limits) = (self.alloc, self.settings.limits);
-        self.prepared = Some(match word {
-            "store" => prepared.make(alloc, limits, text, End::Store, said)?,
-            "forget" => prepared.make(alloc, limits, text, End::Forget, said)?,
-            "block" => {
-                say_from(0, &prepared.block, said)?;
-                prepared
-            }
-            _ => {
-                say_from(0, &prepared.segment, said)?;
-                prepared
-            }
-        });
+        self.prepared = Some(prepared.make(self.alloc, self.settings.limits, call, end, said)?);
         Ok(())
+    }
+
+    /// `block` and `segment`: the bytes of the last change.
+    fn say_change(&self, word: &str, said: &mut String) -> Result<()> {
+        match &self.prepared {
+            Some(prepared) if word == "block" => say_from(0, &prepared.block, said),
+            Some(prepared) => say_from(0, &prepared.segment, said),
+            None => say_from(0, &[], said),
+        }
     }
 
     /// `crash STREAM VALUE..`: what a read of the stream gives of each content that a crash may leave.
     fn crash(&mut self, text: &str, said: &mut String) -> Result<()> {
-        let alloc = self.alloc;
+        let Some(pair) = self.pairs.first() else {
+            bail!("the shard is open");
+        };
         let (stream, text) = word_of(text);
-        let mut values = Vec::new(alloc);
-        for word in text.split(' ') {
-            values.push(word.parse::<u8>()?)?;
-        }
-        let read = format!(in alloc; "read {stream}")?;
-        match self.pairs.first() {
-            Some(pair) => say_contents(alloc, pair, self.settings, read.as_str(), &values, said),
-            None => bail!("the shard is open"),
-        }
+        let read = format!(in self.alloc; "read {stream}")?;
+        let values = values_of(self.alloc, text)?;
+        say_contents(
+            self.alloc,
+            pair,
+            self.settings,
+            read.as_str(),
+            &values,
+            said,
+        )
     }
 
     /// `fails CALL` and `stops CALL`: a call where each device call of it in turn fails, or all from there on; then the call.
@@ -272,6 +255,14 @@ fn bytes_of(alloc: Global, text: &str) -> Result<Vec<u8>> {
     let mut bytes = Vec::new(alloc);
     unescape(text, &mut bytes)?;
     Ok(bytes)
+}
+
+fn values_of(alloc: Global, text: &str) -> Result<Vec<u8>> {
+    let mut values = Vec::new(alloc);
+    for word in text.split(' ') {
+        values.push(word.parse::<u8>()?)?;
+    }
+    Ok(values)
 }
 
 /// Says the bytes from a place on.

@@ -124,19 +124,15 @@ impl Together {
     /// What is left of each shard, the first in front.
     pub fn close<R: Wait>(self, rt: &R, alloc: Global) -> Result<Vec<Left>> {
         let mut open = self;
-        let mut steps = Vec::new(alloc);
-        for shard in 0..open.count {
-            steps.push(open.steps(shard)?)?;
-        }
-        let mut closed = open.end(rt)?;
+        let steps = open.all_steps(alloc)?;
+        left_of(alloc, open.end(rt)?, &steps)
+    }
+
+    fn all_steps(&mut self, alloc: Global) -> Result<Vec<u64>> {
         let mut all = Vec::new(alloc);
-        for steps in steps.iter().rev() {
-            let Some(shard) = closed.take() else {
-                bail!("a shard is lost");
-            };
-            all.push(Left::of_slots(shard.0, Some(*steps), shard.1))?;
+        for shard in 0..self.count {
+            all.push(self.steps(shard)?)?;
         }
-        all.reverse();
         Ok(all)
     }
 
@@ -150,4 +146,18 @@ impl Together {
         others.push(pass)?;
         Ok(ingester.close(rt, others))
     }
+}
+
+/// What is left of each shard, the first in front, with these numbers of steps.
+fn left_of(alloc: Global, closed: Closed<MemDisk>, steps: &[u64]) -> Result<Vec<Left>> {
+    let mut closed = closed;
+    let mut all = Vec::new(alloc);
+    for steps in steps.iter().rev() {
+        let Some(shard) = closed.take() else {
+            bail!("a shard is lost");
+        };
+        all.push(Left::of_slots(shard.0, Some(*steps), shard.1))?;
+    }
+    all.reverse();
+    Ok(all)
 }

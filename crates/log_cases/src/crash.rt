@@ -1,7 +1,8 @@
 //! What a crash may leave of a slot, and what it is opened as.
 use crate::drive::read_all;
-use crate::slots::{EXAMPLE, Slots, open, synced};
+use crate::slots::{EXAMPLE, Slots, open};
 use anyhow::Result;
+use disk::MemDisk;
 use log_words::{bytes_of, number_of};
 use rows::word_of;
 use std::alloc::Global;
@@ -28,12 +29,68 @@ impl Alike {
 
     fn say(&self, said: &mut String) -> Result<()> {
         let (count, shortest, longest) = (self.count, self.shortest, self.longest);
-        writeln!(
-            said,
-            "{count} of {shortest} to {longest} bytes, {}",
-            self.text
-        )?;
-        Ok(())
+        write!(said, "{count} of {shortest} to {longest} bytes, ")?;
+        said.push_str(self.text.as_str())?;
+        Ok(said.push('\n')?)
+    }
+}
+
+/// What contents of a slot are compared with.
+#[derive(Clone, Copy)]
+struct Sight<'a> {
+    alloc: Global,
+    /// Whether they are contents of slot 0.
+    is_first: bool,
+    /// What a read gives of this slot, and of the other one.
+    seen: &'a [u8],
+    other: &'a [u8],
+    /// Where any byte may stand.
+    place: usize,
+}
+
+impl Sight<'_> {
+    /// A content and what is opened of it.
+    fn describe(&self, content: &[u8]) -> Result<String> {
+        let mut text = String::new(self.alloc);
+        self.compare(content, &mut text)?;
+        let _ = open(self.alloc, self.slots_with(content)?, EXAMPLE, &mut text)?;
+        text.pop();
+        Ok(text)
+    }
+
+    fn compare(&self, content: &[u8], said: &mut String) -> Result<()> {
+        let place = self.place;
+        match content.get(place) {
+            Some(byte) => write!(said, "{byte:02x} at {place}")?,
+            None => write!(said, "none at {place}")?,
+        }
+        let is_seen = content.len() == self.seen.len() && are_same_but(content, self.seen, place);
+        Ok(said.push_str(if is_seen {
+            ", else as read\n"
+        } else {
+            ", else other\n"
+        })?)
+    }
+
+    fn slots_with(&self, content: &[u8]) -> Result<Slots> {
+        if self.is_first {
+            Slots::synced(self.alloc, content, self.other)
+        } else {
+            Slots::synced(self.alloc, self.other, content)
+        }
+    }
+
+    /// Says contents, those that follow one another and are alike as one.
+    fn say_all(&self, contents: &[Vec<u8>], said: &mut String) -> Result<()> {
+        let mut open: Option<Alike> = None;
+        for content in contents {
+            let text = self.describe(content)?;
+            open = Some(joined(open, content.len(), text, said)?);
+        }
+        match open {
+            Some(alike) => alike.say(said),
+            None => Ok(()),
+        }
     }
 }
 
@@ -45,21 +102,25 @@ pub fn say_crash(alloc: Global, slots: &mut Slots, words: &str, said: &mut Strin
     let (slot, rest) = word_of(words);
     let (values, rest) = word_of(rest);
     let (max, place) = word_of(rest);
-    let (max, place) = (number_of(max)?, usize::try_from(number_of(place)?)?);
+    let place = usize::try_from(number_of(place)?)?;
+    let found = images_of(alloc, slots.at(slot)?, values, max)?;
+    let seen = read_all(alloc, slots.at(slot)?)?;
+    let is_first = slot == "0";
+    let other = read_all(alloc, slots.at(if is_first { "1" } else { "0" })?)?;
+    let sight = Sight {
+        alloc,
+        is_first,
+        seen: &seen,
+        other: &other,
+        place,
+    };
+    sight.say_all(&found, said)
+}
+
+fn images_of(alloc: Global, disk: &MemDisk, values: &str, max: &str) -> Result<Vec<Vec<u8>>> {
+    let max = usize::try_from(number_of(max)?)?;
     let values = bytes_of(alloc, values)?;
-    let this = slots.at(slot)?;
-    let found = this.images(alloc, &values, usize::try_from(max)?)?;
-    let seen = read_all(alloc, this)?;
-    let other = read_all(alloc, slots.at(if slot == "0" { "1" } else { "0" })?)?;
-    let mut open: Option<Alike> = None;
-    for content in &found {
-        let text = described(alloc, slot, content, &seen, place, &other)?;
-        open = Some(joined(open, content.len(), text, said)?);
-    }
-    if let Some(alike) = open {
-        alike.say(said)?;
-    }
-    Ok(())
+    Ok(disk.images(alloc, &values, max)?)
 }
 
 /// One content more. Appends those before it where it isn't like them.
@@ -77,44 +138,6 @@ fn joined(open: Option<Alike>, length: usize, text: String, said: &mut String) -
         }
         None => Ok(Alike::one(length, text)),
     }
-}
-
-/// A content and what is opened of it.
-fn described(
-    alloc: Global,
-    slot: &str,
-    content: &[u8],
-    seen: &[u8],
-    place: usize,
-    other: &[u8],
-) -> Result<String> {
-    let mut text = String::new(alloc);
-    match content.get(place) {
-        Some(byte) => write!(text, "{byte:02x} at {place}")?,
-        None => write!(text, "none at {place}")?,
-    }
-    let is_seen = content.len() == seen.len() && are_same_but(content, seen, place);
-    writeln!(
-        text,
-        ", {}",
-        if is_seen {
-            "else as read"
-        } else {
-            "else other"
-        }
-    )?;
-    let (first, second) = if slot == "0" {
-        (content, other)
-    } else {
-        (other, content)
-    };
-    let slots = Slots {
-        first: synced(alloc, first)?,
-        second: synced(alloc, second)?,
-    };
-    let _ = open(alloc, slots, EXAMPLE, &mut text)?;
-    text.pop();
-    Ok(text)
 }
 
 /// Whether bytes are the same at all places but one.

@@ -1,7 +1,7 @@
 use crate::crash::say_crash;
 use crate::drive::{Drive, take_memory_word};
 use crate::slots::{Slots, open, synced};
-use anyhow::{Result, bail};
+use anyhow::{Context, Result, bail};
 use disk::{DeviceFault, FileDisk, FileFault, ImagesFault, LockedFile, MemDisk};
 use log_words::{bytes_of, number_of};
 use rows::word_of;
@@ -93,37 +93,36 @@ impl Desk {
     }
 
     /// The slots of a log that isn't open: two disks on which nothing was ever written, where none were made.
-    fn closed(&mut self, alloc: Global) -> Result<Slots> {
+    fn closed(&mut self, alloc: Global) -> Result<&mut Slots> {
         if self.log.is_some() {
             bail!("the log is open");
         }
-        match self.slots.take() {
-            Some(slots) => Ok(slots),
-            None => Slots::empty(alloc),
+        if self.slots.is_none() {
+            self.slots = Some(Slots::empty(alloc)?);
         }
+        self.slots.as_mut().context("no slots")
     }
 
     /// `SLOT BYTES`: another disk as this slot, on which these bytes are synced.
     fn fill(&mut self, alloc: Global, words: &str) -> Result<()> {
         let (slot, bytes) = word_of(words);
-        let mut slots = self.closed(alloc)?;
-        *slots.at(slot)? = synced(alloc, &bytes_of(alloc, bytes)?)?;
-        self.slots = Some(slots);
-        Ok(())
+        let bytes = bytes_of(alloc, bytes)?;
+        self.closed(alloc)?.put(slot, synced(alloc, &bytes)?)
     }
 
     /// `SLOT WORDS`: what is done with one slot.
     fn take_slot_word(&mut self, alloc: Global, words: &str, said: &mut String) -> Result<()> {
         let (slot, words) = word_of(words);
         let (word, rest) = word_of(words);
-        let mut slots = self.closed(alloc)?;
-        take_memory_word(alloc, slots.at(slot)?, word, rest, said)?;
-        self.slots = Some(slots);
-        Ok(())
+        let slots = self.closed(alloc)?;
+        take_memory_word(alloc, slots.at(slot)?, word, rest, said)
     }
 
     fn open(&mut self, alloc: Global, words: &str, said: &mut String) -> Result<()> {
-        let slots = self.closed(alloc)?;
+        self.closed(alloc)?;
+        let Some(slots) = self.slots.take() else {
+            bail!("no slots");
+        };
         match open(alloc, slots, words, said)? {
             Ok(log) => self.log = Some(log),
             Err(slots) => self.slots = Some(slots),
@@ -140,10 +139,7 @@ impl Desk {
     }
 
     fn crash(&mut self, alloc: Global, words: &str, said: &mut String) -> Result<()> {
-        let mut slots = self.closed(alloc)?;
-        say_crash(alloc, &mut slots, words, said)?;
-        self.slots = Some(slots);
-        Ok(())
+        say_crash(alloc, self.closed(alloc)?, words, said)
     }
 
     fn append(&mut self, frame: &[u8], said: &mut String) -> Result<()> {
@@ -175,17 +171,18 @@ impl Desk {
         };
         if word == "fits" {
             let fits = log.fits(number_of(rest)?);
-            writeln!(said, "{}", if fits { "yes" } else { "no" })?;
-            return Ok(());
+            return Ok(said.push_str(if fits { "yes\n" } else { "no\n" })?);
         }
-        let (shard, count) = (log.shard(), log.count());
-        let (generation, capacity) = (log.generation(), log.capacity());
-        writeln!(
-            said,
-            "generation {generation} shard {shard} of {count} capacity {capacity}"
-        )?;
-        Ok(())
+        say_log(log, said)
     }
+}
+
+fn say_log(log: &Wal<MemDisk>, said: &mut String) -> Result<()> {
+    let (generation, shard) = (log.generation(), log.shard());
+    write!(said, "generation {generation} shard {shard}")?;
+    let (count, capacity) = (log.count(), log.capacity());
+    writeln!(said, " of {count} capacity {capacity}")?;
+    Ok(())
 }
 
 /// `ROOM CALLS WRITTEN`: an empty disk with this room.

@@ -58,11 +58,7 @@ fn take_disk_word<D: Disk>(
     said: &mut String,
 ) -> Result<()> {
     match word {
-        "write" => {
-            let (at, bytes) = word_of(rest);
-            let written = disk.write_at(number_of(at)?, &bytes_of(alloc, bytes)?);
-            say_done(written, said)
-        }
+        "write" => say_write(alloc, disk, rest, said),
         "sync" => say_done(disk.sync(), said),
         "len" => match disk.len() {
             Ok(len) => Ok(writeln!(said, "{len}")?),
@@ -70,15 +66,24 @@ fn take_disk_word<D: Disk>(
         },
         "read" => say_read(alloc, disk, rest, said),
         "six" => say_six(disk, said),
-        "is" => {
-            let found = read_all(alloc, disk)?;
-            if found == bytes_of(alloc, rest)? {
-                return Ok(writeln!(said, "the same {} bytes", found.len())?);
-            }
-            write_bytes(&found, said)
-        }
+        "is" => say_whether(&read_all(alloc, disk)?, &bytes_of(alloc, rest)?, said),
         _ => bail!("no such word"),
     }
+}
+
+fn say_write<D: Disk>(alloc: Global, disk: &mut D, words: &str, said: &mut String) -> Result<()> {
+    let (at, bytes) = word_of(words);
+    let at = number_of(at)?;
+    let bytes = bytes_of(alloc, bytes)?;
+    say_done(disk.write_at(at, &bytes), said)
+}
+
+/// Whether the bytes are these, and what they are where not.
+fn say_whether(found: &[u8], wanted: &[u8], said: &mut String) -> Result<()> {
+    if found == wanted {
+        return Ok(writeln!(said, "the same {} bytes", found.len())?);
+    }
+    write_bytes(found, said)
 }
 
 fn say_done(answer: Result<(), DeviceFault>, said: &mut String) -> Result<()> {
@@ -95,14 +100,15 @@ fn say_read<D: Disk>(alloc: Global, disk: &mut D, words: &str, said: &mut String
     let length = usize::try_from(number_of(length)?)?;
     let mut buffer = vec![in alloc; UNREAD; length]?;
     match disk.read(number_of(at)?, &mut buffer) {
-        Ok(count) => {
-            write!(said, "{count}: ")?;
-            write_hex(&buffer, said)?;
-            said.push('\n')?;
-        }
-        Err(fault) => writeln!(said, "{fault}")?,
+        Ok(count) => say_buffer(count, &buffer, said),
+        Err(fault) => Ok(writeln!(said, "{fault}")?),
     }
-    Ok(())
+}
+
+fn say_buffer(count: usize, buffer: &[u8], said: &mut String) -> Result<()> {
+    write!(said, "{count}: ")?;
+    write_hex(buffer, said)?;
+    Ok(said.push('\n')?)
 }
 
 /// Six calls, and of each whether it failed: a write, a sync, the length, a read, a write, a sync.
@@ -138,18 +144,25 @@ fn say_images(alloc: Global, disk: &mut MemDisk, words: &str, said: &mut String)
     let (values, rest) = word_of(words);
     let (max, from) = word_of(rest);
     let max = usize::try_from(number_of(max)?)?;
-    let from = match from {
+    let values = bytes_of(alloc, values)?;
+    match disk.images(alloc, &values, max) {
+        Ok(found) => say_contents(&found, front_of(&read_all(alloc, disk)?, from)?, said),
+        Err(fault) => Ok(writeln!(said, "{fault}")?),
+    }
+}
+
+fn front_of<'a>(bytes: &'a [u8], count: &str) -> Result<&'a [u8]> {
+    let count = match count {
         "" => 0,
-        _ => usize::try_from(number_of(from)?)?,
+        _ => usize::try_from(number_of(count)?)?,
     };
-    let found = match disk.images(alloc, &bytes_of(alloc, values)?, max) {
-        Ok(found) => found,
-        Err(fault) => return Ok(writeln!(said, "{fault}")?),
-    };
-    let seen = read_all(alloc, disk)?;
-    let front = seen.get(..from).context("past the end")?;
+    bytes.get(..count).context("past the end")
+}
+
+/// Says of each content what stands behind this front.
+fn say_contents(found: &[Vec<u8>], front: &[u8], said: &mut String) -> Result<()> {
     writeln!(said, "{} contents", found.len())?;
-    for content in &found {
+    for content in found {
         match content.strip_prefix(front) {
             Some(left) => write_short(left, said)?,
             None => said.push_str("another front")?,

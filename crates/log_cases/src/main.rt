@@ -17,22 +17,43 @@ use std::rt::Files;
 fn main(rt: HostRuntime) -> Result<()> {
     let mut tally = Tally::new();
     for path in env::args(&rt)?.skip(1) {
-        let text = fs::read_to_string(&rt, path.as_str())?;
-        for row in rows_of(rt.alloc(), text.as_str())?.iter() {
-            let said = said_of(&rt, row).context(format_args!("row {}", row.name))?;
-            tally.judge(&rt, row, said.as_str())?;
-        }
+        judge_file(&rt, path.as_str(), &mut tally)?;
     }
     tally.end(&rt)
 }
 
-/// What is said of a row.
-fn said_of<R: Files<File = File> + AllocGlobal>(rt: &R, row: &Row<'_>) -> Result<String> {
+fn judge_file<R: Files<File = File> + Print + AllocGlobal>(
+    rt: &R,
+    path: &str,
+    tally: &mut Tally,
+) -> Result<()> {
+    let text = fs::read_to_string(rt, path)?;
+    for row in rows_of(rt.alloc(), text.as_str())?.iter() {
+        judge_row(rt, row, tally)?;
+    }
+    Ok(())
+}
+
+fn judge_row<R: Files<File = File> + Print + AllocGlobal>(
+    rt: &R,
+    row: &Row<'_>,
+    tally: &mut Tally,
+) -> Result<()> {
     let mut said = String::new(rt.alloc());
+    take_row(rt, row, &mut said).context(format_args!("row {}", row.name))?;
+    tally.judge(rt, row, said.as_str())
+}
+
+/// Does what the lines of a row say, and appends what is said to that.
+fn take_row<R: Files<File = File> + AllocGlobal>(
+    rt: &R,
+    row: &Row<'_>,
+    said: &mut String,
+) -> Result<()> {
     let mut desk = Desk::new();
     for line in &row.given {
-        desk.take_line(rt, line, &mut said)
+        desk.take_line(rt, line, said)
             .context(format_args!("at {line}"))?;
     }
-    Ok(said)
+    Ok(())
 }

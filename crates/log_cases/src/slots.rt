@@ -1,4 +1,5 @@
 //! The two slots of a log.
+use accept::Image;
 use anyhow::{Result, bail};
 use disk::{Disk, MemDisk};
 use log_words::{number_of, owner_of, write_image};
@@ -22,10 +23,14 @@ pub struct Slots {
 impl Slots {
     /// Two disks on which nothing was ever written.
     pub fn empty(alloc: Global) -> Result<Slots> {
-        Ok(Slots {
-            first: synced(alloc, &[])?,
-            second: synced(alloc, &[])?,
-        })
+        Slots::synced(alloc, &[], &[])
+    }
+
+    /// Two disks on which these bytes are synced.
+    pub fn synced(alloc: Global, first: &[u8], second: &[u8]) -> Result<Slots> {
+        let first = synced(alloc, first)?;
+        let second = synced(alloc, second)?;
+        Ok(Slots { first, second })
     }
 
     pub fn of(slots: [MemDisk; 2]) -> Slots {
@@ -40,6 +45,12 @@ impl Slots {
             "1" => Ok(&mut self.second),
             _ => bail!("no slot"),
         }
+    }
+
+    /// Another disk as this slot.
+    pub fn put(&mut self, slot: &str, disk: MemDisk) -> Result<()> {
+        *self.at(slot)? = disk;
+        Ok(())
     }
 }
 
@@ -69,8 +80,7 @@ pub fn open(
     let Slots { first, second } = slots;
     match Wal::open(alloc, [first, second], shard, count, capacity) {
         Ok((log, image)) => {
-            writeln!(said, "generation {}", log.generation())?;
-            write_image(&image, said)?;
+            say_opened(log.generation(), &image, said)?;
             Ok(Ok(log))
         }
         Err(refusal) => {
@@ -79,4 +89,9 @@ pub fn open(
             Ok(Err(Slots::of(left)))
         }
     }
+}
+
+fn say_opened(generation: u64, image: &Image, said: &mut String) -> Result<()> {
+    writeln!(said, "generation {generation}")?;
+    write_image(image, said)
 }

@@ -50,24 +50,20 @@ pub fn say_records(alloc: Global, slot: &[u8], words: &str, said: &mut String) -
 pub fn say_front(alloc: Global, slot: &[u8], words: &str, said: &mut String) -> Result<()> {
     let (shard, count) = owner_of(words)?;
     match read_front(alloc, slot, shard, count) {
-        Ok(Some(front)) => {
-            let Front {
-                generation,
-                records,
-                ending,
-            } = front;
-            match ending {
-                Ending::Closed(end) => writeln!(said, "generation {generation} end {end}")?,
-                Ending::DamagedAt(at) => {
-                    writeln!(said, "generation {generation} damaged at {at}")?;
-                }
-            }
-            say_each_record(&records, said)?;
-        }
+        Ok(Some(front)) => say_front_of(&front, said)?,
         Ok(None) => writeln!(said, "closed")?,
         Err(fault) => writeln!(said, "{fault}")?,
     }
     Ok(())
+}
+
+fn say_front_of(front: &Front, said: &mut String) -> Result<()> {
+    let generation = front.generation;
+    match front.ending {
+        Ending::Closed(end) => writeln!(said, "generation {generation} end {end}")?,
+        Ending::DamagedAt(at) => writeln!(said, "generation {generation} damaged at {at}")?,
+    }
+    say_each_record(&front.records, said)
 }
 
 fn say_each_record(records: &[Record], said: &mut String) -> Result<()> {

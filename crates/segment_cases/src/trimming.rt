@@ -15,11 +15,13 @@ pub fn trimmed(
     said: &mut String,
 ) -> Result<Record> {
     let (key, stream) = stream_of(record)?;
+    let mut state = StreamState::of(alloc, stream)?;
+    say_trim(&mut state, bound, half_age, said)?;
     let StreamImage {
         highest,
         last,
         kept,
-    } = trimmed_stream(alloc, stream, bound, half_age, said)?;
+    } = said_stream(alloc, &state, said)?;
     Ok(Record::State {
         key,
         highest,
@@ -28,22 +30,19 @@ pub fn trimmed(
     })
 }
 
-fn trimmed_stream(
-    alloc: Global,
-    stream: StreamImage,
-    bound: u64,
-    half_age: u64,
-    said: &mut String,
-) -> Result<StreamImage> {
-    let mut state = StreamState::of(alloc, stream)?;
-    say_trim(&mut state, bound, half_age, said)?;
+/// Says what a stream has, and gives a copy.
+fn said_stream(alloc: Global, state: &StreamState, said: &mut String) -> Result<StreamImage> {
     if state.is_new() {
         bail!("no entry");
     }
     let stream = state.to_image(alloc)?;
-    write_stream(stream.highest, &stream.last, stream.kept.as_slice(), said)?;
-    said.push('\n')?;
+    say_stream(&stream, said)?;
     Ok(stream)
+}
+
+fn say_stream(stream: &StreamImage, said: &mut String) -> Result<()> {
+    write_stream(stream.highest, &stream.last, stream.kept.as_slice(), said)?;
+    Ok(said.push('\n')?)
 }
 
 fn say_trim(state: &mut StreamState, bound: u64, half_age: u64, said: &mut String) -> Result<()> {

@@ -37,8 +37,8 @@ fn take_line(alloc: Global, draft: &mut Draft, line: &str, said: &mut String) ->
         "put*" => draft.put_times(rest),
         "cut" => {
             let (word, rest) = word_of(rest);
-            let body = draft.end(alloc, rest)?;
-            say_cut(alloc, kind_of(word)?, &body, said)
+            let kind = kind_of(word)?;
+            say_cut(alloc, kind, &draft.end(alloc, rest)?, said)
         }
         "law" => {
             one_answer();
@@ -46,8 +46,8 @@ fn take_line(alloc: Global, draft: &mut Draft, line: &str, said: &mut String) ->
         }
         "memory" => Ok(writeln!(said, "{}", PushFault::Memory)?),
         _ => {
-            let body = draft.end(alloc, rest)?;
-            say_body(alloc, kind_of(word)?, &body, said)
+            let kind = kind_of(word)?;
+            say_body(alloc, kind, &draft.end(alloc, rest)?, said)
         }
     }
 }
@@ -82,15 +82,17 @@ fn say_body(alloc: Global, kind: Kind, body: &[u8], said: &mut String) -> Result
 /// Reads each beginning of a body, a byte more each time, and the whole.
 fn say_cut(alloc: Global, kind: Kind, body: &[u8], said: &mut String) -> Result<()> {
     let mut counts = Counts::new(alloc);
-    let mut front = Vec::new(alloc);
-    for byte in body {
-        let mut answer = String::new(alloc);
-        say_body(alloc, kind, &front, &mut answer)?;
-        counts.add(answer)?;
-        front.push(*byte)?;
+    for end in 0..body.len() {
+        counts.add(said_of(alloc, kind, &body[..end])?)?;
     }
     counts.say(said)?;
-    say_body(alloc, kind, &front, said)
+    say_body(alloc, kind, body, said)
+}
+
+fn said_of(alloc: Global, kind: Kind, body: &[u8]) -> Result<String> {
+    let mut said = String::new(alloc);
+    say_body(alloc, kind, body, &mut said)?;
+    Ok(said)
 }
 
 fn say_fault(fault: PushFault, said: &mut String) -> Result<()> {

@@ -71,11 +71,13 @@ impl Made {
 
     /// Makes the set of labels, and says its canonical text.
     fn make_set(&mut self, words: &str, said: &mut String) -> Result<()> {
-        if let Some(set) = made_or_said(set_of(self.alloc, words)?, said)? {
-            say(set.as_str(), said)?;
-            self.sets.push(set)?;
+        match made_or_said(set_of(self.alloc, words)?, said)? {
+            Some(set) => {
+                say(set.as_str(), said)?;
+                Ok(self.sets.push(set)?)
+            }
+            None => Ok(()),
         }
-        Ok(())
     }
 
     /// Makes the key of a tenant and labels.
@@ -92,16 +94,9 @@ impl Made {
     /// Parses each beginning of a text, a character more each time, and the whole.
     fn say_cut(&mut self, text: &str, said: &mut String) -> Result<()> {
         let text = self.draft.end_text(self.alloc, text)?;
-        let mut counts = Counts::new(self.alloc);
-        let mut front = String::new(self.alloc);
-        for character in text.as_str().chars() {
-            let mut answer = String::new(self.alloc);
-            say_parsed(self.alloc, front.as_str(), &mut answer)?;
-            counts.add(answer)?;
-            front.push(character)?;
-        }
-        counts.say(said)?;
-        say_parsed(self.alloc, front.as_str(), said)
+        let text = text.as_str();
+        count_cut(self.alloc, text)?.say(said)?;
+        say_parsed(self.alloc, text, said)
     }
 
     /// Says a copy of the last set's text.
@@ -138,14 +133,7 @@ impl Made {
         let mut other = 0_u64;
         count_copies(&self.tenants, &mut equal, &mut other)?;
         count_copies(&self.sets, &mut equal, &mut other)?;
-        for key in &self.keys {
-            let count = if copy_of(key)? == *key {
-                &mut equal
-            } else {
-                &mut other
-            };
-            *count = count.saturating_add(1);
-        }
+        count_key_copies(&self.keys, &mut equal, &mut other)?;
         writeln!(said, "{equal} equal, {other} differ")?;
         Ok(())
     }
@@ -171,15 +159,19 @@ impl Made {
         };
         said.push_str("shards")?;
         for count in counts.split_ascii_whitespace() {
-            let count = count.parse::<u32>()?;
-            if count == 0 || count > 64 {
-                bail!("no count of shards: {count}");
-            }
-            let shard = shard_of(key, count);
-            write!(said, " {shard}")?;
+            say_shard(key, count.parse()?, said)?;
         }
         Ok(said.push('\n')?)
     }
+}
+
+/// Says the shard of a key among so many.
+fn say_shard(key: &StreamKey, count: u32, said: &mut String) -> Result<()> {
+    if count == 0 || count > 64 {
+        bail!("no count of shards: {count}");
+    }
+    let shard = shard_of(key, count);
+    Ok(write!(said, " {shard}")?)
 }
 
 /// The labels `NAME=VALUE` of words.
@@ -214,6 +206,22 @@ fn say_parsed(alloc: Global, text: &str, said: &mut String) -> Result<()> {
     Ok(())
 }
 
+/// How often each answer comes where each beginning of a text is parsed, but the whole.
+fn count_cut(alloc: Global, text: &str) -> Result<Counts> {
+    let mut counts = Counts::new(alloc);
+    for (end, _) in text.char_indices() {
+        counts.add(parsed(alloc, text.get(..end).unwrap_or(text))?)?;
+    }
+    Ok(counts)
+}
+
+/// What is said of the set whose canonical text this is.
+fn parsed(alloc: Global, text: &str) -> Result<String> {
+    let mut said = String::new(alloc);
+    say_parsed(alloc, text, &mut said)?;
+    Ok(said)
+}
+
 /// Says that what is asked about was not made.
 fn say_nothing(said: &mut String) -> Result<()> {
     Ok(said.push_str("nothing made\n")?)
@@ -230,6 +238,17 @@ fn count_copies<T: Clone + PartialEq + Drop>(
 ) -> Result<()> {
     for value in values {
         if value.clone()? == *value {
+            *equal = equal.saturating_add(1);
+        } else {
+            *other = other.saturating_add(1);
+        }
+    }
+    Ok(())
+}
+
+fn count_key_copies(keys: &[StreamKey], equal: &mut u64, other: &mut u64) -> Result<()> {
+    for key in keys {
+        if copy_of(key)? == *key {
             *equal = equal.saturating_add(1);
         } else {
             *other = other.saturating_add(1);

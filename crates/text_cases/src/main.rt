@@ -30,9 +30,13 @@ fn main(rt: HostRuntime) -> Result<()> {
         bail!("usage: text_cases LABELS BODIES STREAMS");
     };
     let mut tally = Tally::new();
-    judge_file(&rt, labels.as_str(), Subject::Labels, &mut tally)?;
-    judge_file(&rt, bodies.as_str(), Subject::Bodies, &mut tally)?;
-    judge_file(&rt, streams.as_str(), Subject::Streams, &mut tally)?;
+    for (path, subject) in [
+        (labels, Subject::Labels),
+        (bodies, Subject::Bodies),
+        (streams, Subject::Streams),
+    ] {
+        judge_file(&rt, path.as_str(), subject, &mut tally).context(format_args!("{path}"))?;
+    }
     tally.end(&rt)
 }
 
@@ -42,14 +46,22 @@ fn judge_file<R: Files + Print + AllocGlobal>(
     subject: Subject,
     tally: &mut Tally,
 ) -> Result<()> {
-    let text = fs::read_to_string(rt, path).context(format_args!("{path}"))?;
-    let rows = rows_of(rt.alloc(), text.as_str()).context(format_args!("{path}"))?;
-    for row in &rows {
-        let mut said = String::new(rt.alloc());
-        take_row(rt.alloc(), subject, row, &mut said).context(format_args!("row {}", row.name))?;
-        tally.judge(rt, row, said.as_str())?;
+    let text = fs::read_to_string(rt, path)?;
+    for row in rows_of(rt.alloc(), text.as_str())?.iter() {
+        judge_row(rt, subject, row, tally)?;
     }
     Ok(())
+}
+
+fn judge_row<R: Print + AllocGlobal>(
+    rt: &R,
+    subject: Subject,
+    row: &Row<'_>,
+    tally: &mut Tally,
+) -> Result<()> {
+    let mut said = String::new(rt.alloc());
+    take_row(rt.alloc(), subject, row, &mut said).context(format_args!("row {}", row.name))?;
+    tally.judge(rt, row, said.as_str())
 }
 
 fn take_row(alloc: Global, subject: Subject, row: &Row<'_>, said: &mut String) -> Result<()> {

@@ -1,4 +1,4 @@
-use anyhow::{Result, anyhow};
+use anyhow::{Result, bail};
 use rows::{escape, text_of, unescape, word_of};
 use std::alloc::Global;
 use std::fmt::Write;
@@ -42,8 +42,10 @@ impl Draft {
 
     /// The same as text.
     pub fn end_text(&mut self, alloc: Global, text: &str) -> Result<String> {
-        let bytes = self.end(alloc, text)?;
-        String::from_utf8(bytes).map_err(|_| anyhow!("no UTF-8"))
+        match String::from_utf8(self.end(alloc, text)?) {
+            Ok(text) => Ok(text),
+            Err(_) => bail!("no UTF-8"),
+        }
     }
 }
 
@@ -51,16 +53,21 @@ impl Draft {
 pub fn text_of_word(alloc: Global, word: &str) -> Result<String> {
     let mut text = String::new(alloc);
     for piece in word.split('|') {
-        let (piece, count) = match piece.rsplit_once('*') {
-            Some((piece, count)) => (piece, count.parse::<usize>()?),
-            None => (piece, 1),
-        };
-        let piece = text_of(alloc, piece)?;
-        for _ in 0..count {
-            text.push_str(piece.as_str())?;
-        }
+        put_piece(alloc, piece, &mut text)?;
     }
     Ok(text)
+}
+
+fn put_piece(alloc: Global, piece: &str, into: &mut String) -> Result<()> {
+    let (piece, count) = match piece.rsplit_once('*') {
+        Some((piece, count)) => (piece, count.parse::<usize>()?),
+        None => (piece, 1),
+    };
+    let piece = text_of(alloc, piece)?;
+    for _ in 0..count {
+        into.push_str(piece.as_str())?;
+    }
+    Ok(())
 }
 
 /// Writes a text with its escapes, or the length of a long one.
