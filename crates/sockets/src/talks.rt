@@ -8,7 +8,7 @@ use ingester::Ingester;
 use ingesterd::{Stopped, SystemClock, run_ctl, run_server, serve_listener};
 use std::alloc::Global;
 use std::fs::{self, File, Files};
-use std::io::{self, Write};
+use std::io::{self, ErrorKind, Write};
 use std::net::{IpAddr, Ipv4Addr, Net, Shutdown, SocketAddr, TcpListener, TcpStream};
 use std::rt;
 use std::sync::Wait;
@@ -37,6 +37,9 @@ const LOST: &str = r#"{"streams":[{"stream":{"a":"1"},"values":[["11","y"]]}]}"#
 /// A body that pushes 11 y to a stream of another shard, where there are two.
 const OTHER: &str = r#"{"streams":[{"stream":{"a":"2"},"values":[["11","y"]]}]}"#;
 
+/// A time that has passed, in nanoseconds; one of microseconds isn't above it for long.
+const YEAR_2023: u64 = 1_700_000_000_000_000_000;
+
 const NO_CONTENT: &str = "HTTP/1.1 204 No Content\r\n\r\n";
 
 /// The answer to a read of the sample.
@@ -62,6 +65,11 @@ enum Talk<'a> {
     Ask(&'a [&'a str]),
     /// Waits for a while and asks, again and again until it is answered.
     Insist(&'a str),
+    /// Insists on the one, finds nobody at another address of this machine, and asks the other.
+    Confirm {
+        text: &'a str,
+        then: &'a str,
+    },
     /// Sends the one and leaves, and asks the other over another connection.
     Leave {
         cut: &'a str,
@@ -149,6 +157,16 @@ fn answers_of<R: Net<Listener = TcpListener, Stream = TcpStream> + rt::Clock>(
             Ok(told)
         }
         Talk::Insist(text) => insist(rt, alloc, address, text),
+        Talk::Confirm { text, then } => {
+            let first = insist(rt, alloc, address, text)?;
+            // (where a server that listens on all addresses is reached)
+            let other = IpAddr::V4(Ipv4Addr::new(127, 0, 0, 2));
+            if TcpStream::connect(rt, SocketAddr::new(other, address.port())).is_ok() {
+                return Err(ErrorKind::AddrInUse.into());
+            }
+            let second = ask(rt, alloc, address, then)?;
+            Ok(format!(in alloc; "{first}{second}")?)
+        }
         Talk::Leave { cut, then } => {
             drop(send(rt, address, cut)?);
             ask(rt, alloc, address, then)
@@ -333,8 +351,8 @@ fn words_of(alloc: Global, line: &str) -> Result<Vec<String>, Fail> {
     Ok(words)
 }
 
-/// The server of the folder `sockets_test` for one connection, and what is answered there.
-fn run_and_ask<R>(rt: &R, alloc: Global, port: u16, text: &str) -> Result<(String, Ended), Fail>
+/// The server of the folder `sockets_test` with two shards and one worker for two connections, and what is answered there.
+fn run_and_ask<R>(rt: &R, alloc: Global, port: u16, talk: Talk<'_>) -> Result<(String, Ended), Fail>
 where
     R: Files<File = File> + Net<Listener = TcpListener, Stream = TcpStream>,
     R: Threads + Wait + rt::Clock + Sync,
@@ -343,9 +361,9 @@ where
         rt,
         alloc,
         address: SocketAddr::new(IpAddr::V4(Ipv4Addr::LOCALHOST), port),
-        talk: Talk::Insist(text),
+        talk,
     };
-    let line = format!(in alloc; "sockets_test/new {port} 2 2 1")?;
+    let line = format!(in alloc; "sockets_test/new {port} 2 1 2")?;
     let words = words_of(alloc, line.as_str())?;
     let (mut output, mut errors) = (Vec::new(alloc), Vec::new(alloc));
     let (told, status) = join(
@@ -361,16 +379,16 @@ where
     Ok((told.ok_or("not answered")?, ended))
 }
 
-/// Reads all of the stream {a="1"} in the folder `sockets_test`, with no server.
-fn read_folder<R: Files<File = File> + Wait>(
+/// What `ingestctl` does by the words of this line, with no server.
+fn run_line<R: Files<File = File> + Wait>(
     rt: &R,
     alloc: Global,
-    now: u64,
+    line: &str,
+    body: &str,
 ) -> Result<Ended, Fail> {
-    let line = format!(in alloc; "read sockets_test/new 2 t {now}")?;
-    let words = words_of(alloc, line.as_str())?;
+    let words = words_of(alloc, line)?;
     let (mut output, mut errors) = (Vec::new(alloc), Vec::new(alloc));
-    let mut input = READ_ALL.as_bytes();
+    let mut input = body.as_bytes();
     let status = run_ctl(rt, alloc, &words, &mut input, &mut output, &mut errors);
     Ok(Ended {
         status,
@@ -385,17 +403,61 @@ fn a_server_keeps_what_it_answered(rt: HostRuntime) -> Result<(), Fail> {
     let _ = fs::remove_dir_all(&rt, "sockets_test");
     let port = listen(&rt)?.local_addr()?.port();
     let now = front::Clock::now(&mut SystemClock::new(&rt));
+    assert!(rt; YEAR_2023 < now);
     let body = format!(in alloc;
         "{{\"streams\":[{{\"stream\":{{\"a\":\"1\"}},\"values\":[[\"{now}\",\"x\"]]}}]}}"
     )?;
     let push = push(alloc, body.as_str())?;
-    let (told, ended) = run_and_ask(&rt, alloc, port, push.as_str())?;
+    let read = post(alloc, "/ingester/v1/read", READ_ALL)?;
+    let talk = Talk::Confirm {
+        text: push.as_str(),
+        then: read.as_str(),
+    };
+    let (told, ended) = run_and_ask(&rt, alloc, port, talk)?;
     let ready = format!(in alloc; "ready {port}\n")?;
     assert!(rt; ended.is(ready.as_str()));
-    assert_eq!(rt; told.as_str(), NO_CONTENT);
-    let read = read_folder(&rt, alloc, now)?;
-    let wanted = format!(in alloc; "200\n{{\"values\":[[\"{now}\",\"x\"]]}}")?;
+    let kept = format!(in alloc; "{{\"values\":[[\"{now}\",\"x\"]]}}")?;
+    assert!(rt; told.as_str().starts_with(NO_CONTENT) && told.as_str().ends_with(kept.as_str()));
+    assert!(rt; fs::metadata(&rt, "sockets_test/new/shard-01-0.wal").is_ok());
+    assert!(rt; fs::metadata(&rt, "sockets_test/new/shard-02-0.wal").is_err());
+    let line = format!(in alloc; "read sockets_test/new 2 t {now}")?;
+    let read = run_line(&rt, alloc, line.as_str(), READ_ALL)?;
+    let wanted = format!(in alloc; "200\n{kept}")?;
     assert!(rt; read.is(wanted.as_str()));
     fs::remove_dir_all(&rt, "sockets_test")?;
+    Ok(())
+}
+
+/// A body that pushes so many lines of this length to the sample's stream, all of this time.
+fn lines_of(alloc: Global, time: u64, lines: u64, length: usize) -> Result<String, Fail> {
+    let line = "x".repeat(alloc, length)?;
+    let mut body = String::new(alloc);
+    body.push_str(r#"{"streams":[{"stream":{"a":"1"},"values":["#)?;
+    for place in 0..lines {
+        let comma = if place == 0 { "" } else { "," };
+        let piece = format!(in alloc; "{comma}[\"{time}\",\"{place}{line}\"]")?;
+        body.push_str(piece.as_str())?;
+    }
+    body.push_str("]}]}")?;
+    Ok(body)
+}
+
+#[test]
+fn a_shard_holds_64_mib(rt: HostRuntime) -> Result<(), Fail> {
+    let alloc = rt.alloc();
+    let _ = fs::remove_dir_all(&rt, "sockets_full");
+    let line = "push sockets_full 1 t 100";
+    for time in 1..=17 {
+        let body = lines_of(alloc, time, 15, 262_140)?;
+        let pushed = run_line(&rt, alloc, line, body.as_str())?;
+        assert!(rt; pushed.is("204\n"));
+    }
+    let rest = lines_of(alloc, 18, 1, 200_000)?;
+    let pushed = run_line(&rt, alloc, line, rest.as_str())?;
+    assert!(rt; pushed.is("204\n"), "with a quarter of a MiB to spare");
+    let over = lines_of(alloc, 19, 1, 100_000)?;
+    let refused = run_line(&rt, alloc, line, over.as_str())?;
+    assert!(rt; refused.output.as_slice() == b"507\nstream 0: no room\n".as_slice());
+    fs::remove_dir_all(&rt, "sockets_full")?;
     Ok(())
 }
