@@ -77,11 +77,11 @@ impl Book {
               moment = K.moment kept.now;
             } }
     {
-        let receipt = self.committed::<Brand, K>(kept, ticket, &reply);
+        let receipt = self.commit_at::<Brand, K>(kept, ticket, &reply);
         (reply, receipt)
     }
 
-    fn committed<J: At, K: Kept>(&mut self, kept: &K, ticket: Ticket, reply: &Reply) -> Receipt
+    fn commit_at<J: At, K: Kept>(&mut self, kept: &K, ticket: Ticket, reply: &Reply) -> Receipt
         requires table { ticket.table ≡ self.old.table }
         requires shard { shard_in self.old.about ticket.ask ≡ self.old.shard }
         requires order { HaveSteps ticket.before self.old.items }

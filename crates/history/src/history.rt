@@ -53,10 +53,10 @@ impl History {
         if pass.is_closed() {
             return Err(PassSpent);
         }
-        Ok(self.announced::<Brand>(pass, call))
+        Ok(self.announce_call::<Brand>(pass, call))
     }
 
-    fn announced<J: Saying>(&self, pass: &mut Pass, call: &Call) -> Ticket
+    fn announce_call<J: Saying>(&self, pass: &mut Pass, call: &Call) -> Ticket
         requires table { pass.old.table ≡ self.now }
         requires few { length pass.old.caller.pending < 64 }
         requires open { is_closed pass.old ≡ false }

@@ -70,7 +70,7 @@ impl<J: Room> Desk<J> {
 }
 
 /// A read of no time, of the stream with this value of its one label.
-pub(crate) fn read_of(alloc: Global, value: &str) -> Option<Call>
+pub(crate) fn read_call(alloc: Global, value: &str) -> Option<Call>
     ensures { IfSome result ReadsNothing }
 {
     let mut pairs = Vec::new(alloc);
@@ -148,7 +148,7 @@ fn calls<J: Room>(
     ensures pass { IfSome result (λ p. (p.table ≡ J.table) × (p.caller.about.shards ≡ 1) × (p.caller.pending ≡ [])) }
     ensures number { IfSome result (λ p. p.caller.last ≡ 100) }
 {
-    let read = read_of(alloc, "1")?;
+    let read = read_call(alloc, "1")?;
     let read = &read;
     for made in 0..100u64 {
         call(rt, alloc, history, desk, &mut pass, read)?;
@@ -228,7 +228,7 @@ fn mark_and_refuse(
 #[test]
 fn marked_shard_is_unavailable(rt: HostRuntime) -> Result<(), Fail> {
     let (history, mut book, mut pass, _) = open(rt.alloc())?;
-    let read = read_of(rt.alloc(), "1").ok_or("a call")?;
+    let read = read_call(rt.alloc(), "1").ok_or("a call")?;
     let reply = mark_and_refuse(&history, &mut book, &mut pass, &read)?;
     assert!(rt; matches!(reply, Reply::Unavailable));
     book.settle(&mut pass);
@@ -258,7 +258,7 @@ fn announced_call_is_withdrawn(rt: HostRuntime) -> Result<(), Fail> {
     let (history, books, mut passes) = History::new(alloc, &bases, 3, Limits::PROFILE, 4_096)?;
     assert_eq!(rt; (books.len(), passes.len()), (2, 3));
     let mut pass = passes.pop().ok_or("a pass")?;
-    let read = read_of(alloc, "1").ok_or("a call")?;
+    let read = read_call(alloc, "1").ok_or("a call")?;
     announce_and_withdraw(&history, &mut pass, &read)?;
     assert!(rt; !pass.is_closed());
     announce_and_withdraw(&history, &mut pass, &read)?;
