@@ -34,7 +34,7 @@ loop-preserved c = record {
     | in-Ok w ↦ rw w.from-is (write-loop-on c.args.self.now.calls.noted c.loop.self.calls.noted c.write_some.new.self.noted c.args.at c.loop.from w.in-Ok.n c.args.bytes.now _
         c.loop.invariant.writes (take_rest c.args.bytes.now c.loop.from) w.in-Ok.ensures.within c.write_some.ensures.before w.in-Ok.ensures.holds w.in-Ok.ensures.goes)
     | in-Err-Interrupted w ↦ rw w.from-is (write-loop-again c.args.self.now.calls.noted c.loop.self.calls.noted c.write_some.new.self.noted c.args.at c.loop.from c.args.bytes.now
-        c.loop.invariant.writes (w.in-Err-Interrupted.ensures.interrupted (ap Err w.in-Err-Interrupted.field-0-is)))
+        c.loop.invariant.writes (w.in-Err-Interrupted.ensures.asks (ap Err w.in-Err-Interrupted.field-0-is)))
   ];
   count = c.loop.invariant.count;
 }
