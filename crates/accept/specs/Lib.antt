@@ -1,9 +1,9 @@
 pub mod Codes
 pub mod StreamMaps
-pub mod Streams
+pub mod OneStream
 pub mod Rooms
 pub mod Histories
-pub mod Steps
+pub mod Calls
 pub mod States
 pub mod OneKey
 pub mod Replies

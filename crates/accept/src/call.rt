@@ -53,7 +53,7 @@ pub enum Reply {
 impl Call {
     ghost use Rattle.std.specs.Prelude.{◌≡◌, ◌↔◌, IsTrue};
     ghost use Rattle.accept.specs.Histories.{key_of};
-    ghost use Rattle.accept.specs.Steps.{AreNumbers};
+    ghost use Rattle.accept.specs.Calls.{AreNumbers};
 
     /// The key of the stream that the call is on.
     pub fn key(&self) -> &StreamKey

@@ -2,7 +2,7 @@
 //! calls alone.
 ghost use Rattle.std.specs.Prelude.{◌≡◌, ℕ, Some, slice_get, IfOk};
 ghost use Rattle.history.specs.Handles.{Passed};
-ghost use Rattle.accept.specs.Steps.{AreNumbers};
+ghost use Rattle.accept.specs.Calls.{AreNumbers};
 ghost use Rattle.ingester.specs.Calls.{IsPassOf};
 
 use crate::pushes::{LINE, START, is_stored};

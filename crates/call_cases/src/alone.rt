@@ -1,6 +1,6 @@
 //! A shard alone, without an ingester.
 ghost use Rattle.std.specs.Prelude.{◌≡◌, []};
-ghost use Rattle.accept.specs.Steps.{AreNumbers};
+ghost use Rattle.accept.specs.Calls.{AreNumbers};
 
 use crate::settings::Settings;
 use crate::slots::{Left, Pair};

@@ -1,7 +1,7 @@
 //! All shards of an ingester, and its passes.
 ghost use Rattle.std.specs.Prelude.{◌≡◌, ℕ, Some, slice_get};
 ghost use Rattle.std.specs.Coded.{codes};
-ghost use Rattle.accept.specs.Steps.{AreNumbers};
+ghost use Rattle.accept.specs.Calls.{AreNumbers};
 ghost use Rattle.accept.specs.contracts.image.Image as image;
 ghost use Rattle.history.specs.Handles.{Passed};
 ghost use Rattle.ingester.specs.Calls.{IsPassOf};

@@ -16,8 +16,8 @@ use Rattle.front.specs.declared.calling.Asked.{Asked}
 use Rattle.front.specs.declared.calling.Came.{Came}
 use Rattle.front.specs.declared.calling.Came.TheVariants.{Refused, Replied}
 use Rattle.front.specs.Calls.{CallGives}
-use Rattle.front.specs.Courses.{Course, Unread, Whole, Broken, Each, Fails, Goes, GivesUp}
-use Rattle.front.specs.Serving.{Exchange, Serves, Handles, Abandons, IsExchange}
+use Rattle.front.specs.Courses.{Course, Unread, Whole, Broken, StreamsGive, StreamFails, BodyGives, BodyIsLeft}
+use Rattle.front.specs.Serving.{Exchange, ConnectionGives, VerdictGives, VerdictIsLeft, IsExchange}
 use Rattle.front.specs.Laws.{AreSteps, AreStepsOf, AreFirstStepsOf, AreStepsBy, AreFirstStepsBy, AreTheirSteps, Gains, MakesTheirCalls, MakesItsCalls, MakesItsFirstCalls}
 
 none : (h h' : Passed) → h' ≡ h → Gains h [] h'
@@ -37,7 +37,7 @@ kept h h' call fault given = made_kept h h' fault given.refused ∙ sym (append-
 both : (h m h' : Passed) (first others : List Step) → Gains h first m → Gains m others h' → Gains h (first ++ others) h'
 both h m h' first others a b = b ∙ ap (λ l. l ++ others) a ∙ append_assoc h.caller.made first others
 
-each : (tenant : List ℕ) (h h' : Passed) (all : List Asked) (cames : List Came) → Each CallGives tenant h all cames h' → (steps : List Step) × Gains h steps h' × AreSteps tenant all cames steps
+each : (tenant : List ℕ) (h h' : Passed) (all : List Asked) (cames : List Came) → StreamsGive CallGives tenant h all cames h' → (steps : List Step) × Gains h steps h' × AreSteps tenant all cames steps
 each tenant h h' [] [] same = ([], none h h' same, refl)
 each tenant h h' [] (c ∷ cs) never = absurd never
 each tenant h h' (a ∷ more) [] never = absurd never
@@ -48,30 +48,30 @@ each tenant h h' (a ∷ more) (Replied reply ∷ cs) (mid, (call, is, given), ot
     let (steps, gains, are) = each tenant mid h' more cs others in
     (next_step h.caller call reply ∷ steps, both h mid h' (next_step h.caller call reply ∷ []) steps (one h mid call reply given) gains, (is, refl, are))
 
-fails : (tenant : List ℕ) (h h' : Passed) (a : Asked) (failure : Failure) → Fails CallGives tenant h a failure h' → Gains h [] h'
+fails : (tenant : List ℕ) (h h' : Passed) (a : Asked) (failure : Failure) → StreamFails CallGives tenant h a failure h' → Gains h [] h'
 fails tenant h h' a failure (inl (memory, same)) = none h h' same
 fails tenant h h' a failure (inr (call, fault, is, given, cause)) = kept h h' call fault given
 
-goes : (tenant : List ℕ) (h h' : Passed) (asked : Result (List Asked) PushFault) (course : Course) → Goes CallGives tenant h asked course h' → (steps : List Step) × Gains h steps h' × AreStepsOf tenant asked course steps
+goes : (tenant : List ℕ) (h h' : Passed) (asked : Result (List Asked) PushFault) (course : Course) → BodyGives CallGives tenant h asked course h' → (steps : List Step) × Gains h steps h' × AreStepsOf tenant asked course steps
 goes tenant h h' asked (Unread fault) (why, same) = ([], none h h' same, refl)
 goes tenant h h' asked (Whole cames) (all, is, went) = let (steps, gains, are) = each tenant h h' all cames went in (steps, gains, (all, is, are))
 goes tenant h h' asked (Broken cames failure) (all, is, ends) =
     let (steps, gains, are) = each tenant h ends.mid ends.done cames ends.each in
     (steps, subst (λ l. Gains h l h') (append-nil steps) (both h ends.mid h' steps [] gains (fails tenant ends.mid h' ends.asked failure ends.fails)), (ends.done, ends.asked ∷ ends.more, is ∙ ap (λ l. Ok l) ends.split, are))
 
-handled : (now : ℕ) (body : List ℕ) (h h' : Passed) (verdict : Verdict) (course : Course) → Handles CallGives now body verdict h course h' → (steps : List Step) × Gains h steps h' × AreStepsBy now body verdict course steps
+handled : (now : ℕ) (body : List ℕ) (h h' : Passed) (verdict : Verdict) (course : Course) → VerdictGives CallGives now body verdict h course h' → (steps : List Step) × Gains h steps h' × AreStepsBy now body verdict course steps
 handled now body h h' (Fixed answer) course (what, same) = ([], none h h' same, refl)
 handled now body h h' (Call route tenant) course takes =
     let (steps, gains, are) = goes tenant h h' takes.asked course takes.goes in (steps, gains, (takes.asked, takes.asks, are))
 handled now body h h' NoMemory course (what, same) = ([], none h h' same, refl)
 
-gives_up : (tenant : List ℕ) (h h' : Passed) (asked : Result (List Asked) PushFault) → GivesUp CallGives tenant h asked h' → (steps : List Step) × Gains h steps h' × AreFirstStepsOf tenant asked steps
+gives_up : (tenant : List ℕ) (h h' : Passed) (asked : Result (List Asked) PushFault) → BodyIsLeft CallGives tenant h asked h' → (steps : List Step) × Gains h steps h' × AreFirstStepsOf tenant asked steps
 gives_up tenant h h' (Err fault) (told, same) = ([], none h h' same, refl)
 gives_up tenant h h' (Ok all) (cames, last, stops) =
     let (steps, gains, are) = each tenant h h' stops.done (cames ++ last ∷ []) stops.each in
     (steps, gains, (stops.done, stops.more, cames ++ last ∷ [], stops.split, are))
 
-abandoned : (now : ℕ) (body : List ℕ) (h h' : Passed) (verdict : Verdict) → Abandons CallGives now body verdict h h' → (steps : List Step) × Gains h steps h' × AreFirstStepsBy now body verdict steps
+abandoned : (now : ℕ) (body : List ℕ) (h h' : Passed) (verdict : Verdict) → VerdictIsLeft CallGives now body verdict h h' → (steps : List Step) × Gains h steps h' × AreFirstStepsBy now body verdict steps
 abandoned now body h h' (Fixed answer) never = absurd never
 abandoned now body h h' (Call route tenant) left =
     let (steps, gains, are) = gives_up tenant h h' left.asked left.left in (steps, gains, (left.asked, left.asks, are))

@@ -25,17 +25,17 @@ use Rattle.front.specs.declared.lines.PushLines.{PushLines}
 use Rattle.pushjson.specs.Bodies.{Stream, batch_of, entry_of, entry_count}
 use Rattle.std.proofs.lemmas.List.{length-map}
 use Rattle.std.proofs.lemmas.List.Sums.{sum_by-cons, get_or-le-sum_by}
-use Rattle.front.specs.Courses.{Course, Unread, Whole, Broken, fault_failure, Comes, Each}
+use Rattle.front.specs.Courses.{Course, Unread, Whole, Broken, fault_failure, StreamGives, StreamsGive}
 use Rattle.front.specs.Parts.{Refuses, OneGoes, PushGoes, NextGoes, Pushing}
-use Rattle.front.specs.Responses.{Responds, status_for, text_for, failure_in, fault_status, fault_text}
+use Rattle.front.specs.Responses.{RequestEnds, status_for, text_for, failure_in, fault_status, fault_text}
 
 module _ {H : Type 0} (gives : H → Call → Result Reply CallFault → H → Type 0) (now : ℕ) (tenant body : List ℕ) where
-  pub refused : (route : Route) (h : H) (fault : PushFault) (result : Result Answer Halt) → AsksFor route now body (Err fault) → Refuses fault result → Responds gives route now tenant body h result h
+  pub refused : (route : Route) (h : H) (fault : PushFault) (result : Result Answer Halt) → AsksFor route now body (Err fault) → Refuses fault result → RequestEnds gives route now tenant body h result h
   refused route h fault (Ok answer) asks (none, shows) = (Unread fault, record { asked = Err fault; asks = asks; goes = (refl, refl) }, none, shows)
   refused route h fault (Err (Failed failure)) asks some = (Unread fault, record { asked = Err fault; asks = asks; goes = (refl, refl) }, some)
   refused route h fault (Err GivenUp) asks none = record { asked = Err fault; asks = asks; left = (none, refl) }
 
-  pub read : (h h' : H) (asked : Asked) (result : Result Answer Halt) → AsksFor Read now body (Ok (asked ∷ [])) → OneGoes gives tenant h asked result h' → Responds gives Read now tenant body h result h'
+  pub read : (h h' : H) (asked : Asked) (result : Result Answer Halt) → AsksFor Read now body (Ok (asked ∷ [])) → OneGoes gives tenant h asked result h' → RequestEnds gives Read now tenant body h result h'
   read h h' asked (Ok answer) asks (came, comes, shows) =
       (Whole (came ∷ []), record { asked = Ok (asked ∷ []); asks = asks; goes = (asked ∷ [], refl, (h', comes, refl)) }, refl, shows)
   read h h' asked (Err (Failed failure)) asks fails =
@@ -43,7 +43,7 @@ module _ {H : Type 0} (gives : H → Call → Result Reply CallFault → H → T
   read h h' asked (Err GivenUp) asks (came, comes) =
       record { asked = Ok (asked ∷ []); asks = asks; left = ([], came, record { done = asked ∷ []; more = []; split = refl; each = (h', comes, refl) }) }
 
-  pub trim : (h h' : H) (asked : Asked) (result : Result Answer Halt) → AsksFor Trim now body (Ok (asked ∷ [])) → OneGoes gives tenant h asked result h' → Responds gives Trim now tenant body h result h'
+  pub trim : (h h' : H) (asked : Asked) (result : Result Answer Halt) → AsksFor Trim now body (Ok (asked ∷ [])) → OneGoes gives tenant h asked result h' → RequestEnds gives Trim now tenant body h result h'
   trim h h' asked (Ok answer) asks (came, comes, shows) =
       (Whole (came ∷ []), record { asked = Ok (asked ∷ []); asks = asks; goes = (asked ∷ [], refl, (h', comes, refl)) }, refl, shows)
   trim h h' asked (Err (Failed failure)) asks fails =
@@ -51,7 +51,7 @@ module _ {H : Type 0} (gives : H → Call → Result Reply CallFault → H → T
   trim h h' asked (Err GivenUp) asks (came, comes) =
       record { asked = Ok (asked ∷ []); asks = asks; left = ([], came, record { done = asked ∷ []; more = []; split = refl; each = (h', comes, refl) }) }
 
-  pub push : (h h' : H) (all : List Asked) (result : Result Answer Halt) → AsksFor Push now body (Ok all) → PushGoes gives tenant h all result h' → Responds gives Push now tenant body h result h'
+  pub push : (h h' : H) (all : List Asked) (result : Result Answer Halt) → AsksFor Push now body (Ok all) → PushGoes gives tenant h all result h' → RequestEnds gives Push now tenant body h result h'
   push h h' all (Ok answer) asks (cames, each, shows) = (Whole cames, record { asked = Ok all; asks = asks; goes = (all, refl, each) }, refl, shows)
   push h h' all (Err (Failed failure)) asks (cames, ends) = (Broken cames failure, record { asked = Ok all; asks = asks; goes = (all, refl, ends) }, refl)
   push h h' all (Err GivenUp) asks (cames, last, stops) = record { asked = Ok all; asks = asks; left = (cames, last, stops) }
@@ -71,8 +71,8 @@ is_500 route (Broken cames other) failure e = let same : other ≡ failure = cc 
 
 module _ {H : Type 0} (gives : H → Call → Result Reply CallFault → H → Type 0) (tenant : List ℕ) where
   -- one stream more
-  pub each_push : (h m h' : H) (done : List Asked) (cames : List Came) (a : Asked) (c : Came) → Each gives tenant h done cames m → Comes gives tenant m a c h' → Each gives tenant h (done ++ a ∷ []) (cames ++ c ∷ []) h'
-  each_push h m h' [] [] a c same comes = (h', subst (λ k. Comes gives tenant k a c h') same comes, refl)
+  pub each_push : (h m h' : H) (done : List Asked) (cames : List Came) (a : Asked) (c : Came) → StreamsGive gives tenant h done cames m → StreamGives gives tenant m a c h' → StreamsGive gives tenant h (done ++ a ∷ []) (cames ++ c ∷ []) h'
+  each_push h m h' [] [] a c same comes = (h', subst (λ k. StreamGives gives tenant k a c h') same comes, refl)
   each_push h m h' [] (d ∷ cs) a c each comes = absurd each
   each_push h m h' (b ∷ bs) [] a c each comes = absurd each
   each_push h m h' (b ∷ bs) (d ∷ cs) a c (mid, first, more) comes = (mid, first, each_push mid m h' bs cs a c more comes)
@@ -131,7 +131,7 @@ module _ {H : Type 0} (gives : H → Call → Result Reply CallFault → H → T
     pub ends : (answer : Answer) → rest ≡ [] → ((cames : List Came) → Tells cames old → Shows (push_status cames) (lines_from 0 cames) answer) → PushGoes gives tenant h (map (asked_push now) batches) (Ok answer) m
     ends answer is shows =
         let all : pushing.done ≡ map (asked_push now) batches = sym (append-nil pushing.done) ∙ ap (λ l. pushing.done ++ map (asked_push now) l) (sym is) ∙ sym pushing.split in
-        (pushing.cames, subst (λ l. Each gives tenant h l pushing.cames m) all pushing.each, shows pushing.cames pushing.tells)
+        (pushing.cames, subst (λ l. StreamsGive gives tenant h l pushing.cames m) all pushing.each, shows pushing.cames pushing.tells)
 
 counted : (streams : List Stream) → sum_by (λ b. length b.entries) (map batch_of streams) ≡ entry_count streams
 counted [] = refl

@@ -21,8 +21,8 @@ use Rattle.requests.specs.declared.incoming.Message.{Message}
 use Rattle.requests.specs.declared.verdict.Verdict.{Verdict}
 use Rattle.requests.proofs.Unique.{keeps_request}
 use Rattle.front.specs.Courses.{Course}
-use Rattle.front.specs.Serving.{Exchange, response, closes, response_text, failure_at, ends_behind, Handles, Abandons, IsExchange, Serves, Finishes, ServesBytes}
-use Rattle.front.specs.Turns.{Replies, RepliesTo, TurnGives, Turns, Progress}
+use Rattle.front.specs.Serving.{Exchange, response, closes, response_text, failure_at, ends_behind, VerdictGives, VerdictIsLeft, IsExchange, ConnectionGives, ConnectionEnds, ServesBytes}
+use Rattle.front.specs.Turns.{ResponseGives, ResponseIsWritten, TurnGives, Turns, Progress}
 use Rattle.front.specs.declared.serving.Turn.{Turn}
 use Rattle.front.specs.declared.serving.Turn.TheVariants.{Answered, Closed, Ended}
 
@@ -31,9 +31,9 @@ pub not_memory : (fault : ServeFault) → fault ≡ Write → fault ≡ Memory �
 not_memory fault written none = cc
 
 module _ {H : Type 0} (gives : H → Asking → Result Reply CallFault → H → Type 0) (now : ℕ) (body : List ℕ) (verdict : Verdict) (close : Bool) (course : Course) (h h' : H) (before after : Option (List ℕ))
-    (handles : Handles gives now body verdict h course h') where
+    (handles : VerdictGives gives now body verdict h course h') where
   -- the response is out
-  pub out : (ends : Bool) (u : Unit {0}) → Writes before after (response_text verdict close course) (Ok u) → ends ≡ ends_behind verdict close course → RepliesTo gives now body before after verdict close h h' (Ok ends)
+  pub out : (ends : Bool) (u : Unit {0}) → Writes before after (response_text verdict close course) (Ok u) → ends ≡ ends_behind verdict close course → ResponseIsWritten gives now body before after verdict close h h' (Ok ends)
   out ends u (n, appends, all) end = record {
     text = take n (response_text verdict close course);
     appends = appends;
@@ -41,7 +41,7 @@ module _ {H : Type 0} (gives : H → Asking → Result Reply CallFault → H →
   }
 
   -- a beginning of it is, or nothing, which is not for want of memory where a failure is told
-  pub not_out : (fault : ServeFault) → Writes before after (response_text verdict close course) (Err fault) → (fault ≡ Memory → failure_at verdict course ≡ None) → RepliesTo gives now body before after verdict close h h' (Err fault)
+  pub not_out : (fault : ServeFault) → Writes before after (response_text verdict close course) (Err fault) → (fault ≡ Memory → failure_at verdict course ≡ None) → ResponseIsWritten gives now body before after verdict close h h' (Err fault)
   not_out Read (n, appends, some) said = absurd some
   not_out CutShort (n, appends, some) said = absurd some
   not_out Write (n, appends, some) said = record { text = take n (response_text verdict close course); appends = appends; replies = (course, handles, (n, refl)) }
@@ -65,12 +65,12 @@ module _ {H C : Type 0} (gives : H → Asking → Result Reply CallFault → H �
 
   module _ (bytes : List ℕ) (r : Request) (m : Message) (now : ℕ) (body : List ℕ) (h h' : H) (c c' : C)
       (is : IsMessage bytes r m) (reads : ReadsMessage bytes r (drop m.end bytes)) (tick : ticks c now c') (same : body ≡ slice_range bytes m.start m.end) where
-    is_exchange : (course : Course) → Handles gives now body m.verdict h course h' → IsExchange gives ticks bytes h c (exchange r m now course) (drop m.end bytes) h' c'
+    is_exchange : (course : Course) → VerdictGives gives now body m.verdict h course h' → IsExchange gives ticks bytes h c (exchange r m now course) (drop m.end bytes) h' c'
     is_exchange course handles = record {
       message = reads;
       verdict = is.verdict;
       clock = tick;
-      calls = subst (λ b. Handles gives now b m.verdict h course h') (same ∙ is.body) handles;
+      calls = subst (λ b. VerdictGives gives now b m.verdict h course h') (same ∙ is.body) handles;
     }
 
     same_text : (course : Course) → response_text m.verdict m.closes course ≡ response (exchange r m now course)
@@ -80,14 +80,14 @@ module _ {H C : Type 0} (gives : H → Asking → Result Reply CallFault → H �
     same_end course = ap (λ k. ends_behind m.verdict k course) is.closes
 
     -- it was answered, and the connection goes on
-    pub goes : (text : List ℕ) (ends : Bool) (left : Option (List ℕ)) → Replies gives now body m.verdict m.closes h text h' (Ok ends) → ends ≡ false → TurnGives gives ticks bytes left h c text (drop m.end bytes) h' c' (Ok Answered)
+    pub goes : (text : List ℕ) (ends : Bool) (left : Option (List ℕ)) → ResponseGives gives now body m.verdict m.closes h text h' (Ok ends) → ends ≡ false → TurnGives gives ticks bytes left h c text (drop m.end bytes) h' c' (Ok Answered)
     goes text ends left (course, handles, out, end) kept = (exchange r m now course, is_exchange course handles, sym (same_end course) ∙ sym end ∙ kept, out ∙ same_text course)
 
     -- it was answered, and the connection ends
-    pub stops : (text rest : List ℕ) (ends : Bool) (left : Option (List ℕ)) → Replies gives now body m.verdict m.closes h text h' (Ok ends) → ends ≡ true → TurnGives gives ticks bytes left h c text rest h' c' (Ok Closed)
+    pub stops : (text rest : List ℕ) (ends : Bool) (left : Option (List ℕ)) → ResponseGives gives now body m.verdict m.closes h text h' (Ok ends) → ends ≡ true → TurnGives gives ticks bytes left h c text rest h' c' (Ok Closed)
     stops text rest ends left (course, handles, out, end) closed = inl (exchange r m now course, drop m.end bytes, is_exchange course handles, sym (same_end course) ∙ sym end ∙ closed, out ∙ same_text course)
 
-    pub fails : (text rest : List ℕ) (fault : ServeFault) (left : Option (List ℕ)) → Replies gives now body m.verdict m.closes h text h' (Err fault) → TurnGives gives ticks bytes left h c text rest h' c' (Err fault)
+    pub fails : (text rest : List ℕ) (fault : ServeFault) (left : Option (List ℕ)) → ResponseGives gives now body m.verdict m.closes h text h' (Err fault) → TurnGives gives ticks bytes left h c text rest h' c' (Err fault)
     fails text rest Read left replies = absurd replies
     fails text rest CutShort left replies = absurd replies
     fails text rest Write left (course, handles, (n, out)) = (n, response (exchange r m now course), inl (exchange r m now course, drop m.end bytes, is_exchange course handles, refl), out ∙ ap (take n) (same_text course))
@@ -102,7 +102,7 @@ module _ {H C : Type 0} (gives : H → Asking → Result Reply CallFault → H �
         message = reads;
         is = is.verdict;
         clock = tick;
-        calls = subst (λ b. Abandons gives now b m.verdict h h') (same ∙ is.body) abandons;
+        calls = subst (λ b. VerdictIsLeft gives now b m.verdict h h') (same ∙ is.body) abandons;
       })),
     )
 
@@ -128,7 +128,7 @@ module _ {H C : Type 0} (gives : H → Asking → Result Reply CallFault → H �
       (take n (fixed_text why true), appends, (ap (λ k. take k (fixed_text why true)) out, inr (inl (inr (fixed_text why true, (why, refused, refl, refl, refl))))))
 
   -- more bytes change nothing of the requests before them
-  serves_more : (bytes more : List ℕ) (h : H) (c : C) (es : List Exchange) (rest : List ℕ) (h' : H) (c' : C) → Serves gives ticks bytes h c es rest h' c' → Serves gives ticks (bytes ++ more) h c es (rest ++ more) h' c'
+  serves_more : (bytes more : List ℕ) (h : H) (c : C) (es : List Exchange) (rest : List ℕ) (h' : H) (c' : C) → ConnectionGives gives ticks bytes h c es rest h' c' → ConnectionGives gives ticks (bytes ++ more) h c es (rest ++ more) h' c'
   serves_more bytes more h c [] rest h' c' (same, hs, cs) = (ap (λ l. l ++ more) same, hs, cs)
   serves_more bytes more h c (e ∷ es) rest h' c' (mid, hm, cm, x, kept, others) = (
     mid ++ more,
@@ -141,7 +141,7 @@ module _ {H C : Type 0} (gives : H → Asking → Result Reply CallFault → H �
 
   -- a request behind others is one more of them
   serves_push : (bytes : List ℕ) (h : H) (c : C) (es : List Exchange) (mid : List ℕ) (hm : H) (cm : C) (e : Exchange) (rest : List ℕ) (h' : H) (c' : C)
-      → Serves gives ticks bytes h c es mid hm cm → IsExchange gives ticks mid hm cm e rest h' c' → closes e ≡ false → Serves gives ticks bytes h c (es ++ e ∷ []) rest h' c'
+      → ConnectionGives gives ticks bytes h c es mid hm cm → IsExchange gives ticks mid hm cm e rest h' c' → closes e ≡ false → ConnectionGives gives ticks bytes h c (es ++ e ∷ []) rest h' c'
   serves_push bytes h c [] mid hm cm e rest h' c' (same, hs, cs) x stays =
       (rest, h', c', subst (λ b. IsExchange gives ticks b h c e rest h' c') same (subst (λ k. IsExchange gives ticks mid k c e rest h' c') hs (subst (λ k. IsExchange gives ticks mid hm k e rest h' c') cs x)), stays, (refl, refl, refl))
   serves_push bytes h c (d ∷ ds) mid hm cm e rest h' c' (next, hn, cn, first, kept, others) x stays =
@@ -164,7 +164,7 @@ module _ {H C : Type 0} (gives : H → Asking → Result Reply CallFault → H �
           serves = serves_push (p.bytes ++ t.bytes) h c p.exchanges (old ++ t.bytes) hm cm e rest h' c' (serves_more p.bytes t.bytes h c p.exchanges old hm cm p.serves) x stays;
         }
 
-    served_by : (bytes text : List ℕ) (result : Result Served ServeFault) → Consumes mid left bytes → Appends between after text → Finishes gives ticks (old ++ bytes) left hm cm text h' c' result → ServesBytes gives ticks known left before after h c h' c' result
+    served_by : (bytes text : List ℕ) (result : Result Served ServeFault) → Consumes mid left bytes → Appends between after text → ConnectionEnds gives ticks (old ++ bytes) left hm cm text h' c' result → ServesBytes gives ticks known left before after h c h' c' result
     served_by bytes text result consumes appends finishes = record {
       bytes = p.bytes ++ bytes;
       text = flat_map response p.exchanges ++ text;

@@ -4,7 +4,7 @@ use Rattle.std.specs.declared.alloc.Global.{Global}
 use Rattle.labels.specs.Canonical.{IsTextOf}
 use Rattle.labels.specs.Faults.{first_fault}
 use Rattle.labels.specs.declared.key.StreamKey.{StreamKey}
-use Rattle.accept.specs.Streams.{AreTimes}
+use Rattle.accept.specs.OneStream.{AreTimes}
 use Rattle.accept.specs.declared.call.Call.{Call}
 use Rattle.accept.specs.declared.call.Call.TheVariants as calls
 use Rattle.pushjson.specs.Reads.{ReadsPush}

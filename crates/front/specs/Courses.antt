@@ -37,20 +37,20 @@ pub data Course : Type 0 where
 
 module _ {H : Type 0} (gives : H → Call → Result Reply CallFault → H → Type 0) (tenant : List ℕ) where
   -- this came of a stream: a refusal of its labels without a call, or the reply to its one call
-  abbrev pub Comes : H → Asked → Came → H → Type 0
-  Comes h asked (Refused fault) h' = (first_fault asked.pairs ≡ Some fault) × (h' ≡ h)
-  Comes h asked (Replied reply) h' = (call : Call) × IsCallOf tenant asked call × gives h call (Ok reply) h'
+  abbrev pub StreamGives : H → Asked → Came → H → Type 0
+  StreamGives h asked (Refused fault) h' = (first_fault asked.pairs ≡ Some fault) × (h' ≡ h)
+  StreamGives h asked (Replied reply) h' = (call : Call) × IsCallOf tenant asked call × gives h call (Ok reply) h'
 
   -- this came of each stream, in order
-  abbrev pub Each : H → List Asked → List Came → H → Type 0
-  Each h [] [] h' = h' ≡ h
-  Each h [] (c ∷ cs) h' = ⊥
-  Each h (a ∷ more) [] h' = ⊥
-  Each h (a ∷ more) (c ∷ cs) h' = (mid : H) × Comes h a c mid × Each mid more cs h'
+  abbrev pub StreamsGive : H → List Asked → List Came → H → Type 0
+  StreamsGive h [] [] h' = h' ≡ h
+  StreamsGive h [] (c ∷ cs) h' = ⊥
+  StreamsGive h (a ∷ more) [] h' = ⊥
+  StreamsGive h (a ∷ more) (c ∷ cs) h' = (mid : H) × StreamGives h a c mid × StreamsGive mid more cs h'
 
   -- a stream failed: no memory before its call, or its one call
-  abbrev pub Fails : H → Asked → Failure → H → Type 0
-  Fails h asked failure h' =
+  abbrev pub StreamFails : H → Asked → Failure → H → Type 0
+  StreamFails h asked failure h' =
       ((failure ≡ OutOfMemory) × (h' ≡ h))
       ⊎ ((call : Call) × (fault : CallFault) × IsCallOf tenant asked call × gives h call (Err fault) h' × (failure ≡ failure_of fault))
 
@@ -61,40 +61,40 @@ module _ {H : Type 0} (gives : H → Call → Result Reply CallFault → H → T
     pub more : List Asked
     pub mid : H
     pub split : all ≡ done ++ asked ∷ more
-    pub each : Each h done cames mid
-    pub fails : Fails mid asked failure h'
+    pub each : StreamsGive h done cames mid
+    pub fails : StreamFails mid asked failure h'
 
   -- of a beginning of these streams this came
   pub record StopsIn (h : H) (all : List Asked) (cames : List Came) (h' : H) : Type 0 where
     pub done : List Asked
     pub more : List Asked
     pub split : all ≡ done ++ more
-    pub each : Each h done cames h'
+    pub each : StreamsGive h done cames h'
 
   -- what was asked for went so
-  abbrev pub Goes : H → Result (List Asked) PushFault → Course → H → Type 0
-  Goes h asked (Unread fault) h' = (asked ≡ Err fault) × (h' ≡ h)
-  Goes h asked (Whole cames) h' = (all : List Asked) × (asked ≡ Ok all) × Each h all cames h'
-  Goes h asked (Broken cames failure) h' = (all : List Asked) × (asked ≡ Ok all) × EndsAt h all cames failure h'
+  abbrev pub BodyGives : H → Result (List Asked) PushFault → Course → H → Type 0
+  BodyGives h asked (Unread fault) h' = (asked ≡ Err fault) × (h' ≡ h)
+  BodyGives h asked (Whole cames) h' = (all : List Asked) × (asked ≡ Ok all) × StreamsGive h all cames h'
+  BodyGives h asked (Broken cames failure) h' = (all : List Asked) × (asked ≡ Ok all) × EndsAt h all cames failure h'
 
   -- it was given up behind a stream of which there was something to say, or at a body's form that is not answered by a 500
-  abbrev pub GivesUp : H → Result (List Asked) PushFault → H → Type 0
-  GivesUp h (Err fault) h' = (fault_failure fault ≡ None) × (h' ≡ h)
-  GivesUp h (Ok all) h' = (cames : List Came) × (last : Came) × StopsIn h all (cames ++ last ∷ []) h'
+  abbrev pub BodyIsLeft : H → Result (List Asked) PushFault → H → Type 0
+  BodyIsLeft h (Err fault) h' = (fault_failure fault ≡ None) × (h' ≡ h)
+  BodyIsLeft h (Ok all) h' = (cames : List Came) × (last : Came) × StopsIn h all (cames ++ last ∷ []) h'
 
   -- for private clauses: the one stream went so
-  abbrev pub StreamGoes : H → Asked → Result Came Failure → H → Type 0
-  StreamGoes h asked (Ok came) h' = Comes h asked came h'
-  StreamGoes h asked (Err failure) h' = Fails h asked failure h'
+  abbrev pub StreamEnds : H → Asked → Result Came Failure → H → Type 0
+  StreamEnds h asked (Ok came) h' = StreamGives h asked came h'
+  StreamEnds h asked (Err failure) h' = StreamFails h asked failure h'
 
 -- the calls of a request with this route, clock, tenant and body went so
-pub record Takes {H : Type 0} (gives : H → Call → Result Reply CallFault → H → Type 0) (route : Route) (now : ℕ) (tenant body : List ℕ) (h : H) (course : Course) (h' : H) : Type 0 where
+pub record RequestGives {H : Type 0} (gives : H → Call → Result Reply CallFault → H → Type 0) (route : Route) (now : ℕ) (tenant body : List ℕ) (h : H) (course : Course) (h' : H) : Type 0 where
   pub asked : Result (List Asked) PushFault
   pub asks : AsksFor route now body asked
-  pub goes : Goes gives tenant h asked course h'
+  pub goes : BodyGives gives tenant h asked course h'
 
 -- and so where they were given up for want of memory
-pub record IsLeft {H : Type 0} (gives : H → Call → Result Reply CallFault → H → Type 0) (route : Route) (now : ℕ) (tenant body : List ℕ) (h h' : H) : Type 0 where
+pub record RequestIsLeft {H : Type 0} (gives : H → Call → Result Reply CallFault → H → Type 0) (route : Route) (now : ℕ) (tenant body : List ℕ) (h h' : H) : Type 0 where
   pub asked : Result (List Asked) PushFault
   pub asks : AsksFor route now body asked
-  pub left : GivesUp gives tenant h asked h'
+  pub left : BodyIsLeft gives tenant h asked h'

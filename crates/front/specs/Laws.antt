@@ -12,7 +12,7 @@ use Rattle.front.specs.declared.calling.Came.TheVariants.{Refused, Replied}
 use Rattle.front.specs.Asking.{AsksFor, IsCallOf}
 use Rattle.front.specs.Calls.{CallGives}
 use Rattle.front.specs.Courses.{Course, Unread, Whole, Broken}
-use Rattle.front.specs.Serving.{Exchange, Serves, IsExchange, IsAbandoned}
+use Rattle.front.specs.Serving.{Exchange, ConnectionGives, IsExchange, IsAbandoned}
 
 -- a step for each stream that got a reply: its call, and the reply
 abbrev pub AreSteps : List ℕ → List Asked → List Came → List Step → Type 0
@@ -58,7 +58,7 @@ Gains old steps new = new.caller.made ≡ old.caller.made ++ steps
 
 -- served so, a pass made just the calls of the requests, in their order
 abbrev pub MakesTheirCalls : {C : Type 0} → (C → ℕ → C → Type 0) → List ℕ → Passed → C → List Exchange → List ℕ → Passed → C → Type 0
-MakesTheirCalls ticks bytes h c es rest h' c' = Serves CallGives ticks bytes h c es rest h' c' → (steps : List Step) × Gains h steps h' × AreTheirSteps es steps
+MakesTheirCalls ticks bytes h c es rest h' c' = ConnectionGives CallGives ticks bytes h c es rest h' c' → (steps : List Step) × Gains h steps h' × AreTheirSteps es steps
 
 -- and so of one request, of which a failure may have ended the calls
 abbrev pub MakesItsCalls : {C : Type 0} → (C → ℕ → C → Type 0) → List ℕ → Passed → C → Exchange → List ℕ → Passed → C → Type 0

@@ -21,7 +21,7 @@ use Rattle.front.specs.declared.responding.Halt.TheVariants.{Failed, GivenUp}
 use Rattle.front.specs.Lines.{push_status, lines_from}
 use Rattle.front.specs.Replies.{one_status, one_text}
 use Rattle.front.specs.Showing.{Shows}
-use Rattle.front.specs.Courses.{Course, Unread, Whole, Broken, fault_failure, Takes, IsLeft}
+use Rattle.front.specs.Courses.{Course, Unread, Whole, Broken, fault_failure, RequestGives, RequestIsLeft}
 
 abbrev pub bad_time_text : ℕ → ℕ → List ℕ
 bad_time_text i j = codes "bad time at stream " ++ decimal i ++ codes " entry " ++ decimal j
@@ -84,17 +84,17 @@ content_for status = if status == 200 then Json else Text
 
 module _ {H : Type 0} (gives : H → Call → Result Reply CallFault → H → Type 0) (route : Route) (now : ℕ) (tenant body : List ℕ) where
   -- what is answered to a request behind its head: the answer of how its calls went; or nothing, where memory ran out
-  abbrev pub Answers : H → Result Answer ServeFault → H → Type 0
-  Answers h (Ok answer) h' = (course : Course) × Takes gives route now tenant body h course h' × Shows (status_for route course) (text_for route course) answer
-  Answers h (Err faults.Memory) h' =
-      ((course : Course) × Takes gives route now tenant body h course h' × IsSome (failure_in course)) ⊎ IsLeft gives route now tenant body h h'
-  Answers h (Err faults.Read) h' = ⊥
-  Answers h (Err faults.Write) h' = ⊥
-  Answers h (Err faults.CutShort) h' = ⊥
+  abbrev pub RequestIsAnswered : H → Result Answer ServeFault → H → Type 0
+  RequestIsAnswered h (Ok answer) h' = (course : Course) × RequestGives gives route now tenant body h course h' × Shows (status_for route course) (text_for route course) answer
+  RequestIsAnswered h (Err faults.Memory) h' =
+      ((course : Course) × RequestGives gives route now tenant body h course h' × IsSome (failure_in course)) ⊎ RequestIsLeft gives route now tenant body h h'
+  RequestIsAnswered h (Err faults.Read) h' = ⊥
+  RequestIsAnswered h (Err faults.Write) h' = ⊥
+  RequestIsAnswered h (Err faults.CutShort) h' = ⊥
 
   -- for private clauses: the same, with failures apart
-  abbrev pub Responds : H → Result Answer Halt → H → Type 0
-  Responds h (Ok answer) h' =
-      (course : Course) × Takes gives route now tenant body h course h' × (failure_in course ≡ None) × Shows (status_for route course) (text_for route course) answer
-  Responds h (Err (Failed failure)) h' = (course : Course) × Takes gives route now tenant body h course h' × (failure_in course ≡ Some failure)
-  Responds h (Err GivenUp) h' = IsLeft gives route now tenant body h h'
+  abbrev pub RequestEnds : H → Result Answer Halt → H → Type 0
+  RequestEnds h (Ok answer) h' =
+      (course : Course) × RequestGives gives route now tenant body h course h' × (failure_in course ≡ None) × Shows (status_for route course) (text_for route course) answer
+  RequestEnds h (Err (Failed failure)) h' = (course : Course) × RequestGives gives route now tenant body h course h' × (failure_in course ≡ Some failure)
+  RequestEnds h (Err GivenUp) h' = RequestIsLeft gives route now tenant body h h'

@@ -20,7 +20,7 @@ use Rattle.requests.specs.declared.fixed.FixedAnswer.{FixedAnswer}
 use Rattle.requests.specs.declared.route.Route.{Route}
 use Rattle.requests.specs.declared.verdict.Verdict.{Verdict}
 use Rattle.requests.specs.declared.verdict.Verdict.TheVariants.{Fixed, Call, NoMemory}
-use Rattle.front.specs.Courses.{Course, Unread, Whole, Takes, IsLeft}
+use Rattle.front.specs.Courses.{Course, Unread, Whole, RequestGives, RequestIsLeft}
 use Rattle.front.specs.Responses.{status_for, text_for, content_for, failure_in}
 
 -- a request, what it is, the time that the clock told for it, and how its calls went
@@ -68,16 +68,16 @@ closes e = ends_behind e.verdict (asked_to_close e.request) e.course
 
 module _ {H : Type 0} (gives : H → Asking → Result Reply CallFault → H → Type 0) (now : ℕ) (body : List ℕ) where
   -- how the calls of a request went; one with a fixed answer makes none, nor one for whose tenant there was no memory
-  abbrev pub Handles : Verdict → H → Course → H → Type 0
-  Handles (Fixed answer) h course h' = (course ≡ Whole []) × (h' ≡ h)
-  Handles (Call route tenant) h course h' = Takes gives route now tenant body h course h'
-  Handles NoMemory h course h' = (course ≡ Unread bodies.Memory) × (h' ≡ h)
+  abbrev pub VerdictGives : Verdict → H → Course → H → Type 0
+  VerdictGives (Fixed answer) h course h' = (course ≡ Whole []) × (h' ≡ h)
+  VerdictGives (Call route tenant) h course h' = RequestGives gives route now tenant body h course h'
+  VerdictGives NoMemory h course h' = (course ≡ Unread bodies.Memory) × (h' ≡ h)
 
   -- its calls were given up
-  abbrev pub Abandons : Verdict → H → H → Type 0
-  Abandons (Fixed answer) h h' = ⊥
-  Abandons (Call route tenant) h h' = IsLeft gives route now tenant body h h'
-  Abandons NoMemory h h' = ⊥
+  abbrev pub VerdictIsLeft : Verdict → H → H → Type 0
+  VerdictIsLeft (Fixed answer) h h' = ⊥
+  VerdictIsLeft (Call route tenant) h h' = RequestIsLeft gives route now tenant body h h'
+  VerdictIsLeft NoMemory h h' = ⊥
 
 module _ {H C : Type 0} (gives : H → Asking → Result Reply CallFault → H → Type 0) (ticks : C → ℕ → C → Type 0) where
   -- the bytes begin with this request, whose calls went so from h to h', at the time of the clock
@@ -85,7 +85,7 @@ module _ {H C : Type 0} (gives : H → Asking → Result Reply CallFault → H �
     pub message : ReadsMessage bytes e.request rest
     pub verdict : IsVerdict e.request.head.method e.request.head.target (fields_of e.request.head) e.verdict
     pub clock : ticks c e.now c'
-    pub calls : Handles gives e.now e.request.body e.verdict h e.course h'
+    pub calls : VerdictGives gives e.now e.request.body e.verdict h e.course h'
 
   -- the bytes begin with this request, whose calls were given up
   pub record IsAbandoned (bytes : List ℕ) (h : H) (c : C) (h' : H) (c' : C) : Type 0 where
@@ -96,13 +96,13 @@ module _ {H C : Type 0} (gives : H → Asking → Result Reply CallFault → H �
     pub message : ReadsMessage bytes request rest
     pub is : IsVerdict request.head.method request.head.target (fields_of request.head) verdict
     pub clock : ticks c now c'
-    pub calls : Abandons gives now request.body verdict h h'
+    pub calls : VerdictIsLeft gives now request.body verdict h h'
 
   -- the bytes are these requests, none of which closes, and then rest
-  abbrev pub Serves : List ℕ → H → C → List Exchange → List ℕ → H → C → Type 0
-  Serves bytes h c [] rest h' c' = (rest ≡ bytes) × (h' ≡ h) × (c' ≡ c)
-  Serves bytes h c (e ∷ es) rest h' c' =
-      (mid : List ℕ) × (hm : H) × (cm : C) × IsExchange bytes h c e mid hm cm × (closes e ≡ false) × Serves mid hm cm es rest h' c'
+  abbrev pub ConnectionGives : List ℕ → H → C → List Exchange → List ℕ → H → C → Type 0
+  ConnectionGives bytes h c [] rest h' c' = (rest ≡ bytes) × (h' ≡ h) × (c' ≡ c)
+  ConnectionGives bytes h c (e ∷ es) rest h' c' =
+      (mid : List ℕ) × (hm : H) × (cm : C) × IsExchange bytes h c e mid hm cm × (closes e ≡ false) × ConnectionGives mid hm cm es rest h' c'
 
   -- the bytes begin with what is refused, and nothing else happened
   abbrev pub IsTurnedAway : List ℕ → H → C → List ℕ → H → C → Type 0
@@ -129,24 +129,24 @@ module _ {H C : Type 0} (gives : H → Asking → Result Reply CallFault → H �
 
   -- how the connection ended, where no further request was answered with the connection kept: text is what is written of
   -- the last response, and left what the reader may still give
-  abbrev pub Finishes : List ℕ → Option (List ℕ) → H → C → List ℕ → H → C → Result Served ServeFault → Type 0
-  Finishes rest left h c text h' c' (Ok Ended) = (rest ≡ []) × IsAtEnd left × IsIdle h c text h' c'
-  Finishes rest left h c text h' c' (Ok Closed) = IsLastResponse rest h c text h' c'
-  Finishes rest left h c text h' c' (Err faults.CutShort) = IsCut rest × IsAtEnd left × IsIdle h c text h' c'
-  Finishes rest left h c text h' c' (Err faults.Read) = ((rest ≡ []) ⊎ IsCut rest) × IsIdle h c text h' c'
-  Finishes rest left h c text h' c' (Err faults.Write) = (n : ℕ) × (all : List ℕ) × IsNextResponse rest h c all h' c' × (text ≡ take n all)
-  Finishes rest left h c text h' c' (Err faults.Memory) =
+  abbrev pub ConnectionEnds : List ℕ → Option (List ℕ) → H → C → List ℕ → H → C → Result Served ServeFault → Type 0
+  ConnectionEnds rest left h c text h' c' (Ok Ended) = (rest ≡ []) × IsAtEnd left × IsIdle h c text h' c'
+  ConnectionEnds rest left h c text h' c' (Ok Closed) = IsLastResponse rest h c text h' c'
+  ConnectionEnds rest left h c text h' c' (Err faults.CutShort) = IsCut rest × IsAtEnd left × IsIdle h c text h' c'
+  ConnectionEnds rest left h c text h' c' (Err faults.Read) = ((rest ≡ []) ⊎ IsCut rest) × IsIdle h c text h' c'
+  ConnectionEnds rest left h c text h' c' (Err faults.Write) = (n : ℕ) × (all : List ℕ) × IsNextResponse rest h c all h' c' × (text ≡ take n all)
+  ConnectionEnds rest left h c text h' c' (Err faults.Memory) =
       (text ≡ []) × ((((rest ≡ []) ⊎ IsCut rest) × IsIdle h c text h' c') ⊎ IsUnanswered rest h c h' c' ⊎ IsAbandoned rest h c h' c')
 
   -- from the bytes read to the text written
-  pub record IsServed (bytes : List ℕ) (left : Option (List ℕ)) (h : H) (c : C) (text : List ℕ) (h' : H) (c' : C) (result : Result Served ServeFault) : Type 0 where
+  pub record ConnectionIsAnswered (bytes : List ℕ) (left : Option (List ℕ)) (h : H) (c : C) (text : List ℕ) (h' : H) (c' : C) (result : Result Served ServeFault) : Type 0 where
     pub exchanges : List Exchange
     pub rest : List ℕ
     pub h_mid : H
     pub c_mid : C
     pub last : List ℕ
-    pub serves : Serves bytes h c exchanges rest h_mid c_mid
-    pub finishes : Finishes rest left h_mid c_mid last h' c' result
+    pub serves : ConnectionGives bytes h c exchanges rest h_mid c_mid
+    pub finishes : ConnectionEnds rest left h_mid c_mid last h' c' result
     pub written : text ≡ flat_map response exchanges ++ last
 
   -- the reader gave bytes, the writer took a text, and that is what the connection was served
@@ -155,4 +155,4 @@ module _ {H C : Type 0} (gives : H → Asking → Result Reply CallFault → H �
     pub text : List ℕ
     pub consumes : Consumes known left bytes
     pub appends : Appends before after text
-    pub served : IsServed bytes left h c text h' c' result
+    pub served : ConnectionIsAnswered bytes left h c text h' c' result

@@ -12,35 +12,35 @@ use Rattle.requests.specs.declared.fault.ServeFault.TheVariants as faults
 use Rattle.requests.specs.declared.fault.Served.TheVariants as served
 use Rattle.requests.specs.declared.verdict.Verdict.{Verdict}
 use Rattle.front.specs.Courses.{Course}
-use Rattle.front.specs.Serving.{Exchange, response, closes, response_text, failure_at, ends_behind, Handles, Abandons, IsExchange, Serves, Finishes}
+use Rattle.front.specs.Serving.{Exchange, response, closes, response_text, failure_at, ends_behind, VerdictGives, VerdictIsLeft, IsExchange, ConnectionGives, ConnectionEnds}
 use Rattle.front.specs.declared.serving.Turn.{Turn}
 use Rattle.front.specs.declared.serving.Turn.TheVariants as turns
 
 module _ {H : Type 0} (gives : H → Asking → Result Reply CallFault → H → Type 0) (now : ℕ) (body : List ℕ) where
   -- the response to a whole request is out, or a beginning of it, or nothing
-  abbrev pub Replies : Verdict → Bool → H → List ℕ → H → Result Bool ServeFault → Type 0
-  Replies verdict close h text h' (Ok ends) =
-      (course : Course) × Handles gives now body verdict h course h' × (text ≡ response_text verdict close course) × (ends ≡ ends_behind verdict close course)
-  Replies verdict close h text h' (Err faults.Write) =
-      (course : Course) × Handles gives now body verdict h course h' × ((n : ℕ) × (text ≡ take n (response_text verdict close course)))
-  Replies verdict close h text h' (Err faults.Memory) =
-      (text ≡ []) × (((course : Course) × Handles gives now body verdict h course h' × (failure_at verdict course ≡ None)) ⊎ Abandons gives now body verdict h h')
-  Replies verdict close h text h' (Err faults.Read) = ⊥
-  Replies verdict close h text h' (Err faults.CutShort) = ⊥
+  abbrev pub ResponseGives : Verdict → Bool → H → List ℕ → H → Result Bool ServeFault → Type 0
+  ResponseGives verdict close h text h' (Ok ends) =
+      (course : Course) × VerdictGives gives now body verdict h course h' × (text ≡ response_text verdict close course) × (ends ≡ ends_behind verdict close course)
+  ResponseGives verdict close h text h' (Err faults.Write) =
+      (course : Course) × VerdictGives gives now body verdict h course h' × ((n : ℕ) × (text ≡ take n (response_text verdict close course)))
+  ResponseGives verdict close h text h' (Err faults.Memory) =
+      (text ≡ []) × (((course : Course) × VerdictGives gives now body verdict h course h' × (failure_at verdict course ≡ None)) ⊎ VerdictIsLeft gives now body verdict h h')
+  ResponseGives verdict close h text h' (Err faults.Read) = ⊥
+  ResponseGives verdict close h text h' (Err faults.CutShort) = ⊥
 
-  pub record RepliesTo (before after : Option (List ℕ)) (verdict : Verdict) (close : Bool) (h h' : H) (result : Result Bool ServeFault) : Type 0 where
+  pub record ResponseIsWritten (before after : Option (List ℕ)) (verdict : Verdict) (close : Bool) (h h' : H) (result : Result Bool ServeFault) : Type 0 where
     pub text : List ℕ
     pub appends : Appends before after text
-    pub replies : Replies verdict close h text h' result
+    pub replies : ResponseGives verdict close h text h' result
 
 module _ {H C : Type 0} (gives : H → Asking → Result Reply CallFault → H → Type 0) (ticks : C → ℕ → C → Type 0) where
   -- a turn from these bytes leaves these
   abbrev pub TurnGives : List ℕ → Option (List ℕ) → H → C → List ℕ → List ℕ → H → C → Result Turn ServeFault → Type 0
   TurnGives bytes left h c text rest h' c' (Ok turns.Answered) =
       (e : Exchange) × IsExchange gives ticks bytes h c e rest h' c' × (closes e ≡ false) × (text ≡ response e)
-  TurnGives bytes left h c text rest h' c' (Ok turns.Closed) = Finishes gives ticks bytes left h c text h' c' (Ok served.Closed)
-  TurnGives bytes left h c text rest h' c' (Ok turns.Ended) = Finishes gives ticks bytes left h c text h' c' (Ok served.Ended)
-  TurnGives bytes left h c text rest h' c' (Err fault) = Finishes gives ticks bytes left h c text h' c' (Err fault)
+  TurnGives bytes left h c text rest h' c' (Ok turns.Closed) = ConnectionEnds gives ticks bytes left h c text h' c' (Ok served.Closed)
+  TurnGives bytes left h c text rest h' c' (Ok turns.Ended) = ConnectionEnds gives ticks bytes left h c text h' c' (Ok served.Ended)
+  TurnGives bytes left h c text rest h' c' (Err fault) = ConnectionEnds gives ticks bytes left h c text h' c' (Err fault)
 
   -- the turn read more bytes and wrote a text
   pub record Turns (known left before after : Option (List ℕ)) (old rest : List ℕ) (h : H) (c : C) (h' : H) (c' : C) (result : Result Turn ServeFault) : Type 0 where
@@ -56,7 +56,7 @@ module _ {H C : Type 0} (gives : H → Asking → Result Reply CallFault → H �
     pub exchanges : List Exchange
     pub consumes : Consumes known left bytes
     pub appends : Appends before after (flat_map response exchanges)
-    pub serves : Serves gives ticks bytes h c exchanges rest h' c'
+    pub serves : ConnectionGives gives ticks bytes h c exchanges rest h' c'
 
   -- the message, whichever request of these bytes it is, was answered and dropped
   abbrev pub TakesMessage : Option (List ℕ) → Option (List ℕ) → Message → List ℕ → List ℕ → H → C → H → C → Result Turn ServeFault → Type 0

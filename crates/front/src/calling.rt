@@ -5,7 +5,7 @@ ghost use Rattle.labels.specs.Faults.{first_fault};
 ghost use Rattle.ingester.specs.Calls.{IsPassOf};
 ghost use Rattle.front.specs.Asking.{IsLawful, call_on};
 ghost use Rattle.front.specs.Calls.{CallGives};
-ghost use Rattle.front.specs.Courses.{failure_of, StreamGoes};
+ghost use Rattle.front.specs.Courses.{failure_of, StreamEnds};
 
 use accept::{Call, EntryList, Reply};
 use disk::Disk;
@@ -88,7 +88,7 @@ pub(crate) fn take_stream<D: Disk + Drop, R: Wait>(
     requires pass { IsPassOf ingester.now pass.old }
     requires lawful { IsLawful asked.want }
     ensures pass { IsPassOf ingester.now pass.new }
-    ensures goes { StreamGoes CallGives tenant.now pass.old asked result pass.new }
+    ensures goes { StreamEnds CallGives tenant.now pass.old asked result pass.new }
 {
     let Asked { pairs, want } = asked;
     let key = match key_of(alloc, tenant, pairs) {

@@ -1,12 +1,12 @@
 //! The answer to a request behind its head: its body, its calls in body order, status and body of its answer.
 ghost use Rattle.std.specs.Prelude.{◌≡◌, ◌<◌, ◌≤◌, ◌^◌, All, IfOk, map, sum_by, length};
-ghost use Rattle.accept.specs.Streams.{AreTimes};
+ghost use Rattle.accept.specs.OneStream.{AreTimes};
 ghost use Rattle.ingester.specs.Calls.{IsPassOf};
 ghost use Rattle.requests.specs.Answers.{failure_body};
 ghost use Rattle.front.specs.Asking.{IsLawful, asked_push};
 ghost use Rattle.front.specs.Calls.{CallGives};
 ghost use Rattle.front.specs.Parts.{Refuses, OneGoes, PushGoes, NextGoes};
-ghost use Rattle.front.specs.Responses.{Answers, Responds, bad_time_text};
+ghost use Rattle.front.specs.Responses.{RequestIsAnswered, RequestEnds, bad_time_text};
 ghost use Rattle.front.specs.Showing.{Shows};
 ghost use Rattle.front.specs.declared.responding.Halt.TheVariants.{Failed, GivenUp};
 
@@ -149,7 +149,7 @@ fn push<D: Disk + Drop, R: Wait>(
     requires pass { IsPassOf ingester.now pass.old }
     requires clock { now < 2 ^ 63 }
     ensures pass { IsPassOf ingester.now pass.new }
-    ensures responds { Responds CallGives Route.Push now tenant.now body.now pass.old result pass.new }
+    ensures responds { RequestEnds CallGives Route.Push now tenant.now body.now pass.old result pass.new }
 {
     match read_push(alloc, body) {
         Ok(batches) => push_streams(rt, alloc, ingester, pass, tenant, now, batches),
@@ -168,7 +168,7 @@ fn read<D: Disk + Drop, R: Wait>(
 ) -> Result<Answer, Halt>
     requires pass { IsPassOf ingester.now pass.old }
     ensures pass { IsPassOf ingester.now pass.new }
-    ensures responds { Responds CallGives Route.Read now tenant.now body.now pass.old result pass.new }
+    ensures responds { RequestEnds CallGives Route.Read now tenant.now body.now pass.old result pass.new }
 {
     match read_query(alloc, body) {
         Ok(query) => {
@@ -194,7 +194,7 @@ fn trim<D: Disk + Drop, R: Wait>(
 ) -> Result<Answer, Halt>
     requires pass { IsPassOf ingester.now pass.old }
     ensures pass { IsPassOf ingester.now pass.new }
-    ensures responds { Responds CallGives Route.Trim now tenant.now body.now pass.old result pass.new }
+    ensures responds { RequestEnds CallGives Route.Trim now tenant.now body.now pass.old result pass.new }
 {
     match read_trim(alloc, body) {
         Ok(trim) => {
@@ -220,7 +220,7 @@ pub(crate) fn respond<D: Disk + Drop, R: Wait>(
     requires pass { IsPassOf ingester.now pass.old }
     requires clock { now < 2 ^ 63 }
     ensures pass { IsPassOf ingester.now pass.new }
-    ensures responds { Responds CallGives route now tenant.now body.now pass.old result pass.new }
+    ensures responds { RequestEnds CallGives route now tenant.now body.now pass.old result pass.new }
 {
     match route {
         Route::Push => push(rt, alloc, ingester, pass, now, tenant, body),
@@ -260,7 +260,7 @@ pub fn answer<D: Disk + Drop, R: Wait>(
     requires pass { IsPassOf ingester.now pass.old }
     requires clock { now < 2 ^ 63 }
     ensures pass { IsPassOf ingester.now pass.new }
-    ensures answers { Answers CallGives route now tenant.now body.now pass.old result pass.new }
+    ensures answers { RequestIsAnswered CallGives route now tenant.now body.now pass.old result pass.new }
 {
     match respond(rt, alloc, ingester, pass, now, route, tenant, body) {
         Ok(answer) => Ok(answer),

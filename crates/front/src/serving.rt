@@ -4,7 +4,7 @@ ghost use Rattle.ingester.specs.Calls.{IsPassOf};
 ghost use Rattle.front.specs.Calls.{CallGives};
 ghost use Rattle.front.specs.Responses.{content_for};
 ghost use Rattle.front.specs.Serving.{ServesBytes};
-ghost use Rattle.front.specs.Turns.{RepliesTo, Turns, TakesMessage};
+ghost use Rattle.front.specs.Turns.{ResponseIsWritten, Turns, TakesMessage};
 
 use crate::clock::Clock;
 use crate::responding::{Halt, respond};
@@ -58,7 +58,7 @@ fn reply_to_call<D: Disk + Drop, R: Wait, O: Write>(
     requires pass { IsPassOf ingester.now pass.old }
     requires clock { now < 2 ^ 63 }
     ensures pass { IsPassOf ingester.now pass.new }
-    ensures replies { RepliesTo CallGives now body.now (O.contents writer.old) (O.contents writer.new) (Verdict.Call route tenant.now) closes pass.old pass.new result }
+    ensures replies { ResponseIsWritten CallGives now body.now (O.contents writer.old) (O.contents writer.new) (Verdict.Call route tenant.now) closes pass.old pass.new result }
 {
     match respond(rt, alloc, ingester, pass, now, route, tenant, body) {
         Ok(answer) => {
@@ -89,7 +89,7 @@ fn reply_to<D: Disk + Drop, R: Wait, O: Write>(
     requires pass { IsPassOf ingester.now pass.old }
     requires clock { now < 2 ^ 63 }
     ensures pass { IsPassOf ingester.now pass.new }
-    ensures replies { RepliesTo CallGives now body.now (O.contents writer.old) (O.contents writer.new) verdict.now closes pass.old pass.new result }
+    ensures replies { ResponseIsWritten CallGives now body.now (O.contents writer.old) (O.contents writer.new) verdict.now closes pass.old pass.new result }
 {
     match verdict {
         Verdict::Fixed(answer) => {

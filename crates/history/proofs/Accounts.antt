@@ -13,20 +13,20 @@ use Rattle.history.specs.declared.views.About.{About}
 use Rattle.history.specs.declared.views.Caller.{Caller}
 use Rattle.history.specs.declared.views.Token.{Token}
 use Rattle.history.specs.declared.views.Token.TheVariants.{Nothing, Open, Done}
-use Rattle.history.specs.Histories.{Begins, shard_in, step_of, steps_by, on, asks_by, AllBelow, AllAbove, IsRising, IsUnused, AreUnused, IsMade, HaveSteps, IsAmong, AreAmong, IsFirst, IsFirstNumber, behind_first, bound}
+use Rattle.history.specs.Histories.{IsBeginning, shard_in, step_of, steps_by, steps_on, asks_by, HaveNumbersBelow, HaveNumbersAbove, IsRising, IsUnused, AreUnused, HasStep, HaveSteps, IsAmong, AreAmong, IsFirst, IsFirstNumber, behind_first, bound}
 use Rattle.history.specs.Rule.{AccountOk, HasOwn, IsWaiting, AreWaiting, IsOrdered, IsQueue, TokenOk, newcomer, floor_of, IsOut, AreTold}
 use Rattle.history.specs.Plays.{seen_at, ask_of, before_of, announce_to, withdraw_to, collect_to, look_to, AreHis, HasStepsOf, IsRested, Extends}
 use Rattle.history.proofs.Lists.{put, put_at, put_else, put_all, begins_same, begins_more, begins_trans, in_line, behind, last_or_none, last_same}
 use Rattle.history.proofs.Past.{AreFrom, steps_append, asks_step, steps_mine, steps_begin, on_append, on_here, on_else, below_on, below_more, below_last, below_middle, above_last, rising_last, rising_back, rising_front, parted, under_more, under_last, unused_below, unused_number, unused_step, unused_both, made_left, made_right, made_last, not_made, has_step, among_left, among_last, among_on, among_floor, queue_last, queue_behind, floor_first, among_behind, first_by_number, few_behind}
 
 -- what is told of calls, after a change of the one with number n
-pub told_put : (made made' : List Step) (ts : ℕ → Token) (n : ℕ) (t' : Token) → ((a : Ask) → IsMade a made → IsMade a made') → ((a : Ask) → IsOut a (ts n) → IsMade a made' ⊎ IsOut a t') → (asks : List Ask) → AreTold made ts asks → AreTold made' (put ts n t') asks
+pub told_put : (made made' : List Step) (ts : ℕ → Token) (n : ℕ) (t' : Token) → ((a : Ask) → HasStep a made → HasStep a made') → ((a : Ask) → IsOut a (ts n) → HasStep a made' ⊎ IsOut a t') → (asks : List Ask) → AreTold made ts asks → AreTold made' (put ts n t') asks
 told_put made made' ts n t' f g [] h = tt
 told_put made made' ts n t' f g (a ∷ asks) h = (
   ⊎_elim
-      (λ (m : IsMade a made). inl (f a m))
+      (λ (m : HasStep a made). inl (f a m))
       (λ (o : IsOut a (ts a.number)). ⊎_elim
-      (λ (e : n ≡ a.number). subst (λ (t : Token). IsMade a made' ⊎ IsOut a t) (sym (put_at ts n t' a.number e)) (g a (subst (λ (m : ℕ). IsOut a (ts m)) (sym e) o)))
+      (λ (e : n ≡ a.number). subst (λ (t : Token). HasStep a made' ⊎ IsOut a t) (sym (put_at ts n t' a.number e)) (g a (subst (λ (m : ℕ). IsOut a (ts m)) (sym e) o)))
       (λ (d : n ≢ a.number). inr (subst (λ (t : Token). IsOut a t) (sym (put_else ts n t' a.number d)) o))
       (cases_eq n a.number))
       h.0,
@@ -69,7 +69,7 @@ module _ (about : About) (k : ℕ) (ts : ℕ → Token) (n : ℕ) (t' : Token) w
   waits_put [] f w = tt
   waits_put (s ∷ ss) f w = (wait_put s (f s w.0) w.0, waits_put ss f w.1)
 
-  pub waits_above : (ss : List Step) → AllAbove n ss → AreWaiting about k ts ss → AreWaiting about k (put ts n t') ss
+  pub waits_above : (ss : List Step) → HaveNumbersAbove n ss → AreWaiting about k ts ss → AreWaiting about k (put ts n t') ss
   waits_above [] a w = tt
   waits_above (s ∷ ss) a w = (wait_put s (λ e. let above = a.0 in omega arith) w.0, waits_above ss a.1 w.1)
 
@@ -214,7 +214,7 @@ module _ (about : About) (items : ℕ → List Item) (p : ℕ) (c : Caller) (ts 
       let floor : floor_of c.last c.pending ≤ floor_of c.last (behind_first c.pending) = omega arith in
       let apart : (k : ℕ) (s : Step) → IsWaiting about k ts s → n ≢ s.ask.number = λ k s w q. open_done a false e s w.upto w.at (sym is ∙ ap ts q ∙ w.is) in
       let unused : (k : ℕ) → IsUnused n (steps_by p (items k)) = λ k. subst (λ (l : List Step). IsUnused n l) (sym (h.own k).is)
-      (unused_both n (on about k c.made) (h.own k).rest (unused_below n (on about k c.made) (below_on about k n c.made (subst (λ (m : ℕ). AllBelow m c.made) low h.rises))) (waits_unused about k ts n (h.own k).rest (apart k) (h.own k).waiting)) in record {
+      (unused_both n (steps_on about k c.made) (h.own k).rest (unused_below n (steps_on about k c.made) (below_on about k n c.made (subst (λ (m : ℕ). HaveNumbersBelow m c.made) low h.rises))) (waits_unused about k ts n (h.own k).rest (apart k) (h.own k).waiting)) in record {
         named = h.named;
         within = h.within;
         own = λ k. record { rest = (h.own k).rest; is = (h.own k).is; waiting = waits_put about k ts n Nothing (h.own k).rest (apart k) (h.own k).waiting };
@@ -267,9 +267,9 @@ module _ (about : About) (items : ℕ → List Item) (p : ℕ) (c : Caller) (ts 
     own = h.own;
     rising = h.rising;
     used = h.used;
-    seen = seen_set (λ j x. Begins x (items j)) c.seen k (items k) h.seen (begins_same (items k));
+    seen = seen_set (λ j x. IsBeginning x (items j)) c.seen k (items k) h.seen (begins_same (items k));
     wide = length-set c.seen k (items k) ∙ h.wide;
-    made_seen = seen_set (λ j x. Begins (on about j c.made) (steps_by p x)) c.seen k (items k) h.made_seen (record { rest = (h.own k).rest; is = (h.own k).is });
+    made_seen = seen_set (λ j x. IsBeginning (steps_on about j c.made) (steps_by p x)) c.seen k (items k) h.made_seen (record { rest = (h.own k).rest; is = (h.own k).is });
     rises = h.rises;
     gone = h.gone;
     unused = h.unused;
@@ -287,7 +287,7 @@ module _ (about : About) (items : ℕ → List Item) (p : ℕ) (c : Caller) (ts 
 
   his : (asks : List Ask) → AreTold c.made ts asks → AreHis c.made c.pending asks
   his [] t = tt
-  his (a ∷ asks) t = (⊎_elim (λ (m : IsMade a c.made). inl m) (λ (o : IsOut a (ts a.number)). inr (his_one a (ts a.number) (h.tokens a.number) o)) t.0, his asks t.1)
+  his (a ∷ asks) t = (⊎_elim (λ (m : HasStep a c.made). inl m) (λ (o : IsOut a (ts a.number)). inr (his_one a (ts a.number) (h.tokens a.number) o)) t.0, his asks t.1)
 
 -- what a look at shard k tells of the steps of a pass
 pub steps_of : (items : ℕ → List Item) (c : Caller) (ts : ℕ → Token) (k : ℕ) → AccountOk c.about items c.pass c ts → HasStepsOf c k (items k)
@@ -295,19 +295,19 @@ steps_of items c ts k h = record {
   rest = (h.own k).rest;
   is = (h.own k).is;
   among = waiting_among c.about items c.pass c ts h k (h.own k).rest (h.own k).waiting;
-  rises = rising_back (on c.about k c.made) (h.own k).rest (subst (λ (l : List Step). IsRising l) (h.own k).is (h.rising k));
+  rises = rising_back (steps_on c.about k c.made) (h.own k).rest (subst (λ (l : List Step). IsRising l) (h.own k).is (h.rising k));
   told = his c.about items c.pass c ts h (asks_by c.pass (items k)) (h.told k);
 }
 
 -- what others' steps leave of a pass
-pub grown_ok : (about : About) (items items' : ℕ → List Item) (p : ℕ) (c : Caller) (ts : ℕ → Token) → ((k : ℕ) → Begins (items k) (items' k)) → ((k : ℕ) → steps_by p (items' k) ≡ steps_by p (items k))
+pub grown_ok : (about : About) (items items' : ℕ → List Item) (p : ℕ) (c : Caller) (ts : ℕ → Token) → ((k : ℕ) → IsBeginning (items k) (items' k)) → ((k : ℕ) → steps_by p (items' k) ≡ steps_by p (items k))
     → ((k : ℕ) → AreTold c.made ts (asks_by p (items' k))) → AccountOk about items p c ts → AccountOk about items' p c ts
 grown_ok about items items' p c ts grows same told h = record {
   named = h.named;
   within = h.within;
   own = λ k. record { rest = (h.own k).rest; is = same k ∙ (h.own k).is; waiting = (h.own k).waiting };
   rising = λ k. subst (λ (l : List Step). IsRising l) (sym (same k)) (h.rising k);
-  used = λ k. subst (λ (l : List Step). AllBelow (c.last + 1) l) (sym (same k)) (h.used k);
+  used = λ k. subst (λ (l : List Step). HaveNumbersBelow (c.last + 1) l) (sym (same k)) (h.used k);
   seen = λ k. begins_trans (h.seen k) (grows k);
   wide = h.wide;
   made_seen = h.made_seen;
@@ -323,7 +323,7 @@ grown_ok about items items' p c ts grows same told h = record {
   where
     token_grown : (n : ℕ) (t : Token) → TokenOk about items p c.pending n t → TokenOk about items' p c.pending n t
     token_grown n Nothing k = tt
-    token_grown n (Open a f e) k = (k.0, k.1, k.2, subst (λ (l : List Step). AllBelow n l) (sym (same (shard_in about a))) k.3)
+    token_grown n (Open a f e) k = (k.0, k.1, k.2, subst (λ (l : List Step). HaveNumbersBelow n l) (sym (same (shard_in about a))) k.3)
     token_grown n (Done s upto at) k = (k.0, k.1, k.2, begins_trans k.3 (grows (shard_in about s.ask)), k.4)
 
 -- a call of the pass gets its step on shard k, behind those that its ticket names
@@ -344,8 +344,8 @@ module _ (about : About) (items : ℕ → List Item) (p : ℕ) (c : Caller) (ts 
   abbrev mine : TokenOk about items p c.pending a.number (Open a f e)
   mine = token_ok about items p c ts h a.number (Open a f e) is
 
-  below : AllBelow a.number (steps_by p (items k))
-  below = subst (λ (j : ℕ). AllBelow a.number (steps_by p (items j))) here mine.3
+  below : HaveNumbersBelow a.number (steps_by p (items k))
+  below = subst (λ (j : ℕ). HaveNumbersBelow a.number (steps_by p (items j))) here mine.3
 
   longer_steps : steps_by p now ≡ steps_by p (items k) ++ s ∷ []
   longer_steps = steps_mine p (items k) s (sym mine.1)
@@ -357,8 +357,8 @@ module _ (about : About) (items : ℕ → List Item) (p : ℕ) (c : Caller) (ts 
       let same : b.number ≡ m = its.0 in
       not_less (λ less.
       let named : IsAmong b e = h.order b a g f d e (ap ts same ∙ q) is (there ∙ sym here) (omega arith) in
-      let stepped : IsMade b (steps_by p (items k)) = subst (λ (o : ℕ). IsMade b (steps_by o (items k))) its.1 (has_step b e (items k) named had) in
-      not_made b m (steps_by p (items k)) (subst (λ (j : ℕ). AllBelow m (steps_by p (items j))) there its.3) (omega arith) stepped)
+      let stepped : HasStep b (steps_by p (items k)) = subst (λ (o : ℕ). HasStep b (steps_by o (items k))) its.1 (has_step b e (items k) named had) in
+      not_made b m (steps_by p (items k)) (subst (λ (j : ℕ). HaveNumbersBelow m (steps_by p (items j))) there its.3) (omega arith) stepped)
     where
       not_less : (m < a.number → ⊥) → a.number < m
       not_less no_way = ⊎_elim (λ (e : a.number ≡ m). absurd (apart e)) (λ (u : a.number ≢ m). not_greater u) (cases_eq a.number m)
@@ -375,19 +375,19 @@ module _ (about : About) (items : ℕ → List Item) (p : ℕ) (c : Caller) (ts 
     o.0,
     o.1,
     o.2,
-    put_all items k now (λ j l. shard_in about b ≡ j → AllBelow m (steps_by p l))
-        (λ there. subst (λ (l : List Step). AllBelow m l) (sym longer_steps)
-        (below_last m (steps_by p (items k)) s (subst (λ (j : ℕ). AllBelow m (steps_by p (items j))) there o.3) (later m b g d q u there)))
-        (λ j v there. subst (λ (i : ℕ). AllBelow m (steps_by p (items i))) there o.3)
+    put_all items k now (λ j l. shard_in about b ≡ j → HaveNumbersBelow m (steps_by p l))
+        (λ there. subst (λ (l : List Step). HaveNumbersBelow m l) (sym longer_steps)
+        (below_last m (steps_by p (items k)) s (subst (λ (j : ℕ). HaveNumbersBelow m (steps_by p (items j))) there o.3) (later m b g d q u there)))
+        (λ j v there. subst (λ (i : ℕ). HaveNumbersBelow m (steps_by p (items i))) there o.3)
         (shard_in about b) refl,
   )
-  committed_token m u (Done d upto when) q o = (o.0, o.1, o.2, begins_trans o.3 (put_all items k now (λ j l. Begins (items j) l) (record { rest = Answered s ∷ []; is = refl }) (λ j v. begins_same (items j)) (shard_in about d.ask)), o.4)
+  committed_token m u (Done d upto when) q o = (o.0, o.1, o.2, begins_trans o.3 (put_all items k now (λ j l. IsBeginning (items j) l) (record { rest = Answered s ∷ []; is = refl }) (λ j v. begins_same (items j)) (shard_in about d.ask)), o.4)
 
   committed_own : (j : ℕ) → HasOwn about p c.made (put ts a.number t') j (items' j)
   committed_own = put_all items k now (λ j l. HasOwn about p c.made (put ts a.number t') j l)
       (record {
         rest = (h.own k).rest ++ s ∷ [];
-        is = longer_steps ∙ ap (λ l. l ++ s ∷ []) (h.own k).is ∙ append_assoc (on about k c.made) (h.own k).rest (s ∷ []);
+        is = longer_steps ∙ ap (λ l. l ++ s ∷ []) (h.own k).is ∙ append_assoc (steps_on about k c.made) (h.own k).rest (s ∷ []);
         waiting = waits_last about k (put ts a.number t') (h.own k).rest s (waits_put about k ts a.number t' (h.own k).rest (apart k) (h.own k).waiting)
             (record { upto = now; at = at; here = here; is = put_at ts a.number t' a.number refl });
       })
@@ -405,8 +405,8 @@ module _ (about : About) (items : ℕ → List Item) (p : ℕ) (c : Caller) (ts 
         within = h.within;
         own = committed_own;
         rising = put_all items k now (λ j l. IsRising (steps_by p l)) (subst (λ (l : List Step). IsRising l) (sym longer_steps) (rising_last (steps_by p (items k)) s (h.rising k) below)) (λ j n. h.rising j);
-        used = put_all items k now (λ j l. AllBelow (c.last + 1) (steps_by p l)) (subst (λ (l : List Step). AllBelow (c.last + 1) l) (sym longer_steps) (below_last (c.last + 1) (steps_by p (items k)) s (h.used k) (omega arith))) (λ j n. h.used j);
-        seen = put_all items k now (λ j l. Begins (slice_index_or c.seen j []) l) (begins_more (slice_index_or c.seen k []) (items k) (Answered s ∷ []) (h.seen k)) (λ j n. h.seen j);
+        used = put_all items k now (λ j l. HaveNumbersBelow (c.last + 1) (steps_by p l)) (subst (λ (l : List Step). HaveNumbersBelow (c.last + 1) l) (sym longer_steps) (below_last (c.last + 1) (steps_by p (items k)) s (h.used k) (omega arith))) (λ j n. h.used j);
+        seen = put_all items k now (λ j l. IsBeginning (slice_index_or c.seen j []) l) (begins_more (slice_index_or c.seen k []) (items k) (Answered s ∷ []) (h.seen k)) (λ j n. h.seen j);
         wide = h.wide;
         made_seen = h.made_seen;
         rises = h.rises;
@@ -420,7 +420,7 @@ module _ (about : About) (items : ℕ → List Item) (p : ℕ) (c : Caller) (ts 
         queue = h.queue;
         few = h.few;
         tokens = put_all ts a.number t' (λ m u. TokenOk about items' p c.pending m u)
-            (refl, mine.1, mine.2, subst (λ (l : List Item). Begins now l) (sym (put_at items k now (shard_in about a) (sym here))) (begins_same now), (items k, refl))
+            (refl, mine.1, mine.2, subst (λ (l : List Item). IsBeginning now l) (sym (put_at items k now (shard_in about a) (sym here))) (begins_same now), (items k, refl))
             (λ m u. committed_token m u (ts m) refl (h.tokens m));
         order = order_put about ts a.number t' (λ b g d q. open_done b g d s now at (sym q)) h.order;
       }
@@ -432,7 +432,7 @@ seen_put P l k new lt f b j = ⊎_elim
     (λ (n : j ≢ k). subst (λ x. P j x) (sym (get_or-set_other l k j new [] n)) (f j n))
     (cases_eq j k)
 
-pub both_begin : {A : Type 0} (a b : List A) → Begins a b → Begins b a → a ≡ b
+pub both_begin : {A : Type 0} (a b : List A) → IsBeginning a b → IsBeginning b a → a ≡ b
 both_begin a b h k =
     let e : b ++ [] ≡ b ++ (k.rest ++ h.rest) = append-nil b ∙ h.is ∙ ap (λ l. l ++ h.rest) k.is ∙ append_assoc b k.rest h.rest in
     k.is ∙ ap (λ l. b ++ l) (front_empty k.rest h.rest (sym (behind b [] (k.rest ++ h.rest) e))) ∙ append-nil b
@@ -444,8 +444,8 @@ both_begin a b h k =
 -- a pass with no open call has seen all that it made, and nothing else of it
 pub rested_of : (items : ℕ → List Item) (c : Caller) (ts : ℕ → Token) → AccountOk c.about items c.pass c ts → c.pending ≡ [] → IsRested c
 rested_of items c ts h idle k =
-    let all : steps_by c.pass (items k) ≡ on c.about k c.made = (h.own k).is ∙ ap (λ l. on c.about k c.made ++ l) (none_wait (h.own k).rest (h.own k).waiting) ∙ append-nil (on c.about k c.made) in
-    sym (both_begin (on c.about k c.made) (steps_by c.pass (seen_at c k)) (h.made_seen k) (subst (λ l. Begins (steps_by c.pass (seen_at c k)) l) all (steps_begin c.pass (seen_at c k) (items k) (h.seen k))))
+    let all : steps_by c.pass (items k) ≡ steps_on c.about k c.made = (h.own k).is ∙ ap (λ l. steps_on c.about k c.made ++ l) (none_wait (h.own k).rest (h.own k).waiting) ∙ append-nil (steps_on c.about k c.made) in
+    sym (both_begin (steps_on c.about k c.made) (steps_by c.pass (seen_at c k)) (h.made_seen k) (subst (λ l. IsBeginning (steps_by c.pass (seen_at c k)) l) all (steps_begin c.pass (seen_at c k) (items k) (h.seen k))))
   where
     none_wait : (ss : List Step) → AreWaiting c.about k ts ss → ss ≡ []
     none_wait [] w = refl
@@ -476,45 +476,45 @@ module _ (items : ℕ → List Item) (c : Caller) (ts : ℕ → Token) (s : Step
   abbrev floor : floor_of c.last c.pending ≡ number
   floor = lower c.about items c.pass c ts h s.ask first
 
-  made_below : AllBelow number c.made
-  made_below = subst (λ (m : ℕ). AllBelow m c.made) floor h.rises
+  made_below : HaveNumbersBelow number c.made
+  made_below = subst (λ (m : ℕ). HaveNumbersBelow m c.made) floor h.rises
 
   steps_upto : steps_by c.pass upto ≡ steps_by c.pass token.4.0 ++ s ∷ []
   steps_upto = ap (steps_by c.pass) token.4.1 ∙ steps_mine c.pass token.4.0 s (sym token.1)
 
-  abbrev tail : Begins (steps_by c.pass upto) (steps_by c.pass (items k))
+  abbrev tail : IsBeginning (steps_by c.pass upto) (steps_by c.pass (items k))
   tail = steps_begin c.pass upto (items k) token.3
 
   all_steps : steps_by c.pass (items k) ≡ steps_by c.pass token.4.0 ++ s ∷ tail.rest
   all_steps = tail.is ∙ ap (λ l. l ++ tail.rest) steps_upto ∙ append_assoc (steps_by c.pass token.4.0) (s ∷ []) tail.rest
 
   -- before the step stands what the pass made, and no more of it
-  split_there : (on c.about k c.made ≡ steps_by c.pass token.4.0) × ((h.own k).rest ≡ s ∷ tail.rest)
-  split_there = parted number (on c.about k c.made) (h.own k).rest (steps_by c.pass token.4.0) s tail.rest refl
+  split_there : (steps_on c.about k c.made ≡ steps_by c.pass token.4.0) × ((h.own k).rest ≡ s ∷ tail.rest)
+  split_there = parted number (steps_on c.about k c.made) (h.own k).rest (steps_by c.pass token.4.0) s tail.rest refl
       (below_on c.about k number c.made made_below)
       (waiting_from c.about items c.pass c ts h k number (h.own k).rest (omega (arith, floor)) (h.own k).waiting)
       (rising_front (steps_by c.pass token.4.0) s tail.rest (subst (λ (l : List Step). IsRising l) all_steps (h.rising k)))
       (sym (h.own k).is ∙ all_steps)
 
-  made_upto : steps_by c.pass upto ≡ on c.about k c.made ++ s ∷ []
+  made_upto : steps_by c.pass upto ≡ steps_on c.about k c.made ++ s ∷ []
   made_upto = steps_upto ∙ ap (λ l. l ++ s ∷ []) (sym split_there.0)
 
-  abbrev rest_above : AllAbove number tail.rest
-  rest_above = (subst (λ (l : List Step). IsRising l) split_there.1 (rising_back (on c.about k c.made) (h.own k).rest (subst (λ (l : List Step). IsRising l) (h.own k).is (h.rising k)))).0
+  abbrev rest_above : HaveNumbersAbove number tail.rest
+  rest_above = (subst (λ (l : List Step). IsRising l) split_there.1 (rising_back (steps_on c.about k c.made) (h.own k).rest (subst (λ (l : List Step). IsRising l) (h.own k).is (h.rising k)))).0
 
-  not_back : IsRested c → Begins upto old → ⊥
+  not_back : IsRested c → IsBeginning upto old → ⊥
   not_back rested b =
       let t = steps_begin c.pass upto old b in
-      let e : on c.about k c.made ≡ (steps_by c.pass token.4.0 ++ s ∷ []) ++ t.rest = sym (rested k) ∙ t.is ∙ ap (λ l. l ++ t.rest) steps_upto in
-      let less : number < number = below_middle number (steps_by c.pass token.4.0) s t.rest (subst (λ (l : List Step). AllBelow number l) e (below_on c.about k number c.made made_below)) in
+      let e : steps_on c.about k c.made ≡ (steps_by c.pass token.4.0 ++ s ∷ []) ++ t.rest = sym (rested k) ∙ t.is ∙ ap (λ l. l ++ t.rest) steps_upto in
+      let less : number < number = below_middle number (steps_by c.pass token.4.0) s t.rest (subst (λ (l : List Step). HaveNumbersBelow number l) e (below_on c.about k number c.made made_below)) in
       omega arith
 
-  forth : IsRested c → Begins old upto
-  forth rested = ⊎_elim (λ (b : Begins old upto). b) (λ (b : Begins upto old). absurd (not_back rested b)) (in_line old upto (items k) (h.seen k) token.3)
+  forth : IsRested c → IsBeginning old upto
+  forth rested = ⊎_elim (λ (b : IsBeginning old upto). b) (λ (b : IsBeginning upto old). absurd (not_back rested b)) (in_line old upto (items k) (h.seen k) token.3)
 
   between_none : IsRested c → (front : List Item) → token.4.0 ≡ old ++ front → steps_by c.pass front ≡ []
   between_none rested front e =
-      let made = on c.about k c.made in
+      let made = steps_on c.about k c.made in
       let both : made ++ [] ≡ made ++ steps_by c.pass front = append-nil made ∙ split_there.0 ∙ ap (steps_by c.pass) e ∙ steps_append c.pass old front ∙ ap (λ l. l ++ steps_by c.pass front) (rested k) in
       sym (behind made [] (steps_by c.pass front) both)
 
@@ -531,7 +531,7 @@ module _ (items : ℕ → List Item) (c : Caller) (ts : ℕ → Token) (s : Step
 
   -- and then it has seen just what it made, this step too
   pub rested_then : IsRested c → k < length c.seen → IsRested (collect_to c s upto)
-  rested_then rested lt = seen_put (λ j x. steps_by c.pass x ≡ on c.about j (c.made ++ s ∷ [])) c.seen k upto lt
+  rested_then rested lt = seen_put (λ j x. steps_by c.pass x ≡ steps_on c.about j (c.made ++ s ∷ [])) c.seen k upto lt
       (λ j d. rested j ∙ sym (on_else c.about j c.made s d))
       (made_upto ∙ sym (on_here c.about k c.made s refl))
 
@@ -566,11 +566,11 @@ module _ (items : ℕ → List Item) (c : Caller) (ts : ℕ → Token) (s : Step
         own = collected_own;
         rising = h.rising;
         used = h.used;
-        seen = seen_put (λ j x. Begins x (items j)) c.seen k upto lt (λ j d. h.seen j) token.3;
+        seen = seen_put (λ j x. IsBeginning x (items j)) c.seen k upto lt (λ j d. h.seen j) token.3;
         wide = length-set c.seen k upto ∙ h.wide;
-        made_seen = seen_put (λ j x. Begins (on c.about j (c.made ++ s ∷ [])) (steps_by c.pass x)) c.seen k upto lt
-            (λ j d. subst (λ l. Begins l (steps_by c.pass (seen_at c j))) (sym (on_else c.about j c.made s d)) (h.made_seen j))
-            (subst (λ l. Begins l (steps_by c.pass upto)) (made_upto ∙ sym (on_here c.about k c.made s refl)) (begins_same (steps_by c.pass upto)));
+        made_seen = seen_put (λ j x. IsBeginning (steps_on c.about j (c.made ++ s ∷ [])) (steps_by c.pass x)) c.seen k upto lt
+            (λ j d. subst (λ l. IsBeginning l (steps_by c.pass (seen_at c j))) (sym (on_else c.about j c.made s d)) (h.made_seen j))
+            (subst (λ l. IsBeginning l (steps_by c.pass upto)) (made_upto ∙ sym (on_here c.about k c.made s refl)) (begins_same (steps_by c.pass upto)));
         rises = below_last (floor_of c.last (behind_first c.pending)) c.made s (below_more number (floor_of c.last (behind_first c.pending)) c.made (omega arith) made_below) high;
         gone = under_more (floor_of c.last c.pending) (floor_of c.last (behind_first c.pending)) c.withdrawn (omega arith) h.gone;
         unused = h.unused;

@@ -20,7 +20,7 @@ use Rattle.history.specs.declared.views.View.{View}
 use Rattle.history.specs.declared.views.Role.TheVariants.{Nobody, Keeps}
 use Rattle.history.specs.declared.views.Token.{Token}
 use Rattle.history.specs.declared.views.Token.TheVariants.{Nothing, Open, Done}
-use Rattle.history.specs.Histories.{Begins, IsLegalAt, terms_of, history_of, reply_of, shard_in, steps_by, asks_by, IsByPasses, AllBelow, HaveSteps, bound}
+use Rattle.history.specs.Histories.{IsBeginning, IsLegalAt, terms_of, history_of, reply_of, shard_in, steps_by, asks_by, IsByPasses, HaveNumbersBelow, HaveSteps, bound}
 use Rattle.history.specs.Rule.{alone, Contents, AccountOk, IsGood, AreWords, AreTold, Holds, total}
 use Rattle.history.specs.Plays.{keeper, answered, IsShort, committed_at}
 use Rattle.history.proofs.Lists.{put, put_at, put_all, put_other, put_two, put_two_at, begins_same}
@@ -67,8 +67,8 @@ words_longer about x words k now item tokens h lt is fits =
       numbers = λ p l. get_or-set_other words k (about.shards + p) new 0 (λ e. omega arith) ∙ h.numbers p l;
     }
 
-pub longer_begins : (x : Contents) (k : ℕ) (now : List Item) (item : Item) → now ≡ x.items k ++ item ∷ [] → (j : ℕ) → Begins (x.items j) (put x.items k now j)
-longer_begins x k now item is = put_all x.items k now (λ j l. Begins (x.items j) l) (record { rest = item ∷ []; is = is }) (λ j n. begins_same (x.items j))
+pub longer_begins : (x : Contents) (k : ℕ) (now : List Item) (item : Item) → now ≡ x.items k ++ item ∷ [] → (j : ℕ) → IsBeginning (x.items j) (put x.items k now j)
+longer_begins x k now item is = put_all x.items k now (λ j l. IsBeginning (x.items j) l) (record { rest = item ∷ []; is = is }) (λ j n. begins_same (x.items j))
 
 -- what is replied is what a legal history asks for
 replies : (about : About) (k : ℕ) (items : List Item) (a : Ask) → reply_of about k items a.call ≡ reply_to (terms_of about k) (history_of about k items) a.call
@@ -99,7 +99,7 @@ good_step about x k now a f b at good lt here has had is =
     let c = x.callers a.pass in
     let ts = x.tokens a.pass in
     let ok = good.passes a.pass lt in
-    let below : AllBelow a.number (steps_by a.pass (x.items k)) = subst (λ (j : ℕ). AllBelow a.number (steps_by a.pass (x.items j))) here (token_ok about x.items a.pass c ts ok a.number (Open a f b) has).3 in
+    let below : HaveNumbersBelow a.number (steps_by a.pass (x.items k)) = subst (λ (j : ℕ). HaveNumbersBelow a.number (steps_by a.pass (x.items j))) here (token_ok about x.items a.pass c ts ok a.number (Open a f b) has).3 in
     let may : MayFollow (terms_of about k) (history_of about k (x.items k)) (Answered s) = (replies about k (x.items k) a, all_new a (x.items k) below, eq-eqb k (shard_in about a) (sym here)) in record {
       legal = put_all x.items k now (λ j l. IsLegalAt about j l) (subst (λ l. IsLegalAt about k l) (sym is) (legal_more about k (x.items k) (Answered s) (good.legal k) may)) (λ j n. good.legal j);
       counted = put_all x.items k now (λ j l. length l ≤ total about.passes l + cond (is_marked l) 1 0)

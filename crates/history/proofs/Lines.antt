@@ -10,7 +10,7 @@ use Rattle.accept.specs.declared.history.Item.{Item}
 use Rattle.accept.specs.declared.history.Item.TheVariants.{Answered}
 use Rattle.history.specs.declared.views.About.{About}
 use Rattle.history.specs.declared.views.Caller.{Caller}
-use Rattle.history.specs.Histories.{shard_in, step_of, steps_by, IsMade, HaveSteps, behind_first, asks_on}
+use Rattle.history.specs.Histories.{shard_in, step_of, steps_by, HasStep, HaveSteps, behind_first, asks_on}
 use Rattle.history.specs.Plays.{ask_of, before_of, announce_to, withdraw_to, collect_to}
 use Rattle.history.specs.Handles.{Announced, tickets_of, tickets_on, AreInLine}
 use Rattle.history.proofs.Past.{have_more, have_last, made_now}
@@ -43,13 +43,13 @@ pub alone_before : (c : Caller) (n : ℕ) (call : Call) → c.pending ≡ [] →
 alone_before c n call idle = ap (λ (l : List Ask). asks_on c.about (shard_in c.about (ask_of c n call)) l) idle
 
 -- a call whose one open call before it has its step may be committed
-pub one_before : (c : Caller) (n m : ℕ) (one two : Call) (items : List Item) → c.pending ≡ [] → IsMade (ask_of c n one) (steps_by c.pass items) → HaveSteps (before_of (announce_to c n one) m two) items
+pub one_before : (c : Caller) (n m : ℕ) (one two : Call) (items : List Item) → c.pending ≡ [] → HasStep (ask_of c n one) (steps_by c.pass items) → HaveSteps (before_of (announce_to c n one) m two) items
 one_before c n m one two items idle made =
     let a : Ask = ask_of c n one in
     let k : ℕ = shard_in c.about (ask_of c m two) in
     subst (λ (l : List Ask). HaveSteps (asks_on c.about k (l ++ a ∷ [])) items) (sym idle) (one_or_none (eqb k (shard_in c.about a)) a made)
   where
-    one_or_none : (b : Bool) (a : Ask) → IsMade a (steps_by a.pass items) → HaveSteps (cond b (a ∷ []) []) items
+    one_or_none : (b : Bool) (a : Ask) → HasStep a (steps_by a.pass items) → HaveSteps (cond b (a ∷ []) []) items
     one_or_none true a made = (made, tt)
     one_or_none false a made = tt
 

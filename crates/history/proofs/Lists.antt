@@ -1,7 +1,7 @@
 -- Functions changed at one place, and beginnings of lists.
 use Rattle.std.proofs.Common.{◌≡◌, ◌≢◌, ◌⊎◌, ℕ, List, [], ◌∷◌, ◌++◌, length, cond, eqb, refl, sym, ap, ◌∙◌, subst, inl, inr, ⊎_elim, append_assoc, append-nil, eq-eqb, ne_eqb, arith, length-append}
 use Rattle.std.proofs.lemmas.Bool.{cases_eq}
-use Rattle.history.specs.Histories.{Begins}
+use Rattle.history.specs.Histories.{IsBeginning}
 
 -- f, but x at i
 unfoldable pub put : {A : Type 0} → (ℕ → A) → ℕ → A → ℕ → A
@@ -54,19 +54,19 @@ put_both {A} {B} f g i x y P here there j =
     (cases_eq i j)
 
 module _ {A : Type 0} where
-  pub begins_same : (a : List A) → Begins a a
+  pub begins_same : (a : List A) → IsBeginning a a
   begins_same a = record { rest = []; is = sym (append-nil a) }
 
-  pub begins_front : (a b : List A) → Begins a (a ++ b)
+  pub begins_front : (a b : List A) → IsBeginning a (a ++ b)
   begins_front a b = record { rest = b; is = refl }
 
-  pub begins_more : (a b c : List A) → Begins a b → Begins a (b ++ c)
+  pub begins_more : (a b c : List A) → IsBeginning a b → IsBeginning a (b ++ c)
   begins_more a b c h = record { rest = h.rest ++ c; is = ap (λ l. l ++ c) h.is ∙ append_assoc a h.rest c }
 
-  pub begins_trans : {a b c : List A} → Begins a b → Begins b c → Begins a c
+  pub begins_trans : {a b c : List A} → IsBeginning a b → IsBeginning b c → IsBeginning a c
   begins_trans {a} {b} {c} h k = record { rest = h.rest ++ k.rest; is = k.is ∙ ap (λ l. l ++ k.rest) h.is ∙ append_assoc a h.rest k.rest }
 
-  begins_cons : (x y : A) (a b : List A) → x ≡ y → Begins a b → Begins (x ∷ a) (y ∷ b)
+  begins_cons : (x y : A) (a b : List A) → x ≡ y → IsBeginning a b → IsBeginning (x ∷ a) (y ∷ b)
   begins_cons x y a b e h = record { rest = h.rest; is = λ i. sym e i ∷ h.is i }
 
   unfoldable pub head_or : A → List A → A
@@ -78,7 +78,7 @@ module _ {A : Type 0} where
   tail_of (x ∷ xs) = xs
 
   -- two beginnings of one list
-  pub in_line : (a b l : List A) → Begins a l → Begins b l → Begins a b ⊎ Begins b a
+  pub in_line : (a b l : List A) → IsBeginning a l → IsBeginning b l → IsBeginning a b ⊎ IsBeginning b a
   unfolding head_or tail_of
   in_line [] b l h k = inl (record { rest = b; is = refl })
   in_line (x ∷ a) [] l h k = inr (record { rest = x ∷ a; is = refl })
@@ -87,8 +87,8 @@ module _ {A : Type 0} where
       let one : z ≡ x = ap (head_or z) h.is in
       let two : z ≡ y = ap (head_or z) k.is in
       ⊎_elim
-      (λ (t : Begins a b). inl (begins_cons x y a b (sym one ∙ two) t))
-      (λ (t : Begins b a). inr (begins_cons y x b a (sym two ∙ one) t))
+      (λ (t : IsBeginning a b). inl (begins_cons x y a b (sym one ∙ two) t))
+      (λ (t : IsBeginning b a). inr (begins_cons y x b a (sym two ∙ one) t))
       (in_line a b l (record { rest = h.rest; is = ap tail_of h.is }) (record { rest = k.rest; is = ap tail_of k.is }))
 
   -- what stands behind a common beginning

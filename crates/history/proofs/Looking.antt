@@ -12,7 +12,7 @@ use Rattle.history.specs.declared.views.View.{View}
 use Rattle.history.specs.declared.views.Role.TheVariants.{Nobody, Keeps, Calls}
 use Rattle.history.specs.declared.views.Token.{Token}
 use Rattle.history.specs.declared.views.Token.TheVariants.{Nothing, Open, Done}
-use Rattle.history.specs.Histories.{Begins, IsLegalAt, IsByPasses}
+use Rattle.history.specs.Histories.{IsBeginning, IsLegalAt, IsByPasses}
 use Rattle.history.specs.Rule.{alone, Contents, Seating, AccountOk, IsHand, number_of, Holds}
 use Rattle.history.specs.Plays.{seen_at, look_to, looked, met, settled, counted, IsShort, HasStepsOf}
 use Rattle.history.proofs.Lists.{put, put_at, put_else, put_other}
@@ -149,7 +149,7 @@ settles slots id k shelf c s h wide e fits =
       (
         refl,
         (
-          subst (λ l. Begins (seen_at c shelf.shard) l) mine.3 (ok.seen shelf.shard),
+          subst (λ l. IsBeginning (seen_at c shelf.shard) l) mine.3 (ok.seen shelf.shard),
           subst (λ l. IsLegalAt shelf.about shelf.shard l) mine.3 (r.good.legal shelf.shard),
           subst (λ l. HasStepsOf c shelf.shard l) mine.3 (steps_of x.items c ts shelf.shard ok),
           its.0,

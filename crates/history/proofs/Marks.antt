@@ -18,7 +18,7 @@ use Rattle.history.specs.declared.views.Role.TheVariants.{Nobody, Keeps}
 use Rattle.history.specs.declared.views.Token.{Token}
 use Rattle.history.specs.declared.views.Token.TheVariants.{Nothing, Open, Done}
 use Rattle.history.specs.Shards.{is_of_shard}
-use Rattle.history.specs.Histories.{IsLegalAt, terms_of, history_of, shard_in, steps_by, of_pass, asks_by, HavePassesBelow, IsByPasses, AllBelow}
+use Rattle.history.specs.Histories.{IsLegalAt, terms_of, history_of, shard_in, steps_by, of_pass, asks_by, HavePassesBelow, IsByPasses, HaveNumbersBelow}
 use Rattle.history.specs.Rule.{alone, Contents, Seating, AccountOk, IsGood, AreWords, IsInDoubt, AreOpen, IsOut, AreTold, IsHand, HoldsFor, Holds, total}
 use Rattle.history.specs.Plays.{loose, keeper, in_doubt, marked}
 use Rattle.history.proofs.Lists.{put, put_at, put_all, put_other, put_two, put_two_at}
@@ -109,7 +109,7 @@ may_doubt about x k good [] h = refl
 may_doubt about x k good (a ∷ asks) h =
     let ok = good.passes a.pass h.0 in
     let its = token_ok about x.items a.pass (x.callers a.pass) (x.tokens a.pass) ok a.number (Open a true h.2.0) h.2.1 in
-    let below : AllBelow a.number (steps_by a.pass (x.items k)) = subst (λ (j : ℕ). AllBelow a.number (steps_by a.pass (x.items j))) h.1 its.3 in
+    let below : HaveNumbersBelow a.number (steps_by a.pass (x.items k)) = subst (λ (j : ℕ). HaveNumbersBelow a.number (steps_by a.pass (x.items j))) h.1 its.3 in
     both (list_any (is_step_of a) (x.items k)) (is_of_shard about.shards k (key_of a.call)) _ (no_step a (x.items k) below) (eq-eqb k (shard_in about a) (sym h.1)) (may_doubt about x k good asks h.3)
   where
     both : (b c d : Bool) → b ≡ false → c ≡ true → d ≡ true → ((not b && c) && d) ≡ true

@@ -7,7 +7,7 @@ use Rattle.atomic_table.specs.Table.{Me}
 use Rattle.accept.specs.declared.history.Item.{Item}
 use Rattle.history.specs.declared.views.Caller.{Caller}
 use Rattle.history.specs.declared.views.View.{View}
-use Rattle.history.specs.Histories.{Begins}
+use Rattle.history.specs.Histories.{IsBeginning}
 use Rattle.history.specs.Plays.{IsMeeting, HasStepsOf, Meets}
 use Rattle.history.specs.Handles.{caller_in, pair_of, with_seen, HaveMet}
 
@@ -28,7 +28,7 @@ met_look c d n lc ld m m' is met told =
     let lc' : List (List Item) = slice_set lc n new in
     let ld' : List (List Item) = slice_set ld n new in
     let same : m' ≡ (pair_of (with_seen c lc') (with_seen d ld'), []) = λ i. (w i, t.1 i) in
-    let here : IsMeeting c d n new = (subst (λ l. Begins l new) (met.first_above n (omega arith)) all.0, subst (λ l. Begins l new) (met.second_above n (omega arith)) all.1, all.2, steps_same c lc n new all.3, steps_same d ld n new all.4, all.5, all.6) in
+    let here : IsMeeting c d n new = (subst (λ l. IsBeginning l new) (met.first_above n (omega arith)) all.0, subst (λ l. IsBeginning l new) (met.second_above n (omega arith)) all.1, all.2, steps_same c lc n new all.3, steps_same d ld n new all.4, all.5, all.6) in
     subst (λ (u : Me Unit View). (u ≡ (pair_of (with_seen c (caller_in u.0.role).seen) (with_seen d (caller_in u.0.guest).seen), [])) × HaveMet c d (n + 1) (caller_in u.0.role).seen (caller_in u.0.guest).seen) (sym same) (
       refl,
       record {

@@ -10,7 +10,7 @@ use Rattle.accept.specs.declared.history.Item.{Item}
 use Rattle.accept.specs.declared.history.Item.TheVariants.{Answered, Failed}
 use Rattle.accept.specs.Histories.{MayFollow, is_marked, is_new, is_step_of}
 use Rattle.history.specs.declared.views.About.{About}
-use Rattle.history.specs.Histories.{Begins, IsLegalAt, terms_of, base_at, history_of, shard_in, steps_by, on, of_pass, asks_by, HavePassesBelow, IsByPasses, AllBelow, AllAbove, IsRising, AreUnder, IsUnused, AreUnused, IsMade, HaveSteps, IsAmong, AreAmong, IsFirst, IsFirstNumber, behind_first, asks_on, bound}
+use Rattle.history.specs.Histories.{IsBeginning, IsLegalAt, terms_of, base_at, history_of, shard_in, steps_by, steps_on, of_pass, asks_by, HavePassesBelow, IsByPasses, HaveNumbersBelow, HaveNumbersAbove, IsRising, AreNumbersBelow, IsUnused, AreUnused, HasStep, HaveSteps, IsAmong, AreAmong, IsFirst, IsFirstNumber, behind_first, asks_on, bound}
 use Rattle.history.specs.Rule.{number_of, floor_of, IsQueue, total}
 use Rattle.history.proofs.Lists.{head_or, tail_of}
 
@@ -43,55 +43,55 @@ pub steps_else : (p : ℕ) (xs : List Item) (s : Step) → p ≢ s.ask.pass → 
 steps_else p xs s n = steps_append p xs (Answered s ∷ []) ∙ ap (λ b. steps_by p xs ++ cond b (s ∷ []) []) (ne_eqb p s.ask.pass n) ∙ append-nil (steps_by p xs)
 
 -- where one history begins the other, so do the steps of a pass
-pub steps_begin : (p : ℕ) (a b : List Item) → Begins a b → Begins (steps_by p a) (steps_by p b)
+pub steps_begin : (p : ℕ) (a b : List Item) → IsBeginning a b → IsBeginning (steps_by p a) (steps_by p b)
 steps_begin p a b h = record { rest = steps_by p h.rest; is = ap (steps_by p) h.is ∙ steps_append p a h.rest }
 
 module _ (about : About) (k : ℕ) where
-  pub on_append : (xs ys : List Step) → on about k (xs ++ ys) ≡ on about k xs ++ on about k ys
+  pub on_append : (xs ys : List Step) → steps_on about k (xs ++ ys) ≡ steps_on about k xs ++ steps_on about k ys
   on_append [] ys = refl
-  on_append (s ∷ xs) ys = ap (λ l. cond (eqb k (shard_in about s.ask)) (s ∷ l) l) (on_append xs ys) ∙ cond_append (eqb k (shard_in about s.ask)) s (on about k xs) (on about k ys)
+  on_append (s ∷ xs) ys = ap (λ l. cond (eqb k (shard_in about s.ask)) (s ∷ l) l) (on_append xs ys) ∙ cond_append (eqb k (shard_in about s.ask)) s (steps_on about k xs) (steps_on about k ys)
 
-  pub on_here : (xs : List Step) (s : Step) → k ≡ shard_in about s.ask → on about k (xs ++ s ∷ []) ≡ on about k xs ++ s ∷ []
-  on_here xs s e = on_append xs (s ∷ []) ∙ ap (λ b. on about k xs ++ cond b (s ∷ []) []) (eq-eqb k (shard_in about s.ask) e)
+  pub on_here : (xs : List Step) (s : Step) → k ≡ shard_in about s.ask → steps_on about k (xs ++ s ∷ []) ≡ steps_on about k xs ++ s ∷ []
+  on_here xs s e = on_append xs (s ∷ []) ∙ ap (λ b. steps_on about k xs ++ cond b (s ∷ []) []) (eq-eqb k (shard_in about s.ask) e)
 
-  pub on_else : (xs : List Step) (s : Step) → k ≢ shard_in about s.ask → on about k (xs ++ s ∷ []) ≡ on about k xs
-  on_else xs s n = on_append xs (s ∷ []) ∙ ap (λ b. on about k xs ++ cond b (s ∷ []) []) (ne_eqb k (shard_in about s.ask) n) ∙ append-nil (on about k xs)
+  pub on_else : (xs : List Step) (s : Step) → k ≢ shard_in about s.ask → steps_on about k (xs ++ s ∷ []) ≡ steps_on about k xs
+  on_else xs s n = on_append xs (s ∷ []) ∙ ap (λ b. steps_on about k xs ++ cond b (s ∷ []) []) (ne_eqb k (shard_in about s.ask) n) ∙ append-nil (steps_on about k xs)
 
   length_cond : (b : Bool) (s : Step) (xs : List Step) (n : ℕ) → length xs ≤ n → length (cond b (s ∷ xs) xs) ≤ suc n
   length_cond true s xs n h = omega arith
   length_cond false s xs n h = omega arith
 
-  pub length_on : (xs : List Step) → length (on about k xs) ≤ length xs
+  pub length_on : (xs : List Step) → length (steps_on about k xs) ≤ length xs
   length_on [] = omega arith
-  length_on (s ∷ xs) = length_cond (eqb k (shard_in about s.ask)) s (on about k xs) (length xs) (length_on xs)
+  length_on (s ∷ xs) = length_cond (eqb k (shard_in about s.ask)) s (steps_on about k xs) (length xs) (length_on xs)
 
-  below_cond : (n : ℕ) (b : Bool) (s : Step) (xs : List Step) → s.ask.number < n → AllBelow n xs → AllBelow n (cond b (s ∷ xs) xs)
+  below_cond : (n : ℕ) (b : Bool) (s : Step) (xs : List Step) → s.ask.number < n → HaveNumbersBelow n xs → HaveNumbersBelow n (cond b (s ∷ xs) xs)
   below_cond n true s xs h t = (h, t)
   below_cond n false s xs h t = t
 
-  pub below_on : (n : ℕ) (xs : List Step) → AllBelow n xs → AllBelow n (on about k xs)
+  pub below_on : (n : ℕ) (xs : List Step) → HaveNumbersBelow n xs → HaveNumbersBelow n (steps_on about k xs)
   below_on n [] h = tt
-  below_on n (s ∷ xs) h = below_cond n (eqb k (shard_in about s.ask)) s (on about k xs) h.0 (below_on n xs h.1)
+  below_on n (s ∷ xs) h = below_cond n (eqb k (shard_in about s.ask)) s (steps_on about k xs) h.0 (below_on n xs h.1)
 
-pub below_more : (n m : ℕ) (xs : List Step) → n ≤ m → AllBelow n xs → AllBelow m xs
+pub below_more : (n m : ℕ) (xs : List Step) → n ≤ m → HaveNumbersBelow n xs → HaveNumbersBelow m xs
 below_more n m [] le h = tt
 below_more n m (s ∷ xs) le h = ((let l = h.0 in omega arith), below_more n m xs le h.1)
 
-pub below_last : (n : ℕ) (xs : List Step) (s : Step) → AllBelow n xs → s.ask.number < n → AllBelow n (xs ++ s ∷ [])
+pub below_last : (n : ℕ) (xs : List Step) (s : Step) → HaveNumbersBelow n xs → s.ask.number < n → HaveNumbersBelow n (xs ++ s ∷ [])
 below_last n [] s h l = (l, tt)
 below_last n (x ∷ xs) s h l = (h.0, below_last n xs s h.1 l)
 
 -- a step in the middle of steps below n
-pub below_middle : (n : ℕ) (xs : List Step) (s : Step) (rest : List Step) → AllBelow n ((xs ++ s ∷ []) ++ rest) → s.ask.number < n
+pub below_middle : (n : ℕ) (xs : List Step) (s : Step) (rest : List Step) → HaveNumbersBelow n ((xs ++ s ∷ []) ++ rest) → s.ask.number < n
 below_middle n [] s rest h = h.0
 below_middle n (x ∷ xs) s rest h = below_middle n xs s rest h.1
 
-pub above_last : (n : ℕ) (xs : List Step) (s : Step) → AllAbove n xs → n < s.ask.number → AllAbove n (xs ++ s ∷ [])
+pub above_last : (n : ℕ) (xs : List Step) (s : Step) → HaveNumbersAbove n xs → n < s.ask.number → HaveNumbersAbove n (xs ++ s ∷ [])
 above_last n [] s h l = (l, tt)
 above_last n (x ∷ xs) s h l = (h.0, above_last n xs s h.1 l)
 
 -- one more step, of a number above all these
-pub rising_last : (xs : List Step) (s : Step) → IsRising xs → AllBelow s.ask.number xs → IsRising (xs ++ s ∷ [])
+pub rising_last : (xs : List Step) (s : Step) → IsRising xs → HaveNumbersBelow s.ask.number xs → IsRising (xs ++ s ∷ [])
 rising_last [] s h b = (tt, tt)
 rising_last (x ∷ xs) s h b = (above_last x.ask.number xs s h.0 b.0, rising_last xs s h.1 b.1)
 
@@ -99,15 +99,15 @@ pub rising_back : (xs ys : List Step) → IsRising (xs ++ ys) → IsRising ys
 rising_back [] ys h = h
 rising_back (x ∷ xs) ys h = rising_back xs ys h.1
 
-above_one : (n : ℕ) (xs : List Step) (s : Step) (ys : List Step) → AllAbove n (xs ++ s ∷ ys) → n < s.ask.number
+above_one : (n : ℕ) (xs : List Step) (s : Step) (ys : List Step) → HaveNumbersAbove n (xs ++ s ∷ ys) → n < s.ask.number
 above_one n [] s ys h = h.0
 above_one n (x ∷ xs) s ys h = above_one n xs s ys h.1
 
-pub rising_front : (xs : List Step) (s : Step) (ys : List Step) → IsRising (xs ++ s ∷ ys) → AllBelow s.ask.number xs
+pub rising_front : (xs : List Step) (s : Step) (ys : List Step) → IsRising (xs ++ s ∷ ys) → HaveNumbersBelow s.ask.number xs
 rising_front [] s ys h = tt
 rising_front (x ∷ xs) s ys h = (above_one x.ask.number xs s ys h.0, rising_front xs s ys h.1)
 
-count_above : (m n : ℕ) (xs : List Step) → m < n → AllAbove m xs → IsRising xs → AllBelow n xs → length xs + m < n
+count_above : (m n : ℕ) (xs : List Step) → m < n → HaveNumbersAbove m xs → IsRising xs → HaveNumbersBelow n xs → length xs + m < n
 count_above m n [] l a r b = omega arith
 count_above m n (x ∷ xs) l a r b =
     let above = a.0 in
@@ -115,7 +115,7 @@ count_above m n (x ∷ xs) l a r b =
     omega arith
 
 -- rising numbers below n are at most n
-pub rising_count : (n : ℕ) (xs : List Step) → IsRising xs → AllBelow n xs → length xs ≤ n
+pub rising_count : (n : ℕ) (xs : List Step) → IsRising xs → HaveNumbersBelow n xs → length xs ≤ n
 rising_count n [] r b = omega arith
 rising_count n (x ∷ xs) r b = let more : length xs + x.ask.number < n = count_above x.ask.number n xs b.0 r.0 r.1 b.1 in omega arith
 
@@ -125,7 +125,7 @@ AreFrom n [] = Unit {0}
 AreFrom n (s ∷ steps) = (n ≤ s.ask.number) × AreFrom n steps
 
 -- steps below n and then steps from n on are parted where the first of number n stands
-pub parted : (n : ℕ) (xs ws ys : List Step) (s : Step) (more : List Step) → s.ask.number ≡ n → AllBelow n xs → AreFrom n ws → AllBelow n ys → xs ++ ws ≡ ys ++ s ∷ more → (xs ≡ ys) × (ws ≡ s ∷ more)
+pub parted : (n : ℕ) (xs ws ys : List Step) (s : Step) (more : List Step) → s.ask.number ≡ n → HaveNumbersBelow n xs → AreFrom n ws → HaveNumbersBelow n ys → xs ++ ws ≡ ys ++ s ∷ more → (xs ≡ ys) × (ws ≡ s ∷ more)
 unfolding head_or tail_of
 parted n [] ws [] s more is b f c e = (refl, e)
 parted n [] ws (y ∷ ys) s more is b f c e = absurd (let from = (subst (λ l. AreFrom n l) e f).0 in let below = c.0 in omega arith)
@@ -135,15 +135,15 @@ parted n (x ∷ xs) ws (y ∷ ys) s more is b f c e =
     let t = parted n xs ws ys s more is b.1 f c.1 (ap tail_of e) in
     ((λ i. first i ∷ t.0 i), t.1)
 
-pub under_more : (n m : ℕ) (ns : List ℕ) → n ≤ m → AreUnder n ns → AreUnder m ns
+pub under_more : (n m : ℕ) (ns : List ℕ) → n ≤ m → AreNumbersBelow n ns → AreNumbersBelow m ns
 under_more n m [] le h = tt
 under_more n m (x ∷ xs) le h = ((let l = h.0 in omega arith), under_more n m xs le h.1)
 
-pub under_last : (n m : ℕ) (ns : List ℕ) → AreUnder n ns → m < n → AreUnder n (ns ++ m ∷ [])
+pub under_last : (n m : ℕ) (ns : List ℕ) → AreNumbersBelow n ns → m < n → AreNumbersBelow n (ns ++ m ∷ [])
 under_last n m [] h l = (l, tt)
 under_last n m (x ∷ xs) h l = (h.0, under_last n m xs h.1 l)
 
-pub unused_below : (n : ℕ) (xs : List Step) → AllBelow n xs → IsUnused n xs
+pub unused_below : (n : ℕ) (xs : List Step) → HaveNumbersBelow n xs → IsUnused n xs
 unused_below n [] h = tt
 unused_below n (s ∷ xs) h = ((λ e. let l = h.0 in omega arith), unused_below n xs h.1)
 
@@ -156,7 +156,7 @@ one_unused n [] s h e = (e, tt)
 one_unused n (x ∷ xs) s h e = (h.0, one_unused n xs s h.1 e)
 
 -- one more step, of a number above all these
-pub unused_step : (ns : List ℕ) (xs : List Step) (s : Step) → AreUnder s.ask.number ns → AreUnused ns xs → AreUnused ns (xs ++ s ∷ [])
+pub unused_step : (ns : List ℕ) (xs : List Step) (s : Step) → AreNumbersBelow s.ask.number ns → AreUnused ns xs → AreUnused ns (xs ++ s ∷ [])
 unused_step [] xs s u h = tt
 unused_step (n ∷ ns) xs s u h = (one_unused n xs s h.0 (λ e. let l = u.0 in omega arith), unused_step ns xs s u.1 h.1)
 
@@ -164,43 +164,43 @@ pub unused_both : (n : ℕ) (xs ys : List Step) → IsUnused n xs → IsUnused n
 unused_both n [] ys h g = g
 unused_both n (x ∷ xs) ys h g = (h.0, unused_both n xs ys h.1 g)
 
-pub made_left : (a : Ask) (xs ys : List Step) → IsMade a xs → IsMade a (xs ++ ys)
+pub made_left : (a : Ask) (xs ys : List Step) → HasStep a xs → HasStep a (xs ++ ys)
 made_left a [] ys h = absurd h
-made_left a (s ∷ xs) ys h = ⊎_elim (λ (e : s.ask ≡ a). inl e) (λ (t : IsMade a xs). inr (made_left a xs ys t)) h
+made_left a (s ∷ xs) ys h = ⊎_elim (λ (e : s.ask ≡ a). inl e) (λ (t : HasStep a xs). inr (made_left a xs ys t)) h
 
-pub made_last : (a : Ask) (xs : List Step) (s : Step) → s.ask ≡ a → IsMade a (xs ++ s ∷ [])
+pub made_last : (a : Ask) (xs : List Step) (s : Step) → s.ask ≡ a → HasStep a (xs ++ s ∷ [])
 made_last a [] s e = inl e
 made_last a (x ∷ xs) s e = inr (made_last a xs s e)
 
-pub made_right : (a : Ask) (xs ys : List Step) → IsMade a ys → IsMade a (xs ++ ys)
+pub made_right : (a : Ask) (xs ys : List Step) → HasStep a ys → HasStep a (xs ++ ys)
 made_right a [] ys h = h
 made_right a (x ∷ xs) ys h = inr (made_right a xs ys h)
 
 -- a call above all these steps has none of them
-pub not_made : (a : Ask) (n : ℕ) (xs : List Step) → AllBelow n xs → n ≤ a.number → IsMade a xs → ⊥
+pub not_made : (a : Ask) (n : ℕ) (xs : List Step) → HaveNumbersBelow n xs → n ≤ a.number → HasStep a xs → ⊥
 not_made a n [] b l m = m
 not_made a n (s ∷ xs) b l m = ⊎_elim
     (λ (e : s.ask ≡ a). let same : s.ask.number ≡ a.number = ap (λ (c : Ask). c.number) e in let below = b.0 in omega arith)
-    (λ (t : IsMade a xs). not_made a n xs b.1 l t)
+    (λ (t : HasStep a xs). not_made a n xs b.1 l t)
     m
 
 -- the call of the last step has a step
-pub made_now : (s : Step) (items : List Item) → IsMade s.ask (steps_by s.ask.pass (items ++ Answered s ∷ []))
-made_now s items = subst (λ l. IsMade s.ask l) (sym (steps_mine s.ask.pass items s refl)) (made_last s.ask (steps_by s.ask.pass items) s refl)
+pub made_now : (s : Step) (items : List Item) → HasStep s.ask (steps_by s.ask.pass (items ++ Answered s ∷ []))
+made_now s items = subst (λ l. HasStep s.ask l) (sym (steps_mine s.ask.pass items s refl)) (made_last s.ask (steps_by s.ask.pass items) s refl)
 
 -- calls that have steps have them in a longer history too
 pub have_more : (asks : List Ask) (items xs : List Item) → HaveSteps asks items → HaveSteps asks (items ++ xs)
 have_more [] items xs h = tt
-have_more (a ∷ asks) items xs h = (subst (λ l. IsMade a l) (sym (steps_append a.pass items xs)) (made_left a (steps_by a.pass items) (steps_by a.pass xs) h.0), have_more asks items xs h.1)
+have_more (a ∷ asks) items xs h = (subst (λ l. HasStep a l) (sym (steps_append a.pass items xs)) (made_left a (steps_by a.pass items) (steps_by a.pass xs) h.0), have_more asks items xs h.1)
 
-pub have_last : (asks : List Ask) (a : Ask) (items : List Item) → HaveSteps asks items → IsMade a (steps_by a.pass items) → HaveSteps (asks ++ a ∷ []) items
+pub have_last : (asks : List Ask) (a : Ask) (items : List Item) → HaveSteps asks items → HasStep a (steps_by a.pass items) → HaveSteps (asks ++ a ∷ []) items
 have_last [] a items h m = (m, tt)
 have_last (b ∷ asks) a items h m = (h.0, have_last asks a items h.1 m)
 
-pub has_step : (b : Ask) (asks : List Ask) (items : List Item) → IsAmong b asks → HaveSteps asks items → IsMade b (steps_by b.pass items)
+pub has_step : (b : Ask) (asks : List Ask) (items : List Item) → IsAmong b asks → HaveSteps asks items → HasStep b (steps_by b.pass items)
 has_step b [] items m h = absurd m
 has_step b (a ∷ asks) items m h = ⊎_elim
-    (λ (e : a ≡ b). subst (λ (c : Ask). IsMade c (steps_by c.pass items)) e h.0)
+    (λ (e : a ≡ b). subst (λ (c : Ask). HasStep c (steps_by c.pass items)) e h.0)
     (λ (t : IsAmong b asks). has_step b asks items t h.1)
     m
 
@@ -279,22 +279,22 @@ pub few_behind : (qs : List Ask) → length qs ≤ 64 → length (behind_first q
 few_behind [] l = l
 few_behind (a ∷ qs) l = omega arith
 
-new_one : (b : Bool) (n : ℕ) (s : Step) (xs : List Step) (more : Bool) → AllBelow n (cond b (s ∷ xs) xs) → (AllBelow n xs → more ≡ true) → ((not b || nat_lt s.ask.number n) && more) ≡ true
+new_one : (b : Bool) (n : ℕ) (s : Step) (xs : List Step) (more : Bool) → HaveNumbersBelow n (cond b (s ∷ xs) xs) → (HaveNumbersBelow n xs → more ≡ true) → ((not b || nat_lt s.ask.number n) && more) ≡ true
 new_one true n s xs more h t = ap (λ c. c && more) (lt-ltb s.ask.number n h.0) ∙ t h.1
 new_one false n s xs more h t = t h
 
 -- a call whose number is above those of its pass may follow
-pub all_new : (a : Ask) (items : List Item) → AllBelow a.number (steps_by a.pass items) → IsTrue (list_all (is_new a) items)
+pub all_new : (a : Ask) (items : List Item) → HaveNumbersBelow a.number (steps_by a.pass items) → IsTrue (list_all (is_new a) items)
 all_new a [] h = refl
 all_new a (Answered s ∷ items) h = new_one (eqb a.pass s.ask.pass) a.number s (steps_by a.pass items) (list_all (is_new a) items) h (all_new a items)
 all_new a (Failed asks ∷ items) h = all_new a items h
 
-old_one : (b : Bool) (n : ℕ) (s : Step) (xs : List Step) (more : Bool) → AllBelow n (cond b (s ∷ xs) xs) → (AllBelow n xs → more ≡ false) → ((b && eqb n s.ask.number) || more) ≡ false
+old_one : (b : Bool) (n : ℕ) (s : Step) (xs : List Step) (more : Bool) → HaveNumbersBelow n (cond b (s ∷ xs) xs) → (HaveNumbersBelow n xs → more ≡ false) → ((b && eqb n s.ask.number) || more) ≡ false
 old_one true n s xs more h t = ap (λ c. c || more) (ne_eqb n s.ask.number (λ e. let l = h.0 in omega arith)) ∙ t h.1
 old_one false n s xs more h t = t h
 
 -- and it has no step
-pub no_step : (a : Ask) (items : List Item) → AllBelow a.number (steps_by a.pass items) → list_any (is_step_of a) items ≡ false
+pub no_step : (a : Ask) (items : List Item) → HaveNumbersBelow a.number (steps_by a.pass items) → list_any (is_step_of a) items ≡ false
 no_step a [] h = refl
 no_step a (Answered s ∷ items) h = old_one (eqb a.pass s.ask.pass) a.number s (steps_by a.pass items) (list_any (is_step_of a) items) h (no_step a items)
 no_step a (Failed asks ∷ items) h = no_step a items h
@@ -315,7 +315,7 @@ get_front (x ∷ xs) ys y zero e = (e, refl)
 get_front (x ∷ xs) ys y (suc n) e = let t = get_front xs ys y n e in (t.0, ap (λ l. x ∷ l) t.1)
 
 -- a beginning of a legal history is legal
-pub legal_front : (about : About) (k : ℕ) (a b : List Item) → Begins a b → IsLegalAt about k b → IsLegalAt about k a
+pub legal_front : (about : About) (k : ℕ) (a b : List Item) → IsBeginning a b → IsLegalAt about k b → IsLegalAt about k a
 legal_front about k a b h legal = record {
   is = λ n i e.
       let t = get_front a h.rest i n e in
@@ -347,7 +347,7 @@ by_passes_left n [] ys h = tt
 by_passes_left n (Answered s ∷ xs) ys h = (h.0, by_passes_left n xs ys h.1)
 by_passes_left n (Failed asks ∷ xs) ys h = (h.0, by_passes_left n xs ys h.1)
 
-pub by_passes_front : (n : ℕ) (a b : List Item) → Begins a b → IsByPasses n b → IsByPasses n a
+pub by_passes_front : (n : ℕ) (a b : List Item) → IsBeginning a b → IsByPasses n b → IsByPasses n a
 by_passes_front n a b h g = by_passes_left n a h.rest (subst (λ l. IsByPasses n l) h.is g)
 
 pub marked_step : (xs : List Item) (s : Step) → is_marked (xs ++ Answered s ∷ []) ≡ is_marked xs

@@ -14,7 +14,7 @@ use Rattle.history.specs.declared.views.About.{About}
 use Rattle.history.specs.Shards.{shard_of, is_of_shard}
 
 -- `front` is a beginning of `all`
-pub record Begins {A : Type 0} (front all : List A) : Type 0 where
+pub record IsBeginning {A : Type 0} (front all : List A) : Type 0 where
   pub rest : List A
   pub is : all ≡ front ++ rest
 
@@ -57,9 +57,9 @@ steps_by p (Answered s ∷ items) = if p == s.ask.pass then s ∷ steps_by p ite
 steps_by p (Failed asks ∷ items) = steps_by p items
 
 -- those of these steps whose call is shard k's
-abbrev pub on : About → ℕ → List Step → List Step
-on about k [] = []
-on about k (s ∷ steps) = if k == shard_in about s.ask then s ∷ on about k steps else on about k steps
+abbrev pub steps_on : About → ℕ → List Step → List Step
+steps_on about k [] = []
+steps_on about k (s ∷ steps) = if k == shard_in about s.ask then s ∷ steps_on about k steps else steps_on about k steps
 
 -- those of these calls that are of a pass
 abbrev pub of_pass : ℕ → List Ask → List Ask
@@ -84,24 +84,24 @@ IsByPasses n (Answered s ∷ items) = (s.ask.pass < n) × IsByPasses n items
 IsByPasses n (Failed asks ∷ items) = HavePassesBelow n asks × IsByPasses n items
 
 -- the numbers of these steps are below n
-abbrev pub AllBelow : ℕ → List Step → Type 0
-AllBelow n [] = Unit {0}
-AllBelow n (s ∷ steps) = (s.ask.number < n) × AllBelow n steps
+abbrev pub HaveNumbersBelow : ℕ → List Step → Type 0
+HaveNumbersBelow n [] = Unit {0}
+HaveNumbersBelow n (s ∷ steps) = (s.ask.number < n) × HaveNumbersBelow n steps
 
 -- the numbers of these steps are above n
-abbrev pub AllAbove : ℕ → List Step → Type 0
-AllAbove n [] = Unit {0}
-AllAbove n (s ∷ steps) = (n < s.ask.number) × AllAbove n steps
+abbrev pub HaveNumbersAbove : ℕ → List Step → Type 0
+HaveNumbersAbove n [] = Unit {0}
+HaveNumbersAbove n (s ∷ steps) = (n < s.ask.number) × HaveNumbersAbove n steps
 
 -- the numbers of these steps rise
 abbrev pub IsRising : List Step → Type 0
 IsRising [] = Unit {0}
-IsRising (s ∷ steps) = AllAbove s.ask.number steps × IsRising steps
+IsRising (s ∷ steps) = HaveNumbersAbove s.ask.number steps × IsRising steps
 
 -- these numbers are below n
-abbrev pub AreUnder : ℕ → List ℕ → Type 0
-AreUnder n [] = Unit {0}
-AreUnder n (m ∷ ms) = (m < n) × AreUnder n ms
+abbrev pub AreNumbersBelow : ℕ → List ℕ → Type 0
+AreNumbersBelow n [] = Unit {0}
+AreNumbersBelow n (m ∷ ms) = (m < n) × AreNumbersBelow n ms
 
 -- no step has the number n
 abbrev pub IsUnused : ℕ → List Step → Type 0
@@ -114,14 +114,14 @@ AreUnused [] steps = Unit {0}
 AreUnused (n ∷ ns) steps = IsUnused n steps × AreUnused ns steps
 
 -- the call has one of these steps
-abbrev pub IsMade : Ask → List Step → Type 0
-IsMade a [] = ⊥
-IsMade a (s ∷ steps) = (s.ask ≡ a) ⊎ IsMade a steps
+abbrev pub HasStep : Ask → List Step → Type 0
+HasStep a [] = ⊥
+HasStep a (s ∷ steps) = (s.ask ≡ a) ⊎ HasStep a steps
 
 -- each of the calls has a step in these items
 abbrev pub HaveSteps : List Ask → List Item → Type 0
 HaveSteps [] items = Unit {0}
-HaveSteps (a ∷ asks) items = IsMade a (steps_by a.pass items) × HaveSteps asks items
+HaveSteps (a ∷ asks) items = HasStep a (steps_by a.pass items) × HaveSteps asks items
 
 -- the call is one of these
 abbrev pub IsAmong : Ask → List Ask → Type 0

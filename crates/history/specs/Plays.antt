@@ -14,7 +14,7 @@ use Rattle.history.specs.declared.views.Role.{Role}
 use Rattle.history.specs.declared.views.Role.TheVariants.{Nobody, Opener, Keeps, Calls}
 use Rattle.history.specs.declared.views.Token.{Token}
 use Rattle.history.specs.declared.views.Token.TheVariants.{Nothing, Open, Done}
-use Rattle.history.specs.Histories.{Begins, IsLegalAt, reply_of, shard_in, step_of, steps_by, on, asks_by, asks_on, IsByPasses, IsMade, IsRising, IsAmong, AreAmong, IsFirst, behind_first, bound}
+use Rattle.history.specs.Histories.{IsBeginning, IsLegalAt, reply_of, shard_in, step_of, steps_by, steps_on, asks_by, asks_on, IsByPasses, HasStep, IsRising, IsAmong, AreAmong, IsFirst, behind_first, bound}
 use Rattle.history.specs.Rule.{alone, opener, newcomer}
 
 -- a seat that knows nothing
@@ -133,7 +133,7 @@ before_of c n call = asks_on c.about (shard_in c.about (ask_of c n call)) c.pend
 
 -- the steps of a pass in what it has seen are just those that it made
 abbrev pub IsRested : Caller → Type 0
-IsRested c = (k : ℕ) → steps_by c.pass (seen_at c k) ≡ on c.about k c.made
+IsRested c = (k : ℕ) → steps_by c.pass (seen_at c k) ≡ steps_on c.about k c.made
 
 abbrev pub Announces : Call → ℕ → Role → View → Type 0
 Announces call n (Calls c) w = (w ≡ alone (Calls (announce_to c n call)) (Open (ask_of c n call) false (before_of c n call))) × (c.pending ≡ [] → IsRested c)
@@ -210,19 +210,19 @@ look_to c k new = record {
 -- each of these calls was made, or is open
 abbrev pub AreHis : List Step → List Ask → List Ask → Type 0
 AreHis made pending [] = Unit {0}
-AreHis made pending (a ∷ asks) = (IsMade a made ⊎ IsAmong a pending) × AreHis made pending asks
+AreHis made pending (a ∷ asks) = (HasStep a made ⊎ IsAmong a pending) × AreHis made pending asks
 
 -- in these items of shard k the steps of a pass are those that it made and then possibly some of its open calls, in their order. Its calls in the mark's list are of these two kinds
 pub record HasStepsOf (c : Caller) (k : ℕ) (items : List Item) : Type 0 where
   pub rest : List Step
-  pub is : steps_by c.pass items ≡ on c.about k c.made ++ rest
+  pub is : steps_by c.pass items ≡ steps_on c.about k c.made ++ rest
   pub among : AreAmong rest c.pending
   pub rises : IsRising rest
   pub told : AreHis c.made c.pending (asks_by c.pass items)
 
 abbrev pub Looks : ℕ → ℕ → Role → View → Type 0
 Looks k found (Calls c) w =
-    (new : List Item) × (w ≡ alone (Calls (look_to c k new)) Nothing) × Begins (seen_at c k) new × IsLegalAt c.about k new × (length new ≡ found) × HasStepsOf c k new × (k < length c.seen) × IsByPasses c.about.passes new
+    (new : List Item) × (w ≡ alone (Calls (look_to c k new)) Nothing) × IsBeginning (seen_at c k) new × IsLegalAt c.about k new × (length new ≡ found) × HasStepsOf c k new × (k < length c.seen) × IsByPasses c.about.passes new
 Looks k found role w = Unit {0}
 
 -- a pass sees the history of a shard
@@ -231,7 +231,7 @@ looked st m found m' = Looks st.word found m.0.role m'.0 × (m'.1 ≡ m.1)
 
 -- what two passes see of shard k begins with what each had seen, is legal, has of each the steps that it made, and no steps but those of passes of the opening
 abbrev pub IsMeeting : Caller → Caller → ℕ → List Item → Type 0
-IsMeeting c d k new = Begins (seen_at c k) new × Begins (seen_at d k) new × IsLegalAt c.about k new × HasStepsOf c k new × HasStepsOf d k new × (d.about ≡ c.about) × IsByPasses c.about.passes new
+IsMeeting c d k new = IsBeginning (seen_at c k) new × IsBeginning (seen_at d k) new × IsLegalAt c.about k new × HasStepsOf c k new × HasStepsOf d k new × (d.about ≡ c.about) × IsByPasses c.about.passes new
 
 abbrev pub Meets : ℕ → Role → Role → View → Type 0
 Meets k (Calls c) (Calls d) w =
@@ -244,7 +244,7 @@ met st m found m' = Meets st.word m.0.role m.0.guest m'.0 × (m'.1 ≡ m.1)
 
 -- the book's history begins with what the pass has seen, has just its steps, and no steps but those of passes of the opening
 abbrev pub IsSettled : Role → Role → Type 0
-IsSettled (Keeps shelf) (Calls c) = Begins (seen_at c shelf.shard) shelf.items × IsLegalAt shelf.about shelf.shard shelf.items × HasStepsOf c shelf.shard shelf.items × (c.about ≡ shelf.about) × IsByPasses shelf.about.passes shelf.items
+IsSettled (Keeps shelf) (Calls c) = IsBeginning (seen_at c shelf.shard) shelf.items × IsLegalAt shelf.about shelf.shard shelf.items × HasStepsOf c shelf.shard shelf.items × (c.about ≡ shelf.about) × IsByPasses shelf.about.passes shelf.items
 IsSettled role guest = Unit {0}
 
 -- a look that compares a book with a pass, and changes neither

@@ -16,7 +16,7 @@ use Rattle.history.specs.declared.views.Role.{Role}
 use Rattle.history.specs.declared.views.Role.TheVariants.{Nobody, Opener, Keeps, Calls}
 use Rattle.history.specs.declared.views.Token.{Token}
 use Rattle.history.specs.declared.views.Token.TheVariants.{Nothing, Open, Done}
-use Rattle.history.specs.Histories.{Begins, IsLegalAt, shard_in, steps_by, on, asks_by, AllBelow, IsRising, AreUnder, AreUnused, IsMade, IsAmong, IsByPasses, bound}
+use Rattle.history.specs.Histories.{IsBeginning, IsLegalAt, shard_in, steps_by, steps_on, asks_by, HaveNumbersBelow, IsRising, AreNumbersBelow, AreUnused, HasStep, IsAmong, IsByPasses, bound}
 
 -- a seat of this role, with no guest
 abbrev pub alone : Role → Token → View
@@ -70,14 +70,14 @@ IsOut a (Done s upto at) = s.ask ≡ a
 -- each of the calls was made, or is on its way
 abbrev pub AreTold : List Step → (ℕ → Token) → List Ask → Type 0
 AreTold made ts [] = Unit {0}
-AreTold made ts (a ∷ asks) = (IsMade a made ⊎ IsOut a (ts a.number)) × AreTold made ts asks
+AreTold made ts (a ∷ asks) = (HasStep a made ⊎ IsOut a (ts a.number)) × AreTold made ts asks
 
 -- the call of a token is an open one of the pass. Where it has no step, all steps of the pass in its shard have smaller numbers
 abbrev pub TokenOk : About → (ℕ → List Item) → ℕ → List Ask → ℕ → Token → Type 0
 TokenOk about items p pending n Nothing = Unit {0}
-TokenOk about items p pending n (Open a f e) = (a.number ≡ n) × (a.pass ≡ p) × IsAmong a pending × AllBelow n (steps_by p (items (shard_in about a)))
+TokenOk about items p pending n (Open a f e) = (a.number ≡ n) × (a.pass ≡ p) × IsAmong a pending × HaveNumbersBelow n (steps_by p (items (shard_in about a)))
 TokenOk about items p pending n (Done s upto at) =
-    (s.ask.number ≡ n) × (s.ask.pass ≡ p) × IsAmong s.ask pending × Begins upto (items (shard_in about s.ask)) × ((before : List Item) × (upto ≡ before ++ Answered s ∷ []))
+    (s.ask.number ≡ n) × (s.ask.pass ≡ p) × IsAmong s.ask pending × IsBeginning upto (items (shard_in about s.ask)) × ((before : List Item) × (upto ≡ before ++ Answered s ∷ []))
 
 -- of two calls without a step on one shard, the later one names the earlier one
 abbrev pub IsOrdered : About → (ℕ → Token) → Type 0
@@ -97,7 +97,7 @@ AreWaiting about k ts (s ∷ steps) = IsWaiting about k ts s × AreWaiting about
 -- the steps of pass p in these items of shard k are those that it made, and some that it has not collected yet
 pub record HasOwn (about : About) (p : ℕ) (made : List Step) (ts : ℕ → Token) (k : ℕ) (items : List Item) : Type 0 where
   pub rest : List Step
-  pub is : steps_by p items ≡ on about k made ++ rest
+  pub is : steps_by p items ≡ steps_on about k made ++ rest
   pub waiting : AreWaiting about k ts rest
 
 -- a pass, its calls on their way, and the histories
@@ -107,14 +107,14 @@ pub record AccountOk (about : About) (items : ℕ → List Item) (p : ℕ) (c : 
   pub own : (k : ℕ) → HasOwn about p c.made ts k (items k)
   -- in each history the numbers of its steps rise, up to the last that it used
   pub rising : (k : ℕ) → IsRising (steps_by p (items k))
-  pub used : (k : ℕ) → AllBelow (c.last + 1) (steps_by p (items k))
+  pub used : (k : ℕ) → HaveNumbersBelow (c.last + 1) (steps_by p (items k))
   -- what it has seen is a beginning of each history
-  pub seen : (k : ℕ) → Begins (slice_index_or c.seen k []) (items k)
+  pub seen : (k : ℕ) → IsBeginning (slice_index_or c.seen k []) (items k)
   pub wide : length c.seen ≡ about.shards
   -- in which all that it made stands
-  pub made_seen : (k : ℕ) → Begins (on about k c.made) (steps_by p (slice_index_or c.seen k []))
-  pub rises : AllBelow (floor_of c.last c.pending) c.made
-  pub gone : AreUnder (floor_of c.last c.pending) c.withdrawn
+  pub made_seen : (k : ℕ) → IsBeginning (steps_on about k c.made) (steps_by p (slice_index_or c.seen k []))
+  pub rises : HaveNumbersBelow (floor_of c.last c.pending) c.made
+  pub gone : AreNumbersBelow (floor_of c.last c.pending) c.withdrawn
   -- a withdrawn number stands in no step
   pub unused : (k : ℕ) → AreUnused c.withdrawn (steps_by p (items k))
   -- the calls of marks' lists are calls that it made, or are on their way

@@ -3,7 +3,7 @@ ghost use Rattle.accept.specs.declared.history.Ask.{Ask};
 ghost use Rattle.accept.specs.declared.call.Reply.TheVariants.{Unavailable};
 ghost use Rattle.accept.specs.declared.history.Item.TheVariants.{Answered, Failed};
 ghost use Rattle.accept.specs.Histories.{is_marked};
-ghost use Rattle.history.specs.Histories.{Begins, IsLegalAt, IsByPasses, HaveSteps, doubt_of, reply_of, shard_in, step_of};
+ghost use Rattle.history.specs.Histories.{IsBeginning, IsLegalAt, IsByPasses, HaveSteps, doubt_of, reply_of, shard_in, step_of};
 ghost use Rattle.history.specs.Plays.{seen_at, HasStepsOf, IsShort};
 ghost use Rattle.history.specs.declared.views.Role.TheVariants.{Keeps};
 ghost use Rattle.history.specs.declared.views.Token.TheVariants.{Nothing};
@@ -12,7 +12,7 @@ ghost use Rattle.history.specs.Handles.{longer, asks_of, doubted_to, AreOf, shel
 
 use crate::handles::{Pass, Receipt, Ticket};
 use crate::table::{
-    At, Board, Commits, Counts, Doubts, Gives, Leaves, Marks, Place, Settles, Sits, Steps, Takes,
+    At, Board, Commits, Counts, Doubts, Gives, Leaves, Marks, Settles, Sits, Steps, Takes, ViewSeat,
 };
 use accept::Reply;
 use std::marker::{Brand, Model};
@@ -37,7 +37,7 @@ pub trait Kept {
 pub struct Book {
     pub(crate) shard: usize,
     pub(crate) table: Arc<Board>,
-    pub(crate) seat: Place,
+    pub(crate) seat: ViewSeat,
 }
 
 impl Model for Book {
@@ -137,7 +137,7 @@ impl Book {
         requires table { pass.old.table ≡ self.old.table }
         ensures book { self.new ≡ self.old }
         ensures pass { pass.new ≡ pass.old }
-        ensures begins { Begins (seen_at pass.old.caller self.old.shard) self.old.items }
+        ensures begins { IsBeginning (seen_at pass.old.caller self.old.shard) self.old.items }
         ensures legal { IsLegalAt self.old.about self.old.shard self.old.items }
         ensures steps { HasStepsOf pass.old.caller self.old.shard self.old.items }
         ensures by_passes { IsByPasses self.old.about.passes self.old.items }
@@ -153,7 +153,7 @@ impl Book {
 }
 
 // Puts the tickets' calls into the book's doubt, in their order.
-fn put_in_doubt(shared: &Steps, seat: &mut Place, tickets: &mut [Ticket])
+fn put_in_doubt(shared: &Steps, seat: &mut ViewSeat, tickets: &mut [Ticket])
     requires seat { seat.old.table_id ≡ shared.now.table_id }
     requires book { seat.old.me ≡ (alone (Keeps (shelf_in seat.old.me.0.role)) Nothing, []) }
     requires words { 0 < shared.now.table_id.words }

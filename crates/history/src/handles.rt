@@ -4,7 +4,7 @@ ghost use Rattle.history.specs.Histories.{behind_first, bound};
 ghost use Rattle.history.specs.Rule.{number_of};
 ghost use Rattle.history.specs.Handles.{is_closed};
 
-use crate::table::Place;
+use crate::table::ViewSeat;
 use std::marker::Model;
 use thiserror::Error;
 
@@ -17,7 +17,7 @@ pub struct PassSpent;
 #[derive(Drop)]
 pub struct Ticket {
     pub(crate) number: u64,
-    pub(crate) seat: Place,
+    pub(crate) seat: ViewSeat,
 }
 
 impl Model for Ticket {
@@ -49,7 +49,7 @@ impl Ticket {
 #[derive(Drop)]
 pub struct Receipt {
     pub(crate) number: u64,
-    pub(crate) seat: Place,
+    pub(crate) seat: ViewSeat,
 }
 
 impl Model for Receipt {
@@ -86,7 +86,7 @@ pub struct Pass {
     // How many calls are open.
     pub(crate) calls: u64,
     pub(crate) closed: bool,
-    pub(crate) seat: Place,
+    pub(crate) seat: ViewSeat,
 }
 
 impl Model for Pass {

@@ -1,11 +1,11 @@
 ghost use Rattle.std.specs.Prelude.{◌≡◌, ◌≢◌, ◌↔◌, ℕ, ◌+◌, ◌<◌, ◌≤◌, ◌==◌, [], true, false, length, IfOk, OnOk, OnErr, IsOk};
-ghost use Rattle.history.specs.Histories.{Begins, IsLegalAt, IsByPasses, shard_in, IsFirst, IsFirstNumber, bound};
+ghost use Rattle.history.specs.Histories.{IsBeginning, IsLegalAt, IsByPasses, shard_in, IsFirst, IsFirstNumber, bound};
 ghost use Rattle.history.specs.Plays.{seen_at, ask_of, before_of, announce_to, withdraw_to, collect_to, look_to, IsRested, Extends, HasStepsOf};
 ghost use Rattle.history.specs.Handles.{is_closed, caller_in, pair_of, with_seen, HaveMet};
 
 use crate::handles::{Pass, PassSpent, Receipt, Ticket};
 use crate::table::{
-    Announces, Board, Collects, Gives, Leaves, Looks, Meets, Place, Saying, Sits, Steps, Takes,
+    Announces, Board, Collects, Gives, Leaves, Looks, Meets, Saying, Sits, Steps, Takes, ViewSeat,
     Withdraws,
 };
 use accept::Call;
@@ -128,7 +128,7 @@ impl History {
         requires shard { shard < pass.old.caller.about.shards }
         ensures pass { pass.new ≡ record pass.old { caller = look_to pass.old.caller shard (seen_at pass.new.caller shard) } }
         ensures others { (k : ℕ) → k ≢ shard → seen_at pass.new.caller k ≡ seen_at pass.old.caller k }
-        ensures begins { Begins (seen_at pass.old.caller shard) (seen_at pass.new.caller shard) }
+        ensures begins { IsBeginning (seen_at pass.old.caller shard) (seen_at pass.new.caller shard) }
         ensures legal { IsLegalAt pass.old.caller.about shard (seen_at pass.new.caller shard) }
         ensures length { result ≡ length (seen_at pass.new.caller shard) }
         ensures by_passes { IsByPasses pass.old.caller.about.passes (seen_at pass.new.caller shard) }
@@ -154,7 +154,7 @@ impl History {
 }
 
 // Two passes in one seat see each shard's history.
-fn look_together(shared: &Steps, seat: &mut Place, shards: usize)
+fn look_together(shared: &Steps, seat: &mut ViewSeat, shards: usize)
     requires seat { seat.old.table_id ≡ shared.now.table_id }
     requires passes { seat.old.me ≡ (pair_of (caller_in seat.old.me.0.role) (caller_in seat.old.me.0.guest), []) }
     requires shards { ((caller_in seat.old.me.0.role).about.shards ≡ shards) × (shards ≤ shared.now.table_id.words) }

@@ -7,7 +7,7 @@ ghost use Rattle.history.specs.Handles.{about_of, about_in, fresh_books, fresh_p
 use crate::book::Book;
 use crate::handles::Pass;
 use crate::history::History;
-use crate::table::{Board, Names, Naming, NextBook, NextPass, Place};
+use crate::table::{Board, Names, Naming, NextBook, NextPass, ViewSeat};
 use crate::views::Sizes;
 use accept::{Image, Limits};
 use atomic_table::Table;
@@ -70,7 +70,11 @@ pub(crate) fn deal<J: Naming>(
     Ok((History { table }, books, passes))
 }
 
-fn open<J: Naming>(alloc: Global, shards: usize, passes: u32) -> Result<(Board, Place), AllocError>
+fn open<J: Naming>(
+    alloc: Global,
+    shards: usize,
+    passes: u32,
+) -> Result<(Board, ViewSeat), AllocError>
     requires shards { (0 < shards) × (shards ≤ 64) × (J.about.shards ≡ shards) }
     requires passes { (passes ≤ 64) × (J.about.passes ≡ passes) }
     ensures { IfOk result (λ r. (r.0.shared.table_id.words ≡ shards + passes) × (r.1.table_id ≡ r.0.shared.table_id) × (r.1.me ≡ (opener J.about 0 0, []))) }
@@ -80,7 +84,7 @@ fn open<J: Naming>(alloc: Global, shards: usize, passes: u32) -> Result<(Board, 
         passes: passes as usize,
     };
     let zeros = vec![in alloc; 0; sizes.shards + sizes.passes]?;
-    let (table, mut seat): (Board, Place) = Table::of_words(alloc, &zeros, &sizes)?;
+    let (table, mut seat): (Board, ViewSeat) = Table::of_words(alloc, &zeros, &sizes)?;
     table.shared.load::<Names<J>>(&mut seat, 0);
     Ok((table, seat))
 }
@@ -88,7 +92,7 @@ fn open<J: Naming>(alloc: Global, shards: usize, passes: u32) -> Result<(Board, 
 fn deal_books(
     alloc: Global,
     table: &Arc<Board>,
-    seat: &mut Place,
+    seat: &mut ViewSeat,
     shards: usize,
 ) -> Result<Vec<Book>, AllocError>
     requires table { (seat.old.table_id ≡ (arc_value table.now).shared.table_id) × (seat.old.table_id.words ≡ (about_in seat.old.me.0.role).shards + (about_in seat.old.me.0.role).passes) }
@@ -114,7 +118,7 @@ fn deal_books(
 fn deal_passes(
     alloc: Global,
     table: &Arc<Board>,
-    seat: &mut Place,
+    seat: &mut ViewSeat,
     shards: usize,
     passes: u32,
 ) -> Result<Vec<Pass>, AllocError>

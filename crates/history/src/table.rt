@@ -22,7 +22,7 @@ pub(crate) type Board = Table<(), View, Sizes, Rules, Global>;
 
 pub(crate) type Steps = Shared<(), View, Sizes, Rules>;
 
-pub(crate) type Place = Seat<(), View>;
+pub(crate) type ViewSeat = Seat<(), View>;
 
 /// What an opening is of. The call that opens picks it.
 pub trait Naming {

@@ -7,7 +7,7 @@ use Rattle.std.proofs.lemmas.List.{append-nil}
 use Rattle.std.proofs.lemmas.Bool.{cases_eq}
 use Rattle.atomic_table.specs.Seated.{TableId}
 use Rattle.accept.specs.Rooms.{Streams}
-use Rattle.accept.specs.Streams.{AreLimits}
+use Rattle.accept.specs.OneStream.{AreLimits}
 use Rattle.accept.specs.declared.limits.Limits.{Limits}
 use Rattle.disk.specs.Sight.{Sight}
 use Rattle.segment.specs.declared.owner.Owner.{Owner}

@@ -13,7 +13,7 @@ use Rattle.history.specs.Handles.{Booked, Announced, Received}
 use Rattle.shard.specs.declared.fault.ApplyFault.{ApplyFault}
 use Rattle.shard.specs.declared.fault.ApplyFault.TheVariants.{Memory, GenerationSpent}
 use Rattle.shard.specs.Shards.{Sharded}
-use Rattle.shard.specs.Calls.{Writes, FitsBehind, IsLate, IsMade, IsLost}
+use Rattle.shard.specs.Calls.{Writes, FitsBehind, IsLate, IsCommitted, IsLost}
 use Rattle.ingester.specs.declared.fault.CallFault.{CallFault}
 use Rattle.ingester.specs.declared.fault.CallFault.TheVariants as faults
 use Rattle.ingester.specs.Faults.{fault_of}
@@ -29,15 +29,15 @@ module _ {D : Type 0} (sight : D → Sight) where
     pub number : new.shard ≡ old.shard
 
   same_book : (old new : Sharded D) (ticket : Announced) (reply : Reply)
-      → IsMade (slots sight old.log) (slots sight new.log) old.book ticket new.book reply ⊎ IsLost (slots sight old.log) (slots sight new.log) old.book ticket new.book reply → SameBook old.book new.book
+      → IsCommitted (slots sight old.log) (slots sight new.log) old.book ticket new.book reply ⊎ IsLost (slots sight old.log) (slots sight new.log) old.book ticket new.book reply → SameBook old.book new.book
   same_book old new ticket reply h = ⊎_elim
-      (λ (m : IsMade (slots sight old.log) (slots sight new.log) old.book ticket new.book reply). record { table = ap (λ (b : Booked). b.table) m.book; about = ap (λ (b : Booked). b.about) m.book; number = ap (λ (b : Booked). b.shard) m.book })
+      (λ (m : IsCommitted (slots sight old.log) (slots sight new.log) old.book ticket new.book reply). record { table = ap (λ (b : Booked). b.table) m.book; about = ap (λ (b : Booked). b.about) m.book; number = ap (λ (b : Booked). b.shard) m.book })
       (λ (l : IsLost (slots sight old.log) (slots sight new.log) old.book ticket new.book reply). record { table = ap (λ (b : Booked). b.table) l.book; about = ap (λ (b : Booked). b.about) l.book; number = ap (λ (b : Booked). b.shard) l.book })
       h
 
   pub still_of : (first : Booked) (logs : List (Wal D)) (k l : ℕ) (old new : Sharded D) (ticket : Announced) (result : Result (Reply × Received) (ApplyFault × Announced))
       → IsOf first logs k old → l ≡ k
-      → IfOk result (λ it. IsMade (slots sight old.log) (slots sight new.log) old.book ticket new.book it.0 ⊎ IsLost (slots sight old.log) (slots sight new.log) old.book ticket new.book it.0)
+      → IfOk result (λ it. IsCommitted (slots sight old.log) (slots sight new.log) old.book ticket new.book it.0 ⊎ IsLost (slots sight old.log) (slots sight new.log) old.book ticket new.book it.0)
       → IfErr result (λ e. (new ≡ old) × (e.1 ≡ ticket)) → new.opened ≡ old.opened → IsOf first logs l new
   still_of first logs k l old new ticket (Ok it) is at ok err opened =
       let b = same_book old new ticket it.0 ok in

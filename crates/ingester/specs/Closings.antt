@@ -9,7 +9,7 @@ use Rattle.wal.specs.Moments.{HasFailed, HasNoFailure}
 use Rattle.wal.specs.Logs.{Follow, slots}
 use Rattle.wal.specs.Covers.{Covers}
 use Rattle.wal.specs.Opening.{slots_of, AllFollow}
-use Rattle.history.specs.Histories.{Begins, IsLegalAt, IsByPasses, doubt_of, history_of}
+use Rattle.history.specs.Histories.{IsBeginning, IsLegalAt, IsByPasses, doubt_of, history_of}
 use Rattle.history.specs.Plays.{seen_at, HasStepsOf}
 use Rattle.history.specs.Handles.{Booked, Passed}
 use Rattle.shard.specs.Shards.{Sharded}
@@ -23,7 +23,7 @@ pub record Handed (D : Type 0) : Type 0 where
 
 -- the history begins with what the pass has seen, and has of it just its steps
 pub record IsTold (k : ℕ) (items : List Item) (pass : Passed) : Type 0 where
-  pub begins : Begins (seen_at pass.caller k) items
+  pub begins : IsBeginning (seen_at pass.caller k) items
   pub steps : HasStepsOf pass.caller k items
 
 -- one legal history of shard k over what its opening found, which the slots keep. It has no steps but those of the opening's passes. What was opened followed the model where this does.

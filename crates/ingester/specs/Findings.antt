@@ -14,7 +14,7 @@ use Rattle.wal.specs.Recovery.{Recovers}
 use Rattle.wal.specs.Moments.{HasNoFailure}
 use Rattle.wal.specs.Logs.{Follow, slots, owner, IsSettled}
 use Rattle.wal.specs.Covers.{Covers, IsAfter}
-use Rattle.wal.specs.Opening.{slots_of, AllFollow, PairRests, CountsCause, IsWant, IsUnopened}
+use Rattle.wal.specs.Opening.{slots_of, AllFollow, PairRests, CountsCause, IsOfDeviceOrMemory, IsOpenFault}
 use Rattle.ingester.specs.declared.refusal.OpenFault.{OpenFault}
 use Rattle.ingester.specs.declared.refusal.OpenFault.TheVariants as faults
 
@@ -52,8 +52,8 @@ module _ {D : Type 0} (sight : D → Sight) (follows : D → Type 0) where
   -- why the slots of a shard are refused
   pub record IsRefusal (whose : Owner) (given back : List D) (fault : LogFault) : Type 0 where
     pub returned : IsReturned given back
-    pub why : IsWant fault ⊎ (AllFollow follows back → IsUnopened whose (slots_of sight given).first.seen (slots_of sight given).second.seen fault)
-    pub covered : AllFollow follows back → (limits : Limits) (h : History) (doubt : List Ask) → Covers whose limits (slots_of sight given) h doubt → IsWant fault
+    pub why : IsOfDeviceOrMemory fault ⊎ (AllFollow follows back → IsOpenFault whose (slots_of sight given).first.seen (slots_of sight given).second.seen fault)
+    pub covered : AllFollow follows back → (limits : Limits) (h : History) (doubt : List Ask) → Covers whose limits (slots_of sight given) h doubt → IsOfDeviceOrMemory fault
     pub counted : CountsCause fault (slots_of sight given) (slots_of sight back)
 
   -- of the shards from k on the slots come back, and hold streams

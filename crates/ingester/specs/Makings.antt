@@ -2,7 +2,7 @@
 use Rattle.std.specs.Prelude.{◌≡◌, ℕ, ◌+◌, ◌≤◌, ◌^◌, false, List, [], ◌∷◌, Option, Some, None, slice_get}
 use Rattle.accept.specs.declared.limits.Limits.{Limits}
 use Rattle.accept.specs.Rooms.{Streams, room}
-use Rattle.accept.specs.Streams.{AreLimits}
+use Rattle.accept.specs.OneStream.{AreLimits}
 use Rattle.disk.specs.Sight.{Sight}
 use Rattle.segment.specs.Fitting.{FitStreams}
 use Rattle.wal.specs.declared.log.Wal.{Wal}

@@ -1,8 +1,8 @@
 //! Calls, looks and meetings.
 ghost use Rattle.std.specs.Prelude.{◌≡◌, ◌≢◌, ◌↔◌, ◌<◌, ℕ, [], true, false, length, IfOk, IfErr};
 ghost use Rattle.std.specs.Result.{IsErrOf};
-ghost use Rattle.accept.specs.Steps.{AreNumbers};
-ghost use Rattle.history.specs.Histories.{Begins, IsLegalAt, IsByPasses, shard_in, step_of};
+ghost use Rattle.accept.specs.Calls.{AreNumbers};
+ghost use Rattle.history.specs.Histories.{IsBeginning, IsLegalAt, IsByPasses, shard_in, step_of};
 ghost use Rattle.history.specs.Plays.{seen_at, look_to, HasStepsOf};
 ghost use Rattle.history.specs.Handles.{is_closed, with_seen, HaveMet};
 ghost use Rattle.ingester.specs.Calls.{IsPassOf, IsAnswered, IsRefused, HasSpentLog, shard_for};
@@ -86,7 +86,7 @@ impl<D: Disk + Drop> Ingester<D> {
         requires shard { shard < self.now.about.shards }
         ensures pass { IsPassOf self.now pass.new × (pass.new ≡ record pass.old { caller = look_to pass.old.caller shard (seen_at pass.new.caller shard) }) }
         ensures others { (k : ℕ) → k ≢ shard → seen_at pass.new.caller k ≡ seen_at pass.old.caller k }
-        ensures begins { Begins (seen_at pass.old.caller shard) (seen_at pass.new.caller shard) }
+        ensures begins { IsBeginning (seen_at pass.old.caller shard) (seen_at pass.new.caller shard) }
         ensures legal { IsLegalAt pass.old.caller.about shard (seen_at pass.new.caller shard) }
         ensures length { result ≡ length (seen_at pass.new.caller shard) }
         ensures by_passes { IsByPasses pass.old.caller.about.passes (seen_at pass.new.caller shard) }

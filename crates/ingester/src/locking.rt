@@ -7,7 +7,7 @@ ghost use Rattle.keyed.specs.Grips.{count_of, key_of};
 ghost use Rattle.ingester.specs.Makings.{AreGround, AreMade};
 
 use crate::opening::{give_back, make_one, put_front, return_shards};
-use crate::places::{Origin, Room, Shards};
+use crate::places::{ListLocks, Origin, ShardLocks};
 use accept::{Image, Limits};
 use disk::Disk;
 use history::Book;
@@ -21,7 +21,7 @@ use wal::Wal;
 pub(crate) fn reserve_room<D: Disk + Drop>(
     alloc: Global,
     count: usize,
-) -> Result<Room<D>, AllocError>
+) -> Result<ListLocks<D>, AllocError>
     ensures { IfOk result (λ room. (count_of room ≡ 1) × (key_of room ≡ count)) }
 {
     let list = Vec::with_capacity(alloc, count)?;
@@ -78,7 +78,7 @@ pub(crate) fn lock_shards<D: Disk + Drop>(
     books: Vec<Book>,
     limits: Limits,
     origin: &Origin<D>,
-) -> Result<Shards<D>, AllocError>
+) -> Result<ShardLocks<D>, AllocError>
     requires ground { AreGround D.sight D.follows limits logs.items images.items books.items }
     requires lens { (vec_len images ≡ vec_len logs) × (vec_len books ≡ vec_len logs) }
     requires shards { (shards.items ≡ []) × (deque_len shards ≡ 0) × (vec_len logs ≤ deque_capacity shards) }

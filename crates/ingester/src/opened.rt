@@ -1,14 +1,14 @@
 //! An ingester, and how it is opened.
 ghost use Rattle.std.specs.Prelude.{◌≡◌, ◌<◌, ◌≤◌, ◌^◌, vec_len, IfOk, IfErr};
 ghost use Rattle.std.specs.VecDeque.{deque_len, deque_capacity};
-ghost use Rattle.accept.specs.Streams.{AreLimits};
+ghost use Rattle.accept.specs.OneStream.{AreLimits};
 ghost use Rattle.history.specs.Handles.{about_of};
 ghost use Rattle.ingester.specs.Openings.{AreFresh};
 ghost use Rattle.ingester.specs.Findings.{AreOpenedFrom, IsUnmade};
 
 use crate::locking::{lock_shards, reserve_room};
 use crate::opening::{give_back, open_logs};
-use crate::places::{Origin, Room, Shards};
+use crate::places::{ListLocks, Origin, ShardLocks};
 use crate::refusal::OpenFault;
 use accept::Limits;
 use disk::Disk;
@@ -23,8 +23,8 @@ use std::snapshot::Snapshot;
 #[derive(Drop)]
 pub struct Ingester<D: Disk> {
     pub(crate) history: History,
-    pub(crate) shards: Shards<D>,
-    pub(crate) room: Room<D>,
+    pub(crate) shards: ShardLocks<D>,
+    pub(crate) room: ListLocks<D>,
     pub(crate) count: u32,
     pub(crate) origin: Origin<D>,
 }

@@ -24,7 +24,7 @@ impl<D: Disk> Fits<Shard<D>, Origin<D>> for OfOpening {
 }
 
 /// The shards of an opening.
-pub(crate) type Shards<D> = Locks<Shard<D>, Origin<D>, OfOpening>;
+pub(crate) type ShardLocks<D> = Locks<Shard<D>, Origin<D>, OfOpening>;
 
 /// A list with room for so many.
 pub(crate) struct HasRoom;
@@ -37,4 +37,4 @@ impl<T> Fits<Vec<T>, usize> for HasRoom {
 }
 
 /// The room for the shards that `close` takes out, taken at the opening.
-pub(crate) type Room<D> = Locks<Vec<Shard<D>>, usize, HasRoom>;
+pub(crate) type ListLocks<D> = Locks<Vec<Shard<D>>, usize, HasRoom>;

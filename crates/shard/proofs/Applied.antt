@@ -11,11 +11,11 @@ use Rattle.segment.specs.declared.owner.Owner.{Owner}
 use Rattle.wal.specs.declared.log.Wal.{Wal}
 use Rattle.wal.specs.Recovery.{IsEither}
 use Rattle.wal.specs.Moments.{Pair, PairLeavesOnly, HasFailed, HasNoFailure}
-use Rattle.wal.specs.Logs.{Follow, slots, owner, Fits}
+use Rattle.wal.specs.Logs.{Follow, slots, owner, FitsInUse}
 use Rattle.history.specs.Histories.{doubt_of, step_of}
 use Rattle.history.specs.Handles.{Booked, Announced, Received, history_in, longer}
-use Rattle.shard.specs.declared.ready.Place.{Place}
-use Rattle.shard.specs.declared.ready.Place.TheVariants.{Behind, Next}
+use Rattle.shard.specs.declared.ready.Target.{Target}
+use Rattle.shard.specs.declared.ready.Target.TheVariants.{Behind, Next}
 use Rattle.streams.specs.Changes.{change_of}
 use Rattle.streams.specs.Mapped.{Mapped}
 use Rattle.shard.specs.Keeping.{moments, LeavesSince, owner_in, IsAllowed}
@@ -69,22 +69,22 @@ either_may book whose call a b same writes either =
     ]
 
 -- where it was written
-pub placed_behind : {D : Type 0} (log : Wal D) (n : ℕ) (place : Place) → IsPlaced log n place → Fits log n → place ≡ Behind
+pub placed_behind : {D : Type 0} (log : Wal D) (n : ℕ) (place : Target) → IsPlaced log n place → FitsInUse log n → place ≡ Behind
 placed_behind log n Behind placed fits = refl
 placed_behind log n Next placed fits = absurd (placed fits)
 
-pub placed_next : {D : Type 0} (log : Wal D) (n : ℕ) (place : Place) → IsPlaced log n place → ¬ Fits log n → place ≡ Next
+pub placed_next : {D : Type 0} (log : Wal D) (n : ℕ) (place : Target) → IsPlaced log n place → ¬ FitsInUse log n → place ≡ Next
 placed_next log n Behind placed full = absurd (full placed)
 placed_next log n Next placed full = refl
 
 -- the generation rises by at most one
-pub at_most_one : (n m : ℕ) (place : Place) → (place ≡ Behind → n ≡ m) → (place ≡ Next → n ≡ m + 1) → n ≤ m + 1
+pub at_most_one : (n m : ℕ) (place : Target) → (place ≡ Behind → n ≡ m) → (place ≡ Next → n ≡ m + 1) → n ≤ m + 1
 at_most_one n m Behind same next = let e = same refl in omega arith
 at_most_one n m Next same next = let e = next refl in omega arith
 
 -- a change that was written
 pub applied_made : {D : Type 0} (sight : D → Sight) (follows : D → Type 0) → IsClocked sight follows → (old new : Wal D) (book : Booked) (opened : Wal D) (before states : Mapped) (limits : Limits)
-    (ticket : Announced) (reply given : Reply) (receipt : Received) (place : Place)
+    (ticket : Announced) (reply given : Reply) (receipt : Received) (place : Target)
     → IsShard sight follows old book opened before false limits → IsShard sight follows new (longer book (Answered (step_of ticket.ask reply))) opened states false limits
     → Writes book ticket.ask.call → reply ≡ answer_in book ticket.ask.call → given ≡ reply
     → receipt ≡ record { table = ticket.table; step = step_of ticket.ask reply; upto = (longer book (Answered (step_of ticket.ask reply))).items; moment = moments (slots sight new) }
@@ -115,7 +115,7 @@ both_not a b (inr f) h = f h.1
 
 -- a change at which a device failed
 pub applied_lost : {D : Type 0} (sight : D → Sight) (follows : D → Type 0) → IsClocked sight follows → (old new : Wal D) (book : Booked) (opened : Wal D) (before states : Mapped) (limits : Limits)
-    (ticket : Announced) (reply given : Reply) (receipt : Received) (place : Place)
+    (ticket : Announced) (reply given : Reply) (receipt : Received) (place : Target)
     → IsShard sight follows old book opened before false limits
     → IsShard sight follows new (longer (longer book (Failed (ticket.ask ∷ []))) (Answered (step_of ticket.ask Unavailable))) opened states true limits
     → Writes book ticket.ask.call → reply ≡ answer_in book ticket.ask.call → given ≡ Unavailable

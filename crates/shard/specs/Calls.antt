@@ -11,7 +11,7 @@ use Rattle.segment.specs.Spelling.{frame}
 use Rattle.wal.specs.declared.log.Wal.{Wal}
 use Rattle.wal.specs.Recovery.{Recovers}
 use Rattle.wal.specs.Moments.{Pair, HasFailed, HasNoFailure}
-use Rattle.wal.specs.Logs.{Fits}
+use Rattle.wal.specs.Logs.{FitsInUse}
 use Rattle.history.specs.Histories.{doubt_of, reply_of, step_of, bound}
 use Rattle.history.specs.Handles.{Booked, Announced, history_in, longer}
 use Rattle.streams.specs.Changes.{change_of}
@@ -44,14 +44,14 @@ block_length (Some record_of_change) = length (frame (record_of_change ∷ [])) 
 
 -- the call's change, as a block, fits behind the segment in use
 abbrev pub FitsBehind : {D : Type 0} → Wal D → Booked → Call → Type 0
-FitsBehind log book call = Fits log (block_length (change_of call (answer_in book call)))
+FitsBehind log book call = FitsInUse log (block_length (change_of call (answer_in book call)))
 
 -- The log was opened so late that a history of its opening may have rolled it to the last generation.
 abbrev pub IsLate : {D : Type 0} → Wal D → Booked → Type 0
 IsLate opened book = 2 ^ 63 - 1 ≤ opened.generation + (book.about.passes * bound + 1)
 
 -- The call has its step, and no device call failed.
-pub record IsMade (old new : Pair) (before : Booked) (ticket : Announced) (behind : Booked) (reply : Reply) : Type 0 where
+pub record IsCommitted (old new : Pair) (before : Booked) (ticket : Announced) (behind : Booked) (reply : Reply) : Type 0 where
   pub no_failure : HasNoFailure old new
   pub replied : reply ≡ reply_in before ticket.ask.call
   pub book : behind ≡ longer before (Answered (step_of ticket.ask reply))

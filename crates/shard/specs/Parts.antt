@@ -8,11 +8,11 @@ use Rattle.wal.specs.Logs.{Follow, slots}
 use Rattle.history.specs.Histories.{doubt_of, step_of}
 use Rattle.history.specs.Handles.{Announced, Received}
 use Rattle.shard.specs.declared.parts.Parts.{Parts}
-use Rattle.shard.specs.declared.ready.Place.{Place}
+use Rattle.shard.specs.declared.ready.Target.{Target}
 use Rattle.streams.specs.Changes.{change_of}
 use Rattle.streams.specs.Mapped.{Mapped}
 use Rattle.shard.specs.Keeping.{moments, LeavesSince, IsAllowed}
-use Rattle.shard.specs.Calls.{answer_in, after_in, Writes, IsQuiet, block_length, FitsBehind, IsMade, IsLost, MayLeave}
+use Rattle.shard.specs.Calls.{answer_in, after_in, Writes, IsQuiet, block_length, FitsBehind, IsCommitted, IsLost, MayLeave}
 use Rattle.shard.specs.Shards.{Sharded, IsShard}
 use Rattle.shard.specs.Readies.{IsWritten}
 
@@ -25,7 +25,7 @@ abbrev pub ArePartsOf : {D : Type 0} → (D → Sight) → (D → Type 0) → Pa
 ArePartsOf sight follows p = IsShard sight follows p.log.wal p.book p.opened.value p.states p.is_marked p.limits
 
 -- The change of a call is stored in memory, and its bytes are ready: all else is as before.
-pub record IsStored {D : Type 0} (sight : D → Sight) (follows : D → Type 0) (p : Parts D) (ask : Ask) (reply : Reply) (place : Place) : Type 0 where
+pub record IsStored {D : Type 0} (sight : D → Sight) (follows : D → Type 0) (p : Parts D) (ask : Ask) (reply : Reply) (place : Target) : Type 0 where
   pub before : Mapped
   pub shard : IsShard sight follows p.log.wal p.book p.opened.value before false p.limits
   pub unmarked : p.is_marked ≡ false
@@ -38,7 +38,7 @@ pub record IsStored {D : Type 0} (sight : D → Sight) (follows : D → Type 0) 
 
 -- The call has its step.
 pub record IsApplied {D : Type 0} (sight : D → Sight) (follows : D → Type 0) (old new : Sharded D) (ticket : Announced) (reply : Reply) (receipt : Received) : Type 0 where
-  pub step : IsMade (slots sight old.log) (slots sight new.log) old.book ticket new.book reply
+  pub step : IsCommitted (slots sight old.log) (slots sight new.log) old.book ticket new.book reply
       ⊎ IsLost (slots sight old.log) (slots sight new.log) old.book ticket new.book reply
   pub quiet : IsQuiet old.book ticket.ask.call → new.log ≡ old.log
   pub before : Follow follows new.log → Follow follows old.log

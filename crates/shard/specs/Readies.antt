@@ -7,12 +7,12 @@ use Rattle.accept.specs.declared.call.Reply.{Reply}
 use Rattle.accept.specs.declared.call.Reply.TheVariants.{NoRoom}
 use Rattle.accept.specs.Rooms.{Streams, room}
 use Rattle.accept.specs.Histories.{changes, key_of, set_stream}
-use Rattle.accept.specs.Steps.{answer_from, stream_after}
+use Rattle.accept.specs.Calls.{answer_from, stream_after}
 use Rattle.wal.specs.declared.log.Wal.{Wal}
-use Rattle.wal.specs.Recovery.{Leads, Begins}
-use Rattle.wal.specs.Logs.{owner, Fits}
-use Rattle.shard.specs.declared.ready.Place.{Place}
-use Rattle.shard.specs.declared.ready.Place.TheVariants.{Behind, Next}
+use Rattle.wal.specs.Recovery.{Leads, IsSegmentBehind}
+use Rattle.wal.specs.Logs.{owner, FitsInUse}
+use Rattle.shard.specs.declared.ready.Target.{Target}
+use Rattle.shard.specs.declared.ready.Target.TheVariants.{Behind, Next}
 use Rattle.shard.specs.declared.ready.Ready.{Ready}
 use Rattle.shard.specs.declared.ready.Ready.TheVariants.{Unchanged, Changed}
 use Rattle.streams.specs.Changes.{change_of}
@@ -27,19 +27,19 @@ abbrev pub after_of : Limits → Streams → Call → Streams
 after_of limits m call = set_stream m (key_of call) (stream_after (finite.get m (key_of call)) call (answer_of limits m call))
 
 -- so many bytes may be written at this place
-abbrev pub HasPlace : {D : Type 0} → Wal D → Place → ℕ → Type 0
-HasPlace log Behind n = Fits log n
+abbrev pub HasPlace : {D : Type 0} → Wal D → Target → ℕ → Type 0
+HasPlace log Behind n = FitsInUse log n
 HasPlace log Next n = (1 + n ≤ log.cap) × (log.generation < 2 ^ 63 - 1)
 
 -- the bytes, written at this place, lead from these streams to those
-abbrev pub LeadsAt : {D : Type 0} → Wal D → Place → List ℕ → Streams → Streams → Type 0
+abbrev pub LeadsAt : {D : Type 0} → Wal D → Target → List ℕ → Streams → Streams → Type 0
 LeadsAt log Behind written m n = Leads (owner log) written m n
-LeadsAt log Next written m n = Begins (owner log) written (log.generation + 1) (length written) n
+LeadsAt log Next written m n = IsSegmentBehind (owner log) written (log.generation + 1) (length written) n
 
 -- a block of so many bytes goes behind the segment in use where it fits, and nowhere else
-abbrev pub IsPlaced : {D : Type 0} → Wal D → ℕ → Place → Type 0
-IsPlaced log n Behind = Fits log n
-IsPlaced log n Next = ¬ Fits log n
+abbrev pub IsPlaced : {D : Type 0} → Wal D → ℕ → Target → Type 0
+IsPlaced log n Behind = FitsInUse log n
+IsPlaced log n Next = ¬ FitsInUse log n
 
 -- nothing is to be written: the answer changes nothing, or there is no room
 pub record IsUnchanged (limits : Limits) (cap : ℕ) (m : Streams) (call : Call) (r : Reply) : Type 0 where
@@ -47,13 +47,13 @@ pub record IsUnchanged (limits : Limits) (cap : ℕ) (m : Streams) (call : Call)
       ⊎ ((changes (answer_of limits m call) ≡ true) × (cap < room (after_of limits m call)) × (r ≡ NoRoom))
 
 -- these bytes are to be written at this place
-pub record IsWritten {D : Type 0} (log : Wal D) (place : Place) (written : List ℕ) (size : ℕ) (m n : Streams) : Type 0 where
+pub record IsWritten {D : Type 0} (log : Wal D) (place : Target) (written : List ℕ) (size : ℕ) (m n : Streams) : Type 0 where
   pub placed : IsPlaced log size place
   pub has_place : HasPlace log place (length written)
   pub leads : LeadsAt log place written m n
 
 -- the answer changes something, that is stored in memory, and these bytes are to be written at this place
-pub record IsChanged {D : Type 0} (limits : Limits) (log : Wal D) (m : Streams) (call : Call) (n : Streams) (written : List ℕ) (r : Reply) (place : Place) : Type 0 where
+pub record IsChanged {D : Type 0} (limits : Limits) (log : Wal D) (m : Streams) (call : Call) (n : Streams) (written : List ℕ) (r : Reply) (place : Target) : Type 0 where
   pub changing : changes (answer_of limits m call) ≡ true
   pub replied : r ≡ answer_of limits m call
   pub next : n ≡ after_of limits m call
@@ -61,9 +61,9 @@ pub record IsChanged {D : Type 0} (limits : Limits) (log : Wal D) (m : Streams) 
   pub written_at : IsWritten log place written (block_length (change_of call r)) m n
 
 -- what is ready, and the states by it
-abbrev pub IsReady : {D : Type 0} → Limits → Wal D → Mapped → Call → Mapped → List ℕ → Ready → Type 0
-IsReady limits log old call new written (Unchanged r) = (new ≡ old) × IsUnchanged limits log.cap old.streams call r
-IsReady limits log old call new written (Changed r place) =
+abbrev pub IsReadyFor : {D : Type 0} → Limits → Wal D → Mapped → Call → Mapped → List ℕ → Ready → Type 0
+IsReadyFor limits log old call new written (Unchanged r) = (new ≡ old) × IsUnchanged limits log.cap old.streams call r
+IsReadyFor limits log old call new written (Changed r place) =
     (new.owner ≡ old.owner) × (new.change ≡ None) × IsChanged limits log old.streams call new.streams written r place
 
 -- the generations are spent, and the change doesn't fit behind the segment in use
@@ -71,4 +71,4 @@ pub record IsSpent {D : Type 0} (limits : Limits) (log : Wal D) (m : Streams) (c
   pub changing : changes (answer_of limits m call) ≡ true
   pub has_room : room (after_of limits m call) ≤ log.cap
   pub last : 2 ^ 63 - 1 ≤ log.generation
-  pub full : ¬ Fits log (block_length (change_of call (answer_of limits m call)))
+  pub full : ¬ FitsInUse log (block_length (change_of call (answer_of limits m call)))

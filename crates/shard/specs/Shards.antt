@@ -1,7 +1,7 @@
 -- What a shard is.
 use Rattle.std.specs.Prelude.{◌≡◌, ◌≤◌, ◌+◌, ◌^◌, Bool, true, false, None, length}
 use Rattle.accept.specs.declared.limits.Limits.{Limits}
-use Rattle.accept.specs.Streams.{AreLimits}
+use Rattle.accept.specs.OneStream.{AreLimits}
 use Rattle.accept.specs.Histories.{meaning, is_marked, IsWithin}
 use Rattle.disk.specs.Sight.{Sight}
 use Rattle.wal.specs.declared.log.Wal.{Wal}

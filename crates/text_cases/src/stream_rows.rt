@@ -1,5 +1,5 @@
 ghost use Rattle.std.specs.Prelude.{◌↔◌, IsTrue};
-ghost use Rattle.accept.specs.Streams.{AreTimes};
+ghost use Rattle.accept.specs.OneStream.{AreTimes};
 
 use crate::texts::{text_of_word, write_word};
 use accept::{Entry, Limits, Line, Outcome, StreamState, TrimRefusal};

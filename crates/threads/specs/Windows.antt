@@ -50,8 +50,8 @@ pub record IsOpening (table : TableId) (about : About) (zero one : Booked) (firs
   pub second_is : IsWindow table about second []
 
 -- a thread has this opening's table, at most 64 calls, and a pass with no open call
-abbrev pub IsReady : TableId → About → TableId → List Call → Passed → Type 0
-IsReady table about history calls pass = (history ≡ table) × (length calls ≤ 64) × IsWindow table about pass []
+abbrev pub IsThreadReady : TableId → About → TableId → List Call → Passed → Type 0
+IsThreadReady table about history calls pass = (history ≡ table) × (length calls ≤ 64) × IsWindow table about pass []
 
 -- the open calls of a pass have steps in the book of their shard
 abbrev pub HaveAll : About → List Ask → Booked → Booked → Type 0

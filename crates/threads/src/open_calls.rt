@@ -4,7 +4,7 @@ ghost use Rattle.accept.specs.declared.call.Reply.TheVariants.{Unavailable};
 ghost use Rattle.accept.specs.declared.history.Item.TheVariants.{Answered};
 ghost use Rattle.history.specs.Histories.{HaveSteps, shard_in, step_of};
 ghost use Rattle.history.specs.Handles.{longer};
-ghost use Rattle.threads.specs.Windows.{AreBooks, HaveAll, IsMarkedBook, IsOpening, IsReady, IsWindow, MayFollowIn, with_step};
+ghost use Rattle.threads.specs.Windows.{AreBooks, HaveAll, IsMarkedBook, IsOpening, IsThreadReady, IsWindow, MayFollowIn, with_step};
 
 use crate::meetings::{Memory, read_of};
 use accept::{Call, Image, Limits, Reply};
@@ -232,11 +232,11 @@ fn both_call<J: Opening + Send + Sync, R: Threads + Wait + Abort + Sync>(
     let (one, two) = join(
         rt,
         move || -> Option<Pass>
-            requires { IsReady J.table J.about history.now calls.now one }
+            requires { IsThreadReady J.table J.about history.now calls.now one }
             ensures { IfSome result (λ p. IsWindow J.table J.about p []) }
         { rounds(rt, alloc, history, books, calls, one) },
         move || -> Option<Pass>
-            requires { IsReady J.table J.about history.now calls.now two }
+            requires { IsThreadReady J.table J.about history.now calls.now two }
             ensures { IfSome result (λ p. IsWindow J.table J.about p []) }
         { rounds(rt, alloc, history, books, calls, two) },
     );

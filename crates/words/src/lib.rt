@@ -10,7 +10,7 @@ ghost use Rattle.words.specs.Words.{value, IsNumberIn, NameShard, GiveShard, Say
 use labels::{LabelFault, Tenant};
 use pushjson::time_of;
 use requests::Route;
-pub use said::{CallWords, Place, ServerWords};
+pub use said::{CallWords, ServerWords, ShardPlace};
 use std::alloc::{AllocError, Global};
 use std::rt::Env;
 use std::{env, io};
@@ -38,7 +38,7 @@ fn read_words<R: Env + AllocGlobal>(rt: &R) -> io::Result<Vec<String>> {
 }
 
 /// The place of the words `FILE SHARD COUNT`; `None` where they are not such words.
-pub fn place_in(words: &[String]) -> Option<Place>
+pub fn place_in(words: &[String]) -> Option<ShardPlace>
     ensures given { MatchOption result (¬ GiveShard words.now) (λ _. GiveShard words.now) }
     ensures says { IfSome result (SaysPlace words.now) }
 {
@@ -48,7 +48,7 @@ pub fn place_in(words: &[String]) -> Option<Place>
     }
 }
 
-fn place_of(shard: &str, count: &str) -> Option<Place>
+fn place_of(shard: &str, count: &str) -> Option<ShardPlace>
     ensures { MatchOption result (¬ NameShard shard.now count.now) (λ place. NameShard shard.now count.now × (place.shard ≡ value shard.now) × (place.count ≡ value count.now)) }
 {
     let shard = time_of(shard)?;
@@ -56,7 +56,7 @@ fn place_of(shard: &str, count: &str) -> Option<Place>
     if count < 1 || count > MAX_SHARDS || shard >= count {
         return None;
     }
-    Some(Place {
+    Some(ShardPlace {
         shard: shard as u32,
         count: count as u32,
     })

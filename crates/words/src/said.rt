@@ -7,7 +7,7 @@ use std::alloc::AllocError;
 
 /// A shard, and among how many.
 #[derive(Clone, Copy, Debug)]
-pub struct Place {
+pub struct ShardPlace {
     /// The shard's number, from 0 on.
     pub shard: u32,
     /// The number of shards, 1 to 64.
