@@ -26,7 +26,8 @@ pub struct Together {
     others: Vec<Pass>,
     count: u32,
     ghost of_pass: { IsPassOf ingester pass } by { Prim.hlevel (codes, image.the_row.coded) },
-    ghost of_others: { (p : ℕ) (other : Passed) → slice_get others.items p ≡ Some other → IsPassOf ingester other } by { Prim.hlevel (codes, image.the_row.coded) },
+    ghost of_others: { (p : ℕ) (other : Passed) → slice_get others.items p ≡ Some other
+        → IsPassOf ingester other } by { Prim.hlevel (codes, image.the_row.coded) },
     ghost shards: { ingester.about.shards ≡ count },
 }
 

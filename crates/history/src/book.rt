@@ -65,23 +65,35 @@ impl Book {
         requires shard { shard_in self.old.about ticket.ask ≡ self.old.shard }
         requires order { HaveSteps ticket.before self.old.items }
         requires reply { reply ≡ reply_of self.old.about self.old.shard self.old.items ticket.ask.call }
-        requires kept { K.kept kept.now (longer self.old (Answered (step_of ticket.ask reply))) (doubt_of self.old.items) }
+        requires kept { K.kept kept.now (longer self.old (Answered (step_of ticket.ask reply)))
+            (doubt_of self.old.items) }
         ensures book { self.new ≡ longer self.old (Answered (step_of ticket.ask reply)) }
         ensures reply { result.0 ≡ reply }
-        ensures receipt { result.1 ≡ record { table = ticket.table; step = step_of ticket.ask reply; upto = self.new.items; moment = K.moment kept.now } }
+        ensures receipt { result.1
+            ≡ record {
+              table = ticket.table;
+              step = step_of ticket.ask reply;
+              upto = self.new.items;
+              moment = K.moment kept.now;
+            } }
     {
-        let receipt = self.committed::<Brand, K>(kept, ticket, &reply);
+        let receipt = self.commit_at::<Brand, K>(kept, ticket, &reply);
         (reply, receipt)
     }
 
-    fn committed<J: At, K: Kept>(&mut self, kept: &K, ticket: Ticket, reply: &Reply) -> Receipt
+    fn commit_at<J: At, K: Kept>(&mut self, kept: &K, ticket: Ticket, reply: &Reply) -> Receipt
         requires table { ticket.table ≡ self.old.table }
         requires shard { shard_in self.old.about ticket.ask ≡ self.old.shard }
         requires order { HaveSteps ticket.before self.old.items }
         requires reply { reply.now ≡ reply_of self.old.about self.old.shard self.old.items ticket.ask.call }
         requires moment { J.moment ≡ K.moment kept.now }
         ensures book { self.new ≡ longer self.old (Answered (step_of ticket.ask reply.now)) }
-        ensures receipt { result ≡ record { table = ticket.table; step = step_of ticket.ask reply.now; upto = self.new.items; moment = K.moment kept.now } }
+        ensures receipt { result ≡ record {
+          table = ticket.table;
+          step = step_of ticket.ask reply.now;
+          upto = self.new.items;
+          moment = K.moment kept.now;
+        } }
     {
         let _ = kept;
         let _ = reply;
@@ -101,10 +113,17 @@ impl Book {
         requires shard { shard_in self.old.about ticket.ask ≡ self.old.shard }
         requires order { HaveSteps ticket.before self.old.items }
         requires marked { is_marked self.old.items ≡ true }
-        requires kept { K.kept kept.now (longer self.old (Answered (step_of ticket.ask Unavailable))) (doubt_of self.old.items) }
+        requires kept { K.kept kept.now (longer self.old (Answered (step_of ticket.ask Unavailable)))
+            (doubt_of self.old.items) }
         ensures book { self.new ≡ longer self.old (Answered (step_of ticket.ask Unavailable)) }
         ensures reply { result.0 ≡ Unavailable }
-        ensures receipt { result.1 ≡ record { table = ticket.table; step = step_of ticket.ask Unavailable; upto = self.new.items; moment = K.moment kept.now } }
+        ensures receipt { result.1
+            ≡ record {
+              table = ticket.table;
+              step = step_of ticket.ask Unavailable;
+              upto = self.new.items;
+              moment = K.moment kept.now;
+            } }
     {
         self.commit(kept, ticket, Reply::Unavailable)
     }
@@ -158,7 +177,13 @@ fn put_in_doubt(shared: &Steps, seat: &mut ViewSeat, tickets: &mut [Ticket])
     requires book { seat.old.me ≡ (alone (Keeps (shelf_in seat.old.me.0.role)) Nothing, []) }
     requires words { 0 < shared.now.table_id.words }
     requires tickets { AreOf (booked seat.old) tickets.old }
-    ensures seat { (seat.new.table_id ≡ seat.old.table_id) × (seat.new.me ≡ (alone (Keeps (with_doubt (shelf_in seat.old.me.0.role) ((shelf_in seat.old.me.0.role).doubt ++ asks_of tickets.old))) Nothing, [])) }
+    ensures seat { (seat.new.table_id ≡ seat.old.table_id)
+        × (seat.new.me ≡ (
+          alone
+              (Keeps (with_doubt (shelf_in seat.old.me.0.role) ((shelf_in seat.old.me.0.role).doubt
+              ++ asks_of tickets.old))) Nothing,
+          [],
+        )) }
     ensures tickets { tickets.new ≡ doubted_to (length tickets.old) tickets.old }
 {
     for ticket in tickets {

@@ -21,7 +21,8 @@ pub fn open_shards<D: Disk + Drop>(
 ) -> Result<(Ingester<D>, Vec<Pass>), Stopped>
     requires slots { (0 < vec_len slots) × (vec_len slots ≤ 64) }
     requires passes { (0 < passes) × (passes ≤ 64) }
-    ensures passes { IfOk result (λ it. (p : ℕ) (pass : Passed) → slice_get it.1.items p ≡ Some pass → IsPassOf it.0 pass) }
+    ensures passes { IfOk result (λ it. (p : ℕ) (pass : Passed) → slice_get it.1.items p ≡ Some pass
+        → IsPassOf it.0 pass) }
 {
     match Ingester::open(alloc, slots, passes, Limits::PROFILE, CAPACITY) {
         Ok(opened) => Ok(opened),
