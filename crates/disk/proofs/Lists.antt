@@ -1,12 +1,8 @@
 -- Lists without repeats.
-use Rattle.std.proofs.Common.{◌≡◌, ◌≢◌, ◌≤◌, ◌<◌, ◌⊎◌, ℕ, zero, suc, ◌+◌, List, [], ◌∷◌, ◌++◌, length, get_or, take, eqb, Bool, ◌↔◌, All, AllPairs, Contains, refl, subst, sym, inl, inr, arith}
-use Rattle.std.specs.Bool.{Decides}
-use Rattle.std.specs.List.{IsAnyAnswer}
+use Rattle.std.proofs.Common.{◌≡◌, ◌≢◌, ◌≤◌, ◌<◌, ◌⊎◌, ℕ, zero, suc, ◌+◌, List, [], ◌∷◌, ◌++◌, length, get_or, take, ◌↔◌, All, AllPairs, Contains, refl, subst, sym, inl, inr, arith}
 use Rattle.std.proofs.lemmas.Bool.{cases_order}
-use Rattle.std.proofs.lemmas.Bool.Decides.{Decides-eqb}
 use Rattle.std.proofs.lemmas.List.{take_more}
-use Rattle.std.proofs.lemmas.List.Elements.{Contains-append_left, Contains-push, Contains-push_cases, Contains-get_or, contains_decides, Decides-contains}
-use Rattle.std.proofs.lemmas.List.Quantifiers.{all_pairs_push}
+use Rattle.std.proofs.lemmas.List.Elements.{Contains-append_left, Contains-push, Contains-push_cases}
 
 pub ltb_cases : (m n : ℕ) → (m < n) ⊎ (n ≤ m)
 ltb_cases m n = elim (cases_order m n) [
@@ -89,38 +85,20 @@ pub record IsUnique (vs found : List ℕ) : Type 0 where
   pub same : (v : ℕ) → (Contains found v) ↔ (Contains vs v)
   pub once : AllPairs (λ x y. x ≢ y) found
 
--- a value that was there
-pub unique-kept : (vs found : List ℕ) (i : ℕ) → i < length vs → IsUnique (take i vs) found → Contains found (get_or vs i 0)
-    → IsUnique (take (i + 1) vs) found
-unique-kept vs found i h old there = rw (take_more vs i 0 h) (record {
+-- one value more, if it isn't among them
+pub unique-add : (vs found found' : List ℕ) (i : ℕ) → i < length vs → IsUnique (take i vs) found
+    → ((v : ℕ) → (Contains found' v) ↔ ((Contains found v) ⊎ (get_or vs i 0 ≡ v)))
+    → (AllPairs (λ x y. x ≢ y) found → AllPairs (λ x y. x ≢ y) found') → IsUnique (take (i + 1) vs) found'
+unique-add vs found found' i h old more once = rw (take_more vs i 0 h) (record {
   same = λ v. (
-    (λ has. Contains-append_left (take i vs) (get_or vs i 0 ∷ []) v ((old.same v).0 has)),
-    (λ has. elim (Contains-push_cases (take i vs) (get_or vs i 0) v has) [
-      | inl before ↦ (old.same v).1 before
-      | inr last ↦ subst (λ (x : ℕ). Contains found x) last there
-    ]),
-  );
-  once = old.once;
-})
-
--- a new value
-pub unique-push : (vs found : List ℕ) (i : ℕ) → i < length vs → IsUnique (take i vs) found → ¬ Contains found (get_or vs i 0)
-    → IsUnique (take (i + 1) vs) (found ++ get_or vs i 0 ∷ [])
-unique-push vs found i h old absent = rw (take_more vs i 0 h) (record {
-  same = λ v. (
-    (λ has. elim (Contains-push_cases found (get_or vs i 0) v has) [
+    (λ has. elim ((more v).0 has) [
       | inl before ↦ Contains-append_left (take i vs) (get_or vs i 0 ∷ []) v ((old.same v).0 before)
       | inr last ↦ subst (λ (x : ℕ). Contains (take i vs ++ get_or vs i 0 ∷ []) x) last (Contains-push (take i vs) (get_or vs i 0))
     ]),
     (λ has. elim (Contains-push_cases (take i vs) (get_or vs i 0) v has) [
-      | inl before ↦ Contains-append_left found (get_or vs i 0 ∷ []) v ((old.same v).1 before)
-      | inr last ↦ subst (λ (x : ℕ). Contains (found ++ get_or vs i 0 ∷ []) x) last (Contains-push found (get_or vs i 0))
+      | inl before ↦ (more v).1 (inl ((old.same v).1 before))
+      | inr last ↦ (more v).1 (inr last)
     ]),
   );
-  once = all_pairs_push (λ x y. x ≢ y) found (get_or vs i 0) old.once
-      (λ k d less same. absent (subst (λ (x : ℕ). Contains found x) same (Contains-get_or found k d less)));
+  once = once old.once;
 })
-
--- what `contains` answers
-pub has-value : (xs : List ℕ) (x : ℕ) (r : Bool) → IsAnyAnswer (λ y t. eqb y x ≡ t) xs r → Decides r (Contains xs x)
-has-value xs x r answer = Decides-contains xs x r (contains_decides eqb Decides-eqb xs x r answer)

@@ -60,6 +60,7 @@ impl Record {
 }
 
 /// Why a read or a write gave nothing.
+#[derive(Clone, Copy)]
 pub enum Stop {
     /// It did nothing, and is tried again.
     Interrupted,

@@ -1,5 +1,5 @@
 //! How the contents that a crash may leave are listed.
-ghost use Rattle.std.specs.Prelude.{◌≡◌, ◌≢◌, ◌≤◌, ◌<◌, ◌⊎◌, ◌+◌, ◌-◌, ◌↔◌, ◌^◌, [], ◌∷◌, ◌++◌, ℕ, List, length, slice_index_or, true, false, Contains, AllPairs, IfOk, OnOk, IfSome, IfNone, IsNone};
+ghost use Rattle.std.specs.Prelude.{◌≡◌, ◌≢◌, ◌≤◌, ◌<◌, ◌⊎◌, ◌+◌, ◌-◌, ◌↔◌, ◌^◌, [], ◌∷◌, ◌++◌, ℕ, List, length, slice_index_or, true, false, Contains, AllPairs, IfOk, OnOk, OnErr, Some, IfSome, IfNone, IsNone};
 ghost use Rattle.disk.specs.Memory.{ranges_after, AreWithin};
 ghost use Rattle.disk.specs.Images.{contents};
 ghost use Rattle.disk.specs.Fronts.{IsMarked, open_bytes, longer, of_lengths};
@@ -26,6 +26,19 @@ impl From<AllocError> for ImagesFault {
     }
 }
 
+// Puts a value behind these, if it isn't among them.
+fn add(found: &mut Vec<u8>, value: u8) -> Result<(), AllocError>
+    ensures same { OnOk result ((v : ℕ)
+        → (Contains found.new.items v) ↔ ((Contains found.old.items v) ⊎ (value ≡ v))) }
+    ensures once { OnOk result (AllPairs (λ x y. x ≢ y) found.old.items
+        → AllPairs (λ x y. x ≢ y) found.new.items) }
+{
+    if !found.contains(&value) {
+        found.push(value)?;
+    }
+    Ok(())
+}
+
 // Each of the values once.
 pub(crate) fn unique(alloc: Global, values: &[u8]) -> Result<Vec<u8>, AllocError>
     ensures same { IfOk result (λ found. (v : ℕ) → (Contains found.items v) ↔ (Contains values.now v)) }
@@ -33,9 +46,7 @@ pub(crate) fn unique(alloc: Global, values: &[u8]) -> Result<Vec<u8>, AllocError
 {
     let mut found = Vec::new(alloc);
     for &value in values {
-        if !found.contains(&value) {
-            found.push(value)?;
-        }
+        add(&mut found, value)?;
     }
     Ok(found)
 }
@@ -92,6 +103,17 @@ pub(crate) fn number_of(mask: &[bool], low: usize, values: &[u8]) -> Option<usiz
         }
     }
     all.checked_add(fronts)
+}
+
+// The number, where it is at most the cap.
+pub(crate) fn within_cap(number: Option<usize>, cap: usize) -> Result<usize, ImagesFault>
+    ensures ok { IfOk result (λ n. (number ≡ Some n) × (n ≤ cap)) }
+    ensures err { OnErr result (IfSome number (λ n. cap < n)) }
+{
+    match number {
+        Some(number) if number <= cap => Ok(number),
+        _ => Err(ImagesFault::TooMany),
+    }
 }
 
 // Puts a byte behind each.

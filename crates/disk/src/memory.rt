@@ -6,7 +6,7 @@ ghost use Rattle.disk.specs.Memory.{acts, total, replayed, ranges_after};
 ghost use Rattle.disk.specs.declared.memory.Step.TheVariants.{Wrote, Synced};
 
 use crate::device::failed;
-use crate::images::{all_contents, number_of, unique, unsynced};
+use crate::images::{all_contents, number_of, unique, unsynced, within_cap};
 use crate::plan::Plan;
 use crate::{DeviceFault, Disk, ImagesFault};
 use std::alloc::{AllocError, Global};
@@ -133,18 +133,9 @@ impl MemDisk {
             self.synced_len,
             &self.steps[self.synced_steps..],
         )?;
-        match number_of(&mask, self.synced_len, &values) {
-            None => Err(ImagesFault::TooMany),
-            Some(number) if number > cap => Err(ImagesFault::TooMany),
-            Some(number) => Ok(all_contents(
-                alloc,
-                &self.bytes,
-                &mask,
-                &values,
-                self.synced_len,
-                number,
-            )?),
-        }
+        let number = within_cap(number_of(&mask, self.synced_len, &values), cap)?;
+        let found = all_contents(alloc, &self.bytes, &mask, &values, self.synced_len, number)?;
+        Ok(found)
     }
 
     // Makes a write, and records it.

@@ -1,4 +1,4 @@
-use Rattle.std.proofs.Common.{arith, refl, sym, ap, subst, ◌∙◌, ◌≡◌, ◌≤◌, ◌<◌, ◌+◌, ◌-◌, [], ℕ, List, length, take, drop, Bool, Contains, AllPairs, ◌≢◌, ◌↔◌, ◌^◌}
+use Rattle.std.proofs.Common.{arith, refl, Option, Some, None, IfSome, IsNone, sym, ap, subst, ◌∙◌, ◌≡◌, ◌≤◌, ◌<◌, ◌+◌, ◌-◌, [], ℕ, List, length, take, drop, Bool, Contains, AllPairs, ◌≢◌, ◌↔◌, ◌^◌}
 use Rattle.std.proofs.lemmas.List.{take_rest}
 use Rattle.disk.specs.declared.memory.Step.{Step}
 use Rattle.disk.specs.declared.memory.MemDisk.{MemDisk}
@@ -40,18 +40,11 @@ listed_by m values unique mask steps len es el mark same once =
     (subst (λ (xs : List Step). IsMarked m.synced_len (ranges_after [] xs) mask) (since_of m steps es) mark.1)
     (record { none_new = λ v. (same v).0; none_lost = λ v. (same v).1; once = once })
 
--- where those listed are more than the cap
-too_many : (m : MemDisk) (values unique : List ℕ) (mask : List Bool) (steps : List Step) (len cap : ℕ) → steps ≡ m.steps.items → len ≡ length m.bytes.items
-    → (length mask ≡ len) × IsMarked m.synced_len (ranges_after [] (take (length steps - m.synced_steps) (drop m.synced_steps steps))) mask
-    → ((v : ℕ) → (Contains unique v) ↔ (Contains values v)) → AllPairs (λ x y. x ≢ y) unique
-    → cap < length (of_lengths (open_bytes mask m.bytes.items unique) m.synced_len (length mask - m.synced_len + 1))
-    → (all : List (List ℕ)) × Lists (IsImageOf (state_of m) values) all × (cap < length all)
-too_many m values unique mask steps len cap es el mark same once more =
-    let all : ℕ → List (List ℕ) = λ (n : ℕ). of_lengths (open_bytes mask m.bytes.items unique) m.synced_len (n - m.synced_len + 1) in (
-      all (length m.bytes.items),
-      listed_by m values unique mask steps len es el mark same once,
-      subst (λ (n : ℕ). cap < length (all n)) (mark.0 ∙ el) more,
-    )
+-- where there are more than the cap
+above : (number : Option ℕ) (cap : ℕ) (count : List ℕ → ℕ) (now : List ℕ) → cap < 2 ^ 64 → IfSome number (λ n. (xs : List ℕ) → n ≡ count xs)
+    → (IsNone number → (xs : List ℕ) → 2 ^ 64 ≤ count xs) → IfSome number (λ n. cap < n) → cap < count now
+above (Some n) cap count now fits exact none more = omega (arith, exact now, more)
+above None cap count now fits exact none more = omega (arith, none refl now, fits)
 
 pub unsynced-requires-clause-synced : goal.unsynced-requires-clause-synced
 unsynced-requires-clause-synced c = omega (arith, synced_fits c.args.self.now)
@@ -65,30 +58,30 @@ pub number_of-requires : goal.number_of-requires
 number_of-requires c = omega (arith, synced_fits c.args.self.now, ap length c.deref-2.ensures.value, c.in_ok-mask.ensures.0)
 
 pub all_contents-requires-clause-low : goal.all_contents-requires-clause-low
-all_contents-requires-clause-low c = omega (arith, synced_fits c.args.self.now, ap length c.deref-in-Some-2.ensures.value)
+all_contents-requires-clause-low c = omega (arith, synced_fits c.args.self.now, ap length c.deref-4.ensures.value)
 
 pub returns-clause-listed : goal.returns-clause-listed
 returns-clause-listed c =
     let m : MemDisk = c.args.self.now in
-    let found : contents c.in_ok-all_contents-in-Some-2.field-0.items
+    let found : contents c.in_ok-found.found.items
     ≡ of_lengths (open_bytes c.in_ok-mask.mask.items m.bytes.items c.in_ok-values.values.items) m.synced_len (length m.bytes.items - m.synced_len + 1)
-    = rw (c.deref-in-Some-2.ensures.value, c.deref-in-Some-2-2.ensures.value, c.deref-in-Some-2-3.ensures.value) at c.in_ok-all_contents-in-Some-2.ensures in
+    = rw (c.deref-4.ensures.value, c.deref-5.ensures.value, c.deref-6.ensures.value) at c.in_ok-found.ensures in
     subst (λ (xs : List (List ℕ)). Lists (IsImageOf (state_of m) c.args.values.now) xs) (sym found)
     (listed_by m c.args.values.now c.in_ok-values.values.items c.in_ok-mask.mask.items c.deref.result.now c.len-len.result c.deref.ensures.value (omega arith)
     c.in_ok-mask.ensures c.in_ok-values.ensures.same c.in_ok-values.ensures.once)
 
-pub returns-in-Some-clause-too_many : goal.returns-in-Some-clause-too_many
-returns-in-Some-clause-too_many c is =
-    let number : c.in-Some.number ≡ length (of_lengths (open_bytes c.in_ok-mask.mask.items c.args.self.now.bytes.items c.in_ok-values.values.items)
-    c.args.self.now.synced_len (length c.in_ok-mask.mask.items - c.args.self.now.synced_len + 1))
-    = rw (c.deref-2.ensures.value, c.deref-3.ensures.value) at (c.in-Some.ensures.exact c.args.self.now.bytes.items) in
-    too_many c.args.self.now c.args.values.now c.in_ok-values.values.items c.in_ok-mask.mask.items c.deref.result.now c.len-len.result c.args.cap
-    c.deref.ensures.value (omega arith) c.in_ok-mask.ensures c.in_ok-values.ensures.same c.in_ok-values.ensures.once (omega (arith, number, c.if-number-cap.true))
-
-pub returns-in-None-clause-too_many : goal.returns-in-None-clause-too_many
-returns-in-None-clause-too_many c is =
-    let many : 2 ^ 64 ≤ length (of_lengths (open_bytes c.in_ok-mask.mask.items c.args.self.now.bytes.items c.in_ok-values.values.items)
-    c.args.self.now.synced_len (length c.in_ok-mask.mask.items - c.args.self.now.synced_len + 1))
-    = rw (c.deref-2.ensures.value, c.deref-3.ensures.value) at (c.in-None.ensures.none refl c.args.self.now.bytes.items) in
-    too_many c.args.self.now c.args.values.now c.in_ok-values.values.items c.in_ok-mask.mask.items c.deref.result.now c.len-len.result c.args.cap
-    c.deref.ensures.value (omega arith) c.in_ok-mask.ensures c.in_ok-values.ensures.same c.in_ok-values.ensures.once (omega (arith, many))
+pub returns-in_err-number-clause-too_many : goal.returns-in_err-number-clause-too_many
+returns-in_err-number-clause-too_many c is =
+    let m : MemDisk = c.args.self.now in
+    let mask : List Bool = c.in_ok-mask.mask.items in
+    let values : List ℕ = c.in_ok-values.values.items in
+    let all : List ℕ → ℕ → List (List ℕ) = λ (now : List ℕ) (len : ℕ). of_lengths (open_bytes mask now values) m.synced_len (len - m.synced_len + 1) in
+    let more : c.args.cap < length (all m.bytes.items (length mask))
+    = above c.number_of.result c.args.cap (λ (now : List ℕ). length (all now (length mask))) m.bytes.items (omega arith)
+    (rw (c.deref-2.ensures.value, c.deref-3.ensures.value) at c.number_of.ensures.exact)
+    (rw (c.deref-2.ensures.value, c.deref-3.ensures.value) at c.number_of.ensures.none) c.in_err-number.ensures.err in (
+      all m.bytes.items (length m.bytes.items),
+      listed_by m c.args.values.now values mask c.deref.result.now c.len-len.result c.deref.ensures.value (omega arith)
+          c.in_ok-mask.ensures c.in_ok-values.ensures.same c.in_ok-values.ensures.once,
+      subst (λ (len : ℕ). c.args.cap < length (all m.bytes.items len)) (c.in_ok-mask.ensures.0 ∙ omega arith) more,
+    )
