@@ -3,7 +3,8 @@
 //! That they note just this is proved, and so is what it means for the file.
 ghost use Rattle.std.specs.Prelude.{◌≡◌, ◌≤◌, ◌<◌, ◌+◌, ℕ, List, [], ◌∷◌, length, take, IfOk, OnOk, OnErr, IsErrOf};
 ghost use Rattle.std.specs.Borrow.{ftrue};
-ghost use Rattle.disk.specs.Calls.{Call, Start, Read, Wrote, Broke, Synced, Measured, Interrupted, Refused, call_of, IsRead};
+ghost use Rattle.disk.specs.Calls.{Call, Start, Read, Wrote, Broke, Synced, Measured, Interrupted, Refused};
+ghost use Rattle.disk.specs.Calls.{call_of, IsRead};
 
 use std::fs::File;
 use std::io;

@@ -9,5 +9,5 @@ returns-clause-same c v = subst (λ (vs : List ℕ). (Contains c.loop-value.foun
 
 pub loop-value-preserved : goal.loop-value-preserved
 loop-value-preserved c =
-    unique-add c.args.values.now c.loop-value.found.items c.add.new.found.items c.loop-value.value-index c.loop-value-test.true c.loop-value.invariant
-    c.in_ok-add.ensures.same c.in_ok-add.ensures.once
+    unique-add c.args.values.now c.loop-value.found.items c.add.new.found.items c.loop-value.value-index
+    c.loop-value-test.true c.loop-value.invariant c.in_ok-add.ensures.same c.in_ok-add.ensures.once

@@ -18,10 +18,13 @@ returns-clause-writes c follows le =
 
 pub returns-in-Ok-eq0-clause-writes : goal.returns-in-Ok-eq0-clause-writes
 returns-in-Ok-eq0-clause-writes c follows le =
-    write-loop-so-far c.args.self.now.calls.noted c.write_some.new.self.noted c.args.at _ _ _ c.args.bytes.now
-    (write-loop-on c.args.self.now.calls.noted c.loop.self.calls.noted c.write_some.new.self.noted c.args.at c.loop.from c.in-Ok-eq0.field-0 c.args.bytes.now _
-    c.loop.invariant.writes (take_rest c.args.bytes.now c.loop.from) c.in-Ok-eq0.ensures.within c.write_some.ensures.before c.in-Ok-eq0.ensures.holds c.in-Ok-eq0.ensures.goes)
-    follows le
+    let first = c.args.self.now.calls.noted in
+    let old = c.loop.self.calls.noted in
+    let new = c.write_some.new.self.noted in
+    write-loop-so-far first new c.args.at _ _ _ c.args.bytes.now
+    (write-loop-on first old new c.args.at c.loop.from c.in-Ok-eq0.field-0 c.args.bytes.now _ c.loop.invariant.writes
+    (take_rest c.args.bytes.now c.loop.from) c.in-Ok-eq0.ensures.within c.write_some.ensures.before
+    c.in-Ok-eq0.ensures.holds c.in-Ok-eq0.ensures.goes) follows le
 
 pub returns-in-Err-Failed-clause-writes : goal.returns-in-Err-Failed-clause-writes
 returns-in-Err-Failed-clause-writes c follows le =

@@ -41,8 +41,9 @@ listed_by m values unique mask steps len es el mark same once =
     (record { none_new = λ v. (same v).0; none_lost = λ v. (same v).1; once = once })
 
 -- where there are more than the cap
-above : (number : Option ℕ) (cap : ℕ) (count : List ℕ → ℕ) (now : List ℕ) → cap < 2 ^ 64 → IfSome number (λ n. (xs : List ℕ) → n ≡ count xs)
-    → (IsNone number → (xs : List ℕ) → 2 ^ 64 ≤ count xs) → IfSome number (λ n. cap < n) → cap < count now
+above : (number : Option ℕ) (cap : ℕ) (count : List ℕ → ℕ) (now : List ℕ) → cap < 2 ^ 64
+    → IfSome number (λ n. (xs : List ℕ) → n ≡ count xs) → (IsNone number → (xs : List ℕ) → 2 ^ 64 ≤ count xs)
+    → IfSome number (λ n. cap < n) → cap < count now
 above (Some n) cap count now fits exact none more = omega (arith, exact now, more)
 above None cap count now fits exact none more = omega (arith, none refl now, fits)
 
@@ -75,7 +76,8 @@ returns-in_err-number-clause-too_many c is =
     let m : MemDisk = c.args.self.now in
     let mask : List Bool = c.in_ok-mask.mask.items in
     let values : List ℕ = c.in_ok-values.values.items in
-    let all : List ℕ → ℕ → List (List ℕ) = λ (now : List ℕ) (len : ℕ). of_lengths (open_bytes mask now values) m.synced_len (len - m.synced_len + 1) in
+    let all : List ℕ → ℕ → List (List ℕ)
+    = λ (now : List ℕ) (len : ℕ). of_lengths (open_bytes mask now values) m.synced_len (len - m.synced_len + 1) in
     let more : c.args.cap < length (all m.bytes.items (length mask))
     = above c.number_of.result c.args.cap (λ (now : List ℕ). length (all now (length mask))) m.bytes.items (omega arith)
     (rw (c.deref-2.ensures.value, c.deref-3.ensures.value) at c.number_of.ensures.exact)
