@@ -58,10 +58,12 @@ test:
 edits:
 	@RT='$(RT)' tests/edits $(if $(ALL),--all) $(if $(JOBS),--jobs $(JOBS)) $(CRATES)
 
-# each request for memory of bench and ingest1 refused in turn
+# hostile use: bytes cut and changed anywhere, memory refused at each request, files and clients that fail. Each says how many
+# cases it had and how many differ from what the definitions ask for
 faults:
-	@RT='$(RT)' tests/build bench ingest1
-	@tests/each_allocation_fails bench ingest1
+	@RT='$(RT)' tests/build bench ingest1 ingestctl server walcat
+	@failed=0; for it in judge_rows mutations 'each_allocation_fails bench ingest1 ingestctl server' hostile_files hostile_clients; do \
+		tests/$$it || failed=1; done; exit $$failed
 
 # every crate, lowest first, over the work of earlier checks
 check:

@@ -1,17 +1,18 @@
 // Lets one request for memory of a program fail: preloaded, it refuses request number FAIL_AT, counted
-// from 1, and then makes the file FAIL_MARK.
+// from 1 over all threads, and then makes the file FAIL_MARK.
 #define _GNU_SOURCE
 #include <dlfcn.h>
 #include <errno.h>
 #include <fcntl.h>
+#include <stdatomic.h>
 #include <stdlib.h>
 #include <unistd.h>
 
-static unsigned long asked;
+static atomic_ulong asked;
 
 static int refused(void) {
     const char *at = getenv("FAIL_AT");
-    if (at == NULL || ++asked != strtoul(at, NULL, 10)) {
+    if (at == NULL || atomic_fetch_add(&asked, 1) + 1 != strtoul(at, NULL, 10)) {
         return 0;
     }
     const char *mark = getenv("FAIL_MARK");
