@@ -5,6 +5,7 @@ ghost use Rattle.segment.specs.Blocks.{IsOpenAt, EndsOpen};
 use crate::sizes::{MANY, are_small, is_small, is_small_image};
 use accept::{Image, StreamImage};
 use anyhow::{Result, bail};
+use labels::StreamKey;
 use log_words::{number_of, owner_of};
 use rows::word_of;
 use segment::{
