@@ -39,6 +39,7 @@ pub fn put_parts(records: &[Record], slot: &mut Vec<u8>, said: &mut String) -> R
     Ok(())
 }
 
+#[tactic(auto, using(segment::proofs::Lengths::lengths))]
 fn put_one(record: &Record, slot: &mut Vec<u8>) -> Result<usize>
     requires { EndsOpen slot.old.items }
     ensures { OnOk result ((at : ℕ) → IsOpenAt at slot.old.items → IsOpenAt at slot.new.items) }
