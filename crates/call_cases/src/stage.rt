@@ -141,6 +141,7 @@ impl Stage {
     /// Adds the state of the next shard, and keeps its slots.
     fn take_left(&mut self, left: Left, count: u32, states: &mut Counted) -> Result<()> {
         let mut left = left;
+        left.pair.mend();
         let shard = self.pairs.len();
         let before = self.before.get(shard).copied().unwrap_or((0, 0));
         states.add(left.state(self.alloc, shard as u32, count, before)?)?;
