@@ -35,18 +35,26 @@ struct Load {
     pushes: u64,
 }
 
-/// What a thread makes its pushes with.
+/// What the threads of a run share.
 #[derive(Drop)]
-struct Caller<'a, R> {
+struct Course<'a, R> {
     rt: &'a R,
     alloc: Global,
     ingester: &'a Ingester<MemDisk>,
-    pass: Pass,
-    stream: u64,
-    pushes: u64,
+    load: Load,
+    /// Is told by each thread that its pushes are ready.
     ready: Sender<()>,
+    /// Has no sender once the threads may go.
     go: Receiver<()>,
-    stored: &'a AtomicU64,
+    stored: AtomicU64,
+}
+
+/// What a thread makes its pushes with.
+#[derive(Drop)]
+struct Caller<'s, 'a, R> {
+    course: &'s Course<'a, R>,
+    pass: Pass,
+    number: u32,
 }
 
 /// So many pairs of empty slots, each with room for all pushes of a run.
@@ -92,39 +100,33 @@ fn stream_number(alloc: Global, pass: u32, shards: u32) -> Result<u64> {
     bail!("no stream is of this shard");
 }
 
+/// The pushes of the pass with this number.
+fn pushes_by<R>(course: &Course<R>, number: u32) -> Result<Vec<Call>> {
+    let stream = stream_number(course.alloc, number, course.load.shards)?;
+    pushes_of(course.alloc, stream, 0, course.load.pushes)
+}
+
 /// Makes a push: whether it has its step, with all its lines stored.
-fn push<R: Wait>(
-    rt: &R,
-    alloc: Global,
-    ingester: &Ingester<MemDisk>,
-    pass: &mut Pass,
-    call: Call,
-) -> bool
-    requires { IsPassOf ingester.now pass.old }
-    ensures { IsPassOf ingester.now pass.new }
+fn push<R: Wait>(course: &Course<R>, pass: &mut Pass, call: Call) -> bool
+    requires { IsPassOf course.now.ingester.now pass.old }
+    ensures { IsPassOf course.now.ingester.now pass.new }
 {
     if !call.has_lawful_numbers() {
         return false;
     }
-    match ingester.call(rt, alloc, pass, call) {
+    match course.ingester.call(course.rt, course.alloc, pass, call) {
         Ok(reply) => is_stored(&reply),
         Err(_) => false,
     }
 }
 
 /// Makes all pushes of a thread, one after another: how many were stored.
-fn push_all<R: Wait>(
-    rt: &R,
-    alloc: Global,
-    ingester: &Ingester<MemDisk>,
-    mut pass: Pass,
-    calls: Vec<Call>,
-) -> u64
-    requires { IsPassOf ingester.now pass }
+fn push_all<R: Wait>(course: &Course<R>, mut pass: Pass, calls: Vec<Call>) -> u64
+    requires { IsPassOf course.now.ingester.now pass }
 {
     let mut stored: u64 = 0;
     for call in calls {
-        if push(rt, alloc, ingester, &mut pass, call) {
+        if push(course, &mut pass, call) {
             stored = stored.saturating_add(1);
         }
     }
@@ -133,37 +135,31 @@ fn push_all<R: Wait>(
 
 /// What a thread does: it gets its pushes ready, and makes them once all threads may go.
 fn work<R: Wait>(caller: Caller<R>)
-    requires { IsPassOf caller.ingester.now caller.pass }
+    requires { IsPassOf caller.course.now.ingester.now caller.pass }
 {
     let Caller {
-        rt,
-        alloc,
-        ingester,
+        course,
         pass,
-        stream,
-        pushes,
-        ready,
-        go,
-        stored,
+        number,
     } = caller;
-    let Ok(calls) = pushes_of(alloc, stream, 0, pushes) else {
-        return;
-    };
-    let _ = ready.send(rt, ());
-    drop(ready);
-    let _ = go.recv(rt);
-    stored.fetch_add(push_all(rt, alloc, ingester, pass, calls), Ordering::SeqCst);
+    let ready = pushes_by(course, number);
+    let _ = course.ready.send(course.rt, ());
+    let _ = course.go.recv(course.rt);
+    if let Ok(calls) = ready {
+        let stored = push_all(course, pass, calls);
+        course.stored.fetch_add(stored, Ordering::SeqCst);
+    }
 }
 
 /// Starts a thread.
-fn start<'s, E, R: Threads + Wait + Sync>(
+fn start<'s, 'a, E, R: Threads + Wait + Sync>(
     scope: &'s Scope<'s, E>,
-    caller: Caller<'s, R>,
+    caller: Caller<'s, 'a, R>,
 ) -> Result<()>
-    requires pass { IsPassOf caller.ingester.now caller.pass }
+    requires pass { IsPassOf caller.course.now.ingester.now caller.pass }
 {
     let run = move || -> ()
-        requires { IsPassOf caller.ingester.now caller.pass }
+        requires { IsPassOf caller.course.now.ingester.now caller.pass }
     { work(caller) };
     match scope.spawn(run) {
         Ok(_handle) => Ok(()),
@@ -172,76 +168,75 @@ fn start<'s, E, R: Threads + Wait + Sync>(
 }
 
 /// Starts a thread for each pass.
-fn start_all<'s, E, R: Threads + Wait + Sync>(
+fn start_all<'s, 'a, E, R: Threads + Wait + Sync>(
     scope: &'s Scope<'s, E>,
-    rt: &'s R,
-    alloc: Global,
-    ingester: &'s Ingester<MemDisk>,
+    course: &'s Course<'a, R>,
     mut passes: Vec<Pass>,
-    load: Load,
-    ready: Sender<()>,
-    go: Receiver<()>,
-    stored: &'s AtomicU64,
 ) -> Result<()>
-    requires passes { (i : ℕ) (pass : Passed) → slice_get passes.items i ≡ Some pass → IsPassOf ingester.now pass }
+    requires passes { (i : ℕ) (pass : Passed) → slice_get passes.items i ≡ Some pass
+        → IsPassOf course.now.ingester.now pass }
 {
     while let Some(pass) = passes.pop() {
         let number = (passes.len() % 64) as u32;
-        let stream = stream_number(alloc, number, load.shards)?;
-        let ready = ready.clone()?;
-        let go = go.clone()?;
         let caller = Caller {
-            rt,
-            alloc,
-            ingester,
+            course,
             pass,
-            stream,
-            pushes: load.pushes,
-            ready,
-            go,
-            stored,
+            number,
         };
         start(scope, caller)?;
     }
     Ok(())
 }
 
-/// Lets a thread for each pass make its pushes: how long that takes, from when all are ready to when all are done.
+/// Lets a thread for each pass make its pushes: how many were stored, and how long that took, from when all were ready to
+/// when all were done.
 fn push_in_threads<R: Clock + Threads + Wait + Sync>(
     rt: &R,
     alloc: Global,
     ingester: &Ingester<MemDisk>,
     passes: Vec<Pass>,
     load: Load,
-    stored: &AtomicU64,
-) -> Result<Duration>
+) -> Result<(u64, Duration)>
     requires passes { (i : ℕ) (pass : Passed) → slice_get passes.items i ≡ Some pass → IsPassOf ingester.now pass }
 {
     let (ready, all_ready) = bounded(alloc, 64)?;
-    let (go, may_go) = bounded(alloc, 1)?;
+    let (may_go, go) = bounded(alloc, 1)?;
+    let course = Course {
+        rt,
+        alloc,
+        ingester,
+        load,
+        ready,
+        go,
+        stored: AtomicU64::new(0),
+    };
     let start = thread::scope(
         thread::scope_env(),
         rt,
         |scope| -> Result<Instant>
-            requires { (i : ℕ) (pass : Passed) → slice_get passes.items i ≡ Some pass → IsPassOf ingester.now pass }
+            requires { (i : ℕ) (pass : Passed) → slice_get passes.items i ≡ Some pass
+                → IsPassOf course.ingester.now pass }
         {
-            start_all(
-                scope, rt, alloc, ingester, passes, load, ready, may_go, stored,
-            )?;
-            for _ in 0..load.passes {
-                all_ready.recv(rt)?;
-            }
-            let start = Instant::now(rt)?;
-            release(go);
-            Ok(start)
+            start_all(scope, &course, passes)?;
+            release(rt, load, all_ready, may_go)
         },
     )?;
-    Ok(start.elapsed(rt)?)
+    Ok((course.stored.load(Ordering::SeqCst), start.elapsed(rt)?))
 }
 
-/// Lets the threads go, who wait until there is no sender.
-fn release(go: Sender<()>) {
-    drop(go);
+/// Lets the threads go once all are ready: when that was.
+fn release<R: Clock + Wait>(
+    rt: &R,
+    load: Load,
+    all_ready: Receiver<()>,
+    may_go: Sender<()>,
+) -> Result<Instant> {
+    for _ in 0..load.passes {
+        all_ready.recv(rt)?;
+    }
+    let start = Instant::now(rt)?;
+    drop(may_go);
+    Ok(start)
 }
 
 /// One run: how many pushes were stored, and how long they took.
@@ -249,11 +244,8 @@ fn run<R: Clock + Threads + Wait + Sync + AllocGlobal>(
     rt: &R,
     load: Load,
 ) -> Result<(u64, Duration)> {
-    let alloc = rt.alloc();
-    let (ingester, passes) = open(alloc, load)?;
-    let stored = AtomicU64::new(0);
-    let time = push_in_threads(rt, alloc, &ingester, passes, load, &stored)?;
-    Ok((stored.load(Ordering::SeqCst), time))
+    let (ingester, passes) = open(rt.alloc(), load)?;
+    push_in_threads(rt, rt.alloc(), &ingester, passes, load)
 }
 
 /// Prints how many calls a second an ingester answers, for each load.

@@ -49,6 +49,10 @@ fn judge_row<R: Print + Wait + AllocGlobal>(
 /// Does what the lines of a row say, and appends what is said to that.
 fn take_row<R: Wait + AllocGlobal>(rt: &R, row: &Row<'_>, said: &mut String) -> Result<()> {
     let mut stage = Stage::new(rt.alloc())?;
+    take_lines(rt, row, &mut stage, said)
+}
+
+fn take_lines<R: Wait>(rt: &R, row: &Row<'_>, stage: &mut Stage, said: &mut String) -> Result<()> {
     for line in row.given.iter() {
         stage.take_line(rt, line, said)?;
     }

@@ -22,7 +22,7 @@ pub struct Stage {
     /// How many writes and syncs had been made on them at the opening.
     before: Vec<(u64, u64)>,
     opened: Option<Opened>,
-    prepared: Option<Prepared>,
+    prepared: Prepared,
 }
 
 impl Stage {
@@ -34,7 +34,7 @@ impl Stage {
             pairs: empty_pairs(alloc, 1)?,
             before: Vec::new(alloc),
             opened: None,
-            prepared: None,
+            prepared: Prepared::new(alloc)?,
         })
     }
 
@@ -47,8 +47,8 @@ impl Stage {
             "push" | "read" | "trim" | "each" => self.take_call(rt, line, said),
             "look" => self.look(rest, said),
             "turn" => self.turn(),
-            "store" => self.take_change(End::Store, rest, said),
-            "forget" => self.take_change(End::Forget, rest, said),
+            "store" => self.make_change(End::Store, rest, said),
+            "forget" => self.make_change(End::Forget, rest, said),
             "block" | "segment" => self.say_change(word, said),
             "crash" => self.crash(rest, said),
             "fails" => self.try_each(Way::Fails, rest, said),
@@ -141,6 +141,7 @@ impl Stage {
     /// Adds the state of the next shard, and keeps its slots.
     fn take_left(&mut self, left: Left, count: u32, states: &mut Counted) -> Result<()> {
         let mut left = left;
+        left.pair.mend();
         let shard = self.pairs.len();
         let before = self.before.get(shard).copied().unwrap_or((0, 0));
         states.add(left.state(self.alloc, shard as u32, count, before)?)?;
@@ -185,21 +186,16 @@ impl Stage {
     }
 
     /// `store CALL` and `forget CALL`.
-    fn take_change(&mut self, end: End, call: &str, said: &mut String) -> Result<()> {
-        let prepared = match self.prepared.take() {
-            Some(prepared) => prepared,
-            None => Prepared::new(self.alloc)?,
-        };
-        self.prepared = Some(prepared.make(self.alloc, self.settings.limits, call, end, said)?);
-        Ok(())
+    fn make_change(&mut self, end: End, call: &str, said: &mut String) -> Result<()> {
+        let limits = self.settings.limits;
+        self.prepared.make(self.alloc, limits, call, end, said)
     }
 
     /// `block` and `segment`: the bytes of the last change.
     fn say_change(&self, word: &str, said: &mut String) -> Result<()> {
-        match &self.prepared {
-            Some(prepared) if word == "block" => say_from(0, &prepared.block, said),
-            Some(prepared) => say_from(0, &prepared.segment, said),
-            None => say_from(0, &[], said),
+        match word {
+            "block" => say_from(0, &self.prepared.block, said),
+            _ => say_from(0, &self.prepared.segment, said),
         }
     }
 

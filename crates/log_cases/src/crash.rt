@@ -104,8 +104,20 @@ pub fn say_crash(alloc: Global, slots: &mut Slots, words: &str, said: &mut Strin
     let (max, place) = word_of(rest);
     let place = usize::try_from(number_of(place)?)?;
     let found = images_of(alloc, slots.at(slot)?, values, max)?;
-    let seen = read_all(alloc, slots.at(slot)?)?;
+    say_found(alloc, slots, slot, place, &found, said)
+}
+
+/// Says these contents of a slot.
+fn say_found(
+    alloc: Global,
+    slots: &mut Slots,
+    slot: &str,
+    place: usize,
+    found: &[Vec<u8>],
+    said: &mut String,
+) -> Result<()> {
     let is_first = slot == "0";
+    let seen = read_all(alloc, slots.at(slot)?)?;
     let other = read_all(alloc, slots.at(if is_first { "1" } else { "0" })?)?;
     let sight = Sight {
         alloc,
@@ -114,7 +126,7 @@ pub fn say_crash(alloc: Global, slots: &mut Slots, words: &str, said: &mut Strin
         other: &other,
         place,
     };
-    sight.say_all(&found, said)
+    sight.say_all(found, said)
 }
 
 fn images_of(alloc: Global, disk: &MemDisk, values: &str, max: &str) -> Result<Vec<Vec<u8>>> {

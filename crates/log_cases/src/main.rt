@@ -51,6 +51,15 @@ fn take_row<R: Files<File = File> + AllocGlobal>(
     said: &mut String,
 ) -> Result<()> {
     let mut desk = Desk::new();
+    take_lines(rt, row, &mut desk, said)
+}
+
+fn take_lines<R: Files<File = File> + AllocGlobal>(
+    rt: &R,
+    row: &Row<'_>,
+    desk: &mut Desk,
+    said: &mut String,
+) -> Result<()> {
     for line in &row.given {
         desk.take_line(rt, line, said)
             .context(format_args!("at {line}"))?;

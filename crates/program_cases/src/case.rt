@@ -58,13 +58,22 @@ where
         locked: None,
         listener: None,
     };
+    take_lines(rt, row, &mut case, said)?;
+    let _ = fs::remove_dir_all(rt, FOLDER);
+    Ok(())
+}
+
+fn take_lines<R>(rt: &R, row: &Row<'_>, case: &mut Case, said: &mut String) -> Result<()>
+where
+    R: Files<File = File> + Net<Listener = TcpListener, Stream = TcpStream>,
+    R: Clock + Threads + Wait + Sync + AllocGlobal,
+{
     let name = row.name;
     for line in row.given.iter() {
         let (word, rest) = word_of(*line);
         case.take_line(rt, word, rest, said)
             .map_err(|error| anyhow!("{name}: {line}: {error}"))?;
     }
-    let _ = fs::remove_dir_all(rt, FOLDER);
     Ok(())
 }
 
@@ -119,15 +128,7 @@ impl Case {
             }
             "hex" => read_hex(rest, &mut self.input)?,
             "example" => self.input.extend_from_slice(&EXAMPLE)?,
-            "byte" => {
-                let (at, digits) = number_of(rest)?;
-                let mut bytes = Vec::new(self.alloc);
-                read_hex(digits, &mut bytes)?;
-                match (self.input.get_mut(at), bytes.first()) {
-                    (Some(place), Some(byte)) => *place = *byte,
-                    _ => bail!("no such place or byte"),
-                }
-            }
+            "byte" => self.set_byte(rest)?,
             "cut" => self.input.truncate(number_of(rest)?.0),
             "next" => {
                 self.input.clear();
@@ -138,6 +139,17 @@ impl Case {
             "room" => self.limits.output = number_of(rest)?.0,
             "error_room" => self.limits.errors = number_of(rest)?.0,
             _ => bail!("no such word"),
+        }
+        Ok(())
+    }
+
+    fn set_byte(&mut self, text: &str) -> Result<()> {
+        let (at, digits) = number_of(text)?;
+        let mut bytes = Vec::new(self.alloc);
+        read_hex(digits, &mut bytes)?;
+        match (self.input.get_mut(at), bytes.first()) {
+            (Some(place), Some(byte)) => *place = *byte,
+            _ => bail!("no such place or byte"),
         }
         Ok(())
     }
@@ -205,20 +217,40 @@ impl Case {
         let (last, rest) = number_of(rest)?;
         let (name, rest) = word_of(rest);
         let (program, words) = (program_of(name)?, self.words(rest)?);
-        let whole = run(rt, self.alloc, program, &words, &self.input, self.limits);
+        self.run_each(rt, stream, (first, last), program, &words, said)
+    }
+
+    fn run_each<R>(
+        &self,
+        rt: &R,
+        stream: &str,
+        places: (usize, usize),
+        program: Program,
+        words: &[String],
+        said: &mut String,
+    ) -> Result<()>
+    where
+        R: Files<File = File> + Net<Listener = TcpListener, Stream = TcpStream>,
+        R: Clock + Threads + Wait + Sync,
+    {
+        let whole = run(rt, self.alloc, program, words, &self.input, self.limits);
         let mut repeats = Repeats::new(self.alloc);
-        for place in first..=last {
-            let mut limits = self.limits;
-            match stream {
-                "fails" => limits.input = Some((place, ErrorKind::PermissionDenied)),
-                "room" => limits.output = place,
-                _ => bail!("no such stream"),
-            }
-            let ended = run(rt, self.alloc, program, &words, &self.input, limits);
-            let mut text = String::new(self.alloc);
-            ended.say_cut(limits.output, &whole, &mut text)?;
-            repeats.take(text, said)?;
+        for place in places.0..=places.1 {
+            let limits = self.limits_at(stream, place)?;
+            let ended = run(rt, self.alloc, program, words, &self.input, limits);
+            repeats.take(ended.cut(self.alloc, limits.output, &whole)?, said)?;
         }
         repeats.say(said)
+    }
+
+    /// The limits with this one of a stream.
+    fn limits_at(&self, stream: &str, place: usize) -> Result<Limits> {
+        let mut limits = self.limits;
+        match stream {
+            "fails" => limits.input = Some((place, ErrorKind::PermissionDenied)),
+            "room" => limits.output = place,
+            _ => bail!("no such stream"),
+        }
+        Ok(limits)
     }
 }

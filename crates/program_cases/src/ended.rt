@@ -2,6 +2,7 @@
 
 use anyhow::Result;
 use rows::escape;
+use std::alloc::Global;
 use std::fmt::Write;
 
 /// From how many equal bytes on their number is said.
@@ -23,9 +24,15 @@ impl Ended {
         say_lines("err", &self.errors, said)
     }
 
-    /// Says the same, where standard output has room for so many bytes. In place of what fits, that it is the beginning
-    /// of what is written to enough room.
-    pub fn say_cut(&self, room: usize, whole: &Ended, said: &mut String) -> Result<()> {
+    /// The same, where standard output has room for so many bytes.
+    pub fn cut(&self, alloc: Global, room: usize, whole: &Ended) -> Result<String> {
+        let mut text = String::new(alloc);
+        self.say_cut(room, whole, &mut text)?;
+        Ok(text)
+    }
+
+    /// In place of what fits, says that it is the beginning of what is written to enough room.
+    fn say_cut(&self, room: usize, whole: &Ended, said: &mut String) -> Result<()> {
         let (taken, all) = (self.output.as_slice(), whole.output.as_slice());
         if taken.len() != room || taken.len() >= all.len() || !all.starts_with(taken) {
             return self.say(said);

@@ -10,19 +10,40 @@ mod wording;
 
 use crate::case::take_row;
 use anyhow::Result;
-use rows::{Tally, rows_of};
-use std::{env, fs};
+use rows::{Row, Tally, rows_of};
+use std::env;
+use std::fs::{self, File, Files};
+use std::net::{Net, TcpListener, TcpStream};
+use std::rt::Clock;
+use std::sync::Wait;
+use std::thread::Threads;
 
 fn main(rt: HostRuntime) -> Result<()> {
-    let alloc = rt.alloc();
     let mut tally = Tally::new();
     for file in env::args(&rt)?.skip(1) {
-        let text = fs::read_to_string(&rt, file.as_str())?;
-        for row in rows_of(alloc, text.as_str())?.iter() {
-            let mut said = String::new(alloc);
-            take_row(&rt, alloc, row, &mut said)?;
-            tally.judge(&rt, row, said.as_str())?;
-        }
+        judge_file(&rt, file.as_str(), &mut tally)?;
     }
     tally.end(&rt)
+}
+
+fn judge_file<R>(rt: &R, file: &str, tally: &mut Tally) -> Result<()>
+where
+    R: Files<File = File> + Net<Listener = TcpListener, Stream = TcpStream>,
+    R: Print + Clock + Threads + Wait + Sync + AllocGlobal,
+{
+    let text = fs::read_to_string(rt, file)?;
+    for row in rows_of(rt.alloc(), text.as_str())?.iter() {
+        judge_row(rt, row, tally)?;
+    }
+    Ok(())
+}
+
+fn judge_row<R>(rt: &R, row: &Row<'_>, tally: &mut Tally) -> Result<()>
+where
+    R: Files<File = File> + Net<Listener = TcpListener, Stream = TcpStream>,
+    R: Print + Clock + Threads + Wait + Sync + AllocGlobal,
+{
+    let mut said = String::new(rt.alloc());
+    take_row(rt, rt.alloc(), row, &mut said)?;
+    tally.judge(rt, row, said.as_str())
 }

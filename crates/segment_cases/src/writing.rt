@@ -5,6 +5,7 @@ ghost use Rattle.segment.specs.Blocks.{IsOpenAt, EndsOpen};
 use crate::sizes::{MANY, are_small, is_small, is_small_image};
 use accept::{Image, StreamImage};
 use anyhow::{Result, bail};
+use labels::StreamKey;
 use log_words::{number_of, owner_of};
 use rows::word_of;
 use segment::{
@@ -38,6 +39,7 @@ pub fn put_parts(records: &[Record], slot: &mut Vec<u8>, said: &mut String) -> R
     Ok(())
 }
 
+#[tactic(auto, using(segment::proofs::Lengths::lengths))]
 fn put_one(record: &Record, slot: &mut Vec<u8>) -> Result<usize>
     requires { EndsOpen slot.old.items }
     ensures { OnOk result ((at : ℕ) → IsOpenAt at slot.old.items → IsOpenAt at slot.new.items) }
