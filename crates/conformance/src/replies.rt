@@ -14,8 +14,8 @@ use wire::say_lines;
 /// A line that is none of these; want of memory.
 pub fn answer_reply(alloc: Global, line: &str, entries: &[&str], said: &mut String) -> Result<()> {
     let answer = read_answer(alloc, &reply_of(alloc, line, entries)?)?;
-    let status = answer.status;
-    writeln!(said, "{status}")?;
+    let code = answer.status.code();
+    writeln!(said, "{code}")?;
     say_lines(alloc, &answer.body, said)
 }
 

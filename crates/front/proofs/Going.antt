@@ -11,6 +11,7 @@ use Rattle.requests.specs.Answers.{failure_body}
 use Rattle.requests.specs.declared.answer.Answer.{Answer}
 use Rattle.requests.specs.declared.failure.Failure.{Failure}
 use Rattle.requests.specs.declared.failure.Failure.TheVariants.{OutOfMemory}
+use Rattle.requests.specs.declared.status.Status.TheVariants.{InternalServerError}
 use Rattle.requests.specs.declared.route.Route.{Route}
 use Rattle.requests.specs.declared.route.Route.TheVariants.{Push, Read, Trim}
 use Rattle.front.specs.declared.calling.Asked.{Asked}
@@ -57,14 +58,14 @@ module _ {H : Type 0} (gives : H → Call → Result Reply CallFault → H → T
   push h h' all (Err GivenUp) asks (cames, last, stops) = record { asked = Ok all; asks = asks; left = (cames, last, stops) }
 
 -- a failure is answered by 500 and its text
-fault_is_500 : (fault : PushFault) (failure : Failure) → fault_failure fault ≡ Some failure → (500 ≡ fault_status fault) × (failure_body failure ≡ fault_text fault)
+fault_is_500 : (fault : PushFault) (failure : Failure) → fault_failure fault ≡ Some failure → (InternalServerError ≡ fault_status fault) × (failure_body failure ≡ fault_text fault)
 fault_is_500 NotJson failure e = absurd (cc)
 fault_is_500 WrongShape failure e = absurd (cc)
 fault_is_500 (BadTime i j) failure e = absurd (cc)
 fault_is_500 TooManyEntries failure e = absurd (cc)
 fault_is_500 Memory failure e = let same : OutOfMemory ≡ failure = cc in (refl, ap failure_body (sym same))
 
-pub is_500 : (route : Route) (course : Course) (failure : Failure) → failure_in course ≡ Some failure → (500 ≡ status_for route course) × (failure_body failure ≡ text_for route course)
+pub is_500 : (route : Route) (course : Course) (failure : Failure) → failure_in course ≡ Some failure → (InternalServerError ≡ status_for route course) × (failure_body failure ≡ text_for route course)
 is_500 route (Unread fault) failure e = fault_is_500 fault failure e
 is_500 route (Whole cames) failure e = absurd (cc)
 is_500 route (Broken cames other) failure e = let same : other ≡ failure = cc in (refl, ap failure_body (sym same))

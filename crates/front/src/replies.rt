@@ -9,7 +9,7 @@ ghost use Rattle.front.specs.Showing.{Shows};
 use crate::calling::Came;
 use crate::lines::{PushLines, push_number};
 use accept::{Entry, EntryList, Reply};
-use requests::{Answer, ServeFault};
+use requests::{Answer, ServeFault, Status};
 use serde_json::{Map, Value};
 use std::alloc::{AllocError, Global};
 
@@ -49,27 +49,30 @@ fn value_of(alloc: Global, entry: Entry) -> Result<Value, AllocError>
 }
 
 fn answer_entries(alloc: Global, entries: EntryList) -> Result<Answer, AllocError>
-    ensures { IfOk result (λ answer. Shows 200 (compact_text (read_tree entries)) answer) }
+    ensures { IfOk result (λ answer. Shows Status.Ok (compact_text (read_tree entries)) answer) }
 {
     Ok(Answer {
-        status: 200,
+        status: Status::Ok,
         body: read_body(alloc, entries)?,
     })
 }
 
 #[tactic(auto, unfolding(crate::specs::Replies::trimmed_text))]
 fn answer_trimmed(alloc: Global, count: u64) -> Result<Answer, AllocError>
-    ensures { IfOk result (λ answer. Shows 200 (trimmed_text count) answer) }
+    ensures { IfOk result (λ answer. Shows Status.Ok (trimmed_text count) answer) }
 {
     let mut body = Vec::new(alloc);
     body.extend_from_slice(b"{\"trimmed\":")?;
     push_number(&mut body, count)?;
     body.extend_from_slice(b"}")?;
-    Ok(Answer { status: 200, body })
+    Ok(Answer {
+        status: Status::Ok,
+        body,
+    })
 }
 
 /// An answer of this text.
-pub(crate) fn answer_text(alloc: Global, status: u16, text: &[u8]) -> Result<Answer, AllocError>
+pub(crate) fn answer_text(alloc: Global, status: Status, text: &[u8]) -> Result<Answer, AllocError>
     ensures { IfOk result (λ answer. Shows status text.now answer) }
 {
     Ok(Answer {
@@ -117,10 +120,10 @@ fn reply_answer(alloc: Global, reply: &Reply) -> Result<Answer, AllocError>
         Reply::Trimmed(count) => answer_trimmed(alloc, *count),
         Reply::TrimTooNew => answer_text(
             alloc,
-            400,
+            Status::BadRequest,
             b"trim bound is above the oldest accepted time",
         ),
-        Reply::NoStream => answer_text(alloc, 404, b"no such stream"),
+        Reply::NoStream => answer_text(alloc, Status::NotFound, b"no such stream"),
         Reply::Verdict(_) | Reply::NoRoom | Reply::Unavailable => answer_reply_lines(alloc, reply),
     }
 }

@@ -18,7 +18,7 @@ use history::Pass;
 use ingester::Ingester;
 use labels::Tenant;
 use pushjson::{PushFault, RawBatch, read_push, read_query, read_trim};
-use requests::{Answer, Failure, Route, ServeFault};
+use requests::{Answer, Failure, Route, ServeFault, Status};
 use std::alloc::{AllocError, Global};
 use std::sync::Wait;
 
@@ -48,14 +48,17 @@ impl From<AllocError> for Halt {
 }
 
 fn answer_bad_time(alloc: Global, stream: usize, entry: usize) -> Result<Answer, AllocError>
-    ensures { IfOk result (λ answer. Shows 400 (bad_time_text stream entry) answer) }
+    ensures { IfOk result (λ answer. Shows Status.BadRequest (bad_time_text stream entry) answer) }
 {
     let mut body = Vec::new(alloc);
     body.extend_from_slice(b"bad time at stream ")?;
     push_number(&mut body, stream as u64)?;
     body.extend_from_slice(b" entry ")?;
     push_number(&mut body, entry as u64)?;
-    Ok(Answer { status: 400, body })
+    Ok(Answer {
+        status: Status::BadRequest,
+        body,
+    })
 }
 
 /// The answer to a body that is refused at its form.
@@ -63,10 +66,14 @@ fn refuse(alloc: Global, fault: PushFault) -> Result<Answer, Halt>
     ensures { Refuses fault result }
 {
     let answer = match fault {
-        PushFault::NotJson => answer_text(alloc, 400, b"body is not JSON"),
-        PushFault::WrongShape => answer_text(alloc, 400, b"wrong shape"),
+        PushFault::NotJson => answer_text(alloc, Status::BadRequest, b"body is not JSON"),
+        PushFault::WrongShape => answer_text(alloc, Status::BadRequest, b"wrong shape"),
         PushFault::BadTime { stream, entry } => answer_bad_time(alloc, stream, entry),
-        PushFault::TooManyEntries => answer_text(alloc, 400, b"more than 10000 entries"),
+        PushFault::TooManyEntries => answer_text(
+            alloc,
+            Status::BadRequest,
+            b"more than 10000 entries",
+        ),
         PushFault::Memory => return Err(Halt::Failed(Failure::OutOfMemory)),
     };
     Ok(answer?)
@@ -264,7 +271,11 @@ pub fn answer<D: Disk + Drop, R: Wait>(
 {
     match respond(rt, alloc, ingester, pass, now, route, tenant, body) {
         Ok(answer) => Ok(answer),
-        Err(Halt::Failed(failure)) => Ok(answer_text(alloc, 500, failure_body(failure))?),
+        Err(Halt::Failed(failure)) => Ok(answer_text(
+            alloc,
+            Status::InternalServerError,
+            failure_body(failure),
+        )?),
         Err(Halt::GivenUp) => Err(ServeFault::Memory),
     }
 }

@@ -14,7 +14,7 @@ use ingester::Ingester;
 use labels::Tenant;
 use requests::{
     Content, Failure, Incoming, MAX_HEAD, Message, Next, Outgoing, Route, ServeFault, Served,
-    Verdict, write_failure,
+    Status, Verdict, write_failure,
 };
 use std::alloc::Global;
 use std::io::{Read, Write};
@@ -31,10 +31,10 @@ pub(crate) enum Turn {
     Ended,
 }
 
-fn content_for(status: u16) -> Content
+fn content_for(status: Status) -> Content
     ensures { result ≡ content_for status }
 {
-    if status == 200 {
+    if status == Status::Ok {
         Content::Json
     } else {
         Content::Text

@@ -8,7 +8,7 @@ use crate::opening::open_for_one;
 use crate::stopped::Stopped;
 use accept::Call;
 use disk::{Disk, MemDisk};
-use front::{Route, answer, read_answer};
+use front::{Route, Status, answer, read_answer};
 use history::Pass;
 use ingester::{CallFault, Ingester};
 use labels::{LabelFault, LabelSet, StreamKey, Tenant};
@@ -83,7 +83,7 @@ fn push_and_read<R: Wait, I: Read, W: Write>(
     )
     .map_err(|_| Stopped::Memory)?;
     write_answer(alloc, output, &pushed)?;
-    if pushed.status == 500 {
+    if pushed.status == Status::InternalServerError {
         return Ok(());
     }
     read_back(rt, alloc, &ingester, &mut pass, &body, output)
