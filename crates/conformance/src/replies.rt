@@ -1,7 +1,7 @@
 //! Replies to reads, as answers.
 use accept::{Entry, EntryList, Line, Reply};
 use anyhow::{Result, anyhow, bail};
-use front::read_answer;
+use front::answer_of_read;
 use rows::text_of;
 use std::alloc::Global;
 use std::fmt::Write;
@@ -13,9 +13,9 @@ use wire::say_lines;
 /// # Errors
 /// A line that is none of these; want of memory.
 pub fn answer_reply(alloc: Global, line: &str, entries: &[&str], said: &mut String) -> Result<()> {
-    let answer = read_answer(alloc, &reply_of(alloc, line, entries)?)?;
-    let status = answer.status;
-    writeln!(said, "{status}")?;
+    let answer = answer_of_read(alloc, &reply_of(alloc, line, entries)?)?;
+    let code = answer.status.code();
+    writeln!(said, "{code}")?;
     say_lines(alloc, &answer.body, said)
 }
 

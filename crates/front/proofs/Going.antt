@@ -11,6 +11,7 @@ use Rattle.requests.specs.Answers.{failure_body}
 use Rattle.requests.specs.declared.answer.Answer.{Answer}
 use Rattle.requests.specs.declared.failure.Failure.{Failure}
 use Rattle.requests.specs.declared.failure.Failure.TheVariants.{OutOfMemory}
+use Rattle.requests.specs.declared.status.Status.TheVariants.{InternalServerError}
 use Rattle.requests.specs.declared.route.Route.{Route}
 use Rattle.requests.specs.declared.route.Route.TheVariants.{Push, Read, Trim}
 use Rattle.front.specs.declared.calling.Asked.{Asked}
@@ -26,16 +27,16 @@ use Rattle.pushjson.specs.Bodies.{Stream, batch_of, entry_of, entry_count}
 use Rattle.std.proofs.lemmas.List.{length-map}
 use Rattle.std.proofs.lemmas.List.Sums.{sum_by-cons, get_or-le-sum_by}
 use Rattle.front.specs.Courses.{Course, Unread, Whole, Broken, fault_failure, StreamGives, StreamsGive}
-use Rattle.front.specs.Parts.{Refuses, OneGoes, PushGoes, NextGoes, Pushing}
+use Rattle.front.specs.Parts.{BodyIsRefused, StreamIsAnswered, BodyIsAnswered, StreamIsNoted, BodyProgress}
 use Rattle.front.specs.Responses.{RequestEnds, status_for, text_for, failure_in, fault_status, fault_text}
 
 module _ {H : Type 0} (gives : H → Call → Result Reply CallFault → H → Type 0) (now : ℕ) (tenant body : List ℕ) where
-  pub refused : (route : Route) (h : H) (fault : PushFault) (result : Result Answer Halt) → AsksFor route now body (Err fault) → Refuses fault result → RequestEnds gives route now tenant body h result h
+  pub refused : (route : Route) (h : H) (fault : PushFault) (result : Result Answer Halt) → AsksFor route now body (Err fault) → BodyIsRefused fault result → RequestEnds gives route now tenant body h result h
   refused route h fault (Ok answer) asks (none, shows) = (Unread fault, record { asked = Err fault; asks = asks; goes = (refl, refl) }, none, shows)
   refused route h fault (Err (Failed failure)) asks some = (Unread fault, record { asked = Err fault; asks = asks; goes = (refl, refl) }, some)
   refused route h fault (Err GivenUp) asks none = record { asked = Err fault; asks = asks; left = (none, refl) }
 
-  pub read : (h h' : H) (asked : Asked) (result : Result Answer Halt) → AsksFor Read now body (Ok (asked ∷ [])) → OneGoes gives tenant h asked result h' → RequestEnds gives Read now tenant body h result h'
+  pub read : (h h' : H) (asked : Asked) (result : Result Answer Halt) → AsksFor Read now body (Ok (asked ∷ [])) → StreamIsAnswered gives tenant h asked result h' → RequestEnds gives Read now tenant body h result h'
   read h h' asked (Ok answer) asks (came, comes, shows) =
       (Whole (came ∷ []), record { asked = Ok (asked ∷ []); asks = asks; goes = (asked ∷ [], refl, (h', comes, refl)) }, refl, shows)
   read h h' asked (Err (Failed failure)) asks fails =
@@ -43,7 +44,7 @@ module _ {H : Type 0} (gives : H → Call → Result Reply CallFault → H → T
   read h h' asked (Err GivenUp) asks (came, comes) =
       record { asked = Ok (asked ∷ []); asks = asks; left = ([], came, record { done = asked ∷ []; more = []; split = refl; each = (h', comes, refl) }) }
 
-  pub trim : (h h' : H) (asked : Asked) (result : Result Answer Halt) → AsksFor Trim now body (Ok (asked ∷ [])) → OneGoes gives tenant h asked result h' → RequestEnds gives Trim now tenant body h result h'
+  pub trim : (h h' : H) (asked : Asked) (result : Result Answer Halt) → AsksFor Trim now body (Ok (asked ∷ [])) → StreamIsAnswered gives tenant h asked result h' → RequestEnds gives Trim now tenant body h result h'
   trim h h' asked (Ok answer) asks (came, comes, shows) =
       (Whole (came ∷ []), record { asked = Ok (asked ∷ []); asks = asks; goes = (asked ∷ [], refl, (h', comes, refl)) }, refl, shows)
   trim h h' asked (Err (Failed failure)) asks fails =
@@ -51,20 +52,20 @@ module _ {H : Type 0} (gives : H → Call → Result Reply CallFault → H → T
   trim h h' asked (Err GivenUp) asks (came, comes) =
       record { asked = Ok (asked ∷ []); asks = asks; left = ([], came, record { done = asked ∷ []; more = []; split = refl; each = (h', comes, refl) }) }
 
-  pub push : (h h' : H) (all : List Asked) (result : Result Answer Halt) → AsksFor Push now body (Ok all) → PushGoes gives tenant h all result h' → RequestEnds gives Push now tenant body h result h'
+  pub push : (h h' : H) (all : List Asked) (result : Result Answer Halt) → AsksFor Push now body (Ok all) → BodyIsAnswered gives tenant h all result h' → RequestEnds gives Push now tenant body h result h'
   push h h' all (Ok answer) asks (cames, each, shows) = (Whole cames, record { asked = Ok all; asks = asks; goes = (all, refl, each) }, refl, shows)
   push h h' all (Err (Failed failure)) asks (cames, ends) = (Broken cames failure, record { asked = Ok all; asks = asks; goes = (all, refl, ends) }, refl)
   push h h' all (Err GivenUp) asks (cames, last, stops) = record { asked = Ok all; asks = asks; left = (cames, last, stops) }
 
 -- a failure is answered by 500 and its text
-fault_is_500 : (fault : PushFault) (failure : Failure) → fault_failure fault ≡ Some failure → (500 ≡ fault_status fault) × (failure_body failure ≡ fault_text fault)
+fault_is_500 : (fault : PushFault) (failure : Failure) → fault_failure fault ≡ Some failure → (InternalServerError ≡ fault_status fault) × (failure_body failure ≡ fault_text fault)
 fault_is_500 NotJson failure e = absurd (cc)
 fault_is_500 WrongShape failure e = absurd (cc)
 fault_is_500 (BadTime i j) failure e = absurd (cc)
 fault_is_500 TooManyEntries failure e = absurd (cc)
 fault_is_500 Memory failure e = let same : OutOfMemory ≡ failure = cc in (refl, ap failure_body (sym same))
 
-pub is_500 : (route : Route) (course : Course) (failure : Failure) → failure_in course ≡ Some failure → (500 ≡ status_for route course) × (failure_body failure ≡ text_for route course)
+pub is_500 : (route : Route) (course : Course) (failure : Failure) → failure_in course ≡ Some failure → (InternalServerError ≡ status_for route course) × (failure_body failure ≡ text_for route course)
 is_500 route (Unread fault) failure e = fault_is_500 fault failure e
 is_500 route (Whole cames) failure e = absurd (cc)
 is_500 route (Broken cames other) failure e = let same : other ≡ failure = cc in (refl, ap failure_body (sym same))
@@ -77,7 +78,7 @@ module _ {H : Type 0} (gives : H → Call → Result Reply CallFault → H → T
   each_push h m h' (b ∷ bs) [] a c each comes = absurd each
   each_push h m h' (b ∷ bs) (d ∷ cs) a c (mid, first, more) comes = (mid, first, each_push mid m h' bs cs a c more comes)
 
-  pub starts : (now : ℕ) (batches rest : List RawBatch) (h : H) (lines : PushLines) → rest ≡ batches → Tells [] lines → Pushing gives tenant now batches rest h h 0 lines
+  pub starts : (now : ℕ) (batches rest : List RawBatch) (h : H) (lines : PushLines) → rest ≡ batches → Tells [] lines → BodyProgress gives tenant now batches rest h h 0 lines
   starts now batches rest h lines is tells = record {
     done = [];
     cames = [];
@@ -88,12 +89,12 @@ module _ {H : Type 0} (gives : H → Call → Result Reply CallFault → H → T
     fits = zero-add (length rest) ∙ ap length is;
   }
 
-  module _ (now : ℕ) (batches rest : List RawBatch) (h m : H) (stream : ℕ) (old : PushLines) (pushing : Pushing gives tenant now batches rest h m stream old) where
+  module _ (now : ℕ) (batches rest : List RawBatch) (h m : H) (stream : ℕ) (old : PushLines) (pushing : BodyProgress gives tenant now batches rest h m stream old) where
     module _ (b : RawBatch) (next : List RawBatch) (is : rest ≡ b ∷ next) (h' : H) where
       split_more : map (asked_push now) batches ≡ (pushing.done ++ asked_push now b ∷ []) ++ map (asked_push now) next
       split_more = pushing.split ∙ ap (λ l. pushing.done ++ map (asked_push now) l) is ∙ sym (append_assoc pushing.done (asked_push now b ∷ []) (map (asked_push now) next))
 
-      pub goes_on : (new : PushLines) (u : Unit {0}) → NextGoes gives tenant m (asked_push now b) stream old (Ok u) h' new → Pushing gives tenant now batches next h h' (stream + 1) new
+      pub goes_on : (new : PushLines) (u : Unit {0}) → StreamIsNoted gives tenant m (asked_push now b) stream old (Ok u) h' new → BodyProgress gives tenant now batches next h h' (stream + 1) new
       goes_on new u (c, comes, tells) = record {
         done = pushing.done ++ asked_push now b ∷ [];
         cames = pushing.cames ++ c ∷ [];
@@ -104,7 +105,7 @@ module _ {H : Type 0} (gives : H → Call → Result Reply CallFault → H → T
         fits = omega (arith, pushing.fits, ap length is);
       }
 
-      pub halts : (halt : Halt) (new : PushLines) → NextGoes gives tenant m (asked_push now b) stream old (Err halt) h' new → PushGoes gives tenant h (map (asked_push now) batches) (Err halt) h'
+      pub halts : (halt : Halt) (new : PushLines) → StreamIsNoted gives tenant m (asked_push now b) stream old (Err halt) h' new → BodyIsAnswered gives tenant h (map (asked_push now) batches) (Err halt) h'
       halts (Failed failure) new fails = (
         pushing.cames,
         record {
@@ -128,7 +129,7 @@ module _ {H : Type 0} (gives : H → Call → Result Reply CallFault → H → T
         },
       )
 
-    pub ends : (answer : Answer) → rest ≡ [] → ((cames : List Came) → Tells cames old → Shows (push_status cames) (lines_from 0 cames) answer) → PushGoes gives tenant h (map (asked_push now) batches) (Ok answer) m
+    pub ends : (answer : Answer) → rest ≡ [] → ((cames : List Came) → Tells cames old → Shows (push_status cames) (lines_from 0 cames) answer) → BodyIsAnswered gives tenant h (map (asked_push now) batches) (Ok answer) m
     ends answer is shows =
         let all : pushing.done ≡ map (asked_push now) batches = sym (append-nil pushing.done) ∙ ap (λ l. pushing.done ++ map (asked_push now) l) (sym is) ∙ sym pushing.split in
         (pushing.cames, subst (λ l. StreamsGive gives tenant h l pushing.cames m) all pushing.each, shows pushing.cames pushing.tells)

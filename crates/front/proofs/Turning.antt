@@ -21,8 +21,8 @@ use Rattle.requests.specs.declared.incoming.Message.{Message}
 use Rattle.requests.specs.declared.verdict.Verdict.{Verdict}
 use Rattle.requests.proofs.Unique.{keeps_request}
 use Rattle.front.specs.Courses.{Course}
-use Rattle.front.specs.Serving.{Exchange, response, closes, response_text, failure_at, ends_behind, VerdictGives, VerdictIsLeft, IsExchange, ConnectionGives, ConnectionEnds, ServesBytes}
-use Rattle.front.specs.Turns.{ResponseGives, ResponseIsWritten, TurnGives, Turns, Progress}
+use Rattle.front.specs.Serving.{Exchange, response, closes, response_text, failure_at, ends_behind, VerdictGives, VerdictIsLeft, IsExchange, ConnectionGives, ConnectionEnds, ConnectionIsServed}
+use Rattle.front.specs.Turns.{ResponseGives, ResponseIsWritten, ConnectionTurnIsAnswered, ConnectionTurnIsServed, ConnectionProgress}
 use Rattle.front.specs.declared.serving.Turn.{Turn}
 use Rattle.front.specs.declared.serving.Turn.TheVariants.{Answered, Closed, Ended}
 
@@ -50,13 +50,13 @@ module _ {H : Type 0} (gives : H → Asking → Result Reply CallFault → H →
 module _ {H C : Type 0} (gives : H → Asking → Result Reply CallFault → H → Type 0) (ticks : C → ℕ → C → Type 0) where
   -- what a turn read stands behind what had come
   pub turn : (known left before after : Option (List ℕ)) (old new rest : List ℕ) (h : H) (c : C) (h' : H) (c' : C) (result : Result Turn ServeFault) → Grows known left old new
-      → ((text : List ℕ) × Appends before after text × TurnGives gives ticks new left h c text rest h' c' result) → Turns gives ticks known left before after old rest h c h' c' result
+      → ((text : List ℕ) × Appends before after text × ConnectionTurnIsAnswered gives ticks new left h c text rest h' c' result) → ConnectionTurnIsServed gives ticks known left before after old rest h c h' c' result
   turn known left before after old new rest h c h' c' result (bytes, consumes, grown) (text, appends, turns) = record {
     bytes = bytes;
     text = text;
     consumes = consumes;
     appends = appends;
-    gives_next = subst (λ l. TurnGives gives ticks l left h c text rest h' c' result) grown turns;
+    gives_next = subst (λ l. ConnectionTurnIsAnswered gives ticks l left h c text rest h' c' result) grown turns;
   }
 
   -- the exchange of a message
@@ -80,14 +80,14 @@ module _ {H C : Type 0} (gives : H → Asking → Result Reply CallFault → H �
     same_end course = ap (λ k. ends_behind m.verdict k course) is.closes
 
     -- it was answered, and the connection goes on
-    pub goes : (text : List ℕ) (ends : Bool) (left : Option (List ℕ)) → ResponseGives gives now body m.verdict m.closes h text h' (Ok ends) → ends ≡ false → TurnGives gives ticks bytes left h c text (drop m.end bytes) h' c' (Ok Answered)
+    pub goes : (text : List ℕ) (ends : Bool) (left : Option (List ℕ)) → ResponseGives gives now body m.verdict m.closes h text h' (Ok ends) → ends ≡ false → ConnectionTurnIsAnswered gives ticks bytes left h c text (drop m.end bytes) h' c' (Ok Answered)
     goes text ends left (course, handles, out, end) kept = (exchange r m now course, is_exchange course handles, sym (same_end course) ∙ sym end ∙ kept, out ∙ same_text course)
 
     -- it was answered, and the connection ends
-    pub stops : (text rest : List ℕ) (ends : Bool) (left : Option (List ℕ)) → ResponseGives gives now body m.verdict m.closes h text h' (Ok ends) → ends ≡ true → TurnGives gives ticks bytes left h c text rest h' c' (Ok Closed)
+    pub stops : (text rest : List ℕ) (ends : Bool) (left : Option (List ℕ)) → ResponseGives gives now body m.verdict m.closes h text h' (Ok ends) → ends ≡ true → ConnectionTurnIsAnswered gives ticks bytes left h c text rest h' c' (Ok Closed)
     stops text rest ends left (course, handles, out, end) closed = inl (exchange r m now course, drop m.end bytes, is_exchange course handles, sym (same_end course) ∙ sym end ∙ closed, out ∙ same_text course)
 
-    pub fails : (text rest : List ℕ) (fault : ServeFault) (left : Option (List ℕ)) → ResponseGives gives now body m.verdict m.closes h text h' (Err fault) → TurnGives gives ticks bytes left h c text rest h' c' (Err fault)
+    pub fails : (text rest : List ℕ) (fault : ServeFault) (left : Option (List ℕ)) → ResponseGives gives now body m.verdict m.closes h text h' (Err fault) → ConnectionTurnIsAnswered gives ticks bytes left h c text rest h' c' (Err fault)
     fails text rest Read left replies = absurd replies
     fails text rest CutShort left replies = absurd replies
     fails text rest Write left (course, handles, (n, out)) = (n, response (exchange r m now course), inl (exchange r m now course, drop m.end bytes, is_exchange course handles, refl), out ∙ ap (take n) (same_text course))
@@ -107,7 +107,7 @@ module _ {H C : Type 0} (gives : H → Asking → Result Reply CallFault → H �
     )
 
   -- nothing came that is a request
-  pub unread : (bytes rest : List ℕ) (left : Option (List ℕ)) (h : H) (c : C) (fault : ServeFault) → IsNext bytes left (Err fault) → TurnGives gives ticks bytes left h c [] rest h c (Err fault)
+  pub unread : (bytes rest : List ℕ) (left : Option (List ℕ)) (h : H) (c : C) (fault : ServeFault) → IsNext bytes left (Err fault) → ConnectionTurnIsAnswered gives ticks bytes left h c [] rest h c (Err fault)
   unread bytes rest left h c Read next = (next, (refl, refl, refl))
   unread bytes rest left h c Write next = absurd next
   unread bytes rest left h c Memory next = (refl, inl (next, (refl, refl, refl)))
@@ -115,11 +115,11 @@ module _ {H C : Type 0} (gives : H → Asking → Result Reply CallFault → H �
 
   -- what came was refused
   pub turned_away : (bytes rest : List ℕ) (left before after : Option (List ℕ)) (h : H) (c : C) (why : FixedAnswer) (u : Unit {0}) → IsRefused bytes why → Writes before after (fixed_text why true) (Ok u)
-      → (text : List ℕ) × Appends before after text × TurnGives gives ticks bytes left h c text rest h c (Ok Closed)
+      → (text : List ℕ) × Appends before after text × ConnectionTurnIsAnswered gives ticks bytes left h c text rest h c (Ok Closed)
   turned_away bytes rest left before after h c why u refused (n, appends, all) = (take n (fixed_text why true), appends, inr (why, refused, ap (λ k. take k (fixed_text why true)) all ∙ take-length (fixed_text why true), refl, refl))
 
   pub turned_away_err : (bytes rest : List ℕ) (left before after : Option (List ℕ)) (h : H) (c : C) (why : FixedAnswer) (fault : ServeFault) → IsRefused bytes why → Writes before after (fixed_text why true) (Err fault)
-      → (text : List ℕ) × Appends before after text × TurnGives gives ticks bytes left h c text rest h c (Err fault)
+      → (text : List ℕ) × Appends before after text × ConnectionTurnIsAnswered gives ticks bytes left h c text rest h c (Err fault)
   turned_away_err bytes rest left before after h c why Read refused (n, appends, out) = absurd out
   turned_away_err bytes rest left before after h c why CutShort refused (n, appends, out) = absurd out
   turned_away_err bytes rest left before after h c why Write refused (n, appends, out) =
@@ -147,11 +147,11 @@ module _ {H C : Type 0} (gives : H → Asking → Result Reply CallFault → H �
   serves_push bytes h c (d ∷ ds) mid hm cm e rest h' c' (next, hn, cn, first, kept, others) x stays =
       (next, hn, cn, first, kept, serves_push next hn cn ds mid hm cm e rest h' c' others x stays)
 
-  pub starts : (known before : Option (List ℕ)) (rest : List ℕ) (h : H) (c : C) → rest ≡ [] → Progress gives ticks known known before before rest h c h c
+  pub starts : (known before : Option (List ℕ)) (rest : List ℕ) (h : H) (c : C) → rest ≡ [] → ConnectionProgress gives ticks known known before before rest h c h c
   starts known before rest h c none = record { bytes = []; exchanges = []; consumes = Consumes-nil known; appends = Appends-nil before; serves = (none, refl, refl) }
 
-  module _ (known mid left before between after : Option (List ℕ)) (old rest : List ℕ) (h hm h' : H) (c cm c' : C) (p : Progress gives ticks known mid before between old h c hm cm) where
-    pub goes_on : Turns gives ticks mid left between after old rest hm cm h' c' (Ok Answered) → Progress gives ticks known left before after rest h c h' c'
+  module _ (known mid left before between after : Option (List ℕ)) (old rest : List ℕ) (h hm h' : H) (c cm c' : C) (p : ConnectionProgress gives ticks known mid before between old h c hm cm) where
+    pub goes_on : ConnectionTurnIsServed gives ticks mid left between after old rest hm cm h' c' (Ok Answered) → ConnectionProgress gives ticks known left before after rest h c h' c'
     goes_on t =
         let (e, x, stays, out) = t.gives_next in
         let texts : flat_map response p.exchanges ++ t.text ≡ flat_map response (p.exchanges ++ e ∷ []) =
@@ -164,7 +164,7 @@ module _ {H C : Type 0} (gives : H → Asking → Result Reply CallFault → H �
           serves = serves_push (p.bytes ++ t.bytes) h c p.exchanges (old ++ t.bytes) hm cm e rest h' c' (serves_more p.bytes t.bytes h c p.exchanges old hm cm p.serves) x stays;
         }
 
-    served_by : (bytes text : List ℕ) (result : Result Served ServeFault) → Consumes mid left bytes → Appends between after text → ConnectionEnds gives ticks (old ++ bytes) left hm cm text h' c' result → ServesBytes gives ticks known left before after h c h' c' result
+    served_by : (bytes text : List ℕ) (result : Result Served ServeFault) → Consumes mid left bytes → Appends between after text → ConnectionEnds gives ticks (old ++ bytes) left hm cm text h' c' result → ConnectionIsServed gives ticks known left before after h c h' c' result
     served_by bytes text result consumes appends finishes = record {
       bytes = p.bytes ++ bytes;
       text = flat_map response p.exchanges ++ text;
@@ -182,11 +182,11 @@ module _ {H C : Type 0} (gives : H → Asking → Result Reply CallFault → H �
       };
     }
 
-    pub closed : Turns gives ticks mid left between after old rest hm cm h' c' (Ok Closed) → ServesBytes gives ticks known left before after h c h' c' (Ok served.Closed)
+    pub closed : ConnectionTurnIsServed gives ticks mid left between after old rest hm cm h' c' (Ok Closed) → ConnectionIsServed gives ticks known left before after h c h' c' (Ok served.Closed)
     closed t = served_by t.bytes t.text (Ok served.Closed) t.consumes t.appends t.gives_next
 
-    pub ended : Turns gives ticks mid left between after old rest hm cm h' c' (Ok Ended) → ServesBytes gives ticks known left before after h c h' c' (Ok served.Ended)
+    pub ended : ConnectionTurnIsServed gives ticks mid left between after old rest hm cm h' c' (Ok Ended) → ConnectionIsServed gives ticks known left before after h c h' c' (Ok served.Ended)
     ended t = served_by t.bytes t.text (Ok served.Ended) t.consumes t.appends t.gives_next
 
-    pub failed : (fault : ServeFault) → Turns gives ticks mid left between after old rest hm cm h' c' (Err fault) → ServesBytes gives ticks known left before after h c h' c' (Err fault)
+    pub failed : (fault : ServeFault) → ConnectionTurnIsServed gives ticks mid left between after old rest hm cm h' c' (Err fault) → ConnectionIsServed gives ticks known left before after h c h' c' (Err fault)
     failed fault t = served_by t.bytes t.text (Err fault) t.consumes t.appends t.gives_next

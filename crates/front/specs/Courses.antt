@@ -55,7 +55,7 @@ module _ {H : Type 0} (gives : H → Call → Result Reply CallFault → H → T
       ⊎ ((call : Call) × (fault : CallFault) × IsCallOf tenant asked call × gives h call (Err fault) h' × (failure ≡ failure_of fault))
 
   -- the stream behind these failed
-  pub record EndsAt (h : H) (all : List Asked) (cames : List Came) (failure : Failure) (h' : H) : Type 0 where
+  pub record BodyFails (h : H) (all : List Asked) (cames : List Came) (failure : Failure) (h' : H) : Type 0 where
     pub done : List Asked
     pub asked : Asked
     pub more : List Asked
@@ -65,7 +65,7 @@ module _ {H : Type 0} (gives : H → Call → Result Reply CallFault → H → T
     pub fails : StreamFails mid asked failure h'
 
   -- of a beginning of these streams this came
-  pub record StopsIn (h : H) (all : List Asked) (cames : List Came) (h' : H) : Type 0 where
+  pub record BodyStops (h : H) (all : List Asked) (cames : List Came) (h' : H) : Type 0 where
     pub done : List Asked
     pub more : List Asked
     pub split : all ≡ done ++ more
@@ -75,12 +75,12 @@ module _ {H : Type 0} (gives : H → Call → Result Reply CallFault → H → T
   abbrev pub BodyGives : H → Result (List Asked) PushFault → Course → H → Type 0
   BodyGives h asked (Unread fault) h' = (asked ≡ Err fault) × (h' ≡ h)
   BodyGives h asked (Whole cames) h' = (all : List Asked) × (asked ≡ Ok all) × StreamsGive h all cames h'
-  BodyGives h asked (Broken cames failure) h' = (all : List Asked) × (asked ≡ Ok all) × EndsAt h all cames failure h'
+  BodyGives h asked (Broken cames failure) h' = (all : List Asked) × (asked ≡ Ok all) × BodyFails h all cames failure h'
 
   -- it was given up behind a stream of which there was something to say, or at a body's form that is not answered by a 500
   abbrev pub BodyIsLeft : H → Result (List Asked) PushFault → H → Type 0
   BodyIsLeft h (Err fault) h' = (fault_failure fault ≡ None) × (h' ≡ h)
-  BodyIsLeft h (Ok all) h' = (cames : List Came) × (last : Came) × StopsIn h all (cames ++ last ∷ []) h'
+  BodyIsLeft h (Ok all) h' = (cames : List Came) × (last : Came) × BodyStops h all (cames ++ last ∷ []) h'
 
   -- for private clauses: the one stream went so
   abbrev pub StreamEnds : H → Asked → Result Came Failure → H → Type 0

@@ -7,6 +7,8 @@ use Rattle.accept.specs.declared.outcome.Outcome.{Outcome}
 use Rattle.accept.specs.declared.outcome.Outcome.TheVariants as outcomes
 use Rattle.accept.specs.declared.call.Reply.{Reply}
 use Rattle.accept.specs.declared.call.Reply.TheVariants as replies
+use Rattle.requests.specs.declared.status.Status.{Status}
+use Rattle.requests.specs.declared.status.Status.TheVariants as statuses
 use Rattle.front.specs.declared.calling.Came.{Came}
 use Rattle.front.specs.declared.calling.Came.TheVariants.{Refused, Replied}
 
@@ -96,10 +98,11 @@ is_unavailable (Refused fault) = false
 is_unavailable (Replied reply) = reply_is_unavailable reply
 
 -- unavailable goes before no room, no room before another refusal
-abbrev pub worst_status : Bool → Bool → List ℕ → ℕ
+abbrev pub worst_status : Bool → Bool → List ℕ → Status
 worst_status unavailable no_room lines =
-    if unavailable then 503 else if no_room then 507 else if length lines == 0 then 204 else 400
+    if unavailable then statuses.ServiceUnavailable else if no_room then statuses.InsufficientStorage
+    else if length lines == 0 then statuses.NoContent else statuses.BadRequest
 
 -- the status of a push of which this came
-abbrev pub push_status : List Came → ℕ
+abbrev pub push_status : List Came → Status
 push_status cames = worst_status (list_any is_unavailable cames) (list_any has_no_room cames) (lines_from 0 cames)

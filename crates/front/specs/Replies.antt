@@ -6,6 +6,8 @@ use Rattle.serde_json.specs.Written.{compact_text}
 use Rattle.accept.specs.declared.entry.Entry.{Entry}
 use Rattle.accept.specs.declared.call.Reply.{Reply}
 use Rattle.accept.specs.declared.call.Reply.TheVariants as replies
+use Rattle.requests.specs.declared.status.Status.{Status}
+use Rattle.requests.specs.declared.status.Status.TheVariants as statuses
 use Rattle.front.specs.declared.calling.Came.{Came}
 use Rattle.front.specs.declared.calling.Came.TheVariants.{Refused, Replied}
 use Rattle.front.specs.Lines.{push_status, lines_from}
@@ -22,14 +24,14 @@ read_tree es = object (member (codes "values") (array (items_of (map entry_tree 
 unfoldable pub trimmed_text : ℕ → List ℕ
 trimmed_text n = codes "{\"trimmed\":" ++ decimal n ++ codes "}"
 
-abbrev pub reply_status : Reply → ℕ
+abbrev pub reply_status : Reply → Status
 reply_status (replies.Verdict os) = push_status (Replied (replies.Verdict os) ∷ [])
-reply_status (replies.Entries es) = 200
-reply_status (replies.Trimmed n) = 200
-reply_status replies.TrimTooNew = 400
-reply_status replies.NoStream = 404
-reply_status replies.NoRoom = 507
-reply_status replies.Unavailable = 503
+reply_status (replies.Entries es) = statuses.Ok
+reply_status (replies.Trimmed n) = statuses.Ok
+reply_status replies.TrimTooNew = statuses.BadRequest
+reply_status replies.NoStream = statuses.NotFound
+reply_status replies.NoRoom = statuses.InsufficientStorage
+reply_status replies.Unavailable = statuses.ServiceUnavailable
 
 abbrev pub reply_text : Reply → List ℕ
 reply_text (replies.Verdict os) = lines_from 0 (Replied (replies.Verdict os) ∷ [])
@@ -41,7 +43,7 @@ reply_text replies.NoRoom = lines_from 0 (Replied replies.NoRoom ∷ [])
 reply_text replies.Unavailable = lines_from 0 (Replied replies.Unavailable ∷ [])
 
 -- the status of a read or a trim of whose stream this came: where it is no reply of their own, that of a push of this one stream
-abbrev pub one_status : Came → ℕ
+abbrev pub one_status : Came → Status
 one_status (Refused fault) = push_status (Refused fault ∷ [])
 one_status (Replied reply) = reply_status reply
 

@@ -5,7 +5,7 @@ use Rattle.accept.specs.declared.call.Reply.{Reply}
 use Rattle.pushjson.specs.declared.fault.PushFault.{PushFault}
 use Rattle.pushjson.specs.declared.fault.PushFault.TheVariants.{NotJson, WrongShape, BadTime, TooManyEntries, Memory}
 use Rattle.ingester.specs.declared.fault.CallFault.{CallFault}
-use Rattle.requests.specs.Answers.{failure_body}
+use Rattle.requests.specs.Answers.{code_of, failure_body}
 use Rattle.requests.specs.declared.answer.Answer.{Answer}
 use Rattle.requests.specs.declared.answer.Content.{Content}
 use Rattle.requests.specs.declared.answer.Content.TheVariants.{Text, Json}
@@ -15,6 +15,8 @@ use Rattle.requests.specs.declared.fault.ServeFault.{ServeFault}
 use Rattle.requests.specs.declared.fault.ServeFault.TheVariants as faults
 use Rattle.requests.specs.declared.route.Route.{Route}
 use Rattle.requests.specs.declared.route.Route.TheVariants.{Push, Read, Trim}
+use Rattle.requests.specs.declared.status.Status.{Status}
+use Rattle.requests.specs.declared.status.Status.TheVariants as statuses
 use Rattle.front.specs.declared.calling.Came.{Came}
 use Rattle.front.specs.declared.responding.Halt.{Halt}
 use Rattle.front.specs.declared.responding.Halt.TheVariants.{Failed, GivenUp}
@@ -33,15 +35,15 @@ fault_text (BadTime i j) = bad_time_text i j
 fault_text TooManyEntries = codes "more than 10000 entries"
 fault_text Memory = failure_body OutOfMemory
 
-abbrev pub fault_status : PushFault → ℕ
-fault_status NotJson = 400
-fault_status WrongShape = 400
-fault_status (BadTime i j) = 400
-fault_status TooManyEntries = 400
-fault_status Memory = 500
+abbrev pub fault_status : PushFault → Status
+fault_status NotJson = statuses.BadRequest
+fault_status WrongShape = statuses.BadRequest
+fault_status (BadTime i j) = statuses.BadRequest
+fault_status TooManyEntries = statuses.BadRequest
+fault_status Memory = statuses.InternalServerError
 
 -- the status and the text where this came of the streams of a push, or of the one of a read or a trim
-abbrev pub single_status : List Came → ℕ
+abbrev pub single_status : List Came → Status
 single_status [] = push_status []
 single_status (c ∷ []) = one_status c
 single_status (c ∷ d ∷ cs) = push_status (c ∷ d ∷ cs)
@@ -51,7 +53,7 @@ single_text [] = lines_from 0 []
 single_text (c ∷ []) = one_text c
 single_text (c ∷ d ∷ cs) = lines_from 0 (c ∷ d ∷ cs)
 
-abbrev pub cames_status : Route → List Came → ℕ
+abbrev pub cames_status : Route → List Came → Status
 cames_status Push cames = push_status cames
 cames_status Read cames = single_status cames
 cames_status Trim cames = single_status cames
@@ -62,10 +64,10 @@ cames_text Read cames = single_text cames
 cames_text Trim cames = single_text cames
 
 -- the status of the answer, and its body
-abbrev pub status_for : Route → Course → ℕ
+abbrev pub status_for : Route → Course → Status
 status_for route (Unread fault) = fault_status fault
 status_for route (Whole cames) = cames_status route cames
-status_for route (Broken cames failure) = 500
+status_for route (Broken cames failure) = statuses.InternalServerError
 
 abbrev pub text_for : Route → Course → List ℕ
 text_for route (Unread fault) = fault_text fault
@@ -79,8 +81,8 @@ failure_in (Whole cames) = None
 failure_in (Broken cames failure) = Some failure
 
 -- JSON is what a read and a trim answer with 200, and a push has no 200
-abbrev pub content_for : ℕ → Content
-content_for status = if status == 200 then Json else Text
+abbrev pub content_for : Status → Content
+content_for status = if code_of status == 200 then Json else Text
 
 module _ {H : Type 0} (gives : H → Call → Result Reply CallFault → H → Type 0) (route : Route) (now : ℕ) (tenant body : List ℕ) where
   -- what is answered to a request behind its head: the answer of how its calls went; or nothing, where memory ran out

@@ -150,7 +150,7 @@ module _ {H C : Type 0} (gives : H → Asking → Result Reply CallFault → H �
     pub written : text ≡ flat_map response exchanges ++ last
 
   -- the reader gave bytes, the writer took a text, and that is what the connection was served
-  pub record ServesBytes (known left before after : Option (List ℕ)) (h : H) (c : C) (h' : H) (c' : C) (result : Result Served ServeFault) : Type 0 where
+  pub record ConnectionIsServed (known left before after : Option (List ℕ)) (h : H) (c : C) (h' : H) (c' : C) (result : Result Served ServeFault) : Type 0 where
     pub bytes : List ℕ
     pub text : List ℕ
     pub consumes : Consumes known left bytes

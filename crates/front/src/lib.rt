@@ -11,7 +11,7 @@ mod serving;
 
 pub use clock::Clock;
 pub use laws::one_step_a_call;
-pub use replies::read_answer;
-pub use requests::{Answer, Route, ServeFault, Served};
+pub use replies::answer_of_read;
+pub use requests::{Answer, Route, ServeFault, Served, Status};
 pub use responding::answer;
 pub use serving::serve;

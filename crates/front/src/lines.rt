@@ -8,7 +8,7 @@ ghost use Rattle.front.specs.declared.calling.Came.{Came};
 use crate::calling::Came;
 use accept::{Outcome, Reply};
 use labels::LabelFault;
-use requests::Answer;
+use requests::{Answer, Status};
 use std::alloc::{AllocError, Global};
 use std::io::Write;
 
@@ -161,16 +161,20 @@ fn is_unavailable(reply: &Reply) -> bool
     }
 }
 
-fn worst_status(unavailable: bool, no_room: bool, lines: &[u8]) -> u16
+fn worst_status(unavailable: bool, no_room: bool, lines: &[u8]) -> Status
     ensures { result ≡ worst_status unavailable no_room lines.now }
 {
     if unavailable {
-        return 503;
+        return Status::ServiceUnavailable;
     }
     if no_room {
-        return 507;
+        return Status::InsufficientStorage;
     }
-    if lines.is_empty() { 204 } else { 400 }
+    if lines.is_empty() {
+        Status::NoContent
+    } else {
+        Status::BadRequest
+    }
 }
 
 impl PushLines {

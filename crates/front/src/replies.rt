@@ -9,76 +9,63 @@ ghost use Rattle.front.specs.Showing.{Shows};
 use crate::calling::Came;
 use crate::lines::{PushLines, push_number};
 use accept::{Entry, EntryList, Reply};
-use requests::{Answer, ServeFault};
+use labels::LabelFault;
+use requests::{Answer, ServeFault, Status};
 use serde_json::{Map, Value};
 use std::alloc::{AllocError, Global};
 
-fn read_body(alloc: Global, entries: EntryList) -> Result<Vec<u8>, AllocError>
-    ensures { IfOk result (λ body. body.items ≡ compact_text (read_tree entries)) }
+/// Status and body of the answer to a read that got this reply, as `answer` gives them.
+///
+/// # Errors
+///
+/// `Memory`.
+pub fn answer_of_read(alloc: Global, reply: &Reply) -> Result<Answer, ServeFault>
+    ensures shows { IfOk result (λ answer. Shows (reply_status reply.now) (reply_text reply.now) answer) }
+    ensures fault { IfErr result (λ e. e ≡ ServeFault.Memory) }
 {
-    read_value(alloc, entries)?.to_vec(alloc)
+    Ok(answer_of_reply(alloc, reply)?)
 }
 
-fn read_value(alloc: Global, entries: EntryList) -> Result<Value, AllocError>
-    ensures { IfOk result (λ v. view v ≡ read_tree entries) }
+/// The answer to a read or a trim of whose stream this came. Entries are moved into it.
+pub(crate) fn answer_of_came(alloc: Global, came: Came) -> Result<Answer, AllocError>
+    ensures { IfOk result (λ answer. Shows (one_status came) (one_text came) answer) }
 {
-    let mut members = Map::new(alloc);
-    let values = values_of(alloc, entries.into_vec())?;
-    members.insert("values".to_string(alloc)?, Value::Array(values))?;
-    Ok(Value::Object(members))
-}
-
-fn values_of(alloc: Global, entries: Vec<Entry>) -> Result<Vec<Value>, AllocError>
-    ensures { IfOk result (λ values. map view values.items ≡ map entry_tree entries.items) }
-{
-    let mut values = Vec::with_capacity(alloc, entries.len())?;
-    for entry in entries {
-        values.push(value_of(alloc, entry)?)?;
+    match came {
+        Came::Refused(fault) => answer_of_refusal(alloc, fault),
+        Came::Replied(Reply::Entries(entries)) => answer_of_entries(alloc, entries),
+        Came::Replied(reply) => answer_of_reply(alloc, &reply),
     }
-    Ok(values)
 }
 
-fn value_of(alloc: Global, entry: Entry) -> Result<Value, AllocError>
-    ensures { IfOk result (λ v. view v ≡ entry_tree entry) }
+fn answer_of_refusal(alloc: Global, fault: LabelFault) -> Result<Answer, AllocError>
+    ensures { IfOk result (λ answer.
+        Shows (push_status (Came.Refused fault ∷ [])) (lines_from 0 (Came.Refused fault ∷ [])) answer) }
 {
-    let Entry { time, line } = entry;
-    let mut pair = Vec::with_capacity(alloc, 2)?;
-    pair.push(Value::String(time.to_string(alloc)?))?;
-    pair.push(Value::String(line.into_string()))?;
-    Ok(Value::Array(pair))
+    let mut lines = PushLines::new(alloc);
+    lines.note(0, &Came::Refused(fault))?;
+    Ok(lines.into_answer())
 }
 
-fn answer_entries(alloc: Global, entries: EntryList) -> Result<Answer, AllocError>
-    ensures { IfOk result (λ answer. Shows 200 (compact_text (read_tree entries)) answer) }
+fn answer_of_reply(alloc: Global, reply: &Reply) -> Result<Answer, AllocError>
+    ensures { IfOk result (λ answer. Shows (reply_status reply.now) (reply_text reply.now) answer) }
 {
-    Ok(Answer {
-        status: 200,
-        body: read_body(alloc, entries)?,
-    })
+    match reply {
+        Reply::Entries(entries) => {
+            let copy = copy_of_entries(alloc, entries.as_slice())?;
+            answer_of_entries(alloc, copy)
+        }
+        Reply::Trimmed(count) => answer_of_trimmed(alloc, *count),
+        Reply::TrimTooNew => answer_of_text(
+            alloc,
+            Status::BadRequest,
+            b"trim bound is above the oldest accepted time",
+        ),
+        Reply::NoStream => answer_of_text(alloc, Status::NotFound, b"no such stream"),
+        Reply::Verdict(_) | Reply::NoRoom | Reply::Unavailable => answer_of_lines(alloc, reply),
+    }
 }
 
-#[tactic(auto, unfolding(crate::specs::Replies::trimmed_text))]
-fn answer_trimmed(alloc: Global, count: u64) -> Result<Answer, AllocError>
-    ensures { IfOk result (λ answer. Shows 200 (trimmed_text count) answer) }
-{
-    let mut body = Vec::new(alloc);
-    body.extend_from_slice(b"{\"trimmed\":")?;
-    push_number(&mut body, count)?;
-    body.extend_from_slice(b"}")?;
-    Ok(Answer { status: 200, body })
-}
-
-/// An answer of this text.
-pub(crate) fn answer_text(alloc: Global, status: u16, text: &[u8]) -> Result<Answer, AllocError>
-    ensures { IfOk result (λ answer. Shows status text.now answer) }
-{
-    Ok(Answer {
-        status,
-        body: Vec::from_slice(alloc, text)?,
-    })
-}
-
-fn copy_of(alloc: Global, entries: &[Entry]) -> Result<EntryList, AllocError>
+fn copy_of_entries(alloc: Global, entries: &[Entry]) -> Result<EntryList, AllocError>
     ensures { IfOk result (λ copy. copy ≡ entries.now) }
 {
     let mut copy = Vec::with_capacity(alloc, entries.len())?;
@@ -88,16 +75,7 @@ fn copy_of(alloc: Global, entries: &[Entry]) -> Result<EntryList, AllocError>
     Ok(EntryList::new(copy))
 }
 
-/// The answer of the lines of the one stream.
-fn answer_lines(alloc: Global, came: &Came) -> Result<Answer, AllocError>
-    ensures { IfOk result (λ answer. Shows (push_status (came.now ∷ [])) (lines_from 0 (came.now ∷ [])) answer) }
-{
-    let mut lines = PushLines::new(alloc);
-    lines.note(0, came)?;
-    Ok(lines.into_answer())
-}
-
-fn answer_reply_lines(alloc: Global, reply: &Reply) -> Result<Answer, AllocError>
+fn answer_of_lines(alloc: Global, reply: &Reply) -> Result<Answer, AllocError>
     ensures { IfOk result (λ answer.
         Shows (push_status (Came.Replied reply.now ∷ [])) (lines_from 0 (Came.Replied reply.now ∷ [])) answer) }
 {
@@ -106,52 +84,74 @@ fn answer_reply_lines(alloc: Global, reply: &Reply) -> Result<Answer, AllocError
     Ok(lines.into_answer())
 }
 
-fn reply_answer(alloc: Global, reply: &Reply) -> Result<Answer, AllocError>
-    ensures { IfOk result (λ answer. Shows (reply_status reply.now) (reply_text reply.now) answer) }
+#[tactic(auto, unfolding(crate::specs::Replies::trimmed_text))]
+fn answer_of_trimmed(alloc: Global, count: u64) -> Result<Answer, AllocError>
+    ensures { IfOk result (λ answer. Shows Status.Ok (trimmed_text count) answer) }
 {
-    match reply {
-        Reply::Entries(entries) => {
-            let copy = copy_of(alloc, entries.as_slice())?;
-            answer_entries(alloc, copy)
-        }
-        Reply::Trimmed(count) => answer_trimmed(alloc, *count),
-        Reply::TrimTooNew => answer_text(
-            alloc,
-            400,
-            b"trim bound is above the oldest accepted time",
-        ),
-        Reply::NoStream => answer_text(alloc, 404, b"no such stream"),
-        Reply::Verdict(_) | Reply::NoRoom | Reply::Unavailable => answer_reply_lines(alloc, reply),
-    }
+    let mut body = Vec::new(alloc);
+    body.extend_from_slice(b"{\"trimmed\":")?;
+    push_number(&mut body, count)?;
+    body.extend_from_slice(b"}")?;
+    Ok(Answer {
+        status: Status::Ok,
+        body,
+    })
 }
 
-/// Status and body of the answer to a read that got this reply, as `answer` gives them.
-///
-/// # Errors
-///
-/// `Memory`.
-pub fn read_answer(alloc: Global, reply: &Reply) -> Result<Answer, ServeFault>
-    ensures shows { IfOk result (λ answer. Shows (reply_status reply.now) (reply_text reply.now) answer) }
-    ensures fault { IfErr result (λ e. e ≡ ServeFault.Memory) }
+fn answer_of_entries(alloc: Global, entries: EntryList) -> Result<Answer, AllocError>
+    ensures { IfOk result (λ answer. Shows Status.Ok (compact_text (read_tree entries)) answer) }
 {
-    Ok(reply_answer(alloc, reply)?)
+    Ok(Answer {
+        status: Status::Ok,
+        body: body_of_entries(alloc, entries)?,
+    })
 }
 
-fn answer_came(alloc: Global, came: &Came) -> Result<Answer, AllocError>
-    ensures { IfOk result (λ answer. Shows (one_status came.now) (one_text came.now) answer) }
+fn body_of_entries(alloc: Global, entries: EntryList) -> Result<Vec<u8>, AllocError>
+    ensures { IfOk result (λ body. body.items ≡ compact_text (read_tree entries)) }
 {
-    match came {
-        Came::Replied(reply) => reply_answer(alloc, reply),
-        Came::Refused(_) => answer_lines(alloc, came),
-    }
+    object_of_entries(alloc, entries)?.to_vec(alloc)
 }
 
-/// The answer to a read or a trim of whose stream this came. Entries are moved into it.
-pub(crate) fn answer_one(alloc: Global, came: Came) -> Result<Answer, AllocError>
-    ensures { IfOk result (λ answer. Shows (one_status came) (one_text came) answer) }
+fn object_of_entries(alloc: Global, entries: EntryList) -> Result<Value, AllocError>
+    ensures { IfOk result (λ v. view v ≡ read_tree entries) }
 {
-    match came {
-        Came::Replied(Reply::Entries(entries)) => answer_entries(alloc, entries),
-        other => answer_came(alloc, &other),
+    let mut members = Map::new(alloc);
+    let values = pairs_of_entries(alloc, entries.into_vec())?;
+    members.insert("values".to_string(alloc)?, Value::Array(values))?;
+    Ok(Value::Object(members))
+}
+
+fn pairs_of_entries(alloc: Global, entries: Vec<Entry>) -> Result<Vec<Value>, AllocError>
+    ensures { IfOk result (λ values. map view values.items ≡ map entry_tree entries.items) }
+{
+    let mut values = Vec::with_capacity(alloc, entries.len())?;
+    for entry in entries {
+        values.push(pair_of_entry(alloc, entry)?)?;
     }
+    Ok(values)
+}
+
+fn pair_of_entry(alloc: Global, entry: Entry) -> Result<Value, AllocError>
+    ensures { IfOk result (λ v. view v ≡ entry_tree entry) }
+{
+    let Entry { time, line } = entry;
+    let mut pair = Vec::with_capacity(alloc, 2)?;
+    pair.push(Value::String(time.to_string(alloc)?))?;
+    pair.push(Value::String(line.into_string()))?;
+    Ok(Value::Array(pair))
+}
+
+/// An answer of this text.
+pub(crate) fn answer_of_text(
+    alloc: Global,
+    status: Status,
+    text: &[u8],
+) -> Result<Answer, AllocError>
+    ensures { IfOk result (λ answer. Shows status text.now answer) }
+{
+    Ok(Answer {
+        status,
+        body: Vec::from_slice(alloc, text)?,
+    })
 }

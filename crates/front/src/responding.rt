@@ -5,20 +5,20 @@ ghost use Rattle.ingester.specs.Calls.{IsPassOf};
 ghost use Rattle.requests.specs.Answers.{failure_body};
 ghost use Rattle.front.specs.Asking.{IsLawful, asked_push};
 ghost use Rattle.front.specs.Calls.{CallGives};
-ghost use Rattle.front.specs.Parts.{Refuses, OneGoes, PushGoes, NextGoes};
+ghost use Rattle.front.specs.Parts.{BodyIsRefused, StreamIsAnswered, BodyIsAnswered, StreamIsNoted};
 ghost use Rattle.front.specs.Responses.{RequestIsAnswered, RequestEnds, bad_time_text};
 ghost use Rattle.front.specs.Showing.{Shows};
 ghost use Rattle.front.specs.declared.responding.Halt.TheVariants.{Failed, GivenUp};
 
 use crate::calling::{Asked, Want, take_stream};
 use crate::lines::{PushLines, push_number};
-use crate::replies::{answer_one, answer_text};
+use crate::replies::{answer_of_came, answer_of_text};
 use disk::Disk;
 use history::Pass;
 use ingester::Ingester;
 use labels::Tenant;
 use pushjson::{PushFault, RawBatch, read_push, read_query, read_trim};
-use requests::{Answer, Failure, Route, ServeFault};
+use requests::{Answer, Failure, Route, ServeFault, Status};
 use std::alloc::{AllocError, Global};
 use std::sync::Wait;
 
@@ -47,26 +47,33 @@ impl From<AllocError> for Halt {
     }
 }
 
-fn answer_bad_time(alloc: Global, stream: usize, entry: usize) -> Result<Answer, AllocError>
-    ensures { IfOk result (λ answer. Shows 400 (bad_time_text stream entry) answer) }
+fn answer_of_bad_time(alloc: Global, stream: usize, entry: usize) -> Result<Answer, AllocError>
+    ensures { IfOk result (λ answer. Shows Status.BadRequest (bad_time_text stream entry) answer) }
 {
     let mut body = Vec::new(alloc);
     body.extend_from_slice(b"bad time at stream ")?;
     push_number(&mut body, stream as u64)?;
     body.extend_from_slice(b" entry ")?;
     push_number(&mut body, entry as u64)?;
-    Ok(Answer { status: 400, body })
+    Ok(Answer {
+        status: Status::BadRequest,
+        body,
+    })
 }
 
 /// The answer to a body that is refused at its form.
 fn refuse(alloc: Global, fault: PushFault) -> Result<Answer, Halt>
-    ensures { Refuses fault result }
+    ensures { BodyIsRefused fault result }
 {
     let answer = match fault {
-        PushFault::NotJson => answer_text(alloc, 400, b"body is not JSON"),
-        PushFault::WrongShape => answer_text(alloc, 400, b"wrong shape"),
-        PushFault::BadTime { stream, entry } => answer_bad_time(alloc, stream, entry),
-        PushFault::TooManyEntries => answer_text(alloc, 400, b"more than 10000 entries"),
+        PushFault::NotJson => answer_of_text(alloc, Status::BadRequest, b"body is not JSON"),
+        PushFault::WrongShape => answer_of_text(alloc, Status::BadRequest, b"wrong shape"),
+        PushFault::BadTime { stream, entry } => answer_of_bad_time(alloc, stream, entry),
+        PushFault::TooManyEntries => answer_of_text(
+            alloc,
+            Status::BadRequest,
+            b"more than 10000 entries",
+        ),
         PushFault::Memory => return Err(Halt::Failed(Failure::OutOfMemory)),
     };
     Ok(answer?)
@@ -86,7 +93,7 @@ fn take_next<D: Disk + Drop, R: Wait>(
     requires pass { IsPassOf ingester.now pass.old }
     requires lawful { IsLawful asked.want }
     ensures pass { IsPassOf ingester.now pass.new }
-    ensures goes { NextGoes CallGives tenant.now pass.old asked stream lines.old result pass.new lines.new }
+    ensures goes { StreamIsNoted CallGives tenant.now pass.old asked stream lines.old result pass.new lines.new }
 {
     let came = take_stream(rt, alloc, ingester, pass, tenant, asked)?;
     lines.note(stream, &came)?;
@@ -106,7 +113,7 @@ fn push_streams<D: Disk + Drop, R: Wait>(
     requires pass { IsPassOf ingester.now pass.old }
     requires lawful { All (λ b. IsLawful (asked_push now b).want) batches.items }
     ensures pass { IsPassOf ingester.now pass.new }
-    ensures goes { PushGoes CallGives tenant.now pass.old (map (asked_push now) batches.items) result pass.new }
+    ensures goes { BodyIsAnswered CallGives tenant.now pass.old (map (asked_push now) batches.items) result pass.new }
 {
     let mut lines = PushLines::new(alloc);
     let mut stream = 0;
@@ -131,10 +138,10 @@ fn take_one<D: Disk + Drop, R: Wait>(
     requires pass { IsPassOf ingester.now pass.old }
     requires lawful { IsLawful asked.want }
     ensures pass { IsPassOf ingester.now pass.new }
-    ensures goes { OneGoes CallGives tenant.now pass.old asked result pass.new }
+    ensures goes { StreamIsAnswered CallGives tenant.now pass.old asked result pass.new }
 {
     let came = take_stream(rt, alloc, ingester, pass, tenant, asked)?;
-    Ok(answer_one(alloc, came)?)
+    Ok(answer_of_came(alloc, came)?)
 }
 
 fn push<D: Disk + Drop, R: Wait>(
@@ -264,7 +271,11 @@ pub fn answer<D: Disk + Drop, R: Wait>(
 {
     match respond(rt, alloc, ingester, pass, now, route, tenant, body) {
         Ok(answer) => Ok(answer),
-        Err(Halt::Failed(failure)) => Ok(answer_text(alloc, 500, failure_body(failure))?),
+        Err(Halt::Failed(failure)) => Ok(answer_of_text(
+            alloc,
+            Status::InternalServerError,
+            failure_body(failure),
+        )?),
         Err(Halt::GivenUp) => Err(ServeFault::Memory),
     }
 }

@@ -3,8 +3,8 @@ ghost use Rattle.std.specs.Prelude.{◌≡◌, ◌<◌, ◌≤◌, ◌^◌, leng
 ghost use Rattle.ingester.specs.Calls.{IsPassOf};
 ghost use Rattle.front.specs.Calls.{CallGives};
 ghost use Rattle.front.specs.Responses.{content_for};
-ghost use Rattle.front.specs.Serving.{ServesBytes};
-ghost use Rattle.front.specs.Turns.{ResponseIsWritten, Turns, TakesMessage};
+ghost use Rattle.front.specs.Serving.{ConnectionIsServed};
+ghost use Rattle.front.specs.Turns.{ResponseIsWritten, ConnectionTurnIsServed, ConnectionTakesMessage};
 
 use crate::clock::Clock;
 use crate::responding::{Halt, respond};
@@ -14,7 +14,7 @@ use ingester::Ingester;
 use labels::Tenant;
 use requests::{
     Content, Failure, Incoming, MAX_HEAD, Message, Next, Outgoing, Route, ServeFault, Served,
-    Verdict, write_failure,
+    Status, Verdict, write_failure,
 };
 use std::alloc::Global;
 use std::io::{Read, Write};
@@ -31,10 +31,10 @@ pub(crate) enum Turn {
     Ended,
 }
 
-fn content_for(status: u16) -> Content
+fn content_for(status: Status) -> Content
     ensures { result ≡ content_for status }
 {
-    if status == 200 {
+    if status == Status::Ok {
         Content::Json
     } else {
         Content::Text
@@ -125,7 +125,7 @@ fn take_message<D: Disk + Drop, R: Wait, C: Clock, O: Write>(
     requires within { message.now.end ≤ length incoming.old }
     ensures pass { IsPassOf ingester.now pass.new }
     ensures drops { result ≡ Ok Turn.Answered → incoming.new ≡ drop message.now.end incoming.old }
-    ensures takes { TakesMessage CallGives C.ticks (O.contents writer.old)
+    ensures takes { ConnectionTakesMessage CallGives C.ticks (O.contents writer.old)
         (O.contents writer.new) message.now incoming.old incoming.new pass.old clock.old pass.new clock.new result }
 {
     let now = clock.now();
@@ -165,8 +165,9 @@ fn take_turn<D: Disk + Drop, R: Wait, C: Clock, I: Read, O: Write>(
     requires short { length incoming.old ≤ MAX_HEAD }
     ensures pass { IsPassOf ingester.now pass.new }
     ensures short { result ≡ Ok Turn.Answered → length incoming.new ≤ MAX_HEAD }
-    ensures turns { Turns CallGives C.ticks (I.remaining reader.old) (I.remaining reader.new) (O.contents writer.old)
-        (O.contents writer.new) incoming.old incoming.new pass.old clock.old pass.new clock.new result }
+    ensures turns { ConnectionTurnIsServed CallGives C.ticks (I.remaining reader.old) (I.remaining reader.new)
+        (O.contents writer.old) (O.contents writer.new) incoming.old incoming.new
+        pass.old clock.old pass.new clock.new result }
 {
     match incoming.next(alloc, reader)? {
         Next::Ended => Ok(Turn::Ended),
@@ -195,7 +196,7 @@ fn take_turns<D: Disk + Drop, R: Wait, C: Clock, I: Read, O: Write>(
     requires pass { IsPassOf ingester.now pass.old }
     requires fresh { incoming.old ≡ [] }
     ensures pass { IsPassOf ingester.now pass.new }
-    ensures serves { ServesBytes CallGives C.ticks (I.remaining reader.old) (I.remaining reader.new)
+    ensures serves { ConnectionIsServed CallGives C.ticks (I.remaining reader.old) (I.remaining reader.new)
         (O.contents writer.old) (O.contents writer.new) pass.old clock.old pass.new clock.new result }
 {
     for _turn in rt.forever() {
@@ -230,7 +231,7 @@ pub fn serve<D: Disk + Drop, R: Wait, C: Clock, I: Read, O: Write>(
 ) -> Result<Served, ServeFault>
     requires pass { IsPassOf ingester.now pass.old }
     ensures pass { IsPassOf ingester.now pass.new }
-    ensures serves { ServesBytes CallGives C.ticks (I.remaining reader.old) (I.remaining reader.new)
+    ensures serves { ConnectionIsServed CallGives C.ticks (I.remaining reader.old) (I.remaining reader.new)
         (O.contents writer.old) (O.contents writer.new) pass.old clock.old pass.new clock.new result }
 {
     let mut incoming = Incoming::new(alloc);

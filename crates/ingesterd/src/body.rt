@@ -34,7 +34,7 @@ pub fn write_answer<W: Write>(
     output: &mut W,
     answer: &Answer,
 ) -> Result<(), Stopped> {
-    let status = answer.status;
-    write_bytes(output, format!(in alloc; "{status}\n")?.as_bytes())?;
+    let code = answer.status.code();
+    write_bytes(output, format!(in alloc; "{code}\n")?.as_bytes())?;
     write_bytes(output, answer.body.as_slice())
 }

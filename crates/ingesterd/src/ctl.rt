@@ -6,7 +6,7 @@ use crate::body::{read_body, write_answer};
 use crate::opening::open_for_one;
 use crate::slots::open_slots;
 use crate::stopped::Stopped;
-use front::{Answer, answer};
+use front::{Answer, Status, answer};
 use std::alloc::Global;
 use std::fs::{File, Files};
 use std::io::{Read, Write};
@@ -58,7 +58,7 @@ fn call_and_print<R: Files<File = File> + Wait, I: Read, W: Write>(
     let answer = call_folder(rt, alloc, words, input)?;
     write_answer(alloc, output, &answer)?;
     match answer.status {
-        200 | 204 => Ok(0),
+        Status::Ok | Status::NoContent => Ok(0),
         _ => Ok(1),
     }
 }

@@ -8,7 +8,7 @@ use crate::opening::open_for_one;
 use crate::stopped::Stopped;
 use accept::Call;
 use disk::{Disk, MemDisk};
-use front::{Route, answer, read_answer};
+use front::{Route, Status, answer, answer_of_read};
 use history::Pass;
 use ingester::{CallFault, Ingester};
 use labels::{LabelFault, LabelSet, StreamKey, Tenant};
@@ -83,7 +83,7 @@ fn push_and_read<R: Wait, I: Read, W: Write>(
     )
     .map_err(|_| Stopped::Memory)?;
     write_answer(alloc, output, &pushed)?;
-    if pushed.status == 500 {
+    if pushed.status == Status::InternalServerError {
         return Ok(());
     }
     read_back(rt, alloc, &ingester, &mut pass, &body, output)
@@ -146,7 +146,7 @@ fn read_stream<D: Disk + Drop, R: Wait, W: Write>(
         to: END_OF_TIME,
     };
     let reply = ingester.call(rt, alloc, pass, call).map_err(Stopped::from)?;
-    let read = read_answer(alloc, &reply).map_err(|_| Stopped::Memory)?;
+    let read = answer_of_read(alloc, &reply).map_err(|_| Stopped::Memory)?;
     write_bytes(output, read.body.as_slice())?;
     write_bytes(output, b"\n")
 }

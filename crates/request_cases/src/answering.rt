@@ -1,6 +1,6 @@
 //! Answers, written one behind another.
 use crate::case::Case;
-use crate::named::{closes, content, failure, fixed_answer};
+use crate::named::{closes, content, failure, fixed_answer, status};
 use anyhow::Result;
 use requests::{Answer, Outgoing, ServeFault, write_failure};
 use rows::{unescape, word_of};
@@ -96,12 +96,14 @@ fn write_answer(
     outgoing: &mut Outgoing,
     sink: &mut Sink,
 ) -> Result<Result<(), ServeFault>> {
-    let (status, rest) = word_of(line);
+    let (code, rest) = word_of(line);
     let (kind, rest) = word_of(rest);
     let (end, text) = word_of(rest);
     let mut body = Vec::new(alloc);
     unescape(text, &mut body)?;
-    let status = status.parse::<u16>()?;
-    let answer = Answer { status, body };
+    let answer = Answer {
+        status: status(code)?,
+        body,
+    };
     Ok(outgoing.answer(sink, &answer, content(kind)?, closes(end)?))
 }

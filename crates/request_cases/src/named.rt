@@ -1,6 +1,6 @@
 //! The names of answers in rows.
 use anyhow::{Result, bail};
-use requests::{Content, Failure, FixedAnswer, Method};
+use requests::{Content, Failure, FixedAnswer, Method, Status};
 
 /// The fixed answer of this name.
 ///
@@ -37,6 +37,30 @@ pub fn failure(name: &str) -> Result<Failure> {
         "in-doubt" => Ok(Failure::InDoubt),
         "log-spent" => Ok(Failure::LogSpent),
         _ => bail!("no such failure"),
+    }
+}
+
+/// The status of these digits.
+///
+/// # Errors
+/// Others.
+pub fn status(code: &str) -> Result<Status> {
+    match code {
+        "200" => Ok(Status::Ok),
+        "204" => Ok(Status::NoContent),
+        "400" => Ok(Status::BadRequest),
+        "401" => Ok(Status::Unauthorized),
+        "404" => Ok(Status::NotFound),
+        "405" => Ok(Status::MethodNotAllowed),
+        "411" => Ok(Status::LengthRequired),
+        "413" => Ok(Status::ContentTooLarge),
+        "415" => Ok(Status::UnsupportedMediaType),
+        "431" => Ok(Status::RequestHeaderFieldsTooLarge),
+        "500" => Ok(Status::InternalServerError),
+        "501" => Ok(Status::NotImplemented),
+        "503" => Ok(Status::ServiceUnavailable),
+        "507" => Ok(Status::InsufficientStorage),
+        _ => bail!("no such status"),
     }
 }
 

@@ -125,8 +125,8 @@ fn route_name(route: Route) -> &'static str {
 
 /// The status and body of a fixed answer, the method that it allows, and whether it always closes.
 fn say_fixed(answer: FixedAnswer, into: &mut String) -> Result<()> {
-    let status = answer.status();
-    write!(into, "{status} ")?;
+    let code = answer.status().code();
+    write!(into, "{code} ")?;
     escape(answer.body(), into)?;
     match answer.allow() {
         Some(Method::Get) => into.push_str(", allow GET")?,

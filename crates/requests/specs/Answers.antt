@@ -3,6 +3,8 @@ use Rattle.std.specs.Prelude.{ℕ, Bool, true, false, List, [], ◌∷◌, ◌++
 use Rattle.requests.specs.Verdicts.{method_text}
 use Rattle.requests.specs.declared.answer.Content.{Content}
 use Rattle.requests.specs.declared.answer.Content.TheVariants.{Text, Json}
+use Rattle.requests.specs.declared.status.Status.{Status}
+use Rattle.requests.specs.declared.status.Status.TheVariants as statuses
 use Rattle.requests.specs.declared.fixed.Method.{Method}
 use Rattle.requests.specs.declared.fixed.FixedAnswer.{FixedAnswer}
 use Rattle.requests.specs.declared.fixed.FixedAnswer.TheVariants.{BadRequest, HeadTooLarge, TransferEncoding, BadLength, LengthRequired, BodyTooLarge, NotFound, MethodNotAllowed, Ready, NoOrgId, BadTenant, ContentEncoding, ContentType}
@@ -12,30 +14,40 @@ use Rattle.requests.specs.declared.failure.Failure.TheVariants.{OutOfMemory, Pas
 abbrev pub crlf : List ℕ
 crlf = 13 ∷ 10 ∷ []
 
-abbrev pub rarer_reason_of : ℕ → List ℕ
-rarer_reason_of status =
-    if status == 431 then codes "Request Header Fields Too Large"
-    else if status == 500 then codes "Internal Server Error"
-    else if status == 501 then codes "Not Implemented"
-    else if status == 503 then codes "Service Unavailable"
-    else if status == 507 then codes "Insufficient Storage"
-    else []
+abbrev pub code_of : Status → ℕ
+code_of statuses.Ok = 200
+code_of statuses.NoContent = 204
+code_of statuses.BadRequest = 400
+code_of statuses.Unauthorized = 401
+code_of statuses.NotFound = 404
+code_of statuses.MethodNotAllowed = 405
+code_of statuses.LengthRequired = 411
+code_of statuses.ContentTooLarge = 413
+code_of statuses.UnsupportedMediaType = 415
+code_of statuses.RequestHeaderFieldsTooLarge = 431
+code_of statuses.InternalServerError = 500
+code_of statuses.NotImplemented = 501
+code_of statuses.ServiceUnavailable = 503
+code_of statuses.InsufficientStorage = 507
 
-abbrev pub reason_of : ℕ → List ℕ
-reason_of status =
-    if status == 200 then codes "OK"
-    else if status == 204 then codes "No Content"
-    else if status == 400 then codes "Bad Request"
-    else if status == 401 then codes "Unauthorized"
-    else if status == 404 then codes "Not Found"
-    else if status == 405 then codes "Method Not Allowed"
-    else if status == 411 then codes "Length Required"
-    else if status == 413 then codes "Content Too Large"
-    else if status == 415 then codes "Unsupported Media Type"
-    else rarer_reason_of status
+abbrev pub reason_of : Status → List ℕ
+reason_of statuses.Ok = codes "OK"
+reason_of statuses.NoContent = codes "No Content"
+reason_of statuses.BadRequest = codes "Bad Request"
+reason_of statuses.Unauthorized = codes "Unauthorized"
+reason_of statuses.NotFound = codes "Not Found"
+reason_of statuses.MethodNotAllowed = codes "Method Not Allowed"
+reason_of statuses.LengthRequired = codes "Length Required"
+reason_of statuses.ContentTooLarge = codes "Content Too Large"
+reason_of statuses.UnsupportedMediaType = codes "Unsupported Media Type"
+reason_of statuses.RequestHeaderFieldsTooLarge = codes "Request Header Fields Too Large"
+reason_of statuses.InternalServerError = codes "Internal Server Error"
+reason_of statuses.NotImplemented = codes "Not Implemented"
+reason_of statuses.ServiceUnavailable = codes "Service Unavailable"
+reason_of statuses.InsufficientStorage = codes "Insufficient Storage"
 
-unfoldable pub status_line : ℕ → List ℕ
-status_line status = codes "HTTP/1.1 " ++ decimal status ++ codes " " ++ reason_of status ++ crlf
+unfoldable pub status_line : Status → List ℕ
+status_line status = codes "HTTP/1.1 " ++ decimal (code_of status) ++ codes " " ++ reason_of status ++ crlf
 
 unfoldable pub type_line : Content → List ℕ
 type_line Text = codes "Content-Type: text/plain; charset=utf-8" ++ crlf
@@ -52,25 +64,25 @@ unfoldable pub last_lines : Bool → List ℕ
 last_lines closes = (if closes then codes "Connection: close" ++ crlf else []) ++ crlf
 
 -- the whole text of an answer; one of status 204 has no body
-abbrev pub answer_text : ℕ → Content → Option Method → Bool → List ℕ → List ℕ
+abbrev pub answer_text : Status → Content → Option Method → Bool → List ℕ → List ℕ
 answer_text status content allow closes body =
-    if status == 204 then status_line status ++ last_lines closes
+    if code_of status == 204 then status_line status ++ last_lines closes
     else status_line status ++ type_line content ++ length_line (length body) ++ allow_line allow ++ last_lines closes ++ body
 
-abbrev pub status_of : FixedAnswer → ℕ
-status_of BadRequest = 400
-status_of HeadTooLarge = 431
-status_of TransferEncoding = 501
-status_of BadLength = 400
-status_of LengthRequired = 411
-status_of BodyTooLarge = 413
-status_of NotFound = 404
-status_of (MethodNotAllowed allow) = 405
-status_of Ready = 200
-status_of NoOrgId = 401
-status_of BadTenant = 400
-status_of ContentEncoding = 415
-status_of ContentType = 415
+abbrev pub status_of : FixedAnswer → Status
+status_of BadRequest = statuses.BadRequest
+status_of HeadTooLarge = statuses.RequestHeaderFieldsTooLarge
+status_of TransferEncoding = statuses.NotImplemented
+status_of BadLength = statuses.BadRequest
+status_of LengthRequired = statuses.LengthRequired
+status_of BodyTooLarge = statuses.ContentTooLarge
+status_of NotFound = statuses.NotFound
+status_of (MethodNotAllowed allow) = statuses.MethodNotAllowed
+status_of Ready = statuses.Ok
+status_of NoOrgId = statuses.Unauthorized
+status_of BadTenant = statuses.BadRequest
+status_of ContentEncoding = statuses.UnsupportedMediaType
+status_of ContentType = statuses.UnsupportedMediaType
 
 abbrev pub body_of : FixedAnswer → List ℕ
 body_of BadRequest = codes "bad request"
@@ -131,7 +143,7 @@ failure_body LogSpent = codes "log spent"
 
 -- the whole text of an answer of status 500
 unfoldable pub failure_text : Failure → List ℕ
-failure_text failure = answer_text 500 Text None true (failure_body failure)
+failure_text failure = answer_text statuses.InternalServerError Text None true (failure_body failure)
 
 -- the same text, written out
 abbrev pub failure_bytes : Failure → List ℕ

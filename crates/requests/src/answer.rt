@@ -1,7 +1,9 @@
-/// What is answered to a request: a status of three digits, and a body.
+use crate::status::Status;
+
+/// What is answered to a request.
 #[derive(Debug, Drop)]
 pub struct Answer {
-    pub status: u16,
+    pub status: Status,
     pub body: Vec<u8>,
 }
 

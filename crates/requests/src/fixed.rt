@@ -2,6 +2,8 @@ ghost use Rattle.std.specs.Prelude.{◌≡◌};
 ghost use Rattle.requests.specs.Answers.{status_of, body_of, always_closes, allow_of};
 ghost use Rattle.requests.specs.Verdicts.{method_text};
 
+use crate::status::Status;
+
 /// The methods of the routes.
 #[derive(Clone, Copy, Debug, PartialEq, Eq)]
 pub enum Method {
@@ -54,23 +56,23 @@ pub enum FixedAnswer {
 
 impl FixedAnswer {
     /// The status.
-    pub fn status(self) -> u16
+    pub fn status(self) -> Status
         ensures { result ≡ status_of self }
     {
         match self {
-            FixedAnswer::BadRequest => 400,
-            FixedAnswer::HeadTooLarge => 431,
-            FixedAnswer::TransferEncoding => 501,
-            FixedAnswer::BadLength => 400,
-            FixedAnswer::LengthRequired => 411,
-            FixedAnswer::BodyTooLarge => 413,
-            FixedAnswer::NotFound => 404,
-            FixedAnswer::MethodNotAllowed(_) => 405,
-            FixedAnswer::Ready => 200,
-            FixedAnswer::NoOrgId => 401,
-            FixedAnswer::BadTenant => 400,
-            FixedAnswer::ContentEncoding => 415,
-            FixedAnswer::ContentType => 415,
+            FixedAnswer::BadRequest => Status::BadRequest,
+            FixedAnswer::HeadTooLarge => Status::RequestHeaderFieldsTooLarge,
+            FixedAnswer::TransferEncoding => Status::NotImplemented,
+            FixedAnswer::BadLength => Status::BadRequest,
+            FixedAnswer::LengthRequired => Status::LengthRequired,
+            FixedAnswer::BodyTooLarge => Status::ContentTooLarge,
+            FixedAnswer::NotFound => Status::NotFound,
+            FixedAnswer::MethodNotAllowed(_) => Status::MethodNotAllowed,
+            FixedAnswer::Ready => Status::Ok,
+            FixedAnswer::NoOrgId => Status::Unauthorized,
+            FixedAnswer::BadTenant => Status::BadRequest,
+            FixedAnswer::ContentEncoding => Status::UnsupportedMediaType,
+            FixedAnswer::ContentType => Status::UnsupportedMediaType,
         }
     }
 

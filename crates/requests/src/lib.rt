@@ -17,6 +17,7 @@ mod laws;
 mod outgoing;
 mod reading;
 mod route;
+mod status;
 mod verdict;
 mod writing;
 
@@ -30,4 +31,5 @@ pub use incoming::{Incoming, Message, Next};
 pub use laws::{one_request, one_split};
 pub use outgoing::Outgoing;
 pub use route::Route;
+pub use status::Status;
 pub use verdict::Verdict;

@@ -1,68 +1,15 @@
 //! Answers as bytes.
 ghost use Rattle.std.specs.Prelude.{◌≡◌, ◌++◌, length, decimal, None, OnOk};
-ghost use Rattle.requests.specs.Answers.{reason_of, rarer_reason_of, status_line, type_line, length_line, allow_line, last_lines, answer_text, fixed_text};
+ghost use Rattle.requests.specs.Answers.{status_line, type_line, length_line, allow_line, last_lines, answer_text, fixed_text};
 ghost use Rattle.requests.specs.Writing.{Writes};
 
 use crate::answer::{Answer, Content};
 use crate::fault::ServeFault;
 use crate::fixed::{FixedAnswer, Method};
+use crate::status::Status;
 use crate::writing::write_text;
 use std::alloc::{AllocError, Global};
 use std::io::Write;
-
-fn reason_of(status: u16) -> &'static [u8]
-    ensures { result.now ≡ reason_of status }
-{
-    if status == 200 {
-        return b"OK";
-    }
-    if status == 204 {
-        return b"No Content";
-    }
-    if status == 400 {
-        return b"Bad Request";
-    }
-    if status == 401 {
-        return b"Unauthorized";
-    }
-    if status == 404 {
-        return b"Not Found";
-    }
-    if status == 405 {
-        return b"Method Not Allowed";
-    }
-    if status == 411 {
-        return b"Length Required";
-    }
-    if status == 413 {
-        return b"Content Too Large";
-    }
-    if status == 415 {
-        return b"Unsupported Media Type";
-    }
-    rarer_reason_of(status)
-}
-
-fn rarer_reason_of(status: u16) -> &'static [u8]
-    ensures { result.now ≡ rarer_reason_of status }
-{
-    if status == 431 {
-        return b"Request Header Fields Too Large";
-    }
-    if status == 500 {
-        return b"Internal Server Error";
-    }
-    if status == 501 {
-        return b"Not Implemented";
-    }
-    if status == 503 {
-        return b"Service Unavailable";
-    }
-    if status == 507 {
-        return b"Insufficient Storage";
-    }
-    b""
-}
 
 fn push_number(text: &mut Vec<u8>, number: u64) -> Result<(), AllocError>
     ensures { OnOk result (text.new.items ≡ text.old.items ++ decimal number) }
@@ -71,13 +18,13 @@ fn push_number(text: &mut Vec<u8>, number: u64) -> Result<(), AllocError>
 }
 
 #[tactic(auto, unfolding(crate::specs::Answers::status_line))]
-fn push_status(text: &mut Vec<u8>, status: u16) -> Result<(), AllocError>
+fn push_status(text: &mut Vec<u8>, status: Status) -> Result<(), AllocError>
     ensures { OnOk result (text.new.items ≡ text.old.items ++ status_line status) }
 {
     text.extend_from_slice(b"HTTP/1.1 ")?;
-    push_number(text, u64::from(status))?;
+    push_number(text, u64::from(status.code()))?;
     text.extend_from_slice(b" ")?;
-    text.extend_from_slice(reason_of(status))?;
+    text.extend_from_slice(status.reason())?;
     text.extend_from_slice(b"\r\n")
 }
 
@@ -124,7 +71,7 @@ fn push_last(text: &mut Vec<u8>, closes: bool) -> Result<(), AllocError>
 
 fn push_answer(
     text: &mut Vec<u8>,
-    status: u16,
+    status: Status,
     content: Content,
     allow: Option<Method>,
     closes: bool,
@@ -133,7 +80,7 @@ fn push_answer(
     ensures { OnOk result (text.new.items ≡ text.old.items ++ answer_text status content allow closes body.now) }
 {
     push_status(text, status)?;
-    if status == 204 {
+    if status == Status::NoContent {
         return push_last(text, closes);
     }
     push_type(text, content)?;

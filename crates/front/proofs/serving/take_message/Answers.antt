@@ -1,7 +1,7 @@
 use Rattle.std.proofs.Common.{Ok, sym, subst}
 use Rattle.std.proofs.lemmas.Result.{err_from_is_err_and}
 use Rattle.front.specs.Calls.{CallGives}
-use Rattle.front.specs.Turns.{TurnGives}
+use Rattle.front.specs.Turns.{ConnectionTurnIsAnswered}
 use Rattle.front.specs.declared.serving.Turn.TheVariants.{Answered}
 use Rattle.front.proofs.Turning.{goes, stops, fails}
 use Rattle.front.proofs.serving.take_message.Goals as goal
@@ -20,4 +20,4 @@ returns-then-closes-clause-takes g c r left is reads =
 pub returns-else-closes-clause-takes : goal.returns-else-closes-clause-takes
 returns-else-closes-clause-takes g c r left is reads =
     let t = c.in_ok-closes.ensures.replies in
-    (t.text, t.appends, subst (λ l. TurnGives CallGives g.C.Clock.ticks c.args.incoming.now left c.args.pass.now c.args.clock.now t.text l c.reply_to.new.pass c.now-now.new.self (Ok Answered)) (sym c.finish.ensures) (goes CallGives g.C.Clock.ticks c.args.incoming.now r c.args.message.now c.now-now.result c.body.result.now c.args.pass.now c.reply_to.new.pass c.args.clock.now c.now-now.new.self is reads c.now-now.ensures.ticks c.body.ensures t.text c.in_ok-closes.closes left t.replies c.if-closes.false))
+    (t.text, t.appends, subst (λ l. ConnectionTurnIsAnswered CallGives g.C.Clock.ticks c.args.incoming.now left c.args.pass.now c.args.clock.now t.text l c.reply_to.new.pass c.now-now.new.self (Ok Answered)) (sym c.finish.ensures) (goes CallGives g.C.Clock.ticks c.args.incoming.now r c.args.message.now c.now-now.result c.body.result.now c.args.pass.now c.reply_to.new.pass c.args.clock.now c.now-now.new.self is reads c.now-now.ensures.ticks c.body.ensures t.text c.in_ok-closes.closes left t.replies c.if-closes.false))
