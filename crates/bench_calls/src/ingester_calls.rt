@@ -79,7 +79,7 @@ fn open(alloc: Global, load: Load) -> Result<(Ingester<MemDisk>, Vec<Pass>)>
 }
 
 /// A stream of its own for each pass: the first whose shard is the pass's number, counted round the shards.
-fn stream_of(alloc: Global, pass: u32, shards: u32) -> Result<u64> {
+fn stream_number(alloc: Global, pass: u32, shards: u32) -> Result<u64> {
     if shards == 0 || shards > 64 {
         bail!("there are 1 to 64 shards");
     }
@@ -187,7 +187,7 @@ fn start_all<'s, E, R: Threads + Wait + Sync>(
 {
     while let Some(pass) = passes.pop() {
         let number = (passes.len() % 64) as u32;
-        let stream = stream_of(alloc, number, load.shards)?;
+        let stream = stream_number(alloc, number, load.shards)?;
         let ready = ready.clone()?;
         let go = go.clone()?;
         let caller = Caller {

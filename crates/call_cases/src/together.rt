@@ -6,11 +6,10 @@ ghost use Rattle.accept.specs.contracts.image.Image as image;
 ghost use Rattle.history.specs.Handles.{Passed};
 ghost use Rattle.ingester.specs.Calls.{IsPassOf};
 
-use crate::settings::Settings;
-use crate::slots::{Left, Pair};
-use crate::texts::write_reply;
 use accept::Call;
 use anyhow::{Result, bail};
+use call_slots::{Left, Pair};
+use call_words::{Settings, write_reply};
 use disk::MemDisk;
 use history::Pass;
 use ingester::{Closed, Ingester, OpenFault};
@@ -27,7 +26,8 @@ pub struct Together {
     others: Vec<Pass>,
     count: u32,
     ghost of_pass: { IsPassOf ingester pass } by { Prim.hlevel (codes, image.the_row.coded) },
-    ghost of_others: { (p : ℕ) (other : Passed) → slice_get others.items p ≡ Some other → IsPassOf ingester other } by { Prim.hlevel (codes, image.the_row.coded) },
+    ghost of_others: { (p : ℕ) (other : Passed) → slice_get others.items p ≡ Some other
+        → IsPassOf ingester other } by { Prim.hlevel (codes, image.the_row.coded) },
     ghost shards: { ingester.about.shards ≡ count },
 }
 

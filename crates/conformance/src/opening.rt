@@ -27,7 +27,8 @@ fn slot(alloc: Global, stops: u64) -> Result<MemDisk, AllocError> {
 
 fn open_all(alloc: Global, capacity: u64, stops: u64) -> Result<(Ingester<MemDisk>, Vec<Pass>)>
     requires { capacity ≤ 2 ^ 30 }
-    ensures passes { IfOk result (λ it. (p : ℕ) (pass : Passed) → slice_get it.1.items p ≡ Some pass → IsPassOf it.0 pass) }
+    ensures passes { IfOk result (λ it. (p : ℕ) (pass : Passed) → slice_get it.1.items p ≡ Some pass
+        → IsPassOf it.0 pass) }
     ensures shards { IfOk result (λ it. it.0.about.shards ≡ 1) }
 {
     let mut slots = Vec::new(alloc);

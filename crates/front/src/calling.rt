@@ -54,7 +54,8 @@ pub(crate) enum Came {
 }
 
 fn key_of(alloc: Global, tenant: &Tenant, pairs: LabelPairs) -> Result<StreamKey, LabelFault>
-    ensures ok { IfOk result (λ key. (first_fault pairs ≡ None) × IsTextOf key.labels pairs × (key.tenant ≡ tenant.now)) }
+    ensures ok { IfOk result (λ key. (first_fault pairs ≡ None) × IsTextOf key.labels pairs
+        × (key.tenant ≡ tenant.now)) }
     ensures cause { IfErr result (λ e. (e ≡ LabelFault.Memory) ⊎ (first_fault pairs ≡ Some e)) }
 {
     let labels = LabelSet::new(alloc, pairs)?;

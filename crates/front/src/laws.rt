@@ -9,7 +9,10 @@ use crate::clock::Clock;
 /// for each of their calls that got a reply, in their order, with the reply that the answer was made of; of
 /// a request that was given up for want of memory a step for each of its first streams that got one.
 pub fn one_step_a_call<C: Clock>()
-    ensures each { (bytes : List ℕ) (h : Passed) (c : C) (e : Exchange) (rest : List ℕ) (h' : Passed) (c' : C) → MakesItsCalls C.ticks bytes h c e rest h' c' }
-    ensures left { (bytes : List ℕ) (h : Passed) (c : C) (h' : Passed) (c' : C) → MakesItsFirstCalls C.ticks bytes h c h' c' }
-    ensures all { (bytes : List ℕ) (h : Passed) (c : C) (es : List Exchange) (rest : List ℕ) (h' : Passed) (c' : C) → MakesTheirCalls C.ticks bytes h c es rest h' c' }
+    ensures each { (bytes : List ℕ) (h : Passed) (c : C) (e : Exchange) (rest : List ℕ) (h' : Passed) (c' : C)
+        → MakesItsCalls C.ticks bytes h c e rest h' c' }
+    ensures left { (bytes : List ℕ) (h : Passed) (c : C) (h' : Passed) (c' : C)
+        → MakesItsFirstCalls C.ticks bytes h c h' c' }
+    ensures all { (bytes : List ℕ) (h : Passed) (c : C) (es : List Exchange) (rest : List ℕ) (h' : Passed) (c' : C)
+        → MakesTheirCalls C.ticks bytes h c es rest h' c' }
 {}

@@ -85,7 +85,8 @@ fn push_far_behind(
     entry: usize,
     oldest: u64,
 ) -> Result<(), AllocError>
-    ensures { OnOk result (text.new.items ≡ text.old.items ++ entry_front stream entry ++ codes "too far behind, oldest accepted is " ++ decimal oldest ++ newline) }
+    ensures { OnOk result (text.new.items ≡ text.old.items ++ entry_front stream entry
+        ++ codes "too far behind, oldest accepted is " ++ decimal oldest ++ newline) }
 {
     push_entry_front(text, stream, entry)?;
     text.extend_from_slice(b"too far behind, oldest accepted is ")?;

@@ -98,7 +98,8 @@ fn answer_lines(alloc: Global, came: &Came) -> Result<Answer, AllocError>
 }
 
 fn answer_reply_lines(alloc: Global, reply: &Reply) -> Result<Answer, AllocError>
-    ensures { IfOk result (λ answer. Shows (push_status (Came.Replied reply.now ∷ [])) (lines_from 0 (Came.Replied reply.now ∷ [])) answer) }
+    ensures { IfOk result (λ answer.
+        Shows (push_status (Came.Replied reply.now ∷ [])) (lines_from 0 (Came.Replied reply.now ∷ [])) answer) }
 {
     let mut lines = PushLines::new(alloc);
     lines.note_reply(0, reply)?;

@@ -58,7 +58,8 @@ fn reply_to_call<D: Disk + Drop, R: Wait, O: Write>(
     requires pass { IsPassOf ingester.now pass.old }
     requires clock { now < 2 ^ 63 }
     ensures pass { IsPassOf ingester.now pass.new }
-    ensures replies { ResponseIsWritten CallGives now body.now (O.contents writer.old) (O.contents writer.new) (Verdict.Call route tenant.now) closes pass.old pass.new result }
+    ensures replies { ResponseIsWritten CallGives now body.now (O.contents writer.old) (O.contents writer.new)
+        (Verdict.Call route tenant.now) closes pass.old pass.new result }
 {
     match respond(rt, alloc, ingester, pass, now, route, tenant, body) {
         Ok(answer) => {
@@ -89,7 +90,8 @@ fn reply_to<D: Disk + Drop, R: Wait, O: Write>(
     requires pass { IsPassOf ingester.now pass.old }
     requires clock { now < 2 ^ 63 }
     ensures pass { IsPassOf ingester.now pass.new }
-    ensures replies { ResponseIsWritten CallGives now body.now (O.contents writer.old) (O.contents writer.new) verdict.now closes pass.old pass.new result }
+    ensures replies { ResponseIsWritten CallGives now body.now (O.contents writer.old)
+        (O.contents writer.new) verdict.now closes pass.old pass.new result }
 {
     match verdict {
         Verdict::Fixed(answer) => {
@@ -123,7 +125,8 @@ fn take_message<D: Disk + Drop, R: Wait, C: Clock, O: Write>(
     requires within { message.now.end ≤ length incoming.old }
     ensures pass { IsPassOf ingester.now pass.new }
     ensures drops { result ≡ Ok Turn.Answered → incoming.new ≡ drop message.now.end incoming.old }
-    ensures takes { TakesMessage CallGives C.ticks (O.contents writer.old) (O.contents writer.new) message.now incoming.old incoming.new pass.old clock.old pass.new clock.new result }
+    ensures takes { TakesMessage CallGives C.ticks (O.contents writer.old)
+        (O.contents writer.new) message.now incoming.old incoming.new pass.old clock.old pass.new clock.new result }
 {
     let now = clock.now();
     let closes = reply_to(
@@ -162,7 +165,8 @@ fn take_turn<D: Disk + Drop, R: Wait, C: Clock, I: Read, O: Write>(
     requires short { length incoming.old ≤ MAX_HEAD }
     ensures pass { IsPassOf ingester.now pass.new }
     ensures short { result ≡ Ok Turn.Answered → length incoming.new ≤ MAX_HEAD }
-    ensures turns { Turns CallGives C.ticks (I.remaining reader.old) (I.remaining reader.new) (O.contents writer.old) (O.contents writer.new) incoming.old incoming.new pass.old clock.old pass.new clock.new result }
+    ensures turns { Turns CallGives C.ticks (I.remaining reader.old) (I.remaining reader.new) (O.contents writer.old)
+        (O.contents writer.new) incoming.old incoming.new pass.old clock.old pass.new clock.new result }
 {
     match incoming.next(alloc, reader)? {
         Next::Ended => Ok(Turn::Ended),
@@ -191,7 +195,8 @@ fn take_turns<D: Disk + Drop, R: Wait, C: Clock, I: Read, O: Write>(
     requires pass { IsPassOf ingester.now pass.old }
     requires fresh { incoming.old ≡ [] }
     ensures pass { IsPassOf ingester.now pass.new }
-    ensures serves { ServesBytes CallGives C.ticks (I.remaining reader.old) (I.remaining reader.new) (O.contents writer.old) (O.contents writer.new) pass.old clock.old pass.new clock.new result }
+    ensures serves { ServesBytes CallGives C.ticks (I.remaining reader.old) (I.remaining reader.new)
+        (O.contents writer.old) (O.contents writer.new) pass.old clock.old pass.new clock.new result }
 {
     for _turn in rt.forever() {
         match take_turn(
@@ -225,7 +230,8 @@ pub fn serve<D: Disk + Drop, R: Wait, C: Clock, I: Read, O: Write>(
 ) -> Result<Served, ServeFault>
     requires pass { IsPassOf ingester.now pass.old }
     ensures pass { IsPassOf ingester.now pass.new }
-    ensures serves { ServesBytes CallGives C.ticks (I.remaining reader.old) (I.remaining reader.new) (O.contents writer.old) (O.contents writer.new) pass.old clock.old pass.new clock.new result }
+    ensures serves { ServesBytes CallGives C.ticks (I.remaining reader.old) (I.remaining reader.new)
+        (O.contents writer.old) (O.contents writer.new) pass.old clock.old pass.new clock.new result }
 {
     let mut incoming = Incoming::new(alloc);
     let mut outgoing = Outgoing::new(alloc);

@@ -3,7 +3,7 @@ ghost use Rattle.accept.specs.declared.history.Ask.{Ask};
 ghost use Rattle.accept.specs.declared.call.Reply.TheVariants.{Unavailable};
 ghost use Rattle.accept.specs.declared.history.Item.TheVariants.{Answered, Failed};
 ghost use Rattle.accept.specs.Histories.{is_marked};
-ghost use Rattle.history.specs.Histories.{IsBeginning, IsLegalAt, IsByPasses, HaveSteps, doubt_of, reply_of, shard_in, step_of};
+ghost use Rattle.history.specs.Histories.{IsBeginning, IsLegalAt, IsByPasses, HaveSteps, doubt_or, doubt_of, reply_of, shard_in, step_of};
 ghost use Rattle.history.specs.Plays.{seen_at, HasStepsOf, IsShort};
 ghost use Rattle.history.specs.declared.views.Role.TheVariants.{Keeps};
 ghost use Rattle.history.specs.declared.views.Token.TheVariants.{Nothing};
@@ -30,6 +30,9 @@ pub trait Kept {
 
     /// What the clocks of the shard's two slots say.
     ghost moment: { Self → ℕ × ℕ };
+
+    /// The calls that are written and not yet in the book, in their order.
+    ghost doubts: { Self → List Ask };
 }
 
 /// A shard's history: whoever has the book adds to it. Contracts see the list of its items; the program keeps their number alone, in the table.
@@ -59,29 +62,42 @@ impl Model for Book {
 
 impl Book {
     /// Adds the call with its reply to the history, once the disk keeps it, and gives the reply back. Calls of a pass to
-    /// one shard go in the order in which they were announced.
+    /// one shard go in the order in which they were announced. Of calls that were written together each is in doubt until
+    /// it is added.
     pub fn commit<K: Kept>(&mut self, kept: &K, ticket: Ticket, reply: Reply) -> (Reply, Receipt)
         requires table { ticket.table ≡ self.old.table }
         requires shard { shard_in self.old.about ticket.ask ≡ self.old.shard }
         requires order { HaveSteps ticket.before self.old.items }
         requires reply { reply ≡ reply_of self.old.about self.old.shard self.old.items ticket.ask.call }
-        requires kept { K.kept kept.now (longer self.old (Answered (step_of ticket.ask reply))) (doubt_of self.old.items) }
+        requires kept { K.kept kept.now (longer self.old (Answered (step_of ticket.ask reply)))
+            (doubt_or self.old.items (K.doubts kept.now)) }
         ensures book { self.new ≡ longer self.old (Answered (step_of ticket.ask reply)) }
         ensures reply { result.0 ≡ reply }
-        ensures receipt { result.1 ≡ record { table = ticket.table; step = step_of ticket.ask reply; upto = self.new.items; moment = K.moment kept.now } }
+        ensures receipt { result.1
+            ≡ record {
+              table = ticket.table;
+              step = step_of ticket.ask reply;
+              upto = self.new.items;
+              moment = K.moment kept.now;
+            } }
     {
-        let receipt = self.committed::<Brand, K>(kept, ticket, &reply);
+        let receipt = self.commit_at::<Brand, K>(kept, ticket, &reply);
         (reply, receipt)
     }
 
-    fn committed<J: At, K: Kept>(&mut self, kept: &K, ticket: Ticket, reply: &Reply) -> Receipt
+    fn commit_at<J: At, K: Kept>(&mut self, kept: &K, ticket: Ticket, reply: &Reply) -> Receipt
         requires table { ticket.table ≡ self.old.table }
         requires shard { shard_in self.old.about ticket.ask ≡ self.old.shard }
         requires order { HaveSteps ticket.before self.old.items }
         requires reply { reply.now ≡ reply_of self.old.about self.old.shard self.old.items ticket.ask.call }
         requires moment { J.moment ≡ K.moment kept.now }
         ensures book { self.new ≡ longer self.old (Answered (step_of ticket.ask reply.now)) }
-        ensures receipt { result ≡ record { table = ticket.table; step = step_of ticket.ask reply.now; upto = self.new.items; moment = K.moment kept.now } }
+        ensures receipt { result ≡ record {
+          table = ticket.table;
+          step = step_of ticket.ask reply.now;
+          upto = self.new.items;
+          moment = K.moment kept.now;
+        } }
     {
         let _ = kept;
         let _ = reply;
@@ -101,10 +117,17 @@ impl Book {
         requires shard { shard_in self.old.about ticket.ask ≡ self.old.shard }
         requires order { HaveSteps ticket.before self.old.items }
         requires marked { is_marked self.old.items ≡ true }
-        requires kept { K.kept kept.now (longer self.old (Answered (step_of ticket.ask Unavailable))) (doubt_of self.old.items) }
+        requires kept { K.kept kept.now (longer self.old (Answered (step_of ticket.ask Unavailable)))
+            (doubt_of self.old.items) }
         ensures book { self.new ≡ longer self.old (Answered (step_of ticket.ask Unavailable)) }
         ensures reply { result.0 ≡ Unavailable }
-        ensures receipt { result.1 ≡ record { table = ticket.table; step = step_of ticket.ask Unavailable; upto = self.new.items; moment = K.moment kept.now } }
+        ensures receipt { result.1
+            ≡ record {
+              table = ticket.table;
+              step = step_of ticket.ask Unavailable;
+              upto = self.new.items;
+              moment = K.moment kept.now;
+            } }
     {
         self.commit(kept, ticket, Reply::Unavailable)
     }
@@ -158,7 +181,13 @@ fn put_in_doubt(shared: &Steps, seat: &mut ViewSeat, tickets: &mut [Ticket])
     requires book { seat.old.me ≡ (alone (Keeps (shelf_in seat.old.me.0.role)) Nothing, []) }
     requires words { 0 < shared.now.table_id.words }
     requires tickets { AreOf (booked seat.old) tickets.old }
-    ensures seat { (seat.new.table_id ≡ seat.old.table_id) × (seat.new.me ≡ (alone (Keeps (with_doubt (shelf_in seat.old.me.0.role) ((shelf_in seat.old.me.0.role).doubt ++ asks_of tickets.old))) Nothing, [])) }
+    ensures seat { (seat.new.table_id ≡ seat.old.table_id)
+        × (seat.new.me ≡ (
+          alone
+              (Keeps (with_doubt (shelf_in seat.old.me.0.role) ((shelf_in seat.old.me.0.role).doubt
+              ++ asks_of tickets.old))) Nothing,
+          [],
+        )) }
     ensures tickets { tickets.new ≡ doubted_to (length tickets.old) tickets.old }
 {
     for ticket in tickets {

@@ -37,8 +37,15 @@ impl History {
     pub fn announce(&self, pass: &mut Pass, call: &Call) -> Result<Ticket, PassSpent>
         requires table { pass.old.table ≡ self.now }
         requires few { length pass.old.caller.pending < 64 }
-        ensures ticket { IfOk result (λ t. t ≡ record { table = self.now; ask = ask_of pass.old.caller (pass.old.caller.last + 1) call.now; doubted = false; before = before_of pass.old.caller (pass.old.caller.last + 1) call.now }) }
-        ensures pass { OnOk result (pass.new ≡ record pass.old { caller = announce_to pass.old.caller (pass.old.caller.last + 1) call.now }) }
+        ensures ticket { IfOk result (λ t. t
+            ≡ record {
+              table = self.now;
+              ask = ask_of pass.old.caller (pass.old.caller.last + 1) call.now;
+              doubted = false;
+              before = before_of pass.old.caller (pass.old.caller.last + 1) call.now;
+            }) }
+        ensures pass { OnOk result (pass.new
+            ≡ record pass.old { caller = announce_to pass.old.caller (pass.old.caller.last + 1) call.now }) }
         ensures rested { OnOk result (pass.old.caller.pending ≡ [] → IsRested pass.old.caller) }
         ensures err { OnErr result (pass.new ≡ pass.old) }
         ensures open { IsOk result ↔ (is_closed pass.old ≡ false) }
@@ -46,16 +53,24 @@ impl History {
         if pass.is_closed() {
             return Err(PassSpent);
         }
-        Ok(self.announced::<Brand>(pass, call))
+        Ok(self.announce_call::<Brand>(pass, call))
     }
 
-    fn announced<J: Saying>(&self, pass: &mut Pass, call: &Call) -> Ticket
+    fn announce_call<J: Saying>(&self, pass: &mut Pass, call: &Call) -> Ticket
         requires table { pass.old.table ≡ self.now }
         requires few { length pass.old.caller.pending < 64 }
         requires open { is_closed pass.old ≡ false }
         requires call { call.now ≡ J.call }
-        ensures ticket { result ≡ record { table = self.now; ask = ask_of pass.old.caller (pass.old.caller.last + 1) call.now; doubted = false; before = before_of pass.old.caller (pass.old.caller.last + 1) call.now } }
-        ensures pass { pass.new ≡ record pass.old { caller = announce_to pass.old.caller (pass.old.caller.last + 1) call.now } }
+        ensures ticket { result ≡ record {
+          table = self.now;
+          ask = ask_of pass.old.caller (pass.old.caller.last + 1) call.now;
+          doubted = false;
+          before = before_of pass.old.caller (pass.old.caller.last + 1) call.now;
+        } }
+        ensures pass { pass.new ≡ record pass.old {
+          caller = announce_to pass.old.caller
+              (pass.old.caller.last + 1) call.now;
+        } }
         ensures rested { pass.old.caller.pending ≡ [] → IsRested pass.old.caller }
     {
         let _ = call;
@@ -68,7 +83,12 @@ impl History {
         requires table { pass.old.table ≡ self.now }
         requires few { length pass.old.caller.pending < 64 }
         requires number { (pass.old.caller.last < number) × (number < bound) }
-        ensures ticket { result ≡ record { table = self.now; ask = ask_of pass.old.caller number J.call; doubted = false; before = before_of pass.old.caller number J.call } }
+        ensures ticket { result ≡ record {
+          table = self.now;
+          ask = ask_of pass.old.caller number J.call;
+          doubted = false;
+          before = before_of pass.old.caller number J.call;
+        } }
         ensures pass { pass.new ≡ record pass.old { caller = announce_to pass.old.caller number J.call } }
         ensures rested { pass.old.caller.pending ≡ [] → IsRested pass.old.caller }
     {
@@ -92,11 +112,13 @@ impl History {
         ensures first { IsFirst receipt.step.ask pass.old.caller.pending }
         ensures pass { pass.new ≡ record pass.old { caller = collect_to pass.old.caller receipt.step receipt.upto } }
         ensures seen { seen_at pass.new.caller (shard_in pass.old.caller.about receipt.step.ask) ≡ receipt.upto }
-        ensures others { (k : ℕ) → k ≢ shard_in pass.old.caller.about receipt.step.ask → seen_at pass.new.caller k ≡ seen_at pass.old.caller k }
+        ensures others { (k : ℕ) → k ≢ shard_in pass.old.caller.about receipt.step.ask
+            → seen_at pass.new.caller k ≡ seen_at pass.old.caller k }
         ensures legal { IsLegalAt pass.old.caller.about (shard_in pass.old.caller.about receipt.step.ask) receipt.upto }
         ensures rested { IsRested pass.new.caller }
         ensures by_passes { IsByPasses pass.old.caller.about.passes receipt.upto }
-        ensures extends { Extends pass.old.caller.pass (seen_at pass.old.caller (shard_in pass.old.caller.about receipt.step.ask)) receipt.step receipt.upto }
+        ensures extends { Extends pass.old.caller.pass
+            (seen_at pass.old.caller (shard_in pass.old.caller.about receipt.step.ask)) receipt.step receipt.upto }
     {
         let Receipt { number: _, seat } = receipt;
         let word = pass.word_behind_first();
@@ -126,7 +148,10 @@ impl History {
     pub fn observe(&self, pass: &mut Pass, shard: usize) -> u64
         requires table { pass.old.table ≡ self.now }
         requires shard { shard < pass.old.caller.about.shards }
-        ensures pass { pass.new ≡ record pass.old { caller = look_to pass.old.caller shard (seen_at pass.new.caller shard) } }
+        ensures pass { pass.new ≡ record pass.old {
+          caller = look_to pass.old.caller shard
+              (seen_at pass.new.caller shard);
+        } }
         ensures others { (k : ℕ) → k ≢ shard → seen_at pass.new.caller k ≡ seen_at pass.old.caller k }
         ensures begins { IsBeginning (seen_at pass.old.caller shard) (seen_at pass.new.caller shard) }
         ensures legal { IsLegalAt pass.old.caller.about shard (seen_at pass.new.caller shard) }
@@ -159,8 +184,14 @@ fn look_together(shared: &Steps, seat: &mut ViewSeat, shards: usize)
     requires passes { seat.old.me ≡ (pair_of (caller_in seat.old.me.0.role) (caller_in seat.old.me.0.guest), []) }
     requires shards { ((caller_in seat.old.me.0.role).about.shards ≡ shards) × (shards ≤ shared.now.table_id.words) }
     ensures table { seat.new.table_id ≡ seat.old.table_id }
-    ensures passes { seat.new.me ≡ (pair_of (with_seen (caller_in seat.old.me.0.role) (caller_in seat.new.me.0.role).seen) (with_seen (caller_in seat.old.me.0.guest) (caller_in seat.new.me.0.guest).seen), []) }
-    ensures met { HaveMet (caller_in seat.old.me.0.role) (caller_in seat.old.me.0.guest) shards (caller_in seat.new.me.0.role).seen (caller_in seat.new.me.0.guest).seen }
+    ensures passes { seat.new.me
+        ≡ (
+          pair_of (with_seen (caller_in seat.old.me.0.role) (caller_in seat.new.me.0.role).seen)
+              (with_seen (caller_in seat.old.me.0.guest) (caller_in seat.new.me.0.guest).seen),
+          [],
+        ) }
+    ensures met { HaveMet (caller_in seat.old.me.0.role) (caller_in seat.old.me.0.guest) shards
+        (caller_in seat.new.me.0.role).seen (caller_in seat.new.me.0.guest).seen }
 {
     for shard in 0..shards {
         shared.load::<Meets>(seat, shard);

@@ -27,8 +27,10 @@ impl History {
     ) -> Result<(History, Vec<Book>, Vec<Pass>), AllocError>
         requires shards { (0 < length bases.now) × (length bases.now ≤ 64) }
         requires passes { passes ≤ 64 }
-        ensures books { IfOk result (λ r. r.1.items ≡ fresh_books r.0 (about_of bases.now passes limits capacity) (length bases.now)) }
-        ensures passes { IfOk result (λ r. r.2.items ≡ fresh_passes r.0 (about_of bases.now passes limits capacity) passes) }
+        ensures books { IfOk result (λ r. r.1.items
+            ≡ fresh_books r.0 (about_of bases.now passes limits capacity) (length bases.now)) }
+        ensures passes { IfOk result (λ r. r.2.items
+            ≡ fresh_passes r.0 (about_of bases.now passes limits capacity) passes) }
     {
         opened::<Brand>(alloc, bases, passes, limits, capacity)
     }
@@ -77,7 +79,8 @@ fn open<J: Naming>(
 ) -> Result<(Board, ViewSeat), AllocError>
     requires shards { (0 < shards) × (shards ≤ 64) × (J.about.shards ≡ shards) }
     requires passes { (passes ≤ 64) × (J.about.passes ≡ passes) }
-    ensures { IfOk result (λ r. (r.0.shared.table_id.words ≡ shards + passes) × (r.1.table_id ≡ r.0.shared.table_id) × (r.1.me ≡ (opener J.about 0 0, []))) }
+    ensures { IfOk result (λ r. (r.0.shared.table_id.words ≡ shards + passes) × (r.1.table_id ≡ r.0.shared.table_id)
+        × (r.1.me ≡ (opener J.about 0 0, []))) }
 {
     let sizes = Sizes {
         shards,
@@ -95,7 +98,8 @@ fn deal_books(
     seat: &mut ViewSeat,
     shards: usize,
 ) -> Result<Vec<Book>, AllocError>
-    requires table { (seat.old.table_id ≡ (arc_value table.now).shared.table_id) × (seat.old.table_id.words ≡ (about_in seat.old.me.0.role).shards + (about_in seat.old.me.0.role).passes) }
+    requires table { (seat.old.table_id ≡ (arc_value table.now).shared.table_id)
+        × (seat.old.table_id.words ≡ (about_in seat.old.me.0.role).shards + (about_in seat.old.me.0.role).passes) }
     requires seat { seat.old.me ≡ (opener (about_in seat.old.me.0.role) 0 0, []) }
     requires shards { (0 < shards) × ((about_in seat.old.me.0.role).shards ≡ shards) }
     ensures books { IfOk result (λ b. b.items ≡ fresh_books seat.old.table_id (about_in seat.old.me.0.role) shards) }
@@ -122,7 +126,8 @@ fn deal_passes(
     shards: usize,
     passes: u32,
 ) -> Result<Vec<Pass>, AllocError>
-    requires table { (seat.old.table_id ≡ (arc_value table.now).shared.table_id) × (seat.old.table_id.words ≡ shards + passes) }
+    requires table { (seat.old.table_id ≡ (arc_value table.now).shared.table_id)
+        × (seat.old.table_id.words ≡ shards + passes) }
     requires seat { seat.old.me ≡ (opener (about_in seat.old.me.0.role) shards 0, []) }
     requires shards { (0 < shards) × ((about_in seat.old.me.0.role).shards ≡ shards) × (shards ≤ 64) }
     requires passes { ((about_in seat.old.me.0.role).passes ≡ passes) × (passes ≤ 64) }

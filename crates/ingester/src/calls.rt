@@ -84,7 +84,8 @@ impl<D: Disk + Drop> Ingester<D> {
     pub fn look(&self, pass: &mut Pass, shard: u32) -> u64
         requires pass { IsPassOf self.now pass.old }
         requires shard { shard < self.now.about.shards }
-        ensures pass { IsPassOf self.now pass.new × (pass.new ≡ record pass.old { caller = look_to pass.old.caller shard (seen_at pass.new.caller shard) }) }
+        ensures pass { IsPassOf self.now pass.new
+            × (pass.new ≡ record pass.old { caller = look_to pass.old.caller shard (seen_at pass.new.caller shard) }) }
         ensures others { (k : ℕ) → k ≢ shard → seen_at pass.new.caller k ≡ seen_at pass.old.caller k }
         ensures begins { IsBeginning (seen_at pass.old.caller shard) (seen_at pass.new.caller shard) }
         ensures legal { IsLegalAt pass.old.caller.about shard (seen_at pass.new.caller shard) }
@@ -99,8 +100,10 @@ impl<D: Disk + Drop> Ingester<D> {
     pub fn meet(&self, one: &mut Pass, two: &mut Pass)
         requires one { IsPassOf self.now one.old }
         requires two { IsPassOf self.now two.old }
-        ensures one { IsPassOf self.now one.new × (one.new ≡ record one.old { caller = with_seen one.old.caller one.new.caller.seen }) }
-        ensures two { IsPassOf self.now two.new × (two.new ≡ record two.old { caller = with_seen two.old.caller two.new.caller.seen }) }
+        ensures one { IsPassOf self.now one.new
+            × (one.new ≡ record one.old { caller = with_seen one.old.caller one.new.caller.seen }) }
+        ensures two { IsPassOf self.now two.new
+            × (two.new ≡ record two.old { caller = with_seen two.old.caller two.new.caller.seen }) }
         ensures met { HaveMet one.old.caller two.old.caller self.now.about.shards one.new.caller.seen two.new.caller.seen }
     {
         self.history.meet(one, two);

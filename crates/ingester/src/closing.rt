@@ -33,16 +33,24 @@ impl<D: Disk> Model for Closed<D> {
     ghost use Rattle.ingester.specs.Openings.{opening_of};
     ghost use Rattle.ingester.specs.Closings.{AreLast};
 
-    ghost view = { λ c. record { opening = opening_of c.origin.first.value c.origin.logs.value.items; passes = c.passes.items; left = length c.shards.items } };
+    ghost view = { λ c. record {
+      opening = opening_of c.origin.first.value c.origin.logs.value.items;
+      passes = c.passes.items;
+      left = length c.shards.items;
+    } };
 
-    ghost invariant = { λ c. AreLast (opening_of c.origin.first.value c.origin.logs.value.items) c.passes.items c.shards.items };
+    ghost invariant = { λ c. AreLast
+        (opening_of c.origin.first.value c.origin.logs.value.items) c.passes.items c.shards.items };
 }
 
 impl<D: Disk + Drop> Closed<D> {
     /// The slots of the last shard that is left, as they are, and whether they have a failure mark.
     pub fn take(&mut self) -> Option<([D; 2], bool)>
-        ensures left { MatchOption result ((self.old.left ≡ 0) × (self.new ≡ self.old)) (λ _. self.new ≡ record self.old { left = self.new.left } × (self.old.left ≡ self.new.left + 1)) }
-        ensures kept { IfSome result (λ handed. IsHandedOut D.sight D.follows self.old.opening self.old.passes self.new.left handed) }
+        ensures left { MatchOption result ((self.old.left ≡ 0)
+            × (self.new ≡ self.old)) (λ _. self.new ≡ record self.old { left = self.new.left }
+            × (self.old.left ≡ self.new.left + 1)) }
+        ensures kept { IfSome result (λ handed.
+            IsHandedOut D.sight D.follows self.old.opening self.old.passes self.new.left handed) }
     {
         let shard = self.shards.pop()?;
         let marked = shard.is_marked();

@@ -84,7 +84,8 @@ pub(crate) fn lock_shards<D: Disk + Drop>(
     requires shards { (shards.items ≡ []) × (deque_len shards ≡ 0) × (vec_len logs ≤ deque_capacity shards) }
     requires slots { vec_len logs + deque_len slots.old ≤ deque_capacity slots.old }
     requires logs { origin.now.logs.value.items ≡ logs.items }
-    requires books { books.items ≡ fresh_books origin.now.first.value.table origin.now.first.value.about (vec_len logs) }
+    requires books { books.items
+        ≡ fresh_books origin.now.first.value.table origin.now.first.value.about (vec_len logs) }
     ensures locks { IfOk result (λ locks. (count_of locks ≡ vec_len logs) × (key_of locks ≡ origin.now)) }
     ensures unmade { OnErr result (slots.new.items ≡ map disks logs.items ++ slots.old.items) }
 {

@@ -44,7 +44,8 @@ impl<D: Disk> Model for Ingester<D> {
 
     ghost view = { λ i. opening_of i.origin.first.value i.origin.logs.value.items };
 
-    ghost invariant = { λ i. IsOpening i.history i.origin.first.value i.count (count_of i.shards) × (key_of i.shards ≡ i.origin) × (count_of i.room ≡ 1) × (key_of i.room ≡ i.count) };
+    ghost invariant = { λ i. IsOpening i.history i.origin.first.value i.count (count_of i.shards)
+        × (key_of i.shards ≡ i.origin) × (count_of i.room ≡ 1) × (key_of i.room ≡ i.count) };
 }
 
 impl<D: Disk + Drop> Ingester<D> {
@@ -65,7 +66,8 @@ impl<D: Disk + Drop> Ingester<D> {
         requires passes { (0 < passes) × (passes ≤ 64) }
         requires limits { AreLimits limits }
         requires capacity { capacity ≤ 2 ^ 30 }
-        ensures found { IfOk result (λ it. AreOpenedFrom D.sight D.follows (vec_len slots) capacity 0 slots.items it.0.logs it.0.about.bases) }
+        ensures found { IfOk result (λ it.
+            AreOpenedFrom D.sight D.follows (vec_len slots) capacity 0 slots.items it.0.logs it.0.about.bases) }
         ensures about { IfOk result (λ it. it.0.about ≡ about_of it.0.about.bases passes limits capacity) }
         ensures shards { IfOk result (λ it. it.0.about.shards ≡ vec_len slots) }
         ensures passes { IfOk result (λ it. AreFresh it.0 passes it.1.items) }
@@ -87,15 +89,18 @@ fn open_all<D: Disk + Drop>(
     limits: Limits,
     capacity: u64,
 ) -> Result<(Ingester<D>, Vec<Pass>), OpenFault>
-    requires slots { (0 < deque_len slots.old) × (deque_len slots.old ≤ 64) × (deque_len slots.old ≤ deque_capacity slots.old) }
+    requires slots { (0 < deque_len slots.old) × (deque_len slots.old ≤ 64)
+        × (deque_len slots.old ≤ deque_capacity slots.old) }
     requires passes { (0 < passes) × (passes ≤ 64) }
     requires limits { AreLimits limits }
     requires capacity { capacity ≤ 2 ^ 30 }
-    ensures found { IfOk result (λ it. AreOpenedFrom D.sight D.follows (deque_len slots.old) capacity 0 slots.old.items it.0.logs it.0.about.bases) }
+    ensures found { IfOk result (λ it.
+        AreOpenedFrom D.sight D.follows (deque_len slots.old) capacity 0 slots.old.items it.0.logs it.0.about.bases) }
     ensures about { IfOk result (λ it. it.0.about ≡ about_of it.0.about.bases passes limits capacity) }
     ensures shards { IfOk result (λ it. it.0.about.shards ≡ deque_len slots.old) }
     ensures passes { IfOk result (λ it. AreFresh it.0 passes it.1.items) }
-    ensures unmade { IfErr result (λ fault. IsUnmade D.sight D.follows (deque_len slots.old) slots.old.items slots.new.items fault) }
+    ensures unmade { IfErr result (λ fault.
+        IsUnmade D.sight D.follows (deque_len slots.old) slots.old.items slots.new.items fault) }
 {
     let count = slots.len();
     let room = reserve_room(alloc, count)?;

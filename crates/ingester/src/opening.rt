@@ -71,11 +71,16 @@ fn open_next<D: Disk + Drop>(
     requires room { (vec_len logs.old < vec_capacity logs.old) × (vec_len images.old < vec_capacity images.old) }
     requires shard { (shard < count) × (count ≤ 64) }
     requires capacity { capacity ≤ 2 ^ 30 }
-    ensures ok { OnOk result (IsNextOpened D.sight D.follows (owner_of shard count) capacity slots.old.items slots.new.items logs.old.items logs.new.items images.old.items images.new.items) }
-    ensures err { IfErr result (λ fault. IsNextRefused D.sight D.follows (owner_of shard count) fault slots.old.items slots.new.items × (logs.new ≡ logs.old)) }
-    ensures capacities { (deque_capacity slots.new ≡ deque_capacity slots.old) × (vec_capacity logs.new ≡ vec_capacity logs.old) × (vec_capacity images.new ≡ vec_capacity images.old) }
+    ensures ok { OnOk result (IsNextOpened D.sight D.follows
+        (owner_of shard count) capacity slots.old.items slots.new.items logs.old.items logs.new.items images.old.items images.new.items) }
+    ensures err { IfErr result (λ fault.
+        IsNextRefused D.sight D.follows (owner_of shard count) fault slots.old.items slots.new.items
+        × (logs.new ≡ logs.old)) }
+    ensures capacities { (deque_capacity slots.new ≡ deque_capacity slots.old)
+        × (vec_capacity logs.new ≡ vec_capacity logs.old) × (vec_capacity images.new ≡ vec_capacity images.old) }
     ensures len { deque_len slots.new ≤ deque_len slots.old }
-    ensures lens { OnOk result ((deque_len slots.new + 1 ≡ deque_len slots.old) × (vec_len logs.new ≡ vec_len logs.old + 1) × (vec_len images.new ≡ vec_len images.old + 1)) }
+    ensures lens { OnOk result ((deque_len slots.new + 1 ≡ deque_len slots.old)
+        × (vec_len logs.new ≡ vec_len logs.old + 1) × (vec_len images.new ≡ vec_len images.old + 1)) }
 {
     let Some(given) = slots.pop_front() else {
         unreachable!();
@@ -101,7 +106,8 @@ pub(crate) fn open_logs<D: Disk + Drop>(
     capacity: u64,
 ) -> Result<(), OpenFault>
     requires slots { (deque_len slots.old ≡ count) × (deque_len slots.old ≤ deque_capacity slots.old) }
-    requires room { (vec_len logs.old ≡ 0) × (vec_len images.old ≡ 0) × (count ≤ vec_capacity logs.old) × (count ≤ vec_capacity images.old) }
+    requires room { (vec_len logs.old ≡ 0) × (vec_len images.old ≡ 0) × (count ≤ vec_capacity logs.old)
+        × (count ≤ vec_capacity images.old) }
     requires few { count ≤ 64 }
     requires capacity { capacity ≤ 2 ^ 30 }
     ensures ok { OnOk result (AreOpenedFrom D.sight D.follows count capacity 0 slots.old.items logs.new.items images.new.items × (slots.new.items ≡ [])) }
@@ -147,7 +153,8 @@ pub(crate) fn make_one<D: Disk + Drop>(
 ) -> Result<(), Wal<D>>
     requires ground { IsGround D.sight D.follows limits log image book }
     requires room { deque_len shards.old < deque_capacity shards.old }
-    ensures made { OnOk result (shards.new.items ≡ Some (record { log = log; book = book; opened = log }) ∷ shards.old.items) }
+    ensures made { OnOk result (shards.new.items
+        ≡ Some (record { log = log; book = book; opened = log }) ∷ shards.old.items) }
     ensures err { IfErr result (λ back. (back ≡ log) × (shards.new ≡ shards.old)) }
     ensures capacity { deque_capacity shards.new ≡ deque_capacity shards.old }
     ensures len { OnOk result (deque_len shards.new ≡ deque_len shards.old + 1) }

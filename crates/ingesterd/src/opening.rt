@@ -22,7 +22,8 @@ pub fn open_shards<D: Disk + Drop>(
     requires passes { (0 < passes) × (passes ≤ 64) }
     requires capacity { capacity ≤ 2 ^ 30 }
     ensures capacity { IfOk result (λ it. it.0.about.capacity ≡ capacity) }
-    ensures passes { IfOk result (λ it. (p : ℕ) (pass : Passed) → slice_get it.1.items p ≡ Some pass → IsPassOf it.0 pass) }
+    ensures passes { IfOk result (λ it. (p : ℕ) (pass : Passed) → slice_get it.1.items p ≡ Some pass
+        → IsPassOf it.0 pass) }
 {
     match Ingester::open(alloc, slots, passes, Limits::PROFILE, capacity) {
         Ok(opened) => Ok(opened),

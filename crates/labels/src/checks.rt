@@ -74,7 +74,8 @@ pub fn each_fault(pairs: &[(String, String)]) -> Option<LabelFault>
 #[tactic(auto, unfolding(crate::specs::Faults::first_fault))]
 pub fn early_fault(pairs: &[(String, String)]) -> Option<LabelFault>
     ensures some { IfSome result (λ e. first_fault (map label_of pairs.now) ≡ Some e) }
-    ensures none { IfNone result ((1 ≤ length pairs.now) × (length pairs.now ≤ 15) × (each_fault (map label_of pairs.now) ≡ None)) }
+    ensures none { IfNone result ((1 ≤ length pairs.now) × (length pairs.now ≤ 15)
+        × (each_fault (map label_of pairs.now) ≡ None)) }
 {
     if pairs.is_empty() {
         Some(LabelFault::NoLabels)

@@ -93,14 +93,16 @@ fn sort(pairs: &mut Vec<(String, String)>)
 
 /// Whether each name is below the next, so that none stands twice.
 fn names_rise(pairs: &[(String, String)]) -> bool
-    ensures { IsAllAdjacentAnswer (λ x y b. b ≡ is_lt (slice_cmp nat_cmp (string_bytes x.0) (string_bytes y.0))) pairs.now result }
+    ensures { IsAllAdjacentAnswer (λ x y b. b
+        ≡ is_lt (slice_cmp nat_cmp (string_bytes x.0) (string_bytes y.0))) pairs.now result }
 {
     pairs.is_sorted_by(|one, next| one.0.as_str() < next.0.as_str())
 }
 
 /// The canonical text of the labels, or their first fault.
 pub fn canonical_text(alloc: Global, mut pairs: Vec<(String, String)>) -> Result<String, LabelFault>
-    ensures ok { IfOk result (λ t. (first_fault (map label_of pairs.items) ≡ None) × IsTextOf (string_bytes t) (map label_of pairs.items)) }
+    ensures ok { IfOk result (λ t. (first_fault (map label_of pairs.items) ≡ None)
+        × IsTextOf (string_bytes t) (map label_of pairs.items)) }
     ensures cause { IfErr result (λ e. (e ≡ LabelFault.Memory) ⊎ (first_fault (map label_of pairs.items) ≡ Some e)) }
 {
     if let Some(fault) = early_fault(&pairs) {

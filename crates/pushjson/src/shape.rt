@@ -85,7 +85,8 @@ fn only_member(value: Value, key: &str) -> Result<Value, PushFault>
 
 // The values of an object with these two keys, which rise.
 fn two_members(value: Value, first: &str, second: &str) -> Result<(Value, Value), PushFault>
-    ensures { ReadsTree (λ p. (view p.0, view p.1)) (λ (p : Data × Data). object (member first.now p.0 (member second.now p.1 no_members))) (view value) result }
+    ensures { ReadsTree (λ p. (view p.0, view p.1)) (λ (p : Data
+        × Data). object (member first.now p.0 (member second.now p.1 no_members))) (view value) result }
 {
     let Value::Object(members) = value else {
         return Err(PushFault::WrongShape);
@@ -110,7 +111,9 @@ fn three_members(
     second: &str,
     third: &str,
 ) -> Result<(Value, Value, Value), PushFault>
-    ensures { ReadsTree (λ p. (view p.0, view p.1, view p.2)) (λ (p : Data × Data × Data). object (member first.now p.0 (member second.now p.1 (member third.now p.2 no_members)))) (view value) result }
+    ensures { ReadsTree (λ p. (view p.0, view p.1, view p.2)) (λ (p : Data × Data
+        × Data). object (member first.now p.0 (member second.now p.1 (member third.now p.2 no_members))))
+        (view value) result }
 {
     let Value::Object(members) = value else {
         return Err(PushFault::WrongShape);
@@ -168,7 +171,8 @@ fn value_texts(value: Value) -> Result<(String, String), PushFault>
 }
 
 fn values_texts(alloc: Global, value: Value) -> Result<Vec<(String, String)>, PushFault>
-    ensures { ReadsTree (λ values. map label_of values.items) (λ vs. array (items_of (map value_tree vs))) (view value) result }
+    ensures { ReadsTree (λ values. map label_of values.items) (λ vs. array (items_of (map value_tree vs)))
+        (view value) result }
 {
     let items = items_in(value)?;
     let mut values = Vec::with_capacity(alloc, items.len()).map_err(|_| PushFault::Memory)?;

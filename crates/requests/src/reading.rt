@@ -58,10 +58,12 @@ fn fill_rest<R: Read>(
 ) -> (usize, Result<(), ServeFault>)
     requires { from ≤ length space.old }
     ensures within { result.0 ≤ length space.new }
-    ensures grows { Grows (R.remaining reader.old) (R.remaining reader.new) (take from space.old) (take result.0 space.new) }
+    ensures grows { Grows (R.remaining reader.old) (R.remaining reader.new) (take from space.old)
+        (take result.0 space.new) }
     ensures ok { OnOk result.1 (result.0 ≡ length space.new) }
     ensures err { OnErr result.1 (result.0 < length space.new) }
-    ensures cause { IfErr result.1 (λ e. (e ≡ ServeFault.Read) ⊎ ((e ≡ ServeFault.CutShort) × IsAtEnd (R.remaining reader.new))) }
+    ensures cause { IfErr result.1 (λ e. (e ≡ ServeFault.Read)
+        ⊎ ((e ≡ ServeFault.CutShort) × IsAtEnd (R.remaining reader.new))) }
 {
     let mut at = from;
     while at < space.len() {
@@ -83,7 +85,8 @@ pub(crate) fn fill_to<R: Read>(
     ensures grows { Grows (R.remaining reader.old) (R.remaining reader.new) buffer.old.items buffer.new.items }
     ensures ok { OnOk result (vec_len buffer.new ≡ max (vec_len buffer.old) end) }
     ensures err { OnErr result (vec_len buffer.new < end) }
-    ensures cause { IfErr result (λ e. (e ≡ ServeFault.Read) ⊎ (e ≡ ServeFault.Memory) ⊎ ((e ≡ ServeFault.CutShort) × IsAtEnd (R.remaining reader.new))) }
+    ensures cause { IfErr result (λ e. (e ≡ ServeFault.Read) ⊎ (e ≡ ServeFault.Memory)
+        ⊎ ((e ≡ ServeFault.CutShort) × IsAtEnd (R.remaining reader.new))) }
 {
     let from = buffer.len();
     if end <= from {

@@ -46,7 +46,8 @@ fn verdict_of_content(bytes: &[u8], fields: &[HeaderSpan], call: Verdict) -> Ver
 /// The tenant of this name, where it is lawful.
 fn tenant_of(alloc: Global, name: &[u8]) -> Result<Tenant, LabelFault>
     ensures ok { IfOk result (λ tenant. (tenant ≡ name.now) × IsTrue (is_tenant name.now)) }
-    ensures bad { IfErr result (λ e. ((e ≡ LabelFault.BadTenant) × (is_tenant name.now ≡ false)) ⊎ ((e ≡ LabelFault.Memory) × IsTrue (is_tenant name.now))) }
+    ensures bad { IfErr result (λ e. ((e ≡ LabelFault.BadTenant) × (is_tenant name.now ≡ false))
+        ⊎ ((e ≡ LabelFault.Memory) × IsTrue (is_tenant name.now))) }
 {
     match str::from_utf8(name) {
         Ok(text) => Tenant::new(alloc, text),
@@ -57,7 +58,8 @@ fn tenant_of(alloc: Global, name: &[u8]) -> Result<Tenant, LabelFault>
 /// The tests from the tenant's on.
 fn verdict_of_tenants(alloc: Global, bytes: &[u8], fields: &[HeaderSpan], route: Route) -> Verdict
     requires { All (IsHeaderWithin (length bytes.now)) fields.now }
-    ensures { let all = map (header_bytes bytes.now) fields.now in IsFound (verdict_of_tenants route (tenants_of all) all) result }
+    ensures { let all = map (header_bytes bytes.now) fields.now in IsFound
+        (verdict_of_tenants route (tenants_of all) all) result }
 {
     let name = match find(bytes, fields, b"x-scope-orgid") {
         Found::Nothing => return Verdict::Fixed(FixedAnswer::NoOrgId),

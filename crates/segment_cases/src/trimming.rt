@@ -1,4 +1,4 @@
-use crate::writing::stream_of;
+use crate::writing::stream_in_record;
 use accept::{Limits, StreamImage, StreamState, TrimRefusal};
 use anyhow::{Result, bail};
 use log_words::write_stream;
@@ -14,7 +14,7 @@ pub fn trimmed(
     half_age: u64,
     said: &mut String,
 ) -> Result<Record> {
-    let (key, stream) = stream_of(record)?;
+    let (key, stream) = stream_in_record(record)?;
     let mut state = StreamState::of(alloc, stream)?;
     say_trim(&mut state, bound, half_age, said)?;
     let StreamImage {

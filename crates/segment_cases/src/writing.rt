@@ -115,14 +115,14 @@ fn put_image(image: &Image, words: &str, slot: &mut Vec<u8>, said: &mut String) 
 fn image_of(alloc: Global, records: Vec<Record>) -> Result<Image> {
     let mut image = Image::new(alloc);
     for record in records {
-        let (key, stream) = stream_of(record)?;
+        let (key, stream) = stream_in_record(record)?;
         image.insert(key, stream)?;
     }
     Ok(image)
 }
 
 /// The stream of a state.
-pub fn stream_of(record: Record) -> Result<(StreamKey, StreamImage)> {
+pub fn stream_in_record(record: Record) -> Result<(StreamKey, StreamImage)> {
     match record {
         Record::State {
             key,

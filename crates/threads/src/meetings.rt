@@ -20,11 +20,13 @@ use std::thread::{Threads, join};
 pub(crate) struct Memory;
 
 impl Kept for Memory {
-    ghost use Rattle.std.specs.Prelude.{⊤};
+    ghost use Rattle.std.specs.Prelude.{⊤, []};
 
     ghost kept = { λ _ _ _. ⊤ };
 
     ghost moment = { λ _. (0, 0) };
+
+    ghost doubts = { λ _. [] };
 }
 
 /// Which table a test has.
@@ -53,7 +55,8 @@ impl<J: Room> Model for Desk<J> {
 
     ghost view = { λ d. length d.book.items };
 
-    ghost invariant = { λ d. (d.book.table ≡ J.table) × (d.book.about.shards ≡ 1) × (d.book.shard ≡ 0) × (is_marked d.book.items ≡ false) };
+    ghost invariant = { λ d. (d.book.table ≡ J.table) × (d.book.about.shards ≡ 1) × (d.book.shard ≡ 0)
+        × (is_marked d.book.items ≡ false) };
 }
 
 impl<J: Room> Desk<J> {
@@ -69,7 +72,7 @@ impl<J: Room> Desk<J> {
 }
 
 /// A read of no time, of the stream with this value of its one label.
-pub(crate) fn read_of(alloc: Global, value: &str) -> Option<Call>
+pub(crate) fn read_call(alloc: Global, value: &str) -> Option<Call>
     ensures { IfSome result ReadsNothing }
 {
     let mut pairs = Vec::new(alloc);
@@ -89,9 +92,12 @@ pub(crate) fn read_of(alloc: Global, value: &str) -> Option<Call>
 
 /// The history of one shard, its book, and two passes.
 fn open(alloc: Global) -> Result<(History, Book, Pass, Pass), Fail>
-    ensures book { IfOk result (λ it. (it.1.table ≡ it.0) × (it.1.about.shards ≡ 1) × (it.1.shard ≡ 0) × (it.1.items ≡ [])) }
-    ensures one { IfOk result (λ it. (it.2.table ≡ it.0) × (it.2.caller.about.shards ≡ 1) × (it.2.caller.pending ≡ []) × (it.2.caller.last ≡ 0)) }
-    ensures two { IfOk result (λ it. (it.3.table ≡ it.0) × (it.3.caller.about.shards ≡ 1) × (it.3.caller.pending ≡ []) × (it.3.caller.last ≡ 0)) }
+    ensures book { IfOk result (λ it. (it.1.table ≡ it.0) × (it.1.about.shards ≡ 1) × (it.1.shard ≡ 0)
+        × (it.1.items ≡ [])) }
+    ensures one { IfOk result (λ it. (it.2.table ≡ it.0) × (it.2.caller.about.shards ≡ 1) × (it.2.caller.pending ≡ [])
+        × (it.2.caller.last ≡ 0)) }
+    ensures two { IfOk result (λ it. (it.3.table ≡ it.0) × (it.3.caller.about.shards ≡ 1) × (it.3.caller.pending ≡ [])
+        × (it.3.caller.last ≡ 0)) }
 {
     let bases = vec![in alloc; Image::new(alloc)]?;
     let (history, mut books, mut passes) = History::new(alloc, &bases, 2, Limits::PROFILE, 4_096)?;
@@ -139,11 +145,12 @@ fn calls<J: Room>(
     mut pass: Pass,
 ) -> Option<Pass>
     requires history { history.now ≡ J.table }
-    requires pass { (pass.table ≡ J.table) × (pass.caller.about.shards ≡ 1) × (pass.caller.pending ≡ []) × (pass.caller.last ≡ 0) }
+    requires pass { (pass.table ≡ J.table) × (pass.caller.about.shards ≡ 1) × (pass.caller.pending ≡ [])
+        × (pass.caller.last ≡ 0) }
     ensures pass { IfSome result (λ p. (p.table ≡ J.table) × (p.caller.about.shards ≡ 1) × (p.caller.pending ≡ [])) }
     ensures number { IfSome result (λ p. p.caller.last ≡ 100) }
 {
-    let read = read_of(alloc, "1")?;
+    let read = read_call(alloc, "1")?;
     let read = &read;
     for made in 0..100u64 {
         call(rt, alloc, history, desk, &mut pass, read)?;
@@ -162,8 +169,10 @@ fn both_call<J: Room + Send + Sync, R: Threads + Wait + Abort + Sync>(
 ) -> Result<(), Fail>
     requires history { history ≡ J.table }
     requires book { (book.table ≡ J.table) × (book.about.shards ≡ 1) × (book.shard ≡ 0) × (book.items ≡ []) }
-    requires one { (one.table ≡ J.table) × (one.caller.about.shards ≡ 1) × (one.caller.pending ≡ []) × (one.caller.last ≡ 0) }
-    requires two { (two.table ≡ J.table) × (two.caller.about.shards ≡ 1) × (two.caller.pending ≡ []) × (two.caller.last ≡ 0) }
+    requires one { (one.table ≡ J.table) × (one.caller.about.shards ≡ 1) × (one.caller.pending ≡ [])
+        × (one.caller.last ≡ 0) }
+    requires two { (two.table ≡ J.table) × (two.caller.about.shards ≡ 1) × (two.caller.pending ≡ [])
+        × (two.caller.last ≡ 0) }
 {
     let desk = Mutex::new(Desk::<J> {
         book,
@@ -173,11 +182,13 @@ fn both_call<J: Room + Send + Sync, R: Threads + Wait + Abort + Sync>(
     let (one, two) = join(
         rt,
         move || -> Option<Pass>
-            requires { (history.now ≡ J.table) × (one.table ≡ J.table) × (one.caller.about.shards ≡ 1) × (one.caller.pending ≡ []) × (one.caller.last ≡ 0) }
+            requires { (history.now ≡ J.table) × (one.table ≡ J.table) × (one.caller.about.shards ≡ 1)
+                × (one.caller.pending ≡ []) × (one.caller.last ≡ 0) }
             ensures { IfSome result (λ p. (p.table ≡ J.table) × (p.caller.about.shards ≡ 1)) }
         { calls(rt, alloc, history, desk, one) },
         move || -> Option<Pass>
-            requires { (history.now ≡ J.table) × (two.table ≡ J.table) × (two.caller.about.shards ≡ 1) × (two.caller.pending ≡ []) × (two.caller.last ≡ 0) }
+            requires { (history.now ≡ J.table) × (two.table ≡ J.table) × (two.caller.about.shards ≡ 1)
+                × (two.caller.pending ≡ []) × (two.caller.last ≡ 0) }
             ensures { IfSome result (λ p. (p.table ≡ J.table) × (p.caller.about.shards ≡ 1)) }
         { calls(rt, alloc, history, desk, two) },
     );
@@ -219,7 +230,7 @@ fn mark_and_refuse(
 #[test]
 fn marked_shard_is_unavailable(rt: HostRuntime) -> Result<(), Fail> {
     let (history, mut book, mut pass, _) = open(rt.alloc())?;
-    let read = read_of(rt.alloc(), "1").ok_or("a call")?;
+    let read = read_call(rt.alloc(), "1").ok_or("a call")?;
     let reply = mark_and_refuse(&history, &mut book, &mut pass, &read)?;
     assert!(rt; matches!(reply, Reply::Unavailable));
     book.settle(&mut pass);
@@ -249,7 +260,7 @@ fn announced_call_is_withdrawn(rt: HostRuntime) -> Result<(), Fail> {
     let (history, books, mut passes) = History::new(alloc, &bases, 3, Limits::PROFILE, 4_096)?;
     assert_eq!(rt; (books.len(), passes.len()), (2, 3));
     let mut pass = passes.pop().ok_or("a pass")?;
-    let read = read_of(alloc, "1").ok_or("a call")?;
+    let read = read_call(alloc, "1").ok_or("a call")?;
     announce_and_withdraw(&history, &mut pass, &read)?;
     assert!(rt; !pass.is_closed());
     announce_and_withdraw(&history, &mut pass, &read)?;

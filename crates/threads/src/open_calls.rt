@@ -6,7 +6,7 @@ ghost use Rattle.history.specs.Histories.{HaveSteps, shard_in, step_of};
 ghost use Rattle.history.specs.Handles.{longer};
 ghost use Rattle.threads.specs.Windows.{AreBooks, HaveAll, IsMarkedBook, IsOpening, IsThreadReady, IsWindow, MayFollowIn, with_step};
 
-use crate::meetings::{Memory, read_of};
+use crate::meetings::{Memory, read_call};
 use accept::{Call, Image, Limits, Reply};
 use history::{Book, History, Pass, Receipt, Ticket};
 use labels::shard_of;
@@ -272,7 +272,7 @@ fn reads(alloc: Global) -> Result<Vec<Call>, Fail> {
     let mut calls = Vec::new(alloc);
     for number in 0..64 {
         let value = if number % 3 == 0 { "1" } else { "2" };
-        calls.push(read_of(alloc, value).ok_or("a call")?)?;
+        calls.push(read_call(alloc, value).ok_or("a call")?)?;
     }
     Ok(calls)
 }

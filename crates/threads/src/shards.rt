@@ -102,7 +102,8 @@ fn open(
 ) -> Result<(Ingester<Slot>, Vec<Pass>), Fail>
     requires slots { (0 < vec_len slots) × (vec_len slots ≤ 64) }
     requires passes { (0 < passes) × (passes ≤ 64) }
-    ensures passes { IfOk result (λ it. (p : ℕ) (pass : Passed) → slice_get it.1.items p ≡ Some pass → IsPassOf it.0 pass) }
+    ensures passes { IfOk result (λ it. (p : ℕ) (pass : Passed) → slice_get it.1.items p ≡ Some pass
+        → IsPassOf it.0 pass) }
     ensures shards { IfOk result (λ it. it.0.about.shards ≡ vec_len slots) }
 {
     match Ingester::open(alloc, slots, passes, Limits::PROFILE, CAPACITY) {

@@ -70,7 +70,8 @@ pub fn place_in(words: &[String]) -> Option<ShardPlace>
 }
 
 fn place_of(shard: &str, count: &str) -> Option<ShardPlace>
-    ensures { MatchOption result (¬ NameShard shard.now count.now) (λ place. NameShard shard.now count.now × (place.shard ≡ value shard.now) × (place.count ≡ value count.now)) }
+    ensures { MatchOption result (¬ NameShard shard.now count.now) (λ place. NameShard shard.now count.now
+        × (place.shard ≡ value shard.now) × (place.count ≡ value count.now)) }
 {
     let shard = time_of(shard)?;
     let count = time_of(count)?;
@@ -96,7 +97,8 @@ pub fn clock_in(words: &[String]) -> Option<u64>
 
 // A number in decimal digits, within these bounds.
 fn number_in(text: &str, least: u64, most: u64) -> Option<u64>
-    ensures { MatchOption result (¬ IsNumberIn least most text.now) (λ n. IsNumberIn least most text.now × (n ≡ value text.now)) }
+    ensures { MatchOption result (¬ IsNumberIn least most text.now) (λ n. IsNumberIn least most text.now
+        × (n ≡ value text.now)) }
 {
     let number = time_of(text)?;
     if number < least || number > most {
@@ -147,7 +149,8 @@ fn endless_of<'a>(
     shards: &str,
     workers: &str,
 ) -> Option<ServerWords<'a>>
-    ensures named { MatchOption result (¬ NameServer port.now shards.now workers.now) (λ _. NameServer port.now shards.now workers.now) }
+    ensures named { MatchOption result (¬ NameServer port.now shards.now workers.now) (λ _.
+        NameServer port.now shards.now workers.now) }
     ensures says { IfSome result (SaysOfServer folder.now port.now shards.now workers.now None) }
 {
     let port = number_in(port, 0, MAX_PORT)?;
@@ -169,7 +172,9 @@ fn ending_of<'a>(
     workers: &str,
     limit: &str,
 ) -> Option<ServerWords<'a>>
-    ensures named { MatchOption result (¬ (NameServer port.now shards.now workers.now × IsNumberIn 1 4294967295 limit.now)) (λ _. NameServer port.now shards.now workers.now × IsNumberIn 1 4294967295 limit.now) }
+    ensures named { MatchOption result (¬ (NameServer port.now shards.now workers.now
+        × IsNumberIn 1 4294967295 limit.now)) (λ _. NameServer port.now shards.now workers.now
+        × IsNumberIn 1 4294967295 limit.now) }
     ensures says { IfSome result (SaysOfServer folder.now port.now shards.now workers.now (Some (value limit.now))) }
 {
     let endless = endless_of(folder, port, shards, workers)?;
@@ -209,7 +214,8 @@ fn call_of<'a>(
     tenant: &str,
     now: &str,
 ) -> Option<CallWords<'a>>
-    ensures named { MatchOption result (¬ NameCall verb.now shards.now tenant.now now.now) (λ _. NameCall verb.now shards.now tenant.now now.now) }
+    ensures named { MatchOption result (¬ NameCall verb.now shards.now tenant.now now.now) (λ _.
+        NameCall verb.now shards.now tenant.now now.now) }
     ensures says { IfSome result (SaysOfCall verb.now folder.now shards.now tenant.now now.now) }
 {
     let route = route_of(verb)?;

@@ -1,4 +1,4 @@
 use Rattle.history.proofs.book.Book.commit.Given as goal
 
-abbrev pub ghosts-committed : goal.ghosts-committed
-ghosts-committed g a = record { moment = g.K.Kept.moment a.kept.now }
+abbrev pub ghosts-commit_at : goal.ghosts-commit_at
+ghosts-commit_at g a = record { moment = g.K.Kept.moment a.kept.now }

@@ -7,7 +7,7 @@ use Rattle.history.specs.Handles.{Booked, Announced, ask_in, doubt_in, before_in
 use Rattle.history.proofs.HandOvers.{gives, takes}
 use Rattle.history.proofs.Books.{commits_as}
 use Rattle.history.proofs.Fits.{book_fits}
-use Rattle.history.proofs.book.Book.committed.Goals as goal
+use Rattle.history.proofs.book.Book.commit_at.Goals as goal
 
 pub join_seat-requires : goal.join_seat-requires
 join_seat-requires g c =
