@@ -7,7 +7,8 @@ use words::capacity_in;
 
 /// How many bytes a slot may have by the setting. `None` where it is no lawful one; then a line of `errors` says what is.
 pub fn capacity_by<E: Write>(setting: Option<&str>, errors: &mut E) -> Option<u64>
-    ensures given { MatchOption result (¬ GivesCapacity (option_map (λ s. s.now) setting.entry)) (λ _. GivesCapacity (option_map (λ s. s.now) setting.entry)) }
+    ensures given { MatchOption result (¬ GivesCapacity (option_map (λ s. s.now) setting.entry))
+        (λ _. GivesCapacity (option_map (λ s. s.now) setting.entry)) }
     ensures few { IfSome result (λ capacity. capacity ≤ 2 ^ 30) }
 {
     let capacity = capacity_in(setting);

@@ -110,7 +110,8 @@ fn number_in(text: &str, least: u64, most: u64) -> Option<u64>
 /// How many bytes a slot may have by what the environment says: 4,096 to 2^30, in 1 to 19 decimal digits; 67,108,864 where
 /// it says nothing. `None` where it says anything else.
 pub fn capacity_in(setting: Option<&str>) -> Option<u64>
-    ensures given { MatchOption result (¬ GivesCapacity (option_map (λ s. s.now) setting.entry)) (λ _. GivesCapacity (option_map (λ s. s.now) setting.entry)) }
+    ensures given { MatchOption result (¬ GivesCapacity (option_map (λ s. s.now) setting.entry))
+        (λ _. GivesCapacity (option_map (λ s. s.now) setting.entry)) }
     ensures says { IfSome result (λ capacity. capacity ≡ capacity_of (option_map (λ s. s.now) setting.entry)) }
     ensures few { IfSome result (λ capacity. capacity ≤ 2 ^ 30) }
 {
