@@ -14,8 +14,8 @@ use std::io::{Read, Write};
 use std::sync::Wait;
 use words::{CallWords, call_in};
 
-/// Runs `ingestctl push|read|trim DIR SHARDS TENANT NOW` on the body that is read from `input`, and gives its exit status.
-/// `setting` is what the environment says of a slot's capacity.
+/// Runs `ingestctl push|read|trim DIR SHARDS TENANT NOW` on the body that is read from `input`, and gives its exit
+/// status. `setting` is what the environment says of a slot's capacity.
 ///
 /// The slots of DIR are opened, which no server may have open meanwhile; the answer's status, a newline and its body are
 /// written. Status 0: answered 200 or 204. 1: answered otherwise, or a fault while running. 2: wrong words, or a wrong

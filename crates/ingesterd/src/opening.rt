@@ -10,8 +10,8 @@ use history::Pass;
 use ingester::Ingester;
 use std::alloc::Global;
 
-/// Opens shards over these slots under the profile's limits, with so many passes, 1 to 64. `capacity` is how many bytes a
-/// segment may have, at most 2^30.
+/// Opens shards over these slots under the profile's limits, with so many passes, 1 to 64. `capacity` is how many bytes
+/// a segment may have, at most 2^30.
 pub fn open_shards<D: Disk + Drop>(
     alloc: Global,
     slots: Vec<[D; 2]>,

@@ -47,8 +47,8 @@ fn read_words<R: Env + AllocGlobal>(rt: &R) -> io::Result<Vec<String>> {
     Ok(env::args(rt)?.skip(1).collect(rt.alloc())?)
 }
 
-/// What the environment says of the bytes of a slot, in the variable `NEEDLEAZURE_CAPACITY`: `None` where that is not set,
-/// and an empty text where it is no text, since neither is a capacity.
+/// What the environment says of the bytes of a slot, in the variable `NEEDLEAZURE_CAPACITY`. `None` where that is not
+/// set; an empty text where it is no text, since neither is a capacity.
 pub fn setting_of<R: Env + AllocGlobal>(rt: &R) -> Result<Option<String>, AllocError> {
     match env::var(rt, "NEEDLEAZURE_CAPACITY") {
         Ok(setting) => Ok(Some(setting)),
@@ -107,8 +107,8 @@ fn number_in(text: &str, least: u64, most: u64) -> Option<u64>
     Some(number)
 }
 
-/// How many bytes a slot may have by what the environment says: 4,096 to 2^30, in 1 to 19 decimal digits; 67,108,864 where
-/// it says nothing. `None` where it says anything else.
+/// How many bytes a slot may have by what the environment says: 4,096 to 2^30, in 1 to 19 decimal digits; 67,108,864
+/// where it says nothing. `None` where it says anything else.
 pub fn capacity_in(setting: Option<&str>) -> Option<u64>
     ensures given { MatchOption result (¬ GivesCapacity (option_map (λ s. s.now) setting.entry))
         (λ _. GivesCapacity (option_map (λ s. s.now) setting.entry)) }
