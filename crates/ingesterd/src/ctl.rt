@@ -1,9 +1,10 @@
 //! The program `ingestctl`: one request on the slots of a folder.
-ghost use Rattle.std.specs.Prelude.{◌≡◌, ◌↔◌, ◌≤◌, IfOk};
-ghost use Rattle.words.specs.Words.{GiveCall};
+ghost use Rattle.std.specs.Prelude.{◌≡◌, ◌↔◌, ◌≤◌, ◌^◌, IfOk, option_map};
+ghost use Rattle.words.specs.Words.{GiveCall, GivesCapacity};
 
 use crate::body::{read_body, write_answer};
 use crate::opening::open_for_one;
+use crate::setting::capacity_by;
 use crate::slots::open_slots;
 use crate::stopped::Stopped;
 use front::{Answer, Status, answer};
@@ -13,21 +14,23 @@ use std::io::{Read, Write};
 use std::sync::Wait;
 use words::{CallWords, call_in};
 
-/// Runs `ingestctl push|read|trim DIR SHARDS TENANT NOW` on the body that is read from `input`, and gives its exit status.
+/// Runs `ingestctl push|read|trim DIR SHARDS TENANT NOW` on the body that is read from `input`, and gives its exit
+/// status. `setting` is what the environment says of a slot's capacity.
 ///
 /// The slots of DIR are opened, which no server may have open meanwhile; the answer's status, a newline and its body are
-/// written. Status 0: answered 200 or 204. 1: answered otherwise, or a fault while running. 2: wrong words. 3: a refused
-/// opening. A fault stands on one line of `errors`.
+/// written. Status 0: answered 200 or 204. 1: answered otherwise, or a fault while running. 2: wrong words, or a wrong
+/// setting. 3: a refused opening. A fault stands on one line of `errors`.
 pub fn run_ctl<R: Files<File = File> + Wait, I: Read, W: Write, E: Write>(
     rt: &R,
     alloc: Global,
     words: &[String],
+    setting: Option<&str>,
     input: &mut I,
     output: &mut W,
     errors: &mut E,
 ) -> u8
     ensures status { result ≤ 3 }
-    ensures usage { (result ≡ 2) ↔ (¬ GiveCall words.now) }
+    ensures usage { (result ≡ 2) ↔ (¬ (GiveCall words.now × GivesCapacity (option_map (λ s. s.now) setting.entry))) }
 {
     let Some(words) = call_in(alloc, words) else {
         let _ = writeln!(
@@ -36,7 +39,10 @@ pub fn run_ctl<R: Files<File = File> + Wait, I: Read, W: Write, E: Write>(
         );
         return 2;
     };
-    match call_and_print(rt, alloc, words, input, output) {
+    let Some(capacity) = capacity_by(setting, errors) else {
+        return 2;
+    };
+    match call_and_print(rt, alloc, words, capacity, input, output) {
         Ok(status) => status,
         Err(stopped) => {
             let _ = writeln!(errors, "{stopped}");
@@ -50,12 +56,14 @@ fn call_and_print<R: Files<File = File> + Wait, I: Read, W: Write>(
     rt: &R,
     alloc: Global,
     words: CallWords<'_>,
+    capacity: u64,
     input: &mut I,
     output: &mut W,
 ) -> Result<u8, Stopped>
+    requires { capacity ≤ 2 ^ 30 }
     ensures { IfOk result (λ status. status ≤ 1) }
 {
-    let answer = call_folder(rt, alloc, words, input)?;
+    let answer = call_folder(rt, alloc, words, capacity, input)?;
     write_answer(alloc, output, &answer)?;
     match answer.status {
         Status::Ok | Status::NoContent => Ok(0),
@@ -68,8 +76,11 @@ fn call_folder<R: Files<File = File> + Wait, I: Read>(
     rt: &R,
     alloc: Global,
     words: CallWords<'_>,
+    capacity: u64,
     input: &mut I,
-) -> Result<Answer, Stopped> {
+) -> Result<Answer, Stopped>
+    requires { capacity ≤ 2 ^ 30 }
+{
     let CallWords {
         route,
         folder,
@@ -80,6 +91,6 @@ fn call_folder<R: Files<File = File> + Wait, I: Read>(
     let tenant = tenant?;
     let body = read_body(alloc, input)?;
     let slots = open_slots(rt, alloc, folder, shards)?;
-    let (ingester, mut pass) = open_for_one(alloc, slots)?;
+    let (ingester, mut pass) = open_for_one(alloc, slots, capacity)?;
     answer(rt, alloc, &ingester, &mut pass, now, route, &tenant, &body).map_err(|_| Stopped::Memory)
 }

@@ -16,7 +16,7 @@ use pushjson::{PushFault, RawBatch, read_push};
 use std::alloc::Global;
 use std::io::{Read, Write};
 use std::sync::Wait;
-use words::clock_in;
+use words::{CAPACITY, clock_in};
 
 /// Whose streams they are.
 const TENANT: &str = "t";
@@ -70,7 +70,7 @@ fn push_and_read<R: Wait, I: Read, W: Write>(
 {
     let body = read_body(alloc, input)?;
     let tenant = Tenant::new(alloc, TENANT).map_err(|_| Stopped::Memory)?;
-    let (ingester, mut pass) = open_for_one(alloc, empty_slots(alloc)?)?;
+    let (ingester, mut pass) = open_for_one(alloc, empty_slots(alloc)?, CAPACITY)?;
     let pushed = answer(
         rt,
         alloc,

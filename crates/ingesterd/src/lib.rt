@@ -8,6 +8,7 @@ mod ingest1;
 mod opening;
 mod server;
 mod serving;
+mod setting;
 mod slots;
 mod stopped;
 
@@ -17,4 +18,4 @@ pub use ingest1::run_ingest1;
 pub use server::run_server;
 pub use serving::serve_listener;
 pub use stopped::Stopped;
-pub use words::words_of;
+pub use words::{setting_of, words_of};

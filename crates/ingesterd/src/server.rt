@@ -1,10 +1,11 @@
 //! The program `ingesterd`: the server.
-ghost use Rattle.std.specs.Prelude.{◌≡◌, ◌↔◌, ◌≤◌};
-ghost use Rattle.words.specs.Words.{GiveServer};
+ghost use Rattle.std.specs.Prelude.{◌≡◌, ◌↔◌, ◌≤◌, ◌^◌, option_map};
+ghost use Rattle.words.specs.Words.{GiveServer, GivesCapacity};
 
 use crate::clock::SystemClock;
 use crate::opening::open_shards;
 use crate::serving::serve_listener;
+use crate::setting::capacity_by;
 use crate::slots::open_slots;
 use crate::stopped::Stopped;
 use std::alloc::Global;
@@ -16,17 +17,19 @@ use std::sync::Wait;
 use std::thread::Threads;
 use words::{ServerWords, server_in};
 
-/// Runs `ingesterd DIR PORT SHARDS WORKERS [CONNECTIONS]`, and gives its exit status.
+/// Runs `ingesterd DIR PORT SHARDS WORKERS [CONNECTIONS]`, and gives its exit status. `setting` is what the environment
+/// says of a slot's capacity.
 ///
 /// The slots of DIR are opened and replayed, the port of 127.0.0.1 is listened on (0: any that is free), `ready <port>` is
 /// written, and each connection is served by one of WORKERS threads. After CONNECTIONS connections, where given, it ends
 /// with status 0, as it does where no worker is left; else it goes on. A connection that fails costs no more than itself
-/// (`serve_listener`). Status 1: a fault while running. 2: wrong words. 3: a refused opening. A fault stands on one line of
-/// `errors`.
+/// (`serve_listener`). Status 1: a fault while running. 2: wrong words, or a wrong setting. 3: a refused opening.
+/// A fault stands on one line of `errors`.
 pub fn run_server<R, W: Write, E: Write>(
     rt: &R,
     alloc: Global,
     words: &[String],
+    setting: Option<&str>,
     output: &mut W,
     errors: &mut E,
 ) -> u8
@@ -34,7 +37,7 @@ where
     R: Files<File = File> + Net<Listener = TcpListener, Stream = TcpStream>,
     R: Clock + Threads + Wait + Sync,
     ensures status { result ≤ 3 }
-    ensures usage { (result ≡ 2) ↔ (¬ GiveServer words.now) }
+    ensures usage { (result ≡ 2) ↔ (¬ (GiveServer words.now × GivesCapacity (option_map (λ s. s.now) setting.entry))) }
 {
     let Some(words) = server_in(words) else {
         let _ = writeln!(
@@ -43,7 +46,10 @@ where
         );
         return 2;
     };
-    if let Err(stopped) = serve_folder(rt, alloc, words, output) {
+    let Some(capacity) = capacity_by(setting, errors) else {
+        return 2;
+    };
+    if let Err(stopped) = serve_folder(rt, alloc, words, capacity, output) {
         let _ = writeln!(errors, "{stopped}");
         return stopped.status();
     }
@@ -55,14 +61,16 @@ fn serve_folder<R, W: Write>(
     rt: &R,
     alloc: Global,
     words: ServerWords<'_>,
+    capacity: u64,
     output: &mut W,
 ) -> Result<(), Stopped>
 where
     R: Files<File = File> + Net<Listener = TcpListener, Stream = TcpStream>,
     R: Clock + Threads + Wait + Sync,
+    requires { capacity ≤ 2 ^ 30 }
 {
     let slots = open_slots(rt, alloc, words.folder, words.shards)?;
-    let (ingester, passes) = open_shards(alloc, slots, words.workers)?;
+    let (ingester, passes) = open_shards(alloc, slots, words.workers, capacity)?;
     let address = SocketAddr::new(IpAddr::V4(Ipv4Addr::LOCALHOST), words.port);
     let listener = TcpListener::bind(rt, address).map_err(|_| Stopped::Listen)?;
     let port = listener.local_addr().map_err(|_| Stopped::Listen)?.port();

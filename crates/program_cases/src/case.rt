@@ -1,8 +1,9 @@
 //! A row: what its lines do, one after another.
 
+use crate::ended::Ended;
 use crate::repeats::Repeats;
 use crate::running::{Limits, Program, run};
-use crate::wording::{say_call, say_clock, say_place, say_server, words_in};
+use crate::wording::{say_call, say_capacity, say_clock, say_place, say_server, words_in};
 use anyhow::{Result, anyhow, bail};
 use disk::LockedFile;
 use rows::{Row, read_hex, unescape, word_of};
@@ -35,6 +36,8 @@ struct Case {
     input: Vec<u8>,
     /// Where its streams fail.
     limits: Limits,
+    /// What the environment says of a slot's capacity.
+    setting: Option<String>,
     /// What was last written to a file.
     kept: Vec<u8>,
     /// A file that is in use.
@@ -54,6 +57,7 @@ where
         alloc,
         input: Vec::new(alloc),
         limits: Limits::NONE,
+        setting: None,
         kept: Vec::new(alloc),
         locked: None,
         listener: None,
@@ -97,6 +101,7 @@ impl Case {
             "place" | "clock" | "server" | "call" => self.take_words(word, rest, said),
             "walcat" | "ingest1" | "ingestctl" | "ingesterd" => self.take_run(rt, word, rest, said),
             "each" => self.take_each(rt, rest, said),
+            "capacity" => self.take_setting(rest, said),
             "folder" | "file" | "from" | "look" | "lock" | "free" | "listen" => {
                 self.take_file(rt, word, rest, said)
             }
@@ -114,6 +119,12 @@ impl Case {
             "call" => say_call(self.alloc, &words, said),
             _ => bail!("no such word"),
         }
+    }
+
+    /// What the environment says from here on, nothing where there is no word, and the capacity that it gives.
+    fn take_setting(&mut self, rest: &str, said: &mut String) -> Result<()> {
+        self.setting = words_in(self.alloc, rest, 0)?.pop();
+        say_capacity(self.setting.as_deref(), said)
     }
 
     /// What is read next, and where it fails.
@@ -202,7 +213,16 @@ impl Case {
         R: Clock + Threads + Wait + Sync,
     {
         let (program, words) = (program_of(name)?, self.words(line)?);
-        run(rt, self.alloc, program, &words, &self.input, self.limits).say(said)
+        self.run(rt, program, &words, self.limits).say(said)
+    }
+
+    fn run<R>(&self, rt: &R, program: Program, words: &[String], limits: Limits) -> Ended
+    where
+        R: Files<File = File> + Net<Listener = TcpListener, Stream = TcpStream>,
+        R: Clock + Threads + Wait + Sync,
+    {
+        let setting = self.setting.as_deref();
+        run(rt, self.alloc, program, words, setting, &self.input, limits)
     }
 
     /// Runs a program once for each place of a stream, from the first up to the last, where that stream fails: how it
@@ -233,11 +253,11 @@ impl Case {
         R: Files<File = File> + Net<Listener = TcpListener, Stream = TcpStream>,
         R: Clock + Threads + Wait + Sync,
     {
-        let whole = run(rt, self.alloc, program, words, &self.input, self.limits);
+        let whole = self.run(rt, program, words, self.limits);
         let mut repeats = Repeats::new(self.alloc);
         for place in places.0..=places.1 {
             let limits = self.limits_at(stream, place)?;
-            let ended = run(rt, self.alloc, program, words, &self.input, limits);
+            let ended = self.run(rt, program, words, limits);
             repeats.take(ended.cut(self.alloc, limits.output, &whole)?, said)?;
         }
         repeats.say(said)

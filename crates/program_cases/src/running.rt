@@ -54,12 +54,13 @@ impl Limits {
     };
 }
 
-/// Runs a program with these words and this input.
+/// Runs a program with these words, what the environment says of a slot's capacity, and this input.
 pub fn run<R>(
     rt: &R,
     alloc: Global,
     program: Program,
     words: &[String],
+    setting: Option<&str>,
     input: &[u8],
     limits: Limits,
 ) -> Ended
@@ -73,8 +74,16 @@ where
     let status = match program {
         Program::Walcat => run_walcat(alloc, words, &mut input, &mut output, &mut errors),
         Program::Ingest1 => run_ingest1(rt, alloc, words, &mut input, &mut output, &mut errors),
-        Program::Ingestctl => run_ctl(rt, alloc, words, &mut input, &mut output, &mut errors),
-        Program::Ingesterd => run_server(rt, alloc, words, &mut output, &mut errors),
+        Program::Ingestctl => run_ctl(
+            rt,
+            alloc,
+            words,
+            setting,
+            &mut input,
+            &mut output,
+            &mut errors,
+        ),
+        Program::Ingesterd => run_server(rt, alloc, words, setting, &mut output, &mut errors),
     };
     Ended {
         status,

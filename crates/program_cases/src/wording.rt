@@ -6,7 +6,7 @@ use requests::Route;
 use rows::text_of;
 use std::alloc::Global;
 use std::fmt::Write;
-use words::{call_in, clock_in, place_in, server_in};
+use words::{call_in, capacity_in, clock_in, place_in, server_in};
 
 /// The words of a line, which blanks part, each with its escapes. `''` is a word with no bytes, and `PORT` this port.
 pub fn words_in(alloc: Global, line: &str, port: u16) -> Result<Vec<String>> {
@@ -41,6 +41,15 @@ pub fn say_clock(words: &[String], said: &mut String) -> Result<()> {
     match clock_in(words) {
         Some(now) => writeln!(said, "now {now}")?,
         None => said.push_str("no clock\n")?,
+    }
+    Ok(())
+}
+
+/// Says the capacity that the environment gives.
+pub fn say_capacity(setting: Option<&str>, said: &mut String) -> Result<()> {
+    match capacity_in(setting) {
+        Some(capacity) => writeln!(said, "capacity {capacity}")?,
+        None => said.push_str("no capacity\n")?,
     }
     Ok(())
 }

@@ -369,7 +369,7 @@ where
     let (told, status) = join(
         rt,
         move || answers_of(client).ok(),
-        || run_server(rt, alloc, &words, &mut output, &mut errors),
+        || run_server(rt, alloc, &words, None, &mut output, &mut errors),
     );
     let ended = Ended {
         status,
@@ -389,7 +389,15 @@ fn run_line<R: Files<File = File> + Wait>(
     let words = words_of(alloc, line)?;
     let (mut output, mut errors) = (Vec::new(alloc), Vec::new(alloc));
     let mut input = body.as_bytes();
-    let status = run_ctl(rt, alloc, &words, &mut input, &mut output, &mut errors);
+    let status = run_ctl(
+        rt,
+        alloc,
+        &words,
+        None,
+        &mut input,
+        &mut output,
+        &mut errors,
+    );
     Ok(Ended {
         status,
         output,

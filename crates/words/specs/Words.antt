@@ -118,3 +118,13 @@ pub record SaysOfCall (verb folder shards tenant now : List ℕ) (call : CallWor
 pub record SaysCall (words : List (String Global)) (call : CallWords) : Type 0 where
   pub given : GiveCall words
   pub says : SaysOfCall (string_bytes given.verb) (string_bytes given.folder) (string_bytes given.shards) (string_bytes given.tenant) (string_bytes given.now) call
+
+-- what the environment says of a slot's bytes: nothing, or 4,096 to 2^30 of them
+abbrev pub GivesCapacity : Option (List ℕ) → Type 0
+GivesCapacity None = Unit {0}
+GivesCapacity (Some text) = IsNumberIn 4096 1073741824 text
+
+-- how many bytes it gives a slot
+abbrev pub capacity_of : Option (List ℕ) → ℕ
+capacity_of None = 67108864
+capacity_of (Some text) = value text

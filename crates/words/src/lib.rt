@@ -3,17 +3,18 @@
 
 mod said;
 
-ghost use Rattle.std.specs.Prelude.{◌≡◌, ◌<◌, ◌≤◌, ◌^◌, None, Some, IsTrue, IfOk, IfSome, MatchOption};
+ghost use Rattle.std.specs.Prelude.{◌≡◌, ◌<◌, ◌≤◌, ◌^◌, None, Some, IsTrue, IfOk, IfSome, MatchOption, option_map};
 ghost use Rattle.labels.specs.Tenants.{is_tenant};
-ghost use Rattle.words.specs.Words.{value, IsNumberIn, NameShard, GiveShard, SaysPlace, GiveClock, SaysClock, NameServer, SaysOfServer, GiveServer, SaysServer, verb_of, IsVerb, NameCall, SaysOfCall, GiveCall, SaysCall};
+ghost use Rattle.words.specs.Words.{value, IsNumberIn, NameShard, GiveShard, SaysPlace, GiveClock, SaysClock, NameServer, SaysOfServer, GiveServer, SaysServer, verb_of, IsVerb, NameCall, SaysOfCall, GiveCall, SaysCall, GivesCapacity, capacity_of};
 
 use labels::{LabelFault, Tenant};
 use pushjson::time_of;
 use requests::Route;
 pub use said::{CallWords, ServerWords, ShardPlace};
 use std::alloc::{AllocError, Global};
+use std::env::{self, VarError};
+use std::io;
 use std::rt::Env;
-use std::{env, io};
 
 /// The greatest number of shards, and of passes.
 const MAX_SHARDS: u64 = 64;
@@ -23,6 +24,15 @@ const MAX_PORT: u64 = 65_535;
 
 /// The greatest number of connections after which a server may end.
 const MAX_CONNECTIONS: u64 = 4_294_967_295;
+
+/// How many bytes a slot may have where the environment does not say.
+pub const CAPACITY: u64 = 67_108_864;
+
+/// The smallest capacity that the environment may say.
+const LEAST_CAPACITY: u64 = 4_096;
+
+/// The greatest capacity that the environment may say.
+const GREATEST_CAPACITY: u64 = 1 << 30;
 
 /// The words behind the program's name: none, where one of them is no text, since such words are no program's.
 pub fn words_of<R: Env + AllocGlobal>(rt: &R) -> Result<Vec<String>, AllocError> {
@@ -35,6 +45,17 @@ pub fn words_of<R: Env + AllocGlobal>(rt: &R) -> Result<Vec<String>, AllocError>
 
 fn read_words<R: Env + AllocGlobal>(rt: &R) -> io::Result<Vec<String>> {
     Ok(env::args(rt)?.skip(1).collect(rt.alloc())?)
+}
+
+/// What the environment says of the bytes of a slot, in the variable `NEEDLEAZURE_CAPACITY`. `None` where that is not
+/// set; an empty text where it is no text, since neither is a capacity.
+pub fn setting_of<R: Env + AllocGlobal>(rt: &R) -> Result<Option<String>, AllocError> {
+    match env::var(rt, "NEEDLEAZURE_CAPACITY") {
+        Ok(setting) => Ok(Some(setting)),
+        Err(VarError::NotPresent) => Ok(None),
+        Err(VarError::NotUnicode) => Ok(Some(String::new(rt.alloc()))),
+        Err(VarError::OutOfMemory) => Err(AllocError),
+    }
 }
 
 /// The place of the words `FILE SHARD COUNT`; `None` where they are not such words.
@@ -84,6 +105,20 @@ fn number_in(text: &str, least: u64, most: u64) -> Option<u64>
         return None;
     }
     Some(number)
+}
+
+/// How many bytes a slot may have by what the environment says: 4,096 to 2^30, in 1 to 19 decimal digits; 67,108,864
+/// where it says nothing. `None` where it says anything else.
+pub fn capacity_in(setting: Option<&str>) -> Option<u64>
+    ensures given { MatchOption result (¬ GivesCapacity (option_map (λ s. s.now) setting.entry))
+        (λ _. GivesCapacity (option_map (λ s. s.now) setting.entry)) }
+    ensures says { IfSome result (λ capacity. capacity ≡ capacity_of (option_map (λ s. s.now) setting.entry)) }
+    ensures few { IfSome result (λ capacity. capacity ≤ 2 ^ 30) }
+{
+    match setting {
+        Some(text) => number_in(text, LEAST_CAPACITY, GREATEST_CAPACITY),
+        None => Some(CAPACITY),
+    }
 }
 
 /// The words of a server; `None` where they are not such words.

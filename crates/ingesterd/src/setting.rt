@@ -1,0 +1,22 @@
+//! What the environment says of the slots.
+ghost use Rattle.std.specs.Prelude.{◌≡◌, ◌≤◌, ◌^◌, IfSome, MatchOption, option_map};
+ghost use Rattle.words.specs.Words.{GivesCapacity};
+
+use std::io::Write;
+use words::capacity_in;
+
+/// How many bytes a slot may have by the setting. Where it is no lawful one `None`, and a line of `errors` says what is.
+pub fn capacity_by<E: Write>(setting: Option<&str>, errors: &mut E) -> Option<u64>
+    ensures given { MatchOption result (¬ GivesCapacity (option_map (λ s. s.now) setting.entry))
+        (λ _. GivesCapacity (option_map (λ s. s.now) setting.entry)) }
+    ensures few { IfSome result (λ capacity. capacity ≤ 2 ^ 30) }
+{
+    let capacity = capacity_in(setting);
+    if capacity.is_none() {
+        let _ = writeln!(
+            errors,
+            "NEEDLEAZURE_CAPACITY is not a number of bytes from 4096 to 1073741824"
+        );
+    }
+    capacity
+}
