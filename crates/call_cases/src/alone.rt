@@ -15,14 +15,14 @@ pub fn open_alone(
     alloc: Global,
     pair: Pair,
     settings: Settings,
-) -> Result<Result<LoneShard, (OpenFault, Pair)>> {
+) -> Result<Result<Box<LoneShard>, (OpenFault, Pair)>> {
     let Settings {
         limits,
         capacity,
         ..
     } = settings;
     match LoneShard::open(alloc, pair.into_slots(), limits, capacity)? {
-        Ok(shard) => Ok(Ok(shard)),
+        Ok(shard) => Ok(Ok(Box::new(alloc, shard)?)),
         Err(refusal) => Ok(Err((refusal.0, Pair::of_slots(refusal.1)))),
     }
 }
@@ -45,9 +45,13 @@ pub fn answer_of(shard: &mut LoneShard, alloc: Global, line: &str) -> Result<Str
 }
 
 /// What is left of the shard.
-pub fn left_of(shard: LoneShard) -> Left {
-    let mut shard = shard;
+pub fn left_of(mut shard: Box<LoneShard>) -> Left {
     let steps = Some(shard.steps());
     let is_marked = shard.is_marked();
-    Left::of_slots(shard.into_slots(), steps, is_marked)
+    Left::of_slots(Box::into_inner(shard).into_slots(), steps, is_marked)
+}
+
+/// The slots of the shard, as its calls left them.
+pub fn pair_of(shard: Box<LoneShard>) -> Pair {
+    Pair::of_slots(Box::into_inner(shard).into_slots())
 }

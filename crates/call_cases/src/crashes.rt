@@ -1,6 +1,6 @@
 //! What a crash leaves of a shard, and what becomes of a call where a device does not work.
 
-use crate::alone::{answer_of, open_alone};
+use crate::alone::{answer_of, open_alone, pair_of};
 use anyhow::{Result, bail};
 use call_slots::{Pair, Way};
 use call_words::{Counted, Settings};
@@ -125,12 +125,16 @@ impl Trial<'_> {
         }
     }
 
-    fn attempt_in(&self, mut shard: LoneShard) -> Result<Tried> {
-        let answer = answer_of(&mut shard, self.alloc, self.call)?;
-        if answer.as_str() != "Unavailable" {
+    fn attempt_in(&self, mut shard: Box<LoneShard>) -> Result<Tried> {
+        if self.is_answered(&mut shard)? {
             return Ok(Tried::Answered);
         }
-        self.left_in(&Pair::of_slots(shard.into_slots()))
+        self.left_in(&pair_of(shard))
+    }
+
+    fn is_answered(&self, shard: &mut LoneShard) -> Result<bool> {
+        let answer = answer_of(shard, self.alloc, self.call)?;
+        Ok(answer.as_str() != "Unavailable")
     }
 
     /// Which streams a crash may leave in these slots.
@@ -195,6 +199,13 @@ fn planned(alloc: Global, pair: &mut Pair, slot: u64, way: Way, call: u64) -> Re
     Ok(copy)
 }
 
+/// Makes a call, and says its answer.
+fn say_answer(shard: &mut LoneShard, alloc: Global, call: &str, said: &mut String) -> Result<()> {
+    let answer = answer_of(shard, alloc, call)?;
+    writeln!(said, "{answer}")?;
+    Ok(())
+}
+
 /// Makes a call, and says its answer: the slots after it.
 fn say_made(
     alloc: Global,
@@ -205,9 +216,8 @@ fn say_made(
 ) -> Result<Pair> {
     match open_alone(alloc, pair, settings)? {
         Ok(mut shard) => {
-            let answer = answer_of(&mut shard, alloc, call)?;
-            writeln!(said, "{answer}")?;
-            Ok(Pair::of_slots(shard.into_slots()))
+            say_answer(&mut shard, alloc, call, said)?;
+            Ok(pair_of(shard))
         }
         Err(refusal) => Err(refusal.0.into()),
     }

@@ -11,8 +11,8 @@ use std::sync::Wait;
 /// What makes the calls of a row.
 #[derive(Drop)]
 pub enum Opened {
-    Alone(LoneShard),
-    Together(Together),
+    Alone(Box<LoneShard>),
+    Together(Box<Together>),
 }
 
 /// Slots that were not opened.
@@ -35,7 +35,7 @@ impl Opened {
             return Opened::alone(alloc, only_of(pairs)?, settings);
         }
         match Together::open(alloc, pairs, settings)? {
-            Ok(together) => Ok(Ok(Opened::Together(together))),
+            Ok(together) => Ok(Ok(Opened::Together(Box::new(alloc, together)?))),
             Err((fault, pairs)) => {
                 let why = format!(in alloc; "refused: {fault}\n")?;
                 Ok(Err(Refused { why, pairs }))
@@ -121,7 +121,7 @@ impl Opened {
     pub fn close<R: Wait>(self, rt: &R, alloc: Global) -> Result<Vec<Left>> {
         match self {
             Opened::Alone(shard) => Ok(vec![in alloc; left_of(shard)]?),
-            Opened::Together(together) => together.close(rt, alloc),
+            Opened::Together(together) => Box::into_inner(together).close(rt, alloc),
         }
     }
 }

@@ -22,7 +22,7 @@ pub struct Stage {
     /// How many writes and syncs had been made on them at the opening.
     before: Vec<(u64, u64)>,
     opened: Option<Opened>,
-    prepared: Prepared,
+    prepared: Box<Prepared>,
 }
 
 impl Stage {
@@ -34,7 +34,7 @@ impl Stage {
             pairs: empty_pairs(alloc, 1)?,
             before: Vec::new(alloc),
             opened: None,
-            prepared: Prepared::new(alloc)?,
+            prepared: Box::new(alloc, Prepared::new(alloc)?)?,
         })
     }
 
@@ -142,10 +142,14 @@ impl Stage {
     fn take_left(&mut self, left: Left, count: u32, states: &mut Counted) -> Result<()> {
         let mut left = left;
         left.pair.mend();
+        self.add_state(&mut left, count, states)?;
+        Ok(self.pairs.push(left.pair)?)
+    }
+
+    fn add_state(&self, left: &mut Left, count: u32, states: &mut Counted) -> Result<()> {
         let shard = self.pairs.len();
         let before = self.before.get(shard).copied().unwrap_or((0, 0));
-        states.add(left.state(self.alloc, shard as u32, count, before)?)?;
-        Ok(self.pairs.push(left.pair)?)
+        states.add(left.state(self.alloc, u32::try_from(shard)?, count, before)?)
     }
 
     /// A call, or `each` and a call, which each pass makes in its turn.
