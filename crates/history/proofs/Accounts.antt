@@ -1,5 +1,5 @@
 -- What a pass knows stays right at each step.
-use Rattle.std.proofs.Common.{◌≡◌, ◌≢◌, ◌⊎◌, ℕ, zero, suc, ◌+◌, ◌<◌, ◌≤◌, List, [], ◌∷◌, ◌++◌, length, Bool, true, false, cond, eqb, refl, sym, ap, ◌∙◌, subst, inl, inr, ⊎_elim, append_assoc, append-nil, arith, length-append, length-set}
+use Rattle.std.proofs.Common.{◌≡◌, ◌≢◌, ◌⊎◌, ℕ, zero, suc, ◌+◌, ◌<◌, ◌≤◌, List, [], ◌∷◌, ◌++◌, length, Bool, true, false, refl, sym, ap, ◌∙◌, subst, inl, inr, ⊎_elim, append_assoc, append-nil, arith, length-append, length-set}
 use Rattle.std.specs.Prelude.{slice_index_or, slice_set, replicate}
 use Rattle.std.proofs.lemmas.Bool.{cases_eq}
 use Rattle.std.proofs.lemmas.List.{get_or-set_same, get_or-set_other}
@@ -17,7 +17,7 @@ use Rattle.history.specs.Histories.{IsBeginning, shard_in, step_of, steps_by, st
 use Rattle.history.specs.Rule.{AccountOk, HasOwn, IsWaiting, AreWaiting, IsOrdered, IsQueue, TokenOk, newcomer, floor_of, IsOut, AreTold}
 use Rattle.history.specs.Plays.{seen_at, ask_of, before_of, announce_to, withdraw_to, collect_to, look_to, AreHis, HasStepsOf, IsRested, Extends}
 use Rattle.history.proofs.Lists.{put, put_at, put_else, put_all, begins_same, begins_more, begins_trans, in_line, behind, last_or_none, last_same}
-use Rattle.history.proofs.Past.{AreFrom, steps_append, asks_step, steps_mine, steps_begin, on_append, on_here, on_else, below_on, below_more, below_last, below_middle, above_last, rising_last, rising_back, rising_front, parted, under_more, under_last, unused_below, unused_number, unused_step, unused_both, made_left, made_right, made_last, not_made, has_step, among_left, among_last, among_on, among_floor, queue_last, queue_behind, floor_first, among_behind, first_by_number, few_behind}
+use Rattle.history.proofs.Past.{AreFrom, steps_append, asks_step, steps_mine, steps_begin, on_here, on_else, below_on, below_more, below_last, below_middle, rising_last, rising_back, rising_front, parted, under_more, under_last, unused_below, unused_number, unused_step, unused_both, made_left, made_last, not_made, has_step, among_left, among_last, among_on, among_floor, queue_last, queue_behind, floor_first, among_behind, first_by_number, few_behind}
 
 -- what is told of calls, after a change of the one with number n
 pub told_put : (made made' : List Step) (ts : ℕ → Token) (n : ℕ) (t' : Token) → ((a : Ask) → HasStep a made → HasStep a made') → ((a : Ask) → IsOut a (ts n) → HasStep a made' ⊎ IsOut a t') → (asks : List Ask) → AreTold made ts asks → AreTold made' (put ts n t') asks

@@ -14,12 +14,11 @@ use Rattle.accept.specs.declared.call.Reply.TheVariants.{Unavailable, NoRoom}
 use Rattle.accept.specs.Rooms.{room as room_of}
 use Rattle.accept.specs.Histories.{answer, after, changes, MayFollow, reply_to, is_marked}
 use Rattle.history.specs.declared.views.About.{About}
-use Rattle.history.specs.declared.views.Caller.{Caller}
 use Rattle.history.specs.declared.views.Shelf.{Shelf}
 use Rattle.history.specs.declared.views.View.{View}
 use Rattle.history.specs.declared.views.Role.TheVariants.{Nobody, Keeps}
 use Rattle.history.specs.declared.views.Token.{Token}
-use Rattle.history.specs.declared.views.Token.TheVariants.{Nothing, Open, Done}
+use Rattle.history.specs.declared.views.Token.TheVariants.{Open, Done}
 use Rattle.history.specs.Histories.{IsBeginning, IsLegalAt, terms_of, history_of, reply_of, shard_in, steps_by, asks_by, IsByPasses, HaveNumbersBelow, HaveSteps, bound}
 use Rattle.history.specs.Rule.{alone, Contents, AccountOk, IsGood, AreWords, AreTold, Holds, total}
 use Rattle.history.specs.Plays.{keeper, answered, IsShort, committed_at}

@@ -19,7 +19,7 @@ use Rattle.history.specs.declared.views.Token.{Token}
 use Rattle.history.specs.declared.views.Token.TheVariants.{Nothing, Open, Done}
 use Rattle.history.specs.Shards.{is_of_shard}
 use Rattle.history.specs.Histories.{IsLegalAt, terms_of, history_of, shard_in, steps_by, of_pass, asks_by, HavePassesBelow, IsByPasses, HaveNumbersBelow}
-use Rattle.history.specs.Rule.{alone, Contents, Seating, AccountOk, IsGood, AreWords, IsInDoubt, AreOpen, IsOut, AreTold, IsHand, HoldsFor, Holds, total}
+use Rattle.history.specs.Rule.{alone, Contents, Seating, AccountOk, IsGood, IsInDoubt, AreOpen, IsOut, AreTold, IsHand, Holds, total}
 use Rattle.history.specs.Plays.{loose, keeper, in_doubt, marked}
 use Rattle.history.proofs.Lists.{put, put_at, put_all, put_other, put_two, put_two_at}
 use Rattle.history.proofs.Past.{asks_append, steps_mark, no_step, legal_more, by_passes_append, marked_mark, total_mark}

@@ -10,7 +10,7 @@ use Rattle.accept.specs.declared.history.Item.{Item}
 use Rattle.accept.specs.declared.history.Item.TheVariants.{Answered, Failed}
 use Rattle.accept.specs.Histories.{MayFollow, is_marked, is_new, is_step_of}
 use Rattle.history.specs.declared.views.About.{About}
-use Rattle.history.specs.Histories.{IsBeginning, IsLegalAt, terms_of, base_at, history_of, shard_in, steps_by, steps_on, of_pass, asks_by, HavePassesBelow, IsByPasses, HaveNumbersBelow, HaveNumbersAbove, IsRising, AreNumbersBelow, IsUnused, AreUnused, HasStep, HaveSteps, IsAmong, AreAmong, IsFirst, IsFirstNumber, behind_first, asks_on, bound}
+use Rattle.history.specs.Histories.{IsBeginning, IsLegalAt, terms_of, base_at, history_of, shard_in, steps_by, steps_on, of_pass, asks_by, IsByPasses, HaveNumbersBelow, HaveNumbersAbove, IsRising, AreNumbersBelow, IsUnused, AreUnused, HasStep, HaveSteps, IsAmong, IsFirst, IsFirstNumber, behind_first, asks_on, doubt_or, doubt_of, bound}
 use Rattle.history.specs.Rule.{number_of, floor_of, IsQueue, total}
 use Rattle.history.proofs.Lists.{head_or, tail_of}
 
@@ -359,6 +359,17 @@ pub marked_mark : (xs : List Item) (asks : List Ask) → is_marked (xs ++ Failed
 marked_mark [] asks = refl
 marked_mark (Answered t ∷ xs) asks = marked_mark xs asks
 marked_mark (Failed more ∷ xs) asks = refl
+
+-- with a mark its list is in doubt, without one what else is
+pub doubt_marked : (xs : List Item) (asks : List Ask) → is_marked xs ≡ true → doubt_or xs asks ≡ doubt_of xs
+doubt_marked [] asks e = absurd (cc)
+doubt_marked (Answered s ∷ xs) asks e = doubt_marked xs asks e
+doubt_marked (Failed more ∷ xs) asks e = refl
+
+pub doubt_unmarked : (xs : List Item) (asks : List Ask) → is_marked xs ≡ false → doubt_or xs asks ≡ asks
+doubt_unmarked [] asks e = refl
+doubt_unmarked (Answered s ∷ xs) asks e = doubt_unmarked xs asks e
+doubt_unmarked (Failed more ∷ xs) asks e = absurd (cc)
 
 -- one more step of a pass below n is one more in the total
 total_past : (n : ℕ) (xs : List Item) (s : Step) → n ≤ s.ask.pass → total n (xs ++ Answered s ∷ []) ≡ total n xs

@@ -16,7 +16,7 @@ use Rattle.history.specs.declared.views.Role.{Role}
 use Rattle.history.specs.declared.views.Role.TheVariants.{Nobody, Opener, Keeps, Calls}
 use Rattle.history.specs.declared.views.Token.{Token}
 use Rattle.history.specs.declared.views.Token.TheVariants.{Nothing, Open, Done}
-use Rattle.history.specs.Rule.{alone, opener, unnamed, newcomer, number_of, Contents, Seating, TokenOk, IsGood, AreWords, IsRole, IsHand, IsSeat, HoldsFor, Holds}
+use Rattle.history.specs.Rule.{opener, unnamed, newcomer, number_of, Contents, Seating, TokenOk, IsGood, IsRole, IsHand, IsSeat, HoldsFor, Holds}
 use Rattle.history.specs.Plays.{named, after_book, next_book, after_pass, next_pass}
 use Rattle.history.proofs.Lists.{put, put_at, put_else, put_other}
 use Rattle.history.proofs.Past.{legal_none}

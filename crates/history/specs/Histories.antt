@@ -44,11 +44,15 @@ shard_in about a = shard_of (key_of a.call) about.shards
 abbrev pub step_of : Ask → Reply → Step
 step_of a r = record { ask = a; reply = r }
 
+-- the calls in doubt by the mark, or these where there is none
+abbrev pub doubt_or : List Item → List Ask → List Ask
+doubt_or [] asks = asks
+doubt_or (Answered s ∷ items) asks = doubt_or items asks
+doubt_or (Failed doubt ∷ items) asks = doubt
+
 -- the calls in doubt by the mark, if there is one
 abbrev pub doubt_of : List Item → List Ask
-doubt_of [] = []
-doubt_of (Answered s ∷ items) = doubt_of items
-doubt_of (Failed asks ∷ items) = asks
+doubt_of items = doubt_or items []
 
 -- the steps of a pass
 abbrev pub steps_by : ℕ → List Item → List Step

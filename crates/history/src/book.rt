@@ -3,7 +3,7 @@ ghost use Rattle.accept.specs.declared.history.Ask.{Ask};
 ghost use Rattle.accept.specs.declared.call.Reply.TheVariants.{Unavailable};
 ghost use Rattle.accept.specs.declared.history.Item.TheVariants.{Answered, Failed};
 ghost use Rattle.accept.specs.Histories.{is_marked};
-ghost use Rattle.history.specs.Histories.{IsBeginning, IsLegalAt, IsByPasses, HaveSteps, doubt_of, reply_of, shard_in, step_of};
+ghost use Rattle.history.specs.Histories.{IsBeginning, IsLegalAt, IsByPasses, HaveSteps, doubt_or, doubt_of, reply_of, shard_in, step_of};
 ghost use Rattle.history.specs.Plays.{seen_at, HasStepsOf, IsShort};
 ghost use Rattle.history.specs.declared.views.Role.TheVariants.{Keeps};
 ghost use Rattle.history.specs.declared.views.Token.TheVariants.{Nothing};
@@ -30,6 +30,9 @@ pub trait Kept {
 
     /// What the clocks of the shard's two slots say.
     ghost moment: { Self → ℕ × ℕ };
+
+    /// The calls that are written and not yet in the book, in their order.
+    ghost doubts: { Self → List Ask };
 }
 
 /// A shard's history: whoever has the book adds to it. Contracts see the list of its items; the program keeps their number alone, in the table.
@@ -59,14 +62,15 @@ impl Model for Book {
 
 impl Book {
     /// Adds the call with its reply to the history, once the disk keeps it, and gives the reply back. Calls of a pass to
-    /// one shard go in the order in which they were announced.
+    /// one shard go in the order in which they were announced. Of calls that were written together each is in doubt until
+    /// it is added.
     pub fn commit<K: Kept>(&mut self, kept: &K, ticket: Ticket, reply: Reply) -> (Reply, Receipt)
         requires table { ticket.table ≡ self.old.table }
         requires shard { shard_in self.old.about ticket.ask ≡ self.old.shard }
         requires order { HaveSteps ticket.before self.old.items }
         requires reply { reply ≡ reply_of self.old.about self.old.shard self.old.items ticket.ask.call }
         requires kept { K.kept kept.now (longer self.old (Answered (step_of ticket.ask reply)))
-            (doubt_of self.old.items) }
+            (doubt_or self.old.items (K.doubts kept.now)) }
         ensures book { self.new ≡ longer self.old (Answered (step_of ticket.ask reply)) }
         ensures reply { result.0 ≡ reply }
         ensures receipt { result.1

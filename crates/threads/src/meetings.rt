@@ -20,11 +20,13 @@ use std::thread::{Threads, join};
 pub(crate) struct Memory;
 
 impl Kept for Memory {
-    ghost use Rattle.std.specs.Prelude.{⊤};
+    ghost use Rattle.std.specs.Prelude.{⊤, []};
 
     ghost kept = { λ _ _ _. ⊤ };
 
     ghost moment = { λ _. (0, 0) };
+
+    ghost doubts = { λ _. [] };
 }
 
 /// Which table a test has.
