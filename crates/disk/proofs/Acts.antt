@@ -4,7 +4,7 @@ use Rattle.std.proofs.lemmas.List.{take_all, take-append-le, drop-append-le, len
 use Rattle.disk.specs.declared.memory.Step.{Step}
 use Rattle.disk.specs.declared.memory.Step.TheVariants.{Wrote, Synced}
 use Rattle.disk.specs.Sight.{Elapses}
-use Rattle.disk.specs.State.{Act, Write, Break, Sync, State, act, state_after, IsImage, sight_of}
+use Rattle.disk.specs.State.{Act, Write, Sync, State, act, state_after, IsImage, sight_of}
 use Rattle.disk.proofs.Lists.{ltb_cases}
 use Rattle.disk.specs.Memory.{acts, total, ranges_after}
 

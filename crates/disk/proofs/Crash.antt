@@ -96,8 +96,8 @@ breaks-any s at n c le torn =
     ∙ ap (λ (xs : List ℕ). xs ++ (left ++ drop (at + n) s.now)) torn.before ∙ sym (append_assoc (take at s.now) left (drop (at + n) s.now)) in (
       left,
       ap (λ (t : State). t.now) (made s at n (take n left) le)
-      ∙ ap (λ (xs : List ℕ). take at s.now ++ xs ++ drop (at + length xs) s.now) same
-      ∙ ap (λ (xs : List ℕ). take at s.now ++ left ++ xs) rest ∙ sym whole,
+          ∙ ap (λ (xs : List ℕ). take at s.now ++ xs ++ drop (at + length xs) s.now) same
+          ∙ ap (λ (xs : List ℕ). take at s.now ++ left ++ xs) rest ∙ sym whole,
     )
 
 -- a write, done or torn

@@ -13,7 +13,9 @@ pub data Call : Type 0 where
   Synced : Call
   -- the length was asked for
   Measured : ℕ → Call
-  -- another call failed, or one was interrupted before it did anything
+  -- a read or a write was interrupted
+  Interrupted : Call
+  -- another call failed
   Refused : Call
 
 -- A note's numbers are its kind, its place and a count.
@@ -24,7 +26,8 @@ call_of numbers bytes =
     else (if slice_index numbers 0 == 2 then Broke (slice_index numbers 1) bytes
     else (if slice_index numbers 0 == 3 then Synced
     else (if slice_index numbers 0 == 4 then Measured (slice_index numbers 1)
-    else Refused))))
+    else (if slice_index numbers 0 == 5 then Interrupted
+    else Refused)))))
 
 -- A file as it is opened: its state, and which bytes the first call, the second and so on will leave in its range, if
 -- it is a write that fails.
@@ -43,6 +46,7 @@ acts_by left (Wrote at n bytes) = Write at (take n bytes) ∷ []
 acts_by left (Broke at bytes) = Break at (length bytes) left ∷ []
 acts_by left Synced = Sync ∷ []
 acts_by left (Measured n) = []
+acts_by left Interrupted = []
 acts_by left Refused = []
 
 -- what calls did, the last of them first
@@ -63,6 +67,7 @@ IsAnswer file (Wrote at n bytes) = Unit {0}
 IsAnswer file (Broke at bytes) = Unit {0}
 IsAnswer file Synced = Unit {0}
 IsAnswer file (Measured n) = n ≡ length file
+IsAnswer file Interrupted = Unit {0}
 IsAnswer file Refused = Unit {0}
 
 -- Each call answered what the model gives, from the state at the start on. The last call is first.

@@ -3,7 +3,7 @@
 //! That they note just this is proved, and so is what it means for the file.
 ghost use Rattle.std.specs.Prelude.{◌≡◌, ◌≤◌, ◌<◌, ◌+◌, ℕ, List, [], ◌∷◌, length, take, IfOk, OnOk, OnErr, IsErrOf};
 ghost use Rattle.std.specs.Borrow.{ftrue};
-ghost use Rattle.disk.specs.Calls.{Call, Start, Read, Wrote, Broke, Synced, Measured, Refused, call_of, IsRead};
+ghost use Rattle.disk.specs.Calls.{Call, Start, Read, Wrote, Broke, Synced, Measured, Interrupted, Refused, call_of, IsRead};
 
 use std::fs::File;
 use std::io;
@@ -21,7 +21,9 @@ const SYNCED: u64 = 3;
 
 const MEASURED: u64 = 4;
 
-const REFUSED: u64 = 5;
+const INTERRUPTED: u64 = 5;
+
+const REFUSED: u64 = 6;
 
 /// The calls that were made on a file, the last first, what state the file was in before them, and what each that is
 /// a failed write leaves. It holds no byte: only clauses read it.
@@ -91,7 +93,9 @@ impl NotedFile {
         ensures noted { length self.new.noted.calls ≡ length self.old.noted.calls + 1 }
         ensures ok { IfOk result (λ n.
             self.new.noted.calls ≡ Read at (length buf.old) (take n buf.new) ∷ self.old.noted.calls) }
-        ensures err { OnErr result (self.new.noted.calls ≡ Refused ∷ self.old.noted.calls) }
+        ensures interrupted { IsErrOf result Stop.Interrupted
+            → self.new.noted.calls ≡ Interrupted ∷ self.old.noted.calls }
+        ensures failed { IsErrOf result Stop.Failed → self.new.noted.calls ≡ Refused ∷ self.old.noted.calls }
         ensures within { IfOk result (λ n. n ≤ length buf.old) }
         ensures bytes { IfOk result (λ n. HasFollowed self.new.noted
             → IsRead (sight_by self.old.noted 0).seen at (length buf.old) (take n buf.new)) }
@@ -102,13 +106,13 @@ impl NotedFile {
                 self.noted.note(&[READ, at, buf.len() as u64], &buf[..n]);
                 Ok(n)
             }
-            Err(error) => {
+            Err(error) if error.kind() == ErrorKind::Interrupted => {
+                self.noted.note(&[INTERRUPTED, 0, 0], &[]);
+                Err(Stop::Interrupted)
+            }
+            Err(_) => {
                 self.noted.note(&[REFUSED, 0, 0], &[]);
-                Err(if error.kind() == ErrorKind::Interrupted {
-                    Stop::Interrupted
-                } else {
-                    Stop::Failed
-                })
+                Err(Stop::Failed)
             }
         }
     }
@@ -117,10 +121,10 @@ impl NotedFile {
     pub fn write_some(&mut self, at: u64, bytes: &[u8]) -> Result<usize, Stop>
         ensures noted { length self.new.noted.calls ≡ length self.old.noted.calls + 1 }
         ensures ok { IfOk result (λ n. self.new.noted.calls ≡ Wrote at n bytes.now ∷ self.old.noted.calls) }
+        ensures interrupted { IsErrOf result Stop.Interrupted
+            → self.new.noted.calls ≡ Interrupted ∷ self.old.noted.calls }
         ensures failed { IsErrOf result Stop.Failed
             → self.new.noted.calls ≡ Broke at bytes.now ∷ self.old.noted.calls }
-        ensures tried { IsErrOf result Stop.Interrupted
-            → self.new.noted.calls ≡ Refused ∷ self.old.noted.calls }
         ensures before { HasFollowed self.new.noted → HasFollowed self.old.noted }
         ensures within { IfOk result (λ n. n ≤ length bytes.now) }
         ensures holds { IfOk result (λ n. HasFollowed self.new.noted
@@ -129,7 +133,7 @@ impl NotedFile {
         ensures goes { IfOk result (λ n. (old new : ℕ) → HasFollowed self.new.noted
             → at ≤ length (sight_by self.old.noted 0).seen
             → Goes at n (sight_by self.old.noted old) (sight_by self.new.noted new)) }
-        ensures interrupted { IsErrOf result Stop.Interrupted → OnlyAsks self.old.noted self.new.noted }
+        ensures asks { IsErrOf result Stop.Interrupted → OnlyAsks self.old.noted self.new.noted }
         ensures broke { OnErr result ((old new : ℕ) → HasFollowed self.new.noted
             → at ≤ length (sight_by self.old.noted 0).seen
             → Goes at (length bytes.now) (sight_by self.old.noted old) (sight_by self.new.noted new)) }
@@ -140,7 +144,7 @@ impl NotedFile {
                 Ok(n)
             }
             Err(error) if error.kind() == ErrorKind::Interrupted => {
-                self.noted.note(&[REFUSED, 0, 0], &[]);
+                self.noted.note(&[INTERRUPTED, 0, 0], &[]);
                 Err(Stop::Interrupted)
             }
             Err(_) => {
