@@ -10,3 +10,4 @@ pub mod Applied
 pub mod Stored
 pub mod Ends
 pub mod Groups
+pub mod GroupRows
