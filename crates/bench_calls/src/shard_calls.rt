@@ -1,12 +1,9 @@
 //! How many calls a second one shard answers, by how much its streams hold.
-ghost use Rattle.std.specs.Prelude.{◌≡◌, [], IfOk};
-
 use crate::pushes::{LINE, LINES, is_stored, push_of, pushes_of};
 use accept::{Call, Image, Limits};
 use anyhow::{Result, bail};
 use disk::MemDisk;
-use history::{History, Pass};
-use shard::Shard;
+use lone_shard::LoneShard;
 use std::alloc::Global;
 use std::rt::Clock;
 use std::time::{Duration, Instant};
@@ -65,98 +62,59 @@ const STATES: [State; 5] = [
     },
 ];
 
-/// The only shard of an opening, its history, and one pass.
-#[derive(Drop)]
-struct Desk {
-    history: History,
-    shard: Shard<MemDisk>,
-    pass: Pass,
-    ghost table: { (shard.book.table ≡ history) × (pass.table ≡ history) },
-    ghost only: { (shard.book.about.shards ≡ 1) × (shard.book.shard ≡ 0) × (pass.caller.about.shards ≡ 1) },
-    ghost idle: { pass.caller.pending ≡ [] },
-}
-
-impl Desk {
-    /// Makes a push, from its announcement to its answer. All its lines are stored.
-    fn push(&mut self, alloc: Global, call: &Call) -> Result<()> {
-        if !call.has_lawful_numbers() {
-            bail!("a number is out of its bounds");
-        }
-        let ticket = self.history.announce(&mut self.pass, call)?;
-        match self.shard.apply(alloc, ticket, call) {
-            Ok((reply, receipt)) => {
-                self.history.collect(&mut self.pass, receipt);
-                if !is_stored(&reply) {
-                    bail!("a line was not stored");
-                }
-                Ok(())
-            }
-            Err((fault, ticket)) => {
-                self.history.withdraw(&mut self.pass, ticket);
-                Err(fault.into())
-            }
-        }
-    }
-
-    /// Fills an empty shard.
-    fn fill(&mut self, alloc: Global, state: State) -> Result<()> {
-        let share = state.share();
-        for stream in 0..state.streams {
-            for batch in 0..share.div_ceil(BATCH) {
-                let before = batch.saturating_mul(BATCH);
-                let lines = share.saturating_sub(before).min(BATCH);
-                self.push(alloc, &push_of(alloc, stream, before, lines)?)?;
-            }
-        }
-        Ok(())
-    }
-
-    fn close(self) -> [MemDisk; 2] {
-        let Desk {
-            history: _,
-            shard,
-            pass: _,
-        } = self;
-        shard.into_slots()
-    }
-}
-
 /// Opens the only shard of two empty slots of so many bytes each.
-fn open(alloc: Global, room: u64) -> Result<Desk> {
+fn open(alloc: Global, room: u64) -> Result<LoneShard> {
+    let calls = room / LINE as u64;
     let slots = [
-        MemDisk::new(alloc, room, room / LINE as u64, room)?,
-        MemDisk::new(alloc, room, room / LINE as u64, room)?,
+        MemDisk::new(alloc, room, calls, room)?,
+        MemDisk::new(alloc, room, calls, room)?,
     ];
-    let (log, image) = match Wal::open(alloc, slots, 0, 1, CAPACITY) {
-        Ok(opened) => opened,
-        Err(refusal) => return Err(refusal.0.into()),
-    };
-    let mut bases = vec![in alloc; image]?;
-    let limits = Limits::PROFILE;
-    let (history, mut books, mut passes) = History::new(alloc, &bases, 1, limits, CAPACITY)?;
-    let (Some(book), Some(pass), Some(image)) = (books.pop(), passes.pop(), bases.pop()) else {
-        bail!("an opening of one shard has a book and a pass");
-    };
-    match Shard::open(alloc, log, image, book, limits) {
-        Ok(shard) => Ok(Desk {
-            history,
-            shard,
-            pass,
-        }),
-        Err(_log) => bail!("out of memory"),
+    match LoneShard::open(alloc, slots, Limits::PROFILE, CAPACITY)? {
+        Ok(shard) => Ok(shard),
+        Err(refusal) => Err(refusal.0.into()),
     }
+}
+
+/// Makes a push. All its lines are stored.
+fn push(shard: &mut LoneShard, alloc: Global, call: &Call) -> Result<()> {
+    if !call.has_lawful_numbers() {
+        bail!("a number is out of its bounds");
+    }
+    if !is_stored(&shard.call(alloc, call)?) {
+        bail!("a line was not stored");
+    }
+    Ok(())
+}
+
+/// Fills an empty shard.
+fn fill(shard: &mut LoneShard, alloc: Global, state: State) -> Result<()> {
+    let share = state.share();
+    for stream in 0..state.streams {
+        for batch in 0..share.div_ceil(BATCH) {
+            let before = batch.saturating_mul(BATCH);
+            let lines = share.saturating_sub(before).min(BATCH);
+            push(shard, alloc, &push_of(alloc, stream, before, lines)?)?;
+        }
+    }
+    Ok(())
+}
+
+/// Makes pushes one behind another.
+fn push_all(shard: &mut LoneShard, alloc: Global, calls: &[Call]) -> Result<()> {
+    for call in calls {
+        push(shard, alloc, call)?;
+    }
+    Ok(())
 }
 
 /// How long the timed pushes of one run take, which go to the first stream.
 fn run<R: Clock + AllocGlobal>(rt: &R, state: State) -> Result<Duration> {
     let alloc = rt.alloc();
-    let mut desk = open(alloc, ROOM)?;
-    desk.fill(alloc, state)?;
+    let mut shard = open(alloc, ROOM)?;
+    fill(&mut shard, alloc, state)?;
     let calls = pushes_of(alloc, 0, state.share(), PUSHES)?;
     let start = Instant::now(rt)?;
-    for call in &calls {
-        desk.push(alloc, call)?;
-    }
+    push_all(&mut shard, alloc, &calls)?;
     Ok(start.elapsed(rt)?)
 }
 
@@ -200,18 +158,18 @@ pub fn check<R: Print + AllocGlobal>(rt: &R) -> Result<()> {
         entries: 6,
         streams: 3,
     };
-    let mut desk = open(alloc, 1 << 16)?;
-    desk.fill(alloc, state)?;
-    for call in &pushes_of(alloc, 0, state.share(), 2)? {
-        desk.push(alloc, call)?;
-    }
-    match Wal::open(alloc, desk.close(), 0, 1, CAPACITY) {
-        Ok((log, streams)) => {
-            let generation = log.generation();
-            let entries = entries_in(&streams);
-            rt.println(format_args!("shard generation {generation} entries {entries}"))?;
-            Ok(())
-        }
+    let mut shard = open(alloc, 1 << 16)?;
+    fill(&mut shard, alloc, state)?;
+    push_all(&mut shard, alloc, &pushes_of(alloc, 0, state.share(), 2)?)?;
+    let (generation, entries) = kept_in(alloc, shard.into_slots())?;
+    rt.println(format_args!("shard generation {generation} entries {entries}"))?;
+    Ok(())
+}
+
+/// The generation of the segment in use, and how many entries are kept.
+fn kept_in(alloc: Global, slots: [MemDisk; 2]) -> Result<(u64, usize)> {
+    match Wal::open(alloc, slots, 0, 1, CAPACITY) {
+        Ok((log, streams)) => Ok((log.generation(), entries_in(&streams))),
         Err(refusal) => Err(refusal.0.into()),
     }
 }

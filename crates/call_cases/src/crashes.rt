@@ -1,12 +1,11 @@
 //! What a crash leaves of a shard, and what becomes of a call where a device does not work.
 
-use crate::alone::Alone;
-use crate::counted::Counted;
-use crate::settings::Settings;
-use crate::slots::{Pair, Way};
-use crate::words::call_of;
+use crate::alone::{answer_of, open_alone};
 use anyhow::{Result, bail};
+use call_slots::{Pair, Way};
+use call_words::{Counted, Settings};
 use disk::{ImagesFault, MemDisk};
+use lone_shard::LoneShard;
 use rows::word_of;
 use std::alloc::Global;
 use std::fmt;
@@ -54,8 +53,8 @@ impl fmt::Display for Tried {
 
 /// What a read gives of the only shard in these slots, or why they are refused.
 fn found_in(alloc: Global, pair: Pair, settings: Settings, read: &str) -> Result<String> {
-    match Alone::open(alloc, pair, settings)? {
-        Ok(mut alone) => alone.answer(alloc, read),
+    match open_alone(alloc, pair, settings)? {
+        Ok(mut shard) => answer_of(&mut shard, alloc, read),
         Err((fault, _)) => Ok(format!(in alloc; "{fault}")?),
     }
 }
@@ -119,20 +118,19 @@ struct Trial<'a> {
 impl Trial<'_> {
     /// What becomes of the call in these slots.
     fn attempt(&self, pair: Pair) -> Result<Tried> {
-        match Alone::open(self.alloc, pair, self.settings)? {
-            Ok(alone) => self.attempt_in(alone),
+        match open_alone(self.alloc, pair, self.settings)? {
+            Ok(shard) => self.attempt_in(shard),
             Err((OpenFault::Device, _)) => Ok(Tried::Unopened),
             Err((fault, _)) => Err(fault.into()),
         }
     }
 
-    fn attempt_in(&self, alone: Alone) -> Result<Tried> {
-        let mut alone = alone;
-        let answer = alone.answer(self.alloc, self.call)?;
+    fn attempt_in(&self, mut shard: LoneShard) -> Result<Tried> {
+        let answer = answer_of(&mut shard, self.alloc, self.call)?;
         if answer.as_str() != "Unavailable" {
             return Ok(Tried::Answered);
         }
-        self.left_in(&alone.close())
+        self.left_in(&Pair::of_slots(shard.into_slots()))
     }
 
     /// Which streams a crash may leave in these slots.
@@ -205,11 +203,11 @@ fn say_made(
     call: &str,
     said: &mut String,
 ) -> Result<Pair> {
-    match Alone::open(alloc, pair, settings)? {
-        Ok(mut alone) => {
-            alone.say(alloc, call, said)?;
-            said.push('\n')?;
-            Ok(alone.close())
+    match open_alone(alloc, pair, settings)? {
+        Ok(mut shard) => {
+            let answer = answer_of(&mut shard, alloc, call)?;
+            writeln!(said, "{answer}")?;
+            Ok(Pair::of_slots(shard.into_slots()))
         }
         Err(refusal) => Err(refusal.0.into()),
     }

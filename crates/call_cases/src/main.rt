@@ -2,16 +2,11 @@
 #![tactic(auto)]
 
 mod alone;
-mod counted;
 mod crashes;
 mod opened;
 mod prepared;
-mod settings;
-mod slots;
 mod stage;
-mod texts;
 mod together;
-mod words;
 
 use crate::stage::Stage;
 use anyhow::{Context, Result};

@@ -1,10 +1,9 @@
-use crate::alone::Alone;
-use crate::counted::Counted;
-use crate::settings::Settings;
-use crate::slots::{Left, Pair};
+use crate::alone::{left_of, open_alone, say_call};
 use crate::together::Together;
-use crate::words::call_of;
 use anyhow::{Result, bail};
+use call_slots::{Left, Pair};
+use call_words::{Counted, Settings, call_of};
+use lone_shard::LoneShard;
 use std::alloc::Global;
 use std::fmt::Write;
 use std::sync::Wait;
@@ -12,7 +11,7 @@ use std::sync::Wait;
 /// What makes the calls of a row.
 #[derive(Drop)]
 pub enum Opened {
-    Alone(Alone),
+    Alone(LoneShard),
     Together(Together),
 }
 
@@ -45,8 +44,8 @@ impl Opened {
     }
 
     fn alone(alloc: Global, pair: Pair, settings: Settings) -> Result<Result<Opened, Refused>> {
-        match Alone::open(alloc, pair, settings)? {
-            Ok(alone) => Ok(Ok(Opened::Alone(alone))),
+        match open_alone(alloc, pair, settings)? {
+            Ok(shard) => Ok(Ok(Opened::Alone(shard))),
             Err((fault, pair)) => {
                 let pairs = vec![in alloc; pair]?;
                 let why = format!(in alloc; "refused: {fault}\n")?;
@@ -81,7 +80,7 @@ impl Opened {
     ) -> Result<()> {
         let call = call_of(alloc, line)?;
         match self {
-            Opened::Alone(alone) => alone.call(alloc, &call, into),
+            Opened::Alone(shard) => say_call(shard, alloc, &call, into),
             Opened::Together(together) => together.call(rt, alloc, call, into),
         }
     }
@@ -89,9 +88,9 @@ impl Opened {
     /// Says how long a history is, of a shard alone also whether it has a failure mark.
     pub fn look(&mut self, shard: u32, into: &mut String) -> Result<()> {
         match self {
-            Opened::Alone(alone) => {
-                let steps = alone.steps();
-                let mark = if alone.is_marked() { " marked" } else { "" };
+            Opened::Alone(shard) => {
+                let steps = shard.steps();
+                let mark = if shard.is_marked() { " marked" } else { "" };
                 write!(into, "steps {steps}{mark}")?;
             }
             Opened::Together(together) => {
@@ -121,7 +120,7 @@ impl Opened {
     /// What is left of each shard, the first in front.
     pub fn close<R: Wait>(self, rt: &R, alloc: Global) -> Result<Vec<Left>> {
         match self {
-            Opened::Alone(alone) => Ok(vec![in alloc; alone.end()]?),
+            Opened::Alone(shard) => Ok(vec![in alloc; left_of(shard)]?),
             Opened::Together(together) => together.close(rt, alloc),
         }
     }

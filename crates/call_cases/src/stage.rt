@@ -1,13 +1,11 @@
 //! What the lines of a row do.
 
-use crate::counted::Counted;
 use crate::crashes::{say_contents, say_trials};
 use crate::opened::{Opened, Refused};
 use crate::prepared::{End, Prepared};
-use crate::settings::Settings;
-use crate::slots::{Left, Pair, Way};
-use crate::words::number_of;
 use anyhow::{Result, bail};
+use call_slots::{Left, Pair, Way};
+use call_words::{Counted, Settings, number_of};
 use rows::{escape, unescape, word_of};
 use std::alloc::Global;
 use std::fmt::Write;

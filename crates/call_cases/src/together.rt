@@ -6,11 +6,10 @@ ghost use Rattle.accept.specs.contracts.image.Image as image;
 ghost use Rattle.history.specs.Handles.{Passed};
 ghost use Rattle.ingester.specs.Calls.{IsPassOf};
 
-use crate::settings::Settings;
-use crate::slots::{Left, Pair};
-use crate::texts::write_reply;
 use accept::Call;
 use anyhow::{Result, bail};
+use call_slots::{Left, Pair};
+use call_words::{Settings, write_reply};
 use disk::MemDisk;
 use history::Pass;
 use ingester::{Closed, Ingester, OpenFault};

@@ -16,12 +16,17 @@ pub struct Counted {
 }
 
 impl Counted {
+    /// No texts.
     pub fn new(alloc: Global) -> Counted {
         Counted {
             texts: Vec::new(alloc),
         }
     }
 
+    /// Takes a text in behind the others.
+    ///
+    /// # Errors
+    /// Want of memory.
     pub fn add(&mut self, text: String) -> Result<()> {
         match self.texts.last_mut() {
             Some(last) if last.text.as_str() == text.as_str() => {
@@ -33,6 +38,9 @@ impl Counted {
     }
 
     /// Appends the texts with this between them: one that came more than once as `3 times TEXT`.
+    ///
+    /// # Errors
+    /// Want of memory.
     pub fn write(&self, between: &str, into: &mut String) -> Result<()> {
         for (index, Text { text, count }) in self.texts.iter().enumerate() {
             if index > 0 {
@@ -47,6 +55,9 @@ impl Counted {
     }
 
     /// Appends the texts as lines.
+    ///
+    /// # Errors
+    /// Want of memory.
     pub fn end(&self, into: &mut String) -> Result<()> {
         self.write("\n", into)?;
         Ok(into.push('\n')?)

@@ -4,7 +4,7 @@ use Rattle.history.specs.declared.views.About.{About}
 use Rattle.history.specs.Histories.{HaveSteps, shard_in}
 use Rattle.history.proofs.Lines.{alone_before}
 use Rattle.history.proofs.Sharding.{shard_below}
-use Rattle.call_cases.proofs.alone.Alone.attempt.Goals as goal
+use Rattle.lone_shard.proofs.lone.LoneShard.call.Goals as goal
 
 only_shard : (about : About) (a : Ask) → about.shards ≡ 1 → shard_in about a ≡ 0
 only_shard about a one =

@@ -1,13 +1,15 @@
-use crate::words::number_of;
+use crate::calls::number_of;
 use accept::Limits;
 use anyhow::{Result, bail};
 
 /// What slots are opened with.
 #[derive(Clone, Copy, Debug)]
 pub struct Settings {
+    /// The limits of all calls.
     pub limits: Limits,
     /// The greatest length of a segment, in bytes.
     pub capacity: u64,
+    /// How many passes there are.
     pub passes: u32,
 }
 
@@ -20,6 +22,9 @@ impl Settings {
     };
 
     /// Takes a line with one of the settings in: its word, and the number behind it.
+    ///
+    /// # Errors
+    /// Another word, or no number.
     pub fn set(&mut self, word: &str, text: &str) -> Result<()> {
         let (number, _) = number_of(text)?;
         match word {

@@ -1,5 +1,3 @@
-//! Answers as text.
-
 use accept::{Entry, Outcome, Reply};
 use anyhow::Result;
 use rows::escape;
@@ -9,6 +7,9 @@ use std::fmt::Write;
 const LONG: usize = 8;
 
 /// Appends an answer: `verdict` and the outcomes, `entries` and the entries as a push gives them, or its name.
+///
+/// # Errors
+/// Want of memory.
 pub fn write_reply(reply: &Reply, into: &mut String) -> Result<()> {
     match reply {
         Reply::Verdict(outcomes) => write_outcomes(outcomes.as_slice(), into),

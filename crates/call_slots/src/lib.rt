@@ -1,0 +1,8 @@
+//! Slots in memory, what stands in them, and what is left of a shard.
+#![tactic(auto)]
+
+mod left;
+mod slots;
+
+pub use left::Left;
+pub use slots::{Pair, Way};

@@ -1,0 +1,12 @@
+//! Calls, their answers, and what slots are opened with, as words of rows.
+#![tactic(auto)]
+
+mod calls;
+mod counted;
+mod replies;
+mod settings;
+
+pub use calls::{call_of, number_of};
+pub use counted::Counted;
+pub use replies::write_reply;
+pub use settings::Settings;

@@ -1,0 +1,97 @@
+ghost use Rattle.std.specs.Prelude.{◌≡◌, []};
+ghost use Rattle.accept.specs.Calls.{AreNumbers};
+
+use accept::{Call, Limits, Reply};
+use anyhow::{Result, bail};
+use disk::MemDisk;
+use history::{History, Pass};
+use shard::Shard;
+use std::alloc::Global;
+use wal::{OpenFault, Wal};
+
+/// The only shard of an opening over slots in memory, its history, and the one pass that makes its calls.
+#[derive(Drop)]
+pub struct LoneShard {
+    history: History,
+    shard: Shard<MemDisk>,
+    pass: Pass,
+    ghost table: { (shard.book.table ≡ history) × (pass.table ≡ history) },
+    ghost only: { (shard.book.about.shards ≡ 1) × (shard.book.shard ≡ 0) × (pass.caller.about.shards ≡ 1) },
+    ghost idle: { pass.caller.pending ≡ [] },
+}
+
+impl LoneShard {
+    /// Opens the shard in slot 0 and slot 1, with segments of at most so many bytes. A refusal says why, and gives the slots
+    /// back.
+    ///
+    /// # Errors
+    /// Limits that aren't lawful, a capacity above 2^30, or want of memory.
+    pub fn open(
+        alloc: Global,
+        slots: [MemDisk; 2],
+        limits: Limits,
+        capacity: u64,
+    ) -> Result<Result<LoneShard, (OpenFault, [MemDisk; 2])>> {
+        if !limits.are_lawful() || capacity > 1 << 30 {
+            bail!("a limit is out of its bounds");
+        }
+        let (log, image) = match Wal::open(alloc, slots, 0, 1, capacity) {
+            Ok(opened) => opened,
+            Err(refusal) => return Ok(Err(refusal)),
+        };
+        let mut bases = vec![in alloc; image]?;
+        let (history, mut books, mut passes) = History::new(alloc, &bases, 1, limits, capacity)?;
+        let (Some(book), Some(pass), Some(image)) = (books.pop(), passes.pop(), bases.pop()) else {
+            bail!("an opening of one shard has a book and a pass");
+        };
+        match Shard::open(alloc, log, image, book, limits) {
+            Ok(shard) => Ok(Ok(LoneShard {
+                history,
+                shard,
+                pass,
+            })),
+            Err(_log) => bail!("out of memory"),
+        }
+    }
+
+    /// Makes a call from its announcement to its answer.
+    ///
+    /// # Errors
+    /// Why it has no step.
+    pub fn call(&mut self, alloc: Global, call: &Call) -> Result<Reply>
+        requires numbers { AreNumbers call.now }
+    {
+        let ticket = self.history.announce(&mut self.pass, call)?;
+        match self.shard.apply(alloc, ticket, call) {
+            Ok((reply, receipt)) => {
+                self.history.collect(&mut self.pass, receipt);
+                Ok(reply)
+            }
+            Err((fault, ticket)) => {
+                self.history.withdraw(&mut self.pass, ticket);
+                Err(fault.into())
+            }
+        }
+    }
+
+    /// How many steps the history has, once it was compared with what the pass has seen.
+    pub fn steps(&mut self) -> u64 {
+        self.shard.settle(&mut self.pass);
+        self.history.observe(&mut self.pass, 0)
+    }
+
+    /// Whether the history has a failure mark.
+    pub fn is_marked(&self) -> bool {
+        self.shard.is_marked()
+    }
+
+    /// Slot 0 and slot 1, as the calls left them.
+    pub fn into_slots(self) -> [MemDisk; 2] {
+        let LoneShard {
+            history: _,
+            shard,
+            pass: _,
+        } = self;
+        shard.into_slots()
+    }
+}
