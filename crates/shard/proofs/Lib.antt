@@ -9,3 +9,5 @@ pub mod Shards
 pub mod Applied
 pub mod Stored
 pub mod Ends
+pub mod Groups
+pub mod GroupRows

@@ -2,4 +2,5 @@ pub mod Keeping
 pub mod Calls
 pub mod Shards
 pub mod Readies
+pub mod Groups
 pub mod Parts

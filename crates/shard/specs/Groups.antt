@@ -1,0 +1,77 @@
+-- What calls, one after another, make of a book, and what becomes of a group of them that is written at once.
+use Rattle.std.specs.Prelude.{◌≡◌, ◌⊎◌, ℕ, List, [], ◌∷◌, ◌++◌, map, false, if◌then◌else◌}
+use Rattle.accept.specs.declared.call.Reply.{Reply}
+use Rattle.accept.specs.declared.call.Reply.TheVariants.{Unavailable}
+use Rattle.accept.specs.declared.history.Ask.{Ask}
+use Rattle.accept.specs.declared.history.Item.{Item}
+use Rattle.accept.specs.declared.history.Item.TheVariants.{Answered, Failed}
+use Rattle.accept.specs.Histories.{meaning, changes, is_marked}
+use Rattle.wal.specs.Recovery.{Recovers}
+use Rattle.wal.specs.Moments.{Pair, HasFailed, HasNoFailure}
+use Rattle.history.specs.declared.views.About.{About}
+use Rattle.history.specs.Histories.{HasStep, IsAmong, steps_by, doubt_of, reply_of, step_of}
+use Rattle.history.specs.Handles.{Booked, Announced, Received, history_in, longer}
+use Rattle.shard.specs.Keeping.{owner_in, IsAllowed}
+use Rattle.shard.specs.Calls.{reply_in}
+
+-- the book with the call's step behind it, which has the reply that is due
+abbrev pub with_step : Booked → Ask → Booked
+with_step book ask = longer book (Answered (step_of ask (reply_in book ask.call)))
+
+-- these items of shard k with a step of each call behind them, which has the reply that is due there
+abbrev pub items_with : About → ℕ → List Item → List Ask → List Item
+items_with about k items [] = items
+items_with about k items (a ∷ asks) = items_with about k (items ++ Answered (step_of a (reply_of about k items a.call)) ∷ []) asks
+
+-- the book with a step of each call behind it
+abbrev pub with_steps : Booked → List Ask → Booked
+with_steps book asks = record book { items = items_with book.about book.shard book.items asks }
+
+-- the replies that are due, each after the steps before it
+abbrev pub dues : Booked → List Ask → List Reply
+dues book [] = []
+dues book (a ∷ asks) = reply_in book a.call ∷ dues (with_step book a) asks
+
+-- those of the calls whose reply changes something
+abbrev pub changing_of : Booked → List Ask → List Ask
+changing_of book [] = []
+changing_of book (a ∷ asks) =
+    if changes (reply_in book a.call) then a ∷ changing_of (with_step book a) asks else changing_of (with_step book a) asks
+
+-- the receipts of the calls, each with the history up to its step, and what the clocks of both slots said
+abbrev pub receipts_of : Booked → List Announced → ℕ × ℕ → List Received
+receipts_of book [] moment = []
+receipts_of book (t ∷ ts) moment =
+    record { table = t.table; step = step_of t.ask (reply_in book t.ask.call); upto = (with_step book t.ask).items; moment = moment }
+    ∷ receipts_of (with_step book t.ask) ts moment
+
+-- each of the calls has a step in these items, or is one of those in front
+abbrev pub HaveStepsOr : List Ask → List Item → List Ask → Type 0
+HaveStepsOr [] items front = Unit {0}
+HaveStepsOr (a ∷ asks) items front = (HasStep a (steps_by a.pass items) ⊎ IsAmong a front) × HaveStepsOr asks items front
+
+-- each ticket names calls with a step, those in front, and those of the tickets before it
+abbrev pub AreInTurn : List Item → List Ask → List Announced → Type 0
+AreInTurn items front [] = Unit {0}
+AreInTurn items front (t ∷ ts) = HaveStepsOr t.before items front × AreInTurn items (front ++ t.ask ∷ []) ts
+
+-- the book with the mark of a failure while the calls were written
+abbrev pub marked_by : Booked → List Ask → Booked
+marked_by book asks = longer book (Failed (changing_of book asks))
+
+-- Each call has its step, and no device call failed.
+pub record AreCommitted (old new : Pair) (before : Booked) (asks : List Ask) (behind : Booked) (replies : List Reply) : Type 0 where
+  pub no_failure : HasNoFailure old new
+  pub replied : replies ≡ dues before asks
+  pub book : behind ≡ with_steps before asks
+
+-- A device call failed: a mark with the calls that change something stands before the steps.
+pub record AreLost (old new : Pair) (before : Booked) (asks : List Ask) (behind : Booked) (replies : List Reply) : Type 0 where
+  pub failure : HasFailed old new
+  pub unmarked : is_marked before.items ≡ false
+  pub replied : replies ≡ map (λ _. Unavailable) asks
+  pub book : behind ≡ with_steps (marked_by before asks) asks
+
+-- What a crash may leave while the calls are on their way: what was allowed at their start, or what stands for the streams after them all.
+abbrev pub MayLeaveAll : Booked → List Ask → List ℕ → List ℕ → Type 0
+MayLeaveAll book asks a b = IsAllowed book (doubt_of book.items) a b ⊎ Recovers (owner_in book) a b (meaning (history_in (with_steps book asks)))
