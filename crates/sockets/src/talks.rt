@@ -455,15 +455,16 @@ fn a_shard_holds_64_mib(rt: HostRuntime) -> Result<(), Fail> {
     let alloc = rt.alloc();
     let _ = fs::remove_dir_all(&rt, "sockets_full");
     let line = "push sockets_full 1 t 100";
-    for time in 1..=17 {
-        let body = lines_of(alloc, time, 15, 262_140)?;
+    for time in 1..=18 {
+        let body = lines_of(alloc, time, 14, 262_140)?;
         let pushed = run_line(&rt, alloc, line, body.as_str())?;
         assert!(rt; pushed.is("204\n"));
     }
-    let rest = lines_of(alloc, 18, 1, 200_000)?;
+    let rest = lines_of(alloc, 19, 2, 262_140)?;
     let pushed = run_line(&rt, alloc, line, rest.as_str())?;
+    // (254 lines of 262,153 bytes, and the last once more)
     assert!(rt; pushed.is("204\n"), "with a quarter of a MiB to spare");
-    let over = lines_of(alloc, 19, 1, 100_000)?;
+    let over = lines_of(alloc, 20, 1, 262_140)?;
     let refused = run_line(&rt, alloc, line, over.as_str())?;
     assert!(rt; refused.output.as_slice() == b"507\nstream 0: no room\n".as_slice());
     fs::remove_dir_all(&rt, "sockets_full")?;
