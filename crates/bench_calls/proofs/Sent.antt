@@ -10,7 +10,6 @@ use Rattle.crossbeam_channel.proofs.channel.Sender.TheSendSync as sender
 use Rattle.disk.proofs.memory.MemDisk.TheSendSync as memory
 use Rattle.history.proofs.handles.Pass.TheSendSync as pass
 use Rattle.ingester.proofs.Sent.{ingester_sync}
-use Rattle.bench_calls.proofs.ingester_calls.Load.TheSendSync as load
 use Rattle.bench_calls.specs.contracts.ingester_calls.Course as course
 use Rattle.bench_calls.specs.contracts.ingester_calls.Caller as caller
 
@@ -22,10 +21,13 @@ course_fields κ R r = (
     (
       search (ingester_sync, memory.the_send, crosses, sendable) depth 20,
       (
-        load.the_sync,
+        search sendable,
         (
-          search (sender.the_sync, send, sync, frees, sendable) depth 20,
-          (search (receiver.the_sync, send, sync, frees, sendable) depth 20, (search (crosses, sendable) depth 20, tt)),
+          search sendable,
+          (
+            search (sender.the_sync, send, sync, frees, sendable) depth 20,
+            (search (receiver.the_sync, send, sync, frees, sendable) depth 20, (search (crosses, sendable) depth 20, tt)),
+          ),
         ),
       ),
     ),

@@ -41,7 +41,9 @@ struct Course<'a, R> {
     rt: &'a R,
     alloc: Global,
     ingester: &'a Ingester<MemDisk>,
-    load: Load,
+    shards: u32,
+    /// How many pushes each thread makes.
+    pushes: u64,
     /// Is told by each thread that its pushes are ready.
     ready: Sender<()>,
     /// Has no sender once the threads may go.
@@ -102,8 +104,8 @@ fn stream_number(alloc: Global, pass: u32, shards: u32) -> Result<u64> {
 
 /// The pushes of the pass with this number.
 fn pushes_by<R>(course: &Course<R>, number: u32) -> Result<Vec<Call>> {
-    let stream = stream_number(course.alloc, number, course.load.shards)?;
-    pushes_of(course.alloc, stream, 0, course.load.pushes)
+    let stream = stream_number(course.alloc, number, course.shards)?;
+    pushes_of(course.alloc, stream, 0, course.pushes)
 }
 
 /// Makes a push: whether it has its step, with all its lines stored.
@@ -205,7 +207,8 @@ fn push_in_threads<R: Clock + Threads + Wait + Sync>(
         rt,
         alloc,
         ingester,
-        load,
+        shards: load.shards,
+        pushes: load.pushes,
         ready,
         go,
         stored: AtomicU64::new(0),
