@@ -19,8 +19,8 @@ use Rattle.history.specs.Histories.{HaveSteps, HasStep, IsAmong, steps_by, doubt
 use Rattle.history.specs.Handles.{Booked, Announced, history_in, longer}
 use Rattle.history.proofs.Past.{marked_step, marked_mark, doubt_marked, doubt_unmarked, have_more}
 use Rattle.shard.specs.Keeping.{owner_in, Keeps}
-use Rattle.shard.specs.Calls.{answer_in, after_in, reply_in, Writes, IsCommitted, IsLost}
-use Rattle.shard.specs.Groups.{with_step, with_steps, dues, changing_of, HaveStepsOr, AreInTurn, marked_by, AreCommitted, AreLost}
+use Rattle.shard.specs.Calls.{answer_in, after_in, reply_in, Writes, IsCommitted, IsLost, MayLeave}
+use Rattle.shard.specs.Groups.{with_step, with_steps, dues, changing_of, HaveStepsOr, AreInTurn, marked_by, AreCommitted, AreLost, MayLeaveAll}
 use Rattle.shard.proofs.Growing.{doubt_step, doubt_mark}
 use Rattle.shard.proofs.Replies.{due_written, due_marked, within_due}
 
@@ -135,17 +135,20 @@ rest_kept now book asks within unmarked keeps a b x y =
     let limits = book.about.limits in
     let k = keeps a b x y in
     let same : meaning (answered_to limits last (take k.0 [])) ≡ meaning (answered_to limits (history_in book) (take (length all) all)) =
-        ap (λ (l : List Ask). meaning (answered_to limits last l)) (take-nil k.0) ∙ sym (steps_mean book asks within)
-        ∙ ap (λ (l : List Ask). meaning (answered_to limits (history_in book) l)) (sym (take-length all)) in
+    ap (λ (l : List Ask). meaning (answered_to limits last l)) (take-nil k.0) ∙ sym (steps_mean book asks within)
+    ∙ ap (λ (l : List Ask). meaning (answered_to limits (history_in book) l)) (sym (take-length all)) in
     (length all, omega arith, subst (λ (m : Streams). Recovers (owner_in book) a b m) same k.2)
 
 -- after a mark it is kept with the mark's list
 marked_kept : (now : Pair) (book : Booked) (asks doubt : List Ask) → IsWithin book.about.limits (history_in book) → is_marked book.items ≡ true
     → Keeps now (with_steps book asks) doubt → Keeps now book doubt
 marked_kept now book asks doubt within marked keeps a b x y =
-    let k = keeps a b x y in
-    (k.0, k.1, subst (λ (m : Streams). Recovers (owner_in book) a b m)
-    (meaning-answered_to book.about.limits (history_in (with_steps book asks)) (history_in book) (take k.0 doubt) (within_steps book asks within) within (failed_means book asks within marked)) k.2)
+    let k = keeps a b x y in (
+      k.0,
+      k.1,
+      subst (λ (m : Streams). Recovers (owner_in book) a b m)
+          (meaning-answered_to book.about.limits (history_in (with_steps book asks)) (history_in book) (take k.0 doubt) (within_steps book asks within) within (failed_means book asks within marked)) k.2,
+    )
 
 pub part_kept : (now : Pair) (book : Booked) (asks : List Ask) → IsWithin book.about.limits (history_in book)
     → Keeps now (with_steps book asks) (doubt_of book.items) → Keeps now book (doubt_or book.items (changing_of book asks))
@@ -171,8 +174,8 @@ failed_allows now book asks within either a b x y =
     let limits = book.about.limits in
     let still : meaning g ≡ meaning h = meaning-Failed h all in
     let next : meaning (answered_to limits g (take (length all) all)) ≡ meaning (history_in (with_steps book asks)) =
-        ap (λ (l : List Ask). meaning (answered_to limits g l)) (take-length all)
-        ∙ (meaning-answered_to limits g h all (within-Failed limits h all within) within still ∙ steps_mean book asks within) in
+    ap (λ (l : List Ask). meaning (answered_to limits g l)) (take-length all)
+    ∙ (meaning-answered_to limits g h all (within-Failed limits h all within) within still ∙ steps_mean book asks within) in
     elim (either a b x y) [
       | inl old ↦ (0, omega arith, subst (λ (m : Streams). Recovers (owner_in book) a b m) (sym still) old)
       | inr new ↦ (length all, omega arith, subst (λ (m : Streams). Recovers (owner_in book) a b m) (sym next) new)
@@ -206,18 +209,31 @@ one_lost old new book ticket behind reply writes lost =
           ∙ ap (λ (r : Reply). longer marked (Answered (step_of ask r))) (sym (due_marked marked ask.call (marked_mark book.items (ask ∷ [])))));
     }
 
+-- and a crash leaves of it what it may leave of the call
+pub one_may_leave : (book : Booked) (ask : Ask) (a b : List ℕ) → IsWithin book.about.limits (history_in book) → MayLeaveAll book (ask ∷ []) a b → MayLeave book ask.call a b
+one_may_leave book ask a b within (inl allowed) = inl allowed
+one_may_leave book ask a b within (inr recovers) =
+    elim (changes (reply_in book ask.call)) as (λ c. changes (reply_in book ask.call) ≡ c → MayLeave book ask.call a b) [
+      | true ↦ λ e.
+          let writes = changes_writes book ask.call e in
+          inr (writes, subst (λ (m : Streams). Recovers (owner_in book) a b m) (step_written book ask writes) recovers)
+      | false ↦ λ e. inl (0, omega arith, subst (λ (m : Streams). Recovers (owner_in book) a b m) (step_same book ask within e) recovers)
+    ] refl
+
 -- Turns.
 
 -- calls in front that have a step now
 turn_step : (asks : List Ask) (items more : List Item) (a : Ask) (front : List Ask) → HasStep a (steps_by a.pass (items ++ more))
     → HaveStepsOr asks items (a ∷ front) → HaveStepsOr asks (items ++ more) front
 turn_step [] items more a front there h = tt
-turn_step (b ∷ asks) items more a front there h =
-    (elim h.0 [
-      | inl s ↦ inl (have_more (b ∷ []) items more (s, tt)).0
-      | inr (inl e) ↦ inl (subst (λ (c : Ask). HasStep c (steps_by c.pass (items ++ more))) e there)
-      | inr (inr s) ↦ inr s
-    ], turn_step asks items more a front there h.1)
+turn_step (b ∷ asks) items more a front there h = (
+  elim h.0 [
+    | inl s ↦ inl (have_more (b ∷ []) items more (s, tt)).0
+    | inr (inl e) ↦ inl (subst (λ (c : Ask). HasStep c (steps_by c.pass (items ++ more))) e there)
+    | inr (inr s) ↦ inr s
+  ],
+  turn_step asks items more a front there h.1,
+)
 
 pub turn_next : (items more : List Item) (a : Ask) (front : List Ask) (ts : List Announced) → HasStep a (steps_by a.pass (items ++ more))
     → AreInTurn items (a ∷ front) ts → AreInTurn (items ++ more) front ts
@@ -226,11 +242,13 @@ turn_next items more a front (t ∷ ts) there h = (turn_step t.before items more
 
 turn_or : (asks : List Ask) (items more : List Item) (front : List Ask) → HaveStepsOr asks items front → HaveStepsOr asks (items ++ more) front
 turn_or [] items more front h = tt
-turn_or (b ∷ asks) items more front h =
-    (elim h.0 [
-      | inl s ↦ inl (have_more (b ∷ []) items more (s, tt)).0
-      | inr s ↦ inr s
-    ], turn_or asks items more front h.1)
+turn_or (b ∷ asks) items more front h = (
+  elim h.0 [
+    | inl s ↦ inl (have_more (b ∷ []) items more (s, tt)).0
+    | inr s ↦ inr s
+  ],
+  turn_or asks items more front h.1,
+)
 
 -- more items
 pub turn_more : (items more : List Item) (front : List Ask) (ts : List Announced) → AreInTurn items front ts → AreInTurn (items ++ more) front ts
@@ -240,11 +258,13 @@ turn_more items more front (t ∷ ts) h = (turn_or t.before items more front h.0
 -- with none in front each has a step
 pub turn_first : (asks : List Ask) (items : List Item) → HaveStepsOr asks items [] → HaveSteps asks items
 turn_first [] items h = tt
-turn_first (a ∷ asks) items h =
-    (elim h.0 [
-      | inl s ↦ s
-      | inr s ↦ absurd s
-    ], turn_first asks items h.1)
+turn_first (a ∷ asks) items h = (
+  elim h.0 [
+    | inl s ↦ s
+    | inr s ↦ absurd s
+  ],
+  turn_first asks items h.1,
+)
 
 pub one_turn : (asks : List Ask) (items : List Item) → HaveSteps asks items → HaveStepsOr asks items []
 one_turn [] items h = tt
