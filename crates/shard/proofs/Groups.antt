@@ -15,7 +15,7 @@ use Rattle.accept.proofs.Growing.{within-Failed}
 use Rattle.accept.proofs.Unchanged.{after-unchanged}
 use Rattle.wal.specs.Recovery.{Recovers, IsEither}
 use Rattle.wal.specs.Moments.{Pair}
-use Rattle.history.specs.Histories.{HaveSteps, HasStep, IsAmong, steps_by, doubt_or, doubt_of, reply_of, step_of}
+use Rattle.history.specs.Histories.{HaveSteps, HasStep, steps_by, doubt_or, doubt_of, reply_of, step_of}
 use Rattle.history.specs.Handles.{Booked, Announced, history_in, longer}
 use Rattle.history.proofs.Past.{marked_step, marked_mark, doubt_marked, doubt_unmarked, have_more}
 use Rattle.shard.specs.Keeping.{owner_in, Keeps}
