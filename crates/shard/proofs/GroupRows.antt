@@ -1,5 +1,5 @@
 -- What the definitions say of a worked group: a push, a read, and the same push again.
-use Rattle.std.proofs.Common.{◌≡◌, ℕ, ◌+◌, ◌&&◌, Bool, cond, List, [], ◌∷◌, nat_lt, codes, Option, Some, None, refl, ap, ◌∙◌, arith}
+use Rattle.std.proofs.Common.{◌≡◌, ℕ, ◌+◌, ◌&&◌, Bool, cond, List, [], ◌∷◌, nat_lt, codes, None, refl, ap, ◌∙◌, arith}
 use Rattle.std.specs.FinMap as finite
 use Rattle.labels.specs.Keys.{key_cmp}
 use Rattle.labels.specs.declared.key.StreamKey.{StreamKey}
@@ -15,7 +15,7 @@ use Rattle.accept.specs.declared.history.Ask.{Ask}
 use Rattle.accept.specs.declared.history.Item.TheVariants.{Answered}
 use Rattle.accept.specs.OneStream.{outcomes, image_of}
 use Rattle.accept.specs.Rooms.{room, room_at}
-use Rattle.accept.specs.Histories.{changes, meaning, set_stream}
+use Rattle.accept.specs.Histories.{changes, set_stream}
 use Rattle.accept.specs.Calls.{answer_from, stream_after}
 use Rattle.accept.proofs.Growing.{image_of-nothing, within-nothing}
 use Rattle.accept.proofs.Meanings.{after-set_stream, meaning-nothing}
@@ -24,7 +24,7 @@ use Rattle.history.specs.declared.views.About.{About}
 use Rattle.history.specs.Histories.{reply_of, step_of}
 use Rattle.history.specs.Handles.{Booked, history_in, longer}
 use Rattle.shard.specs.Calls.{answer_in, after_in, reply_in}
-use Rattle.shard.specs.Groups.{with_step, dues, changing_of, marked_by}
+use Rattle.shard.specs.Groups.{dues, changing_of, marked_by}
 
 abbrev limits : Limits
 limits = record { line = 262144; half_age = 3600000000000; max_old = 604800000000000; max_ahead = 600000000000 }

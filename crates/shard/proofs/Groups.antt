@@ -15,12 +15,12 @@ use Rattle.accept.proofs.Growing.{within-Failed}
 use Rattle.accept.proofs.Unchanged.{after-unchanged}
 use Rattle.wal.specs.Recovery.{Recovers, IsEither}
 use Rattle.wal.specs.Moments.{Pair}
-use Rattle.history.specs.Histories.{HaveSteps, HasStep, IsAmong, steps_by, doubt_or, doubt_of, reply_of, step_of}
+use Rattle.history.specs.Histories.{HaveSteps, HasStep, steps_by, doubt_or, doubt_of, reply_of, step_of}
 use Rattle.history.specs.Handles.{Booked, Announced, history_in, longer}
 use Rattle.history.proofs.Past.{marked_step, marked_mark, doubt_marked, doubt_unmarked, have_more}
 use Rattle.shard.specs.Keeping.{owner_in, Keeps}
-use Rattle.shard.specs.Calls.{answer_in, after_in, reply_in, Writes, IsCommitted, IsLost}
-use Rattle.shard.specs.Groups.{with_step, with_steps, dues, changing_of, HaveStepsOr, AreInTurn, marked_by, AreCommitted, AreLost}
+use Rattle.shard.specs.Calls.{answer_in, after_in, reply_in, Writes, IsCommitted, IsLost, MayLeave}
+use Rattle.shard.specs.Groups.{with_step, with_steps, dues, changing_of, HaveStepsOr, AreInTurn, marked_by, AreCommitted, AreLost, MayLeaveAll}
 use Rattle.shard.proofs.Growing.{doubt_step, doubt_mark}
 use Rattle.shard.proofs.Replies.{due_written, due_marked, within_due}
 
@@ -208,6 +208,17 @@ one_lost old new book ticket behind reply writes lost =
       book = lost.book ∙ (ap (λ (l : List Ask). with_steps (longer book (Failed l)) (ask ∷ [])) alone
           ∙ ap (λ (r : Reply). longer marked (Answered (step_of ask r))) (sym (due_marked marked ask.call (marked_mark book.items (ask ∷ [])))));
     }
+
+-- and a crash leaves of it what it may leave of the call
+pub one_may_leave : (book : Booked) (ask : Ask) (a b : List ℕ) → IsWithin book.about.limits (history_in book) → MayLeaveAll book (ask ∷ []) a b → MayLeave book ask.call a b
+one_may_leave book ask a b within (inl allowed) = inl allowed
+one_may_leave book ask a b within (inr recovers) =
+    elim (changes (reply_in book ask.call)) as (λ c. changes (reply_in book ask.call) ≡ c → MayLeave book ask.call a b) [
+      | true ↦ λ e.
+          let writes = changes_writes book ask.call e in
+          inr (writes, subst (λ (m : Streams). Recovers (owner_in book) a b m) (step_written book ask writes) recovers)
+      | false ↦ λ e. inl (0, omega arith, subst (λ (m : Streams). Recovers (owner_in book) a b m) (step_same book ask within e) recovers)
+    ] refl
 
 -- Turns.
 

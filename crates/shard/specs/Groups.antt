@@ -10,7 +10,7 @@ use Rattle.wal.specs.Recovery.{Recovers}
 use Rattle.wal.specs.Moments.{Pair, HasFailed, HasNoFailure}
 use Rattle.history.specs.declared.views.About.{About}
 use Rattle.history.specs.Histories.{HasStep, IsAmong, steps_by, doubt_of, reply_of, step_of}
-use Rattle.history.specs.Handles.{Booked, Announced, Received, history_in, longer}
+use Rattle.history.specs.Handles.{Booked, Announced, history_in, longer}
 use Rattle.shard.specs.Keeping.{owner_in, IsAllowed}
 use Rattle.shard.specs.Calls.{reply_in}
 
@@ -37,13 +37,6 @@ abbrev pub changing_of : Booked → List Ask → List Ask
 changing_of book [] = []
 changing_of book (a ∷ asks) =
     if changes (reply_in book a.call) then a ∷ changing_of (with_step book a) asks else changing_of (with_step book a) asks
-
--- the receipts of the calls, each with the history up to its step, and what the clocks of both slots said
-abbrev pub receipts_of : Booked → List Announced → ℕ × ℕ → List Received
-receipts_of book [] moment = []
-receipts_of book (t ∷ ts) moment =
-    record { table = t.table; step = step_of t.ask (reply_in book t.ask.call); upto = (with_step book t.ask).items; moment = moment }
-    ∷ receipts_of (with_step book t.ask) ts moment
 
 -- each of the calls has a step in these items, or is one of those in front
 abbrev pub HaveStepsOr : List Ask → List Item → List Ask → Type 0
