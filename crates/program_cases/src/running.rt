@@ -86,7 +86,7 @@ where
             &mut output,
             &mut errors,
         ),
-        Program::Ingesterd => run_server(rt, alloc, words, setting, &mut output, &mut errors),
+        Program::Ingesterd => run_server(rt, alloc, words, setting, &mut output, &mut errors, None),
     };
     Ended {
         status,
