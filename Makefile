@@ -4,7 +4,7 @@ RT ?= rt
 SHARDS ?= 16
 WORKERS ?= 64
 
-.PHONY: run demo sample test edits faults check fmt bench kill roll-time deb deb-check edge-check drain-check pictures
+.PHONY: run demo sample test edits faults check fmt bench kill failed-disk roll-time deb deb-check edge-check drain-check pictures
 
 # the main job: the server, with its log in the folder data
 run:
@@ -19,6 +19,11 @@ demo:
 kill:
 	@RT='$(RT)' tests/build server
 	@tests/kill_in_the_middle $(CYCLES)
+
+# a server whose disk fails while it serves says so, once for each shard
+failed-disk:
+	@RT='$(RT)' tests/build server
+	@tests/failed_disk
 
 # how long a push takes that begins the next segment of a full shard, at capacities in MiB: make roll-time [MIB="64 1024"]
 roll-time:

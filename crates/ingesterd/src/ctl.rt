@@ -90,7 +90,7 @@ fn call_folder<R: Files<File = File> + Wait, I: Read>(
     } = words;
     let tenant = tenant?;
     let body = read_body(alloc, input)?;
-    let slots = open_slots(rt, alloc, folder, shards)?;
+    let slots = open_slots(rt, alloc, folder, shards, None)?;
     let (ingester, mut pass) = open_for_one(alloc, slots, capacity)?;
     answer(rt, alloc, &ingester, &mut pass, now, route, &tenant, &body).map_err(|_| Stopped::Memory)
 }

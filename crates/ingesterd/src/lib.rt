@@ -11,6 +11,7 @@ mod serving;
 mod setting;
 mod slots;
 mod stopped;
+mod watched;
 
 pub use clock::SystemClock;
 pub use ctl::run_ctl;

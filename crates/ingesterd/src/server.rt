@@ -10,7 +10,7 @@ use crate::slots::open_slots;
 use crate::stopped::Stopped;
 use std::alloc::Global;
 use std::fs::{File, Files};
-use std::io::Write;
+use std::io::{Stderr, Write};
 use std::net::{IpAddr, Ipv4Addr, Net, SocketAddr, TcpListener, TcpStream};
 use std::rt::Clock;
 use std::sync::Wait;
@@ -24,7 +24,7 @@ use words::{ServerWords, server_in};
 /// written, and each connection is served by one of WORKERS threads. After CONNECTIONS connections, where given, it ends
 /// with status 0, as it does where no worker is left; else it goes on. A connection that fails costs no more than itself
 /// (`serve_listener`). Status 1: a fault while running. 2: wrong words, or a wrong setting. 3: a refused opening.
-/// A fault stands on one line of `errors`.
+/// A fault stands on one line of `errors`, and a shard that stops answering has one in `marks`, where they are given.
 pub fn run_server<R, W: Write, E: Write>(
     rt: &R,
     alloc: Global,
@@ -32,6 +32,7 @@ pub fn run_server<R, W: Write, E: Write>(
     setting: Option<&str>,
     output: &mut W,
     errors: &mut E,
+    marks: Option<Stderr>,
 ) -> u8
 where
     R: Files<File = File> + Net<Listener = TcpListener, Stream = TcpStream>,
@@ -49,7 +50,7 @@ where
     let Some(capacity) = capacity_by(setting, errors) else {
         return 2;
     };
-    if let Err(stopped) = serve_folder(rt, alloc, words, capacity, output) {
+    if let Err(stopped) = serve_folder(rt, alloc, words, capacity, output, marks) {
         let _ = writeln!(errors, "{stopped}");
         return stopped.status();
     }
@@ -63,13 +64,14 @@ fn serve_folder<R, W: Write>(
     words: ServerWords<'_>,
     capacity: u64,
     output: &mut W,
+    marks: Option<Stderr>,
 ) -> Result<(), Stopped>
 where
     R: Files<File = File> + Net<Listener = TcpListener, Stream = TcpStream>,
     R: Clock + Threads + Wait + Sync,
     requires { capacity ≤ 2 ^ 30 }
 {
-    let slots = open_slots(rt, alloc, words.folder, words.shards)?;
+    let slots = open_slots(rt, alloc, words.folder, words.shards, marks)?;
     let (ingester, passes) = open_shards(alloc, slots, words.workers, capacity)?;
     let address = SocketAddr::new(IpAddr::V4(Ipv4Addr::LOCALHOST), words.port);
     let listener = TcpListener::bind(rt, address).map_err(|_| Stopped::Listen)?;

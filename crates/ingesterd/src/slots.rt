@@ -1,10 +1,11 @@
 //! The slots of a folder.
 ghost use Rattle.std.specs.Prelude.{◌≡◌, ◌≤◌, IfOk, vec_len};
 
+use crate::watched::Watched;
 use disk::{FileDisk, LockedFile};
 use std::alloc::{AllocError, Global};
 use std::fs::{self, File, Files};
-use std::io;
+use std::io::{self, Stderr};
 use std::path::Path;
 
 /// Why the files of slots are not opened.
@@ -23,13 +24,15 @@ impl From<AllocError> for SlotsFault {
 }
 
 /// Opens the slots of so many shards, the files `shard-SS-0.wal` and `shard-SS-1.wal` of a folder. What is missing is made
-/// empty, the folder too, and each file is locked against another process. What was made survives a crash.
+/// empty, the folder too, and each file is locked against another process. What was made survives a crash. A shard
+/// that stops answering has a line in `errors`, where they are given.
 pub fn open_slots<R: Files<File = File>>(
     rt: &R,
     alloc: Global,
     folder: &str,
     shards: u32,
-) -> Result<Vec<[FileDisk; 2]>, SlotsFault>
+    errors: Option<Stderr>,
+) -> Result<Vec<[Watched<FileDisk>; 2]>, SlotsFault>
     ensures { IfOk result (λ slots. vec_len slots ≡ shards) }
 {
     if make_folder(rt, folder).is_err() {
@@ -37,8 +40,8 @@ pub fn open_slots<R: Files<File = File>>(
     }
     let mut slots = Vec::new(alloc);
     for shard in 0..shards {
-        let first = open_slot(rt, alloc, folder, shard, 0)?;
-        let second = open_slot(rt, alloc, folder, shard, 1)?;
+        let first = Watched::new(open_slot(rt, alloc, folder, shard, 0)?, shard, errors);
+        let second = Watched::new(open_slot(rt, alloc, folder, shard, 1)?, shard, errors);
         if slots.push([first, second]).is_err() {
             return Err(SlotsFault::Memory);
         }

@@ -1,8 +1,7 @@
 //! A row: what its lines do, one after another.
 
-use crate::ended::Ended;
 use crate::repeats::Repeats;
-use crate::running::{Limits, Program, run};
+use crate::running::{Launch, Limits, Program, run};
 use crate::wording::{say_call, say_capacity, say_clock, say_place, say_server, words_in};
 use anyhow::{Result, anyhow, bail};
 use disk::LockedFile;
@@ -206,23 +205,25 @@ impl Case {
         words_in(self.alloc, line, port)
     }
 
+    /// The run of a program with these words.
+    fn launch_of<'a>(&'a self, name: &str, words: &'a [String]) -> Result<Launch<'a>> {
+        Ok(Launch {
+            program: program_of(name)?,
+            words,
+            setting: self.setting.as_deref(),
+            input: self.input.as_slice(),
+        })
+    }
+
     /// Runs a program: what it writes, and how it ends.
     fn take_run<R>(&self, rt: &R, name: &str, line: &str, said: &mut String) -> Result<()>
     where
         R: Files<File = File> + Net<Listener = TcpListener, Stream = TcpStream>,
         R: Clock + Threads + Wait + Sync,
     {
-        let (program, words) = (program_of(name)?, self.words(line)?);
-        self.run(rt, program, &words, self.limits).say(said)
-    }
-
-    fn run<R>(&self, rt: &R, program: Program, words: &[String], limits: Limits) -> Ended
-    where
-        R: Files<File = File> + Net<Listener = TcpListener, Stream = TcpStream>,
-        R: Clock + Threads + Wait + Sync,
-    {
-        let setting = self.setting.as_deref();
-        run(rt, self.alloc, program, words, setting, &self.input, limits)
+        let words = self.words(line)?;
+        let launch = self.launch_of(name, &words)?;
+        run(rt, self.alloc, launch, self.limits).say(said)
     }
 
     /// Runs a program once for each place of a stream, from the first up to the last, where that stream fails: how it
@@ -236,8 +237,9 @@ impl Case {
         let (first, rest) = number_of(rest)?;
         let (last, rest) = number_of(rest)?;
         let (name, rest) = word_of(rest);
-        let (program, words) = (program_of(name)?, self.words(rest)?);
-        self.run_each(rt, stream, (first, last), program, &words, said)
+        let words = self.words(rest)?;
+        let launch = self.launch_of(name, &words)?;
+        self.run_each(rt, stream, (first, last), launch, said)
     }
 
     fn run_each<R>(
@@ -245,19 +247,18 @@ impl Case {
         rt: &R,
         stream: &str,
         places: (usize, usize),
-        program: Program,
-        words: &[String],
+        launch: Launch<'_>,
         said: &mut String,
     ) -> Result<()>
     where
         R: Files<File = File> + Net<Listener = TcpListener, Stream = TcpStream>,
         R: Clock + Threads + Wait + Sync,
     {
-        let whole = self.run(rt, program, words, self.limits);
+        let whole = run(rt, self.alloc, launch, self.limits);
         let mut repeats = Repeats::new(self.alloc);
         for place in places.0..=places.1 {
             let limits = self.limits_at(stream, place)?;
-            let ended = self.run(rt, program, words, limits);
+            let ended = run(rt, self.alloc, launch, limits);
             repeats.take(ended.cut(self.alloc, limits.output, &whole)?, said)?;
         }
         repeats.say(said)

@@ -54,24 +54,27 @@ impl Limits {
     };
 }
 
-/// Runs a program with these words, what the environment says of a slot's capacity, and this input.
-pub fn run<R>(
-    rt: &R,
-    alloc: Global,
-    program: Program,
-    words: &[String],
-    setting: Option<&str>,
-    input: &[u8],
-    limits: Limits,
-) -> Ended
+/// A run of a program.
+#[derive(Clone, Copy)]
+pub struct Launch<'a> {
+    pub program: Program,
+    pub words: &'a [String],
+    /// What the environment says of a slot's capacity.
+    pub setting: Option<&'a str>,
+    pub input: &'a [u8],
+}
+
+/// Runs a program.
+pub fn run<R>(rt: &R, alloc: Global, launch: Launch<'_>, limits: Limits) -> Ended
 where
     R: Files<File = File> + Net<Listener = TcpListener, Stream = TcpStream>,
     R: Clock + Threads + Wait + Sync,
 {
-    let mut input = Source::new(input, limits.input);
+    let (words, setting) = (launch.words, launch.setting);
+    let mut input = Source::new(launch.input, limits.input);
     let mut output = Sink::new(alloc, limits.output);
     let mut errors = Sink::new(alloc, limits.errors);
-    let status = match program {
+    let status = match launch.program {
         Program::Walcat => run_walcat(alloc, words, &mut input, &mut output, &mut errors),
         Program::Ingest1 => run_ingest1(rt, alloc, words, &mut input, &mut output, &mut errors),
         Program::Ingestctl => run_ctl(
@@ -83,7 +86,7 @@ where
             &mut output,
             &mut errors,
         ),
-        Program::Ingesterd => run_server(rt, alloc, words, setting, &mut output, &mut errors),
+        Program::Ingesterd => run_server(rt, alloc, words, setting, &mut output, &mut errors, None),
     };
     Ended {
         status,

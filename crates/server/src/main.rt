@@ -11,6 +11,14 @@ fn main(rt: HostRuntime) -> ExitCode {
     };
     let setting = setting.as_deref();
     let (mut output, mut errors) = (rt.stdout(), rt.stderr());
-    let status = run_server(&rt, rt.alloc(), &words, setting, &mut output, &mut errors);
+    let status = run_server(
+        &rt,
+        rt.alloc(),
+        &words,
+        setting,
+        &mut output,
+        &mut errors,
+        Some(rt.stderr()),
+    );
     ExitCode::from(status)
 }

@@ -369,7 +369,7 @@ where
     let (told, status) = join(
         rt,
         move || answers_of(client).ok(),
-        || run_server(rt, alloc, &words, None, &mut output, &mut errors),
+        || run_server(rt, alloc, &words, None, &mut output, &mut errors, None),
     );
     let ended = Ended {
         status,
