@@ -1,6 +1,6 @@
 //! What the environment says of the slots.
 ghost use Rattle.std.specs.Prelude.{◌≡◌, ◌≤◌, ◌^◌, IfSome, MatchOption, option_map};
-ghost use Rattle.words.specs.Words.{GivesCapacity};
+ghost use Rattle.words.specs.Words.{GivesCapacity, capacity_of};
 
 use std::io::Write;
 use words::capacity_in;
@@ -9,6 +9,7 @@ use words::capacity_in;
 pub fn capacity_by<E: Write>(setting: Option<&str>, errors: &mut E) -> Option<u64>
     ensures given { MatchOption result (¬ GivesCapacity (option_map (λ s. s.now) setting.entry))
         (λ _. GivesCapacity (option_map (λ s. s.now) setting.entry)) }
+    ensures says { IfSome result (λ capacity. capacity ≡ capacity_of (option_map (λ s. s.now) setting.entry)) }
     ensures few { IfSome result (λ capacity. capacity ≤ 2 ^ 30) }
 {
     let capacity = capacity_in(setting);
