@@ -109,9 +109,11 @@ caller_in role = newcomer no_about 0
 abbrev pub announced : Seat Unit View → Announced
 announced s = record { table = s.table_id; ask = ask_in s.me.0.hand; doubted = doubt_in s.me.0.hand; before = before_in s.me.0.hand }
 
--- the seat has an open call in hand, with this number
-abbrev pub IsTicket : Seat Unit View → ℕ → Type 0
-IsTicket s n = (s.me ≡ (alone Nobody (Open (ask_in s.me.0.hand) (doubt_in s.me.0.hand) (before_in s.me.0.hand)), [])) × ((ask_in s.me.0.hand).number ≡ n)
+-- the seat has an open call in hand, with this number, of this pass
+abbrev pub IsTicket : Seat Unit View → ℕ → ℕ → Type 0
+IsTicket s n p =
+    (s.me ≡ (alone Nobody (Open (ask_in s.me.0.hand) (doubt_in s.me.0.hand) (before_in s.me.0.hand)), []))
+    × ((ask_in s.me.0.hand).number ≡ n) × ((ask_in s.me.0.hand).pass ≡ p)
 
 -- what contracts see of a receipt
 abbrev pub received : Seat Unit View → Received

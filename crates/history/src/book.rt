@@ -101,7 +101,11 @@ impl Book {
     {
         let _ = kept;
         let _ = reply;
-        let Ticket { number, seat } = ticket;
+        let Ticket {
+            number,
+            pass: _,
+            seat,
+        } = ticket;
         let shared = &self.table.shared;
         shared.join_seat::<Takes>(&mut self.seat, seat);
         shared.fetch_add::<Commits<J>>(&mut self.seat, self.shard, 1);

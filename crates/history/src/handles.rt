@@ -17,6 +17,7 @@ pub struct PassSpent;
 #[derive(Drop)]
 pub struct Ticket {
     pub(crate) number: u64,
+    pub(crate) pass: usize,
     pub(crate) seat: ViewSeat,
 }
 
@@ -33,7 +34,7 @@ impl Model for Ticket {
 
     ghost view = { λ t. announced t.seat };
 
-    ghost invariant = { λ t. IsTicket t.seat t.number };
+    ghost invariant = { λ t. IsTicket t.seat t.number t.pass };
 }
 
 impl Ticket {
@@ -42,6 +43,13 @@ impl Ticket {
         ensures { result ≡ self.now.ask.number }
     {
         self.number
+    }
+
+    /// The number of its pass, from 0.
+    pub fn pass(&self) -> usize
+        ensures { result ≡ self.now.ask.pass }
+    {
+        self.pass
     }
 }
 
@@ -124,6 +132,13 @@ impl Pass {
         ensures { result ≡ (length self.now.caller.pending == 64) }
     {
         self.calls == Pass::CALLS
+    }
+
+    // Its own number, from 0: the words of the passes stand behind those of the shards.
+    pub(crate) fn index(&self) -> usize
+        ensures { result ≡ self.now.caller.pass }
+    {
+        self.word - self.shards
     }
 
     // What its word is once its first open call has ended: its last number where others are open.

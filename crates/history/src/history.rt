@@ -92,12 +92,14 @@ impl History {
         ensures pass { pass.new ≡ record pass.old { caller = announce_to pass.old.caller number J.call } }
         ensures rested { pass.old.caller.pending ≡ [] → IsRested pass.old.caller }
     {
+        let index = pass.index();
         let shared = &self.table.shared;
         shared.store::<Announces<J>>(&mut pass.seat, pass.word, number);
         pass.last = number;
         pass.calls += 1;
         Ticket {
             number,
+            pass: index,
             seat: shared.split_seat::<Gives>(&mut pass.seat),
         }
     }
@@ -136,7 +138,11 @@ impl History {
         ensures first { IsFirst ticket.ask pass.old.caller.pending }
         ensures pass { pass.new ≡ record pass.old { caller = withdraw_to pass.old.caller ticket.ask.number } }
     {
-        let Ticket { number: _, seat } = ticket;
+        let Ticket {
+            number: _,
+            pass: _,
+            seat,
+        } = ticket;
         let word = pass.word_behind_first();
         let shared = &self.table.shared;
         shared.join_seat::<Takes>(&mut pass.seat, seat);
