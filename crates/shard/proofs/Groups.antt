@@ -223,7 +223,7 @@ one_may_leave book ask a b within (inr recovers) =
 -- Turns.
 
 -- calls in front that have a step now
-turn_step : (asks : List Ask) (items more : List Item) (a : Ask) (front : List Ask) → HasStep a (steps_by a.pass (items ++ more))
+pub turn_step : (asks : List Ask) (items more : List Item) (a : Ask) (front : List Ask) → HasStep a (steps_by a.pass (items ++ more))
     → HaveStepsOr asks items (a ∷ front) → HaveStepsOr asks (items ++ more) front
 turn_step [] items more a front there h = tt
 turn_step (b ∷ asks) items more a front there h = (
@@ -240,7 +240,7 @@ pub turn_next : (items more : List Item) (a : Ask) (front : List Ask) (ts : List
 turn_next items more a front [] there h = tt
 turn_next items more a front (t ∷ ts) there h = (turn_step t.before items more a front there h.0, turn_next items more a (front ++ t.ask ∷ []) ts there h.1)
 
-turn_or : (asks : List Ask) (items more : List Item) (front : List Ask) → HaveStepsOr asks items front → HaveStepsOr asks (items ++ more) front
+pub turn_or : (asks : List Ask) (items more : List Item) (front : List Ask) → HaveStepsOr asks items front → HaveStepsOr asks (items ++ more) front
 turn_or [] items more front h = tt
 turn_or (b ∷ asks) items more front h = (
   elim h.0 [

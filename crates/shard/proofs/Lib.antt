@@ -11,3 +11,16 @@ pub mod Stored
 pub mod Ends
 pub mod Groups
 pub mod GroupRows
+pub mod Queues
+pub mod Losing
+pub mod Joined
+pub mod Gathering
+pub mod GroupShards
+pub mod GroupWriting
+pub mod Finishing
+pub mod GroupApplied
+pub mod Beginnings
+pub mod Fronts
+pub mod Turning
+pub mod Taking
+pub mod Refusals

@@ -9,6 +9,7 @@ use Rattle.disk.specs.declared.device.Disk as disk
 use Rattle.history.proofs.book.Book.TheSendSync as book
 use Rattle.streams.proofs.map.StreamMap.TheSendSync as map
 use Rattle.wal.proofs.log.Wal.TheSendSync as wal
+use Rattle.shard.proofs.group.Group.TheSendSync as group
 use Rattle.shard.specs.contracts.keeping.Log as log
 use Rattle.shard.specs.contracts.parts.Parts as parts
 use Rattle.shard.specs.contracts.shard.Shard.{the_row}
@@ -23,7 +24,7 @@ parts_send D s = (search (log_send D s, sendable) depth 40, (book.the_send, (map
 
 inside_send : (D : RattleType) (g : disk.Ghosts D.Denot) → IsSend D → IsSend (inside.the_row D g)
 inside_send D g s = let I = inside.the_type D g in recorded_send (Struct (declared.shape I)) I.D I.to I.to_one
-    (struct_send (declared.shape I) (struct_send (declared.shape (parts.the_type D)) (parts_send D s), tt))
+    (struct_send (declared.shape I) (struct_send (declared.shape (parts.the_type D)) (parts_send D s), (group.the_field_send, tt)))
 
 pub shard_send : (D : RattleType) (g : disk.Ghosts D.Denot) → IsSend D → IsSend (the_row D g)
 shard_send D g s = view_send (inside.the_row D g) _ _ _ _ (inside_send D g s)

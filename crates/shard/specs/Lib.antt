@@ -3,4 +3,13 @@ pub mod Calls
 pub mod Shards
 pub mod Readies
 pub mod Groups
+pub mod Queues
+pub mod Joinings
+pub mod Gathered
+pub mod Gathering
+pub mod Adding
+pub mod Jobs
+pub mod Fronts
 pub mod Parts
+pub mod Turns
+pub mod Taking

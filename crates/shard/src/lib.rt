@@ -3,12 +3,20 @@
 //! A change is written to the log before its step is added to the book, so that nothing is seen that a crash could take.
 #![tactic(auto)]
 
+mod adding;
 mod fault;
+mod front;
+mod group;
+mod joining;
 mod keeping;
 mod parts;
 mod ready;
+mod refusing;
 mod shard;
+mod turn;
 mod writing;
 
 pub use fault::ApplyFault;
+pub use front::{Ended, Job};
+pub use group::Settled;
 pub use shard::Shard;

@@ -1,0 +1,73 @@
+-- Judged calls on their way into the book.
+use Rattle.std.specs.Prelude.{◌≡◌, ℕ, List, [], ◌∷◌, true, false}
+use Rattle.accept.specs.declared.call.Reply.{Reply}
+use Rattle.accept.specs.declared.history.Ask.{Ask}
+use Rattle.accept.specs.declared.history.Item.{Item}
+use Rattle.accept.specs.Histories.{changes, is_marked, IsWithin}
+use Rattle.disk.specs.Sight.{Sight}
+use Rattle.wal.specs.declared.log.Wal.{Wal}
+use Rattle.wal.specs.Logs.{Follow, slots}
+use Rattle.history.specs.Histories.{doubt_of, step_of}
+use Rattle.history.specs.Handles.{Booked, Announced, Received, AreOf, history_in}
+use Rattle.shard.specs.declared.group.Judged.{Judged}
+use Rattle.shard.specs.declared.group.Judged.TheVariants.{Quiet, Changing}
+use Rattle.shard.specs.declared.group.Settled.{Settled}
+use Rattle.shard.specs.declared.group.Settled.TheVariants as settled
+use Rattle.shard.specs.Keeping.{Keeps}
+use Rattle.shard.specs.Calls.{reply_in}
+use Rattle.shard.specs.Groups.{with_step, with_steps, AreInTurn}
+
+-- the judged calls in their order, each with its ticket and its reply, where these are the tickets of those that change something
+abbrev pub waiting_in : List Judged → List Announced → List (Announced × Reply)
+waiting_in [] ts = []
+waiting_in (Quiet t r ∷ js) ts = (t, r) ∷ waiting_in js ts
+waiting_in (Changing r ∷ js) [] = []
+waiting_in (Changing r ∷ js) (t ∷ ts) = (t, r) ∷ waiting_in js ts
+
+-- there is a ticket for each call that changes something, and for no other
+abbrev pub AreMatched : List Judged → List Announced → Type 0
+AreMatched [] [] = Unit {0}
+AreMatched [] (t ∷ ts) = ⊥
+AreMatched (Quiet t r ∷ js) ts = (changes r ≡ false) × AreMatched js ts
+AreMatched (Changing r ∷ js) [] = ⊥
+AreMatched (Changing r ∷ js) (t ∷ ts) = (changes r ≡ true) × AreMatched js ts
+
+abbrev pub tickets_in : List (Announced × Reply) → List Announced
+tickets_in [] = []
+tickets_in (w ∷ ws) = w.0 ∷ tickets_in ws
+
+abbrev pub asks_in : List (Announced × Reply) → List Ask
+asks_in [] = []
+asks_in (w ∷ ws) = w.0.ask ∷ asks_in ws
+
+-- the reply of each is due after the steps before it
+abbrev pub AreDue : Booked → List (Announced × Reply) → Type 0
+AreDue book [] = Unit {0}
+AreDue book (w ∷ ws) = (w.1 ≡ reply_in book w.0.ask.call) × AreDue (with_step book w.0.ask) ws
+
+-- the receipt of a call whose step is the last of these items
+abbrev pub receipt_at : List Item → Announced → Reply → ℕ × ℕ → Received
+receipt_at upto t r moment = record { table = t.table; step = step_of t.ask r; upto = upto; moment = moment }
+
+-- the calls of these tickets answered, one after another, at a moment of the clocks
+abbrev pub settled_of : Booked → List Announced → ℕ × ℕ → List Settled
+settled_of book [] moment = []
+settled_of book (t ∷ ts) moment =
+    let r = reply_in book t.ask.call in
+    settled.Answered r (receipt_at (with_step book t.ask).items t r moment) ∷ settled_of (with_step book t.ask) ts moment
+
+-- The waiting calls may be added to the book: each with its reply, in its turn, and all of them are kept.
+pub record IsReady {D : Type 0} (sight : D → Sight) (follows : D → Type 0) (log : Wal D) (book : Booked) (waiting : List (Announced × Reply)) : Type 0 where
+  pub due : AreDue book waiting
+  pub here : AreOf book (tickets_in waiting)
+  pub turn : AreInTurn book.items [] (tickets_in waiting)
+  pub within : IsWithin book.about.limits (history_in book)
+  pub kept : Follow follows log → Keeps (slots sight log) (with_steps book (asks_in waiting)) (doubt_of book.items)
+
+-- After a failure mark the waiting calls may be refused, each in its turn.
+pub record IsRefusable {D : Type 0} (sight : D → Sight) (follows : D → Type 0) (log : Wal D) (book : Booked) (waiting : List (Announced × Reply)) : Type 0 where
+  pub marked : is_marked book.items ≡ true
+  pub here : AreOf book (tickets_in waiting)
+  pub turn : AreInTurn book.items [] (tickets_in waiting)
+  pub within : IsWithin book.about.limits (history_in book)
+  pub kept : Follow follows log → Keeps (slots sight log) book (doubt_of book.items)
