@@ -1,12 +1,12 @@
 //! What a crash leaves of a shard, and what becomes of a call where a device does not work.
 
-use crate::alone::{answer_of, open_alone, pair_of};
+use crate::alone::{open_alone, pair_of};
+use crate::grouped::{Doing, answers_of};
 use anyhow::{Result, bail};
 use call_slots::{Pair, Way};
-use call_words::{Counted, Settings};
+use call_words::{Counted, Gathered, Settings};
 use disk::{ImagesFault, MemDisk};
 use lone_shard::LoneShard;
-use rows::word_of;
 use std::alloc::Global;
 use std::fmt;
 use std::fmt::Write;
@@ -51,20 +51,20 @@ impl fmt::Display for Tried {
     }
 }
 
-/// What a read gives of the only shard in these slots, or why they are refused.
-fn found_in(alloc: Global, pair: Pair, settings: Settings, read: &str) -> Result<String> {
+/// What reads give of the only shard in these slots, or why they are refused.
+fn found_in(alloc: Global, pair: Pair, settings: Settings, reads: &Gathered) -> Result<String> {
     match open_alone(alloc, pair, settings)? {
-        Ok(mut shard) => answer_of(&mut shard, alloc, read),
+        Ok(mut shard) => answers_of(&mut shard, alloc, reads),
         Err((fault, _)) => Ok(format!(in alloc; "{fault}")?),
     }
 }
 
-/// Says what a read gives of each pair of contents that a crash may leave, with these values for unsynced bytes.
+/// Says what reads give of each pair of contents that a crash may leave, with these values for unsynced bytes.
 pub fn say_contents(
     alloc: Global,
     pair: &Pair,
     settings: Settings,
-    read: &str,
+    reads: &Gathered,
     values: &[u8],
     said: &mut String,
 ) -> Result<()> {
@@ -73,22 +73,22 @@ pub fn say_contents(
     let mut found = Counted::new(alloc);
     for first in firsts.iter() {
         for second in seconds.iter() {
-            found.add(found_on(alloc, first, second, settings, read)?)?;
+            found.add(found_on(alloc, first, second, settings, reads)?)?;
         }
     }
     found.end(said)
 }
 
-/// What a read gives of the only shard in slots with these bytes.
+/// What reads give of the only shard in slots with these bytes.
 fn found_on(
     alloc: Global,
     first: &[u8],
     second: &[u8],
     settings: Settings,
-    read: &str,
+    reads: &Gathered,
 ) -> Result<String> {
     let pair = Pair::of_bytes(alloc, first, second)?;
-    found_in(alloc, pair, settings, read)
+    found_in(alloc, pair, settings, reads)
 }
 
 /// What a crash may leave on a disk: each content where few bytes are unsynced, else every 61st of those with 1 for
@@ -103,14 +103,13 @@ fn some_contents(alloc: Global, disk: &MemDisk) -> Result<Vec<Vec<u8>>> {
     }
 }
 
-/// A call that is tried on copies of slots.
+/// A call, or a group of calls, that is tried on copies of slots.
 #[derive(Clone, Copy)]
 struct Trial<'a> {
     alloc: Global,
     settings: Settings,
-    call: &'a str,
-    read: &'a str,
-    /// What a read gives before the call, and after it.
+    doing: &'a Doing,
+    /// What the reads give before the calls, and after them.
     before: &'a str,
     after: &'a str,
 }
@@ -125,16 +124,13 @@ impl Trial<'_> {
         }
     }
 
-    fn attempt_in(&self, mut shard: Box<LoneShard>) -> Result<Tried> {
-        if self.is_answered(&mut shard)? {
+    fn attempt_in(&self, shard: Box<LoneShard>) -> Result<Tried> {
+        let mut said = String::new(self.alloc);
+        let shard = self.doing.make(self.alloc, shard, &mut said)?;
+        if !said.as_str().contains("Unavailable") {
             return Ok(Tried::Answered);
         }
         self.left_in(&pair_of(shard))
-    }
-
-    fn is_answered(&self, shard: &mut LoneShard) -> Result<bool> {
-        let answer = answer_of(shard, self.alloc, self.call)?;
-        Ok(answer.as_str() != "Unavailable")
     }
 
     /// Which streams a crash may leave in these slots.
@@ -160,7 +156,7 @@ impl Trial<'_> {
 
     /// Whether slots with these bytes have the streams before the call or those after it.
     fn sight(&self, first: &[u8], second: &[u8]) -> Result<Option<Tried>> {
-        let found = found_on(self.alloc, first, second, self.settings, self.read)?;
+        let found = found_on(self.alloc, first, second, self.settings, &self.doing.reads)?;
         Ok(match found.as_str() {
             found if found == self.before => Some(Tried::Before),
             found if found == self.after => Some(Tried::After),
@@ -199,52 +195,37 @@ fn planned(alloc: Global, pair: &mut Pair, slot: u64, way: Way, call: u64) -> Re
     Ok(copy)
 }
 
-/// Makes a call, and says its answer.
-fn say_answer(shard: &mut LoneShard, alloc: Global, call: &str, said: &mut String) -> Result<()> {
-    let answer = answer_of(shard, alloc, call)?;
-    writeln!(said, "{answer}")?;
-    Ok(())
-}
-
-/// Makes a call, and says its answer: the slots after it.
+/// Makes the calls, and says their answers: the slots after them.
 fn say_made(
     alloc: Global,
     pair: Pair,
     settings: Settings,
-    call: &str,
+    doing: &Doing,
     said: &mut String,
 ) -> Result<Pair> {
     match open_alone(alloc, pair, settings)? {
-        Ok(mut shard) => {
-            say_answer(&mut shard, alloc, call, said)?;
-            Ok(pair_of(shard))
-        }
+        Ok(shard) => Ok(pair_of(doing.make(alloc, shard, said)?)),
         Err(refusal) => Err(refusal.0.into()),
     }
 }
 
-/// Makes a call on copies of these slots, and says its answer; and tries it on others of which one does not work, and says
-/// for each slot what becomes of it. Gives the slots after the call.
+/// Makes calls on copies of these slots, and says their answers; and tries them on others of which one does not work, and
+/// says for each slot what becomes of them. Gives the slots after the calls.
 pub fn say_trials(
     alloc: Global,
     pair: &mut Pair,
     settings: Settings,
     way: Way,
-    call: &str,
+    doing: &Doing,
     said: &mut String,
 ) -> Result<Pair> {
-    let (_, rest) = word_of(call);
-    let (stream, _) = word_of(rest);
-    let read = format!(in alloc; "read {stream}")?;
-    let read = read.as_str();
-    let before = found_in(alloc, pair.copy(alloc)?, settings, read)?;
-    let mut next = say_made(alloc, pair.copy(alloc)?, settings, call, said)?;
-    let after = found_in(alloc, next.copy(alloc)?, settings, read)?;
+    let before = found_in(alloc, pair.copy(alloc)?, settings, &doing.reads)?;
+    let mut next = say_made(alloc, pair.copy(alloc)?, settings, doing, said)?;
+    let after = found_in(alloc, next.copy(alloc)?, settings, &doing.reads)?;
     let trial = Trial {
         alloc,
         settings,
-        call,
-        read,
+        doing,
         before: before.as_str(),
         after: after.as_str(),
     };

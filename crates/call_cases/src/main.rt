@@ -3,6 +3,7 @@
 
 mod alone;
 mod crashes;
+mod grouped;
 mod opened;
 mod prepared;
 mod stage;

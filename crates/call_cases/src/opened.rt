@@ -1,8 +1,9 @@
 use crate::alone::{left_of, open_alone, say_call};
+use crate::grouped::say_group;
 use crate::together::Together;
 use anyhow::{Result, bail};
 use call_slots::{Left, Pair};
-use call_words::{Counted, Settings, call_of};
+use call_words::{Counted, Gathered, Settings, call_of};
 use lone_shard::LoneShard;
 use std::alloc::Global;
 use std::fmt::Write;
@@ -82,6 +83,14 @@ impl Opened {
         match self {
             Opened::Alone(shard) => say_call(shard, alloc, &call, into),
             Opened::Together(together) => together.call(rt, alloc, call, into),
+        }
+    }
+
+    /// Makes the calls as a group, and says what became of them. Gives back what makes calls.
+    pub fn group(self, alloc: Global, calls: &Gathered, said: &mut String) -> Result<Opened> {
+        match self {
+            Opened::Alone(shard) => Ok(Opened::Alone(say_group(alloc, shard, calls, said)?)),
+            Opened::Together(_) => bail!("a group is made of a shard alone"),
         }
     }
 

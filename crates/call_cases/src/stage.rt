@@ -1,11 +1,12 @@
 //! What the lines of a row do.
 
 use crate::crashes::{say_contents, say_trials};
+use crate::grouped::Doing;
 use crate::opened::{Opened, Refused};
 use crate::prepared::{End, Prepared};
 use anyhow::{Result, bail};
 use call_slots::{Left, Pair, Way};
-use call_words::{Counted, Settings, number_of};
+use call_words::{Counted, Gathered, Settings, number_of};
 use rows::{escape, unescape, word_of};
 use std::alloc::Global;
 use std::fmt::Write;
@@ -22,6 +23,8 @@ pub struct Stage {
     /// How many writes and syncs had been made on them at the opening.
     before: Vec<(u64, u64)>,
     opened: Option<Opened>,
+    /// The calls of the next group.
+    gathered: Gathered,
     prepared: Box<Prepared>,
 }
 
@@ -34,6 +37,7 @@ impl Stage {
             pairs: empty_pairs(alloc, 1)?,
             before: Vec::new(alloc),
             opened: None,
+            gathered: Gathered::new(alloc),
             prepared: Box::new(alloc, Prepared::new(alloc)?)?,
         })
     }
@@ -45,6 +49,9 @@ impl Stage {
             "open" => self.open(rest, said),
             "close" => self.close(rt, said),
             "push" | "read" | "trim" | "each" => self.take_call(rt, line, said),
+            "with" => self.gathered.add(self.alloc, rest),
+            "with*" => self.gathered.add_each(self.alloc, rest),
+            "group" => self.group(said),
             "look" => self.look(rest, said),
             "turn" => self.turn(),
             "store" => self.make_change(End::Store, rest, said),
@@ -166,6 +173,21 @@ impl Stage {
         opened.call_each(rt, alloc, call)?.end(said)
     }
 
+    /// `group`: the calls that were gathered, as a group.
+    fn group(&mut self, said: &mut String) -> Result<()> {
+        let calls = self.take_gathered();
+        let Some(opened) = self.opened.take() else {
+            bail!("nothing is open");
+        };
+        self.opened = Some(opened.group(self.alloc, &calls, said)?);
+        Ok(())
+    }
+
+    fn take_gathered(&mut self) -> Gathered {
+        let none = Gathered::new(self.alloc);
+        mem::replace(&mut self.gathered, none)
+    }
+
     /// `look [SHARD]`
     fn look(&mut self, text: &str, said: &mut String) -> Result<()> {
         let shard = if text.is_empty() {
@@ -210,22 +232,26 @@ impl Stage {
         };
         let (stream, text) = word_of(text);
         let read = format!(in self.alloc; "read {stream}")?;
+        let reads = Gathered::one(self.alloc, read.as_str())?;
         let values = values_of(self.alloc, text)?;
-        say_contents(
-            self.alloc,
-            pair,
-            self.settings,
-            read.as_str(),
-            &values,
-            said,
-        )
+        say_contents(self.alloc, pair, self.settings, &reads, &values, said)
     }
 
-    /// `fails CALL` and `stops CALL`: a call where each device call of it in turn fails, or all from there on; then the call.
+    /// `fails CALL` and `stops CALL`: a call where each device call of it in turn fails, or all from there on; then the
+    /// call. `fails group` and `stops group`: the same of the calls that were gathered.
     fn try_each(&mut self, way: Way, call: &str, said: &mut String) -> Result<()> {
+        let doing = if call == "group" {
+            Doing::group(self.alloc, self.take_gathered())?
+        } else {
+            Doing::one(self.alloc, call)?
+        };
+        self.try_doing(way, &doing, said)
+    }
+
+    fn try_doing(&mut self, way: Way, doing: &Doing, said: &mut String) -> Result<()> {
         match self.pairs.first_mut() {
             Some(pair) => {
-                *pair = say_trials(self.alloc, pair, self.settings, way, call, said)?;
+                *pair = say_trials(self.alloc, pair, self.settings, way, doing, said)?;
                 Ok(())
             }
             None => bail!("the shard is open"),

@@ -12,9 +12,9 @@ use wal::{OpenFault, Wal};
 /// The only shard of an opening over slots in memory, its history, and the one pass that makes its calls.
 #[derive(Drop)]
 pub struct LoneShard {
-    history: History,
-    shard: Shard<MemDisk>,
-    pass: Pass,
+    pub(crate) history: History,
+    pub(crate) shard: Shard<MemDisk>,
+    pub(crate) pass: Pass,
     ghost table: { (shard.book.table ≡ history) × (pass.table ≡ history) },
     ghost only: { (shard.book.about.shards ≡ 1) × (shard.book.shard ≡ 0) × (pass.caller.about.shards ≡ 1) },
     ghost idle: { pass.caller.pending ≡ [] },

@@ -1,15 +1,9 @@
-use Rattle.std.proofs.Common.{◌≡◌, ◌+◌, ◌<◌, ◌∙◌, List, ap, sym, subst, arith}
+use Rattle.std.proofs.Common.{◌+◌, ◌∙◌, List, ap, sym, subst}
 use Rattle.accept.specs.declared.history.Ask.{Ask}
-use Rattle.history.specs.declared.views.About.{About}
-use Rattle.history.specs.Histories.{HaveSteps, shard_in}
+use Rattle.history.specs.Histories.{HaveSteps}
 use Rattle.history.proofs.Lines.{alone_before}
-use Rattle.history.proofs.Sharding.{shard_below}
+use Rattle.lone_shard.proofs.Rounds.{only_shard}
 use Rattle.lone_shard.proofs.lone.LoneShard.call.Goals as goal
-
-only_shard : (about : About) (a : Ask) → about.shards ≡ 1 → shard_in about a ≡ 0
-only_shard about a one =
-    let below : shard_in about a < 1 = subst (λ n. shard_in about a < n) one (shard_below about a (omega (arith, one))) in
-    omega arith
 
 pub apply-requires-clause-here : goal.apply-requires-clause-here
 apply-requires-clause-here c =

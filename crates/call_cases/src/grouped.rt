@@ -1,0 +1,115 @@
+//! Calls that a shard alone makes as a group, and what is said of them.
+
+use crate::alone::answer_of;
+use accept::Reply;
+use anyhow::Result;
+use call_words::{Counted, Gathered, write_reply};
+use lone_shard::{Grouped, LoneShard, Turn};
+use shard::{ApplyFault, Ended};
+use std::alloc::Global;
+use std::fmt::Write;
+
+/// Calls that are made one after another, or as a group, and a read of the stream of each.
+#[derive(Drop)]
+pub struct Doing {
+    calls: Gathered,
+    is_group: bool,
+    /// The reads that tell what stands before and after.
+    pub reads: Gathered,
+}
+
+impl Doing {
+    /// Calls as a group.
+    pub fn group(alloc: Global, calls: Gathered) -> Result<Doing> {
+        let reads = calls.reads(alloc)?;
+        Ok(Doing {
+            calls,
+            is_group: true,
+            reads,
+        })
+    }
+
+    /// The call of a line.
+    pub fn one(alloc: Global, line: &str) -> Result<Doing> {
+        let calls = Gathered::one(alloc, line)?;
+        let reads = calls.reads(alloc)?;
+        Ok(Doing {
+            calls,
+            is_group: false,
+            reads,
+        })
+    }
+
+    /// Makes the calls, and says their answers, of a group also its turns. Gives the shard back.
+    pub fn make(
+        &self,
+        alloc: Global,
+        shard: Box<LoneShard>,
+        said: &mut String,
+    ) -> Result<Box<LoneShard>> {
+        if self.is_group {
+            return say_group(alloc, shard, &self.calls, said);
+        }
+        let mut shard = shard;
+        let answers = answers_of(&mut shard, alloc, &self.calls)?;
+        writeln!(said, "{answers}")?;
+        Ok(shard)
+    }
+}
+
+/// Makes the calls one after another: their answers, a line each.
+pub fn answers_of(shard: &mut LoneShard, alloc: Global, calls: &Gathered) -> Result<String> {
+    let mut answers = String::new(alloc);
+    for (index, line) in calls.lines.iter().enumerate() {
+        if index > 0 {
+            answers.push('\n')?;
+        }
+        answers.push_str(answer_of(shard, alloc, line.as_str())?.as_str())?;
+    }
+    Ok(answers)
+}
+
+/// Makes the calls as a group, and says their answers and the turns, a line each. Gives the shard back.
+pub fn say_group(
+    alloc: Global,
+    shard: Box<LoneShard>,
+    calls: &Gathered,
+    said: &mut String,
+) -> Result<Box<LoneShard>> {
+    let mut jobs = calls.calls(alloc)?;
+    let (shard, grouped) = Box::into_inner(shard).group(alloc, &mut jobs)?;
+    say_grouped(alloc, &grouped, said)?;
+    Ok(Box::new(alloc, shard)?)
+}
+
+fn say_grouped(alloc: Global, grouped: &Grouped, said: &mut String) -> Result<()> {
+    let mut lines = Counted::new(alloc);
+    for answer in grouped.answers.iter() {
+        lines.add(text_of_answer(alloc, answer)?)?;
+    }
+    for turn in grouped.turns.iter() {
+        lines.add(text_of_turn(alloc, turn)?)?;
+    }
+    lines.end(said)
+}
+
+fn text_of_answer(alloc: Global, answer: &Result<Reply, ApplyFault>) -> Result<String> {
+    let mut text = String::new(alloc);
+    match answer {
+        Ok(reply) => write_reply(reply, &mut text)?,
+        Err(fault) => write!(text, "{fault}")?,
+    }
+    Ok(text)
+}
+
+fn text_of_turn(alloc: Global, turn: &Turn) -> Result<String> {
+    let Turn { calls, ended } = turn;
+    let why = match ended {
+        Ended::Most => "most",
+        Ended::Last => "last",
+        Ended::Full => "full",
+        Ended::Memory => "memory",
+    };
+    let plural = if *calls == 1 { "" } else { "s" };
+    Ok(format!(in alloc; "turn of {calls} call{plural}: {why}")?)
+}

@@ -1,0 +1,80 @@
+//! Calls that are made as a group.
+
+use crate::lone::LoneShard;
+use crate::round::{MOST, Round};
+use accept::{Call, Reply};
+use anyhow::Result;
+use shard::{ApplyFault, Ended};
+use std::alloc::Global;
+use std::collections::VecDeque;
+
+/// A turn: of how many calls, and why it ended there.
+#[derive(Clone, Copy)]
+pub struct Turn {
+    /// How many calls were made, or came back.
+    pub calls: usize,
+    /// Why the front of the jobs ended.
+    pub ended: Ended,
+}
+
+/// What became of a group of calls.
+#[derive(Drop)]
+pub struct Grouped {
+    /// The reply of each call in order, or why it has no step.
+    pub answers: Vec<Result<Reply, ApplyFault>>,
+    /// The turns in order.
+    pub turns: Vec<Turn>,
+}
+
+impl Grouped {
+    fn new(alloc: Global) -> Grouped {
+        Grouped {
+            answers: Vec::new(alloc),
+            turns: Vec::new(alloc),
+        }
+    }
+
+    fn take_turn(&mut self, alloc: Global, round: &mut Round) -> Result<()> {
+        let before = self.answers.len();
+        let ended = round.turn(alloc)?;
+        for _ in 0..MOST {
+            let Some(answer) = round.next() else {
+                break;
+            };
+            self.answers.push(answer)?;
+        }
+        let calls = self.answers.len().saturating_sub(before);
+        self.turns.push(Turn { calls, ended })?;
+        Ok(())
+    }
+
+    fn take_turns(
+        &mut self,
+        alloc: Global,
+        round: &mut Round,
+        calls: &mut VecDeque<Call>,
+    ) -> Result<()> {
+        for _ in 0..calls.len() {
+            round.announce_all(calls)?;
+            if round.is_empty() {
+                return Ok(());
+            }
+            self.take_turn(alloc, round)?;
+        }
+        Ok(())
+    }
+}
+
+impl LoneShard {
+    /// Makes the calls as a group: all are jobs of the one pass, in their order, as many as may be open at a time, and
+    /// turns are taken until none is left.
+    ///
+    /// # Errors
+    /// A number that no call may have, a closed pass, or want of memory for the group itself.
+    pub fn group(self, alloc: Global, calls: &mut VecDeque<Call>) -> Result<(LoneShard, Grouped)> {
+        let mut grouped = Grouped::new(alloc);
+        let mut round = Round::of(alloc, self)?;
+        grouped.take_turns(alloc, &mut round, calls)?;
+        Ok((round.end()?, grouped))
+    }
+}
