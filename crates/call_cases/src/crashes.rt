@@ -209,8 +209,8 @@ fn say_made(
     }
 }
 
-/// Makes calls on copies of these slots, and says their answers; and tries them on others of which one does not work, and
-/// says for each slot what becomes of them. Gives the slots after the calls.
+/// Makes calls on copies of these slots, and says their answers; and tries them on others of which one does not work,
+/// and says for each slot what becomes of them. Gives the slots after the calls.
 pub fn say_trials(
     alloc: Global,
     pair: &mut Pair,

@@ -39,7 +39,8 @@ impl Gathered {
         Ok(self.lines.push(format!(in alloc; "{line}")?)?)
     }
 
-    /// `FROM TO CALL`: takes the call in for each number from the first to the second, which stands in place of each `#`.
+    /// `FROM TO CALL`: takes the call in for each number from the first to the second, which stands in place of each
+    /// `#`.
     ///
     /// # Errors
     /// No numbers, or want of memory.
