@@ -3,7 +3,6 @@
 #![tactic(auto)]
 
 mod ingester_calls;
-mod pushes;
 mod served;
 mod shard_calls;
 

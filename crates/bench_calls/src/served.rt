@@ -5,7 +5,6 @@ ghost use Rattle.history.specs.Handles.{Passed};
 ghost use Rattle.accept.specs.Calls.{AreNumbers};
 ghost use Rattle.ingester.specs.Calls.{IsPassOf};
 
-use crate::pushes::{LINE, START, is_stored};
 use accept::{Call, Limits};
 use anyhow::{Result, anyhow, bail};
 use disk::MemDisk;
@@ -13,6 +12,7 @@ use front::{Served, serve};
 use history::Pass;
 use ingester::Ingester;
 use labels::{LabelSet, StreamKey, Tenant};
+use pushes::{LINE, START, is_stored};
 use pushjson::{RawBatch, read_push};
 use std::alloc::{AllocError, Global};
 use std::io::{self, Write};

@@ -1,9 +1,9 @@
 //! How many calls a second one shard answers, by how much its streams hold.
-use crate::pushes::{LINE, LINES, is_stored, push_of, pushes_of};
 use accept::{Call, Image, Limits};
 use anyhow::{Result, bail};
 use disk::MemDisk;
 use lone_shard::LoneShard;
+use pushes::{LINE, LINES, is_stored, push_of, pushes_of};
 use std::alloc::Global;
 use std::rt::Clock;
 use std::time::{Duration, Instant};
@@ -63,7 +63,7 @@ const STATES: [State; 5] = [
 ];
 
 /// Opens the only shard of two empty slots of so many bytes each.
-fn open(alloc: Global, room: u64) -> Result<LoneShard> {
+fn open(alloc: Global, room: u64) -> Result<LoneShard<MemDisk>> {
     let calls = room / LINE as u64;
     let slots = [
         MemDisk::new(alloc, room, calls, room)?,
@@ -76,7 +76,7 @@ fn open(alloc: Global, room: u64) -> Result<LoneShard> {
 }
 
 /// Makes a push. All its lines are stored.
-fn push(shard: &mut LoneShard, alloc: Global, call: &Call) -> Result<()> {
+fn push(shard: &mut LoneShard<MemDisk>, alloc: Global, call: &Call) -> Result<()> {
     if !call.has_lawful_numbers() {
         bail!("a number is out of its bounds");
     }
@@ -87,7 +87,7 @@ fn push(shard: &mut LoneShard, alloc: Global, call: &Call) -> Result<()> {
 }
 
 /// Fills an empty shard.
-fn fill(shard: &mut LoneShard, alloc: Global, state: State) -> Result<()> {
+fn fill(shard: &mut LoneShard<MemDisk>, alloc: Global, state: State) -> Result<()> {
     let share = state.share();
     for stream in 0..state.streams {
         for batch in 0..share.div_ceil(BATCH) {
@@ -100,7 +100,7 @@ fn fill(shard: &mut LoneShard, alloc: Global, state: State) -> Result<()> {
 }
 
 /// Makes pushes one behind another.
-fn push_all(shard: &mut LoneShard, alloc: Global, calls: &[Call]) -> Result<()> {
+fn push_all(shard: &mut LoneShard<MemDisk>, alloc: Global, calls: &[Call]) -> Result<()> {
     for call in calls {
         push(shard, alloc, call)?;
     }

@@ -5,6 +5,7 @@ use accept::Call;
 use anyhow::Result;
 use call_slots::{Left, Pair};
 use call_words::{Settings, call_of, write_reply};
+use disk::MemDisk;
 use lone_shard::LoneShard;
 use std::alloc::Global;
 use std::fmt::Write;
@@ -15,7 +16,7 @@ pub fn open_alone(
     alloc: Global,
     pair: Pair,
     settings: Settings,
-) -> Result<Result<Box<LoneShard>, (OpenFault, Pair)>> {
+) -> Result<Result<Box<LoneShard<MemDisk>>, (OpenFault, Pair)>> {
     let Settings {
         limits,
         capacity,
@@ -28,7 +29,12 @@ pub fn open_alone(
 }
 
 /// Makes a call, and appends its answer, or why it was refused.
-pub fn say_call(shard: &mut LoneShard, alloc: Global, call: &Call, into: &mut String) -> Result<()>
+pub fn say_call(
+    shard: &mut LoneShard<MemDisk>,
+    alloc: Global,
+    call: &Call,
+    into: &mut String,
+) -> Result<()>
     requires numbers { AreNumbers call.now }
 {
     match shard.call(alloc, call) {
@@ -38,20 +44,20 @@ pub fn say_call(shard: &mut LoneShard, alloc: Global, call: &Call, into: &mut St
 }
 
 /// The answer of the call of a line, or why it was refused.
-pub fn answer_of(shard: &mut LoneShard, alloc: Global, line: &str) -> Result<String> {
+pub fn answer_of(shard: &mut LoneShard<MemDisk>, alloc: Global, line: &str) -> Result<String> {
     let mut answer = String::new(alloc);
     say_call(shard, alloc, &call_of(alloc, line)?, &mut answer)?;
     Ok(answer)
 }
 
 /// What is left of the shard.
-pub fn left_of(mut shard: Box<LoneShard>) -> Left {
+pub fn left_of(mut shard: Box<LoneShard<MemDisk>>) -> Left {
     let steps = Some(shard.steps());
     let is_marked = shard.is_marked();
     Left::of_slots(Box::into_inner(shard).into_slots(), steps, is_marked)
 }
 
 /// The slots of the shard, as its calls left them.
-pub fn pair_of(shard: Box<LoneShard>) -> Pair {
+pub fn pair_of(shard: Box<LoneShard<MemDisk>>) -> Pair {
     Pair::of_slots(Box::into_inner(shard).into_slots())
 }

@@ -124,7 +124,7 @@ impl Trial<'_> {
         }
     }
 
-    fn attempt_in(&self, shard: Box<LoneShard>) -> Result<Tried> {
+    fn attempt_in(&self, shard: Box<LoneShard<MemDisk>>) -> Result<Tried> {
         let mut said = String::new(self.alloc);
         let shard = self.doing.make(self.alloc, shard, &mut said)?;
         if !said.as_str().contains("Unavailable") {

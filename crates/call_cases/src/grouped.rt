@@ -4,6 +4,7 @@ use crate::alone::answer_of;
 use accept::Reply;
 use anyhow::Result;
 use call_words::{Counted, Gathered, write_reply};
+use disk::MemDisk;
 use lone_shard::{Grouped, LoneShard, Turn};
 use shard::{ApplyFault, Ended};
 use std::alloc::Global;
@@ -44,9 +45,9 @@ impl Doing {
     pub fn make(
         &self,
         alloc: Global,
-        shard: Box<LoneShard>,
+        shard: Box<LoneShard<MemDisk>>,
         said: &mut String,
-    ) -> Result<Box<LoneShard>> {
+    ) -> Result<Box<LoneShard<MemDisk>>> {
         if self.is_group {
             return say_group(alloc, shard, &self.calls, said);
         }
@@ -58,7 +59,11 @@ impl Doing {
 }
 
 /// Makes the calls one after another: their answers, a line each.
-pub fn answers_of(shard: &mut LoneShard, alloc: Global, calls: &Gathered) -> Result<String> {
+pub fn answers_of(
+    shard: &mut LoneShard<MemDisk>,
+    alloc: Global,
+    calls: &Gathered,
+) -> Result<String> {
     let mut answers = String::new(alloc);
     for (index, line) in calls.lines.iter().enumerate() {
         if index > 0 {
@@ -72,10 +77,10 @@ pub fn answers_of(shard: &mut LoneShard, alloc: Global, calls: &Gathered) -> Res
 /// Makes the calls as a group, and says their answers and the turns, a line each. Gives the shard back.
 pub fn say_group(
     alloc: Global,
-    shard: Box<LoneShard>,
+    shard: Box<LoneShard<MemDisk>>,
     calls: &Gathered,
     said: &mut String,
-) -> Result<Box<LoneShard>> {
+) -> Result<Box<LoneShard<MemDisk>>> {
     let mut jobs = calls.calls(alloc)?;
     let (shard, grouped) = Box::into_inner(shard).group(alloc, &mut jobs)?;
     say_grouped(alloc, &grouped, said)?;

@@ -4,6 +4,7 @@ use crate::together::Together;
 use anyhow::{Result, bail};
 use call_slots::{Left, Pair};
 use call_words::{Counted, Gathered, Settings, call_of};
+use disk::MemDisk;
 use lone_shard::LoneShard;
 use std::alloc::Global;
 use std::fmt::Write;
@@ -12,7 +13,7 @@ use std::sync::Wait;
 /// What makes the calls of a row.
 #[derive(Drop)]
 pub enum Opened {
-    Alone(Box<LoneShard>),
+    Alone(Box<LoneShard<MemDisk>>),
     Together(Box<Together>),
 }
 

@@ -4,6 +4,7 @@ use crate::lone::LoneShard;
 use crate::round::{MOST, Round};
 use accept::{Call, Reply};
 use anyhow::Result;
+use disk::Disk;
 use shard::{ApplyFault, Ended};
 use std::alloc::Global;
 use std::collections::VecDeque;
@@ -34,11 +35,11 @@ impl Grouped {
         }
     }
 
-    fn take_turn(&mut self, alloc: Global, round: &mut Round) -> Result<()> {
+    fn take_turn<D: Disk + Drop>(&mut self, alloc: Global, round: &mut Round<D>) -> Result<()> {
         let before = self.answers.len();
         let ended = round.turn(alloc)?;
         for _ in 0..MOST {
-            let Some(answer) = round.next() else {
+            let Some(answer) = round.take_in() else {
                 break;
             };
             self.answers.push(answer)?;
@@ -48,14 +49,14 @@ impl Grouped {
         Ok(())
     }
 
-    fn take_turns(
+    fn take_turns<D: Disk + Drop>(
         &mut self,
         alloc: Global,
-        round: &mut Round,
+        round: &mut Round<D>,
         calls: &mut VecDeque<Call>,
     ) -> Result<()> {
         for _ in 0..calls.len() {
-            round.announce_all(calls)?;
+            round.announce_all(calls, MOST)?;
             if round.is_empty() {
                 return Ok(());
             }
@@ -65,13 +66,17 @@ impl Grouped {
     }
 }
 
-impl LoneShard {
+impl<D: Disk + Drop> LoneShard<D> {
     /// Makes the calls as a group: all are jobs of the one pass, in their order, as many as may be open at a time, and
     /// turns are taken until none is left.
     ///
     /// # Errors
     /// A number that no call may have, a closed pass, or want of memory for the group itself.
-    pub fn group(self, alloc: Global, calls: &mut VecDeque<Call>) -> Result<(LoneShard, Grouped)> {
+    pub fn group(
+        self,
+        alloc: Global,
+        calls: &mut VecDeque<Call>,
+    ) -> Result<(LoneShard<D>, Grouped)> {
         let mut grouped = Grouped::new(alloc);
         let mut round = Round::of(alloc, self)?;
         grouped.take_turns(alloc, &mut round, calls)?;

@@ -7,3 +7,4 @@ mod round;
 
 pub use grouped::{Grouped, Turn};
 pub use lone::LoneShard;
+pub use round::{MOST, Round};

@@ -3,24 +3,24 @@ ghost use Rattle.accept.specs.Calls.{AreNumbers};
 
 use accept::{Call, Limits, Reply};
 use anyhow::{Result, bail};
-use disk::MemDisk;
+use disk::Disk;
 use history::{History, Pass};
 use shard::Shard;
 use std::alloc::Global;
 use wal::{OpenFault, Wal};
 
-/// The only shard of an opening over slots in memory, its history, and the one pass that makes its calls.
+/// The only shard of an opening over two slots, its history, and the one pass that makes its calls.
 #[derive(Drop)]
-pub struct LoneShard {
+pub struct LoneShard<D: Disk> {
     pub(crate) history: History,
-    pub(crate) shard: Shard<MemDisk>,
+    pub(crate) shard: Shard<D>,
     pub(crate) pass: Pass,
     ghost table: { (shard.book.table ≡ history) × (pass.table ≡ history) },
     ghost only: { (shard.book.about.shards ≡ 1) × (shard.book.shard ≡ 0) × (pass.caller.about.shards ≡ 1) },
     ghost idle: { pass.caller.pending ≡ [] },
 }
 
-impl LoneShard {
+impl<D: Disk + Drop> LoneShard<D> {
     /// Opens the shard in slot 0 and slot 1, with segments of at most so many bytes. A refusal says why, and gives the slots
     /// back.
     ///
@@ -28,10 +28,10 @@ impl LoneShard {
     /// Limits that aren't lawful, a capacity above 2^30, or want of memory.
     pub fn open(
         alloc: Global,
-        slots: [MemDisk; 2],
+        slots: [D; 2],
         limits: Limits,
         capacity: u64,
-    ) -> Result<Result<LoneShard, (OpenFault, [MemDisk; 2])>> {
+    ) -> Result<Result<LoneShard<D>, (OpenFault, [D; 2])>> {
         if !limits.are_lawful() || capacity > 1 << 30 {
             bail!("a limit is out of its bounds");
         }
@@ -86,7 +86,7 @@ impl LoneShard {
     }
 
     /// Slot 0 and slot 1, as the calls left them.
-    pub fn into_slots(self) -> [MemDisk; 2] {
+    pub fn into_slots(self) -> [D; 2] {
         let LoneShard {
             history: _,
             shard,

@@ -3,7 +3,7 @@
 use crate::lone::LoneShard;
 use accept::{Call, Reply};
 use anyhow::{Result, bail};
-use disk::MemDisk;
+use disk::Disk;
 use history::{History, Pass};
 use shard::{ApplyFault, Ended, Job, Settled, Shard};
 use std::alloc::Global;
@@ -11,19 +11,20 @@ use std::collections::VecDeque;
 use std::marker::Model;
 
 /// How many calls a pass may have open.
-pub(crate) const MOST: usize = 64;
+pub const MOST: usize = 64;
 
-/// The shard while calls of its pass are open. Contracts see how many of them are jobs.
+/// The shard while calls of its pass are open: announced, they are jobs; made by a turn, they are settled; and then their
+/// answers are taken in. Contracts see how many of them are jobs.
 #[derive(Drop)]
-pub(crate) struct Round {
+pub struct Round<D: Disk> {
     history: History,
-    shard: Shard<MemDisk>,
+    shard: Shard<D>,
     pass: Pass,
     jobs: VecDeque<Job>,
-    settled: Vec<Settled>,
+    settled: VecDeque<Settled>,
 }
 
-impl Model for Round {
+impl<D: Disk> Model for Round<D> {
     ghost use Rattle.std.specs.Prelude.{ℕ, length};
     ghost use Rattle.lone_shard.specs.Rounds.{IsOpen};
 
@@ -34,11 +35,14 @@ impl Model for Round {
     ghost invariant = { λ r. IsOpen r.history r.shard.book r.pass r.jobs.items r.settled.items };
 }
 
-impl Round {
+impl<D: Disk + Drop> Round<D> {
     /// Begins without a call.
-    pub(crate) fn of(alloc: Global, lone: LoneShard) -> Result<Round> {
+    ///
+    /// # Errors
+    /// Want of memory. The shard is lost then.
+    pub fn of(alloc: Global, lone: LoneShard<D>) -> Result<Round<D>> {
         let jobs = VecDeque::with_capacity(alloc, MOST)?;
-        let settled = Vec::with_capacity(alloc, MOST)?;
+        let settled = VecDeque::new(alloc);
         let LoneShard {
             history,
             shard,
@@ -54,12 +58,15 @@ impl Round {
     }
 
     /// Whether no call is a job.
-    pub(crate) fn is_empty(&self) -> bool {
+    pub fn is_empty(&self) -> bool {
         self.jobs.is_empty()
     }
 
-    /// Announces a call, as the last of the jobs. All settled calls were taken in.
-    pub(crate) fn announce(&mut self, call: Call) -> Result<()> {
+    /// Announces a call, as the last of the jobs.
+    ///
+    /// # Errors
+    /// 64 calls are jobs, one that is settled was not taken in, a number that no call may have, or a closed pass.
+    pub fn announce(&mut self, call: Call) -> Result<()> {
         let jobs = self.jobs.len();
         if jobs >= MOST || jobs >= self.jobs.capacity() {
             bail!("too many calls are open");
@@ -72,9 +79,12 @@ impl Round {
         Ok(())
     }
 
-    /// Announces the first of these calls, up to as many as may be open.
-    pub(crate) fn announce_all(&mut self, calls: &mut VecDeque<Call>) -> Result<()> {
-        for _ in self.jobs.len()..MOST {
+    /// Announces the first of these calls, until so many are jobs, or 64.
+    ///
+    /// # Errors
+    /// As of `announce`. The call is lost then.
+    pub fn announce_all(&mut self, calls: &mut VecDeque<Call>, most: usize) -> Result<()> {
+        for _ in self.jobs.len()..most.min(MOST) {
             let Some(call) = calls.pop_front() else {
                 return Ok(());
             };
@@ -83,24 +93,26 @@ impl Round {
         Ok(())
     }
 
-    /// Makes a front of the jobs: why it ends.
-    pub(crate) fn turn(&mut self, alloc: Global) -> Result<Ended> {
-        if self.jobs.is_empty() {
-            bail!("there is no call");
+    /// Makes a front of the jobs, by a turn of the shard: why it ends.
+    ///
+    /// # Errors
+    /// There is no job, a settled call was not taken in, or want of memory. Then nothing has changed.
+    pub fn turn(&mut self, alloc: Global) -> Result<Ended> {
+        if self.jobs.is_empty() || !self.settled.is_empty() {
+            bail!("there is no call, or an answer that was not taken in");
         }
-        self.settled.try_reserve(self.jobs.len())?;
-        let ended = self
-            .shard
-            .apply_group(alloc, &mut self.jobs, &mut self.settled);
+        let mut settled = Vec::with_capacity(alloc, self.jobs.len())?;
+        let ended = self.shard.apply_group(alloc, &mut self.jobs, &mut settled);
+        self.settled = VecDeque::from(settled);
         Ok(ended)
     }
 
     /// Takes the first settled call in: its reply, or why it has no step.
-    pub(crate) fn next(&mut self) -> Option<Result<Reply, ApplyFault>> {
-        if self.settled.is_empty() {
+    pub fn take_in(&mut self) -> Option<Result<Reply, ApplyFault>> {
+        let Some(settled) = self.settled.pop_front() else {
             return None;
-        }
-        match self.settled.remove(0) {
+        };
+        match settled {
             Settled::Answered(reply, receipt) => {
                 self.history.collect(&mut self.pass, receipt);
                 Some(Ok(reply))
@@ -113,7 +125,10 @@ impl Round {
     }
 
     /// The shard again, once all calls were taken in.
-    pub(crate) fn end(self) -> Result<LoneShard> {
+    ///
+    /// # Errors
+    /// A call is open. The shard is lost then.
+    pub fn end(self) -> Result<LoneShard<D>> {
         if !self.jobs.is_empty() || !self.settled.is_empty() {
             bail!("a call is open");
         }

@@ -6,12 +6,12 @@ use Rattle.lone_shard.proofs.Rounds.{only_shard}
 use Rattle.lone_shard.proofs.lone.LoneShard.call.Goals as goal
 
 pub apply-requires-clause-here : goal.apply-requires-clause-here
-apply-requires-clause-here c =
+apply-requires-clause-here g c =
     let only = c.args.self.now.only in
     only_shard c.args.self.now.shard.book.about c.in_ok-ticket.ticket.ask only.0 ∙ sym only.1
 
 pub apply-requires-clause-order : goal.apply-requires-clause-order
-apply-requires-clause-order c =
+apply-requires-clause-order g c =
     let alone = c.args.self.now in
     let k = alone.pass.caller in
     let before = ap (λ t. t.before) c.in_ok-ticket.ensures.ticket ∙ alone_before k (k.last + 1) c.args.call.now alone.idle in

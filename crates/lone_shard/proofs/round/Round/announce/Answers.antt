@@ -4,14 +4,14 @@ use Rattle.lone_shard.proofs.Rounds.{few_open, no_settled, open_more}
 use Rattle.lone_shard.proofs.round.Round.announce.Goals as goal
 
 pub announce-requires-clause-few : goal.announce-requires-clause-few
-announce-requires-clause-few c =
+announce-requires-clause-few g c =
     let r = c.self.inside in
     let nothing : length r.settled.items ≡ 0 = search rules in
     let small : length r.jobs.items < 64 = search rules in
     subst (λ n. n < 64) (sym (few_open r.history r.shard.book r.pass r.jobs.items r.settled.items c.self.invariant (no_settled r.settled.items nothing))) small
 
 pub invariant_of-self-2 : goal.invariant_of-self-2
-invariant_of-self-2 c =
+invariant_of-self-2 g c =
     let r = c.self.inside in
     let nothing : length r.settled.items ≡ 0 = search rules in
     let numbers : AreNumbers c.args.call = search rules in

@@ -1,4 +1,5 @@
-//! The pushes that are timed, and what is answered to them.
+//! The pushes that `bench_calls` and `bench_groups` time, and what is answered to them.
+#![tactic(auto)]
 
 use accept::{Call, Entry, EntryList, Line, Outcome, Reply};
 use anyhow::Result;
