@@ -87,4 +87,4 @@ bench:
 	@RT='$(RT)' tests/build bench bench_calls bench_groups
 	@cd crates/bench && out/bench time
 	@GLIBC_TUNABLES=glibc.malloc.mmap_max=0:glibc.malloc.trim_threshold=17179869184 crates/bench_calls/out/bench_calls time
-	@crates/bench_groups/out/bench_groups time "$(CURDIR)"
+	@GLIBC_TUNABLES=glibc.malloc.mmap_max=0:glibc.malloc.trim_threshold=17179869184 crates/bench_groups/out/bench_groups time "$(CURDIR)"
