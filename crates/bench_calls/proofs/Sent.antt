@@ -1,15 +1,18 @@
 -- What the threads of a run share may be shared, and what a caller's thread is given may go to that thread.
 use denote.RattleType.{RattleType}
-use denote.Param.Send.{IsSend, IsSync, AllSend, AllSync, recorded_send, recorded_sync, struct_send, struct_sync, sendable}
+use denote.Param.Send.{IsSend, IsSync, AllSend, AllSync, recorded_send, recorded_sync, struct_send, struct_sync, shr_sync, sendable}
 use denote.Ref.{NamedLft}
 use denote.Struct.Declared as declared
 use denote.Struct.Struct.{Struct}
 use Rattle.std.proofs.Crossing.{crosses, send, sync, frees}
 use Rattle.crossbeam_channel.proofs.channel.Receiver.TheSendSync as receiver
 use Rattle.crossbeam_channel.proofs.channel.Sender.TheSendSync as sender
-use Rattle.disk.proofs.memory.MemDisk.TheSendSync as memory
+use Rattle.disk.proofs.memory.MemDisk.TheSendSync as memory_moves
+use Rattle.disk.specs.contracts.memory.MemDisk as memory
+use Rattle.disk.specs.contracts.memory.MemDiskDisk.TheImpl as memory_disk
 use Rattle.history.proofs.handles.Pass.TheSendSync as pass
 use Rattle.ingester.proofs.Sent.{ingester_sync}
+use Rattle.ingester.specs.contracts.opened.Ingester as ingester
 use Rattle.bench_calls.specs.contracts.ingester_calls.Course as course
 use Rattle.bench_calls.specs.contracts.ingester_calls.Caller as caller
 
@@ -19,7 +22,7 @@ course_fields κ R r = (
   (
     search sendable,
     (
-      search (ingester_sync, memory.the_send, crosses, sendable) depth 20,
+      shr_sync κ.mir κ.lft (ingester.the_row memory.the_row memory_disk.ghosts) (ingester_sync memory.the_row memory_disk.ghosts memory_moves.the_send),
       (
         search sendable,
         (

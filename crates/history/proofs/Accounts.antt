@@ -13,7 +13,7 @@ use Rattle.history.specs.declared.views.About.{About}
 use Rattle.history.specs.declared.views.Caller.{Caller}
 use Rattle.history.specs.declared.views.Token.{Token}
 use Rattle.history.specs.declared.views.Token.TheVariants.{Nothing, Open, Done}
-use Rattle.history.specs.Histories.{IsBeginning, shard_in, step_of, steps_by, steps_on, asks_by, HaveNumbersBelow, HaveNumbersAbove, IsRising, IsUnused, AreUnused, HasStep, HaveSteps, IsAmong, AreAmong, IsFirst, IsFirstNumber, behind_first, bound}
+use Rattle.history.specs.Histories.{IsBeginning, shard_in, step_of, steps_by, steps_on, asks_by, HaveNumbersBelow, HaveNumbersAbove, IsRising, IsUnused, AreUnused, HasStep, HaveSteps, IsAmong, AreAmong, IsFirst, IsFirstIfAmong, behind_first, bound}
 use Rattle.history.specs.Rule.{AccountOk, HasOwn, IsWaiting, AreWaiting, IsOrdered, IsQueue, TokenOk, newcomer, floor_of, IsOut, AreTold}
 use Rattle.history.specs.Plays.{seen_at, ask_of, before_of, announce_to, withdraw_to, collect_to, look_to, AreHis, HasStepsOf, IsRested, Extends}
 use Rattle.history.proofs.Lists.{put, put_at, put_else, put_all, begins_same, begins_more, begins_trans, in_line, behind, last_or_none, last_same}
@@ -452,12 +452,12 @@ rested_of items c ts h idle k =
     none_wait (s ∷ ss) w = absurd (subst (λ (l : List Ask). IsAmong s.ask l) idle (token_ok c.about items c.pass c ts h s.ask.number (Done s w.0.upto w.0.at) w.0.is).2)
 
 -- answers are told apart by their numbers
-pub answers_first : (items : ℕ → List Item) (c : Caller) (ts : ℕ → Token) (s : Step) (upto : List Item) (at : ℕ × ℕ) → AccountOk c.about items c.pass c ts → ts s.ask.number ≡ Done s upto at → IsFirstNumber s.ask.number c.pending → IsFirst s.ask c.pending
-answers_first items c ts s upto at h is its = first_by_number s.ask c.last c.pending h.queue (token_ok c.about items c.pass c ts h s.ask.number (Done s upto at) is).2 its
+pub answers_first : (items : ℕ → List Item) (c : Caller) (ts : ℕ → Token) (s : Step) (upto : List Item) (at : ℕ × ℕ) → AccountOk c.about items c.pass c ts → ts s.ask.number ≡ Done s upto at → IsFirstIfAmong s.ask c.pending → IsFirst s.ask c.pending
+answers_first items c ts s upto at h is its = let among = (token_ok c.about items c.pass c ts h s.ask.number (Done s upto at) is).2 in first_by_number s.ask c.last c.pending h.queue among (its among)
 
 -- and so are calls that come back without a step
-pub returns_first : (items : ℕ → List Item) (c : Caller) (ts : ℕ → Token) (a : Ask) (f : Bool) (e : List Ask) → AccountOk c.about items c.pass c ts → ts a.number ≡ Open a f e → IsFirstNumber a.number c.pending → IsFirst a c.pending
-returns_first items c ts a f e h is its = first_by_number a c.last c.pending h.queue (token_ok c.about items c.pass c ts h a.number (Open a f e) is).2 its
+pub returns_first : (items : ℕ → List Item) (c : Caller) (ts : ℕ → Token) (a : Ask) (f : Bool) (e : List Ask) → AccountOk c.about items c.pass c ts → ts a.number ≡ Open a f e → IsFirstIfAmong a c.pending → IsFirst a c.pending
+returns_first items c ts a f e h is its = let among = (token_ok c.about items c.pass c ts h a.number (Open a f e) is).2 in first_by_number a c.last c.pending h.queue among (its among)
 
 module _ (items : ℕ → List Item) (c : Caller) (ts : ℕ → Token) (s : Step) (upto : List Item) (at : ℕ × ℕ) (h : AccountOk c.about items c.pass c ts) (is : ts s.ask.number ≡ Done s upto at)
     (first : IsFirst s.ask c.pending) where

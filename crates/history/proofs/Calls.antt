@@ -12,7 +12,7 @@ use Rattle.history.specs.declared.views.View.{View}
 use Rattle.history.specs.declared.views.Role.TheVariants.{Nobody, Calls}
 use Rattle.history.specs.declared.views.Token.{Token}
 use Rattle.history.specs.declared.views.Token.TheVariants.{Nothing, Open, Done}
-use Rattle.history.specs.Histories.{shard_in, IsFirstNumber, behind_first, bound}
+use Rattle.history.specs.Histories.{shard_in, IsFirstIfAmong, behind_first, bound}
 use Rattle.history.specs.Rule.{alone, Contents, Seating, IsInDoubt, number_of, Holds}
 use Rattle.history.specs.Plays.{IsRested, ask_of, before_of, announce_to, withdraw_to, collect_to, announced_as, withdrew, collected}
 use Rattle.history.proofs.Lists.{put, put_at, put_other, put_two, put_two_at}
@@ -70,7 +70,7 @@ announces slots id n c call few above small s h wide e fits =
       ((refl, rested_of x.items c (x.tokens c.pass) ok), refl),
     )
 
-withdraws : (slots id word : ℕ) (c : Caller) (a : Ask) (d : List Ask) → a.pass ≡ c.pass → IsFirstNumber a.number c.pending → word ≡ number_of c.last (behind_first c.pending)
+withdraws : (slots id word : ℕ) (c : Caller) (a : Ask) (d : List Ask) → a.pass ≡ c.pass → IsFirstIfAmong a c.pending → word ≡ number_of c.last (behind_first c.pending)
     → Allows Holds slots id (alone (Calls c) (Open a false d), []) (c.about.shards + c.pass) (λ _. word) (λ _. withdrew (step slots (c.about.shards + c.pass) word 0 none) (alone (Calls c) (Open a false d), []) word)
 withdraws slots id word c a d own number due s h wide e fits =
     let n = a.number in
@@ -105,7 +105,7 @@ withdraws slots id word c a d own number due s h wide e fits =
     not_doubted : (a b : Ask) (d e : List Ask) → Open a false d ≡ Open b true e → ⊥
     not_doubted a b d e q = cc
 
-collects : (slots id word : ℕ) (c : Caller) (r : Step) (upto : List Item) (at : ℕ × ℕ) → r.ask.pass ≡ c.pass → IsFirstNumber r.ask.number c.pending → word ≡ number_of c.last (behind_first c.pending) → IsRested c
+collects : (slots id word : ℕ) (c : Caller) (r : Step) (upto : List Item) (at : ℕ × ℕ) → r.ask.pass ≡ c.pass → IsFirstIfAmong r.ask c.pending → word ≡ number_of c.last (behind_first c.pending) → IsRested c
     → Allows Holds slots id (alone (Calls c) (Done r upto at), []) (c.about.shards + c.pass) (λ _. word) (λ _. collected (step slots (c.about.shards + c.pass) word 0 none) (alone (Calls c) (Done r upto at), []) word)
 collects slots id word c r upto at own number due rested s h wide e fits =
     let n = r.ask.number in
@@ -160,14 +160,14 @@ announces_as slots id word n c call m is at_word few above small =
     subst (λ (u : Me Unit View). Allows Holds slots id u word (λ _. n) (λ _. announced_as call (step slots word n 0 none) u n)) (sym is)
     (subst (λ (z : ℕ). Allows Holds slots id (alone (Calls c) Nothing, []) z (λ _. n) (λ _. announced_as call (step slots z n 0 none) (alone (Calls c) Nothing, []) n)) at_word (announces slots id n c call few above small))
 
-pub withdraws_as : (slots id at_word word : ℕ) (c : Caller) (a : Ask) (d : List Ask) (m : Me Unit View) → m ≡ (alone (Calls c) (Open a false d), []) → c.about.shards + c.pass ≡ at_word → a.pass ≡ c.pass → IsFirstNumber a.number c.pending
+pub withdraws_as : (slots id at_word word : ℕ) (c : Caller) (a : Ask) (d : List Ask) (m : Me Unit View) → m ≡ (alone (Calls c) (Open a false d), []) → c.about.shards + c.pass ≡ at_word → a.pass ≡ c.pass → IsFirstIfAmong a c.pending
     → word ≡ number_of c.last (behind_first c.pending) → Allows Holds slots id m at_word (λ _. word) (λ _. withdrew (step slots at_word word 0 none) m word)
 withdraws_as slots id at_word word c a d m is there own number due =
     subst (λ (u : Me Unit View). Allows Holds slots id u at_word (λ _. word) (λ _. withdrew (step slots at_word word 0 none) u word)) (sym is)
     (subst (λ (z : ℕ). Allows Holds slots id (alone (Calls c) (Open a false d), []) z (λ _. word) (λ _. withdrew (step slots z word 0 none) (alone (Calls c) (Open a false d), []) word)) there (withdraws slots id word c a d own number due))
 
 pub collects_as : (slots id at_word word : ℕ) (c : Caller) (r : Step) (upto : List Item) (at : ℕ × ℕ) (m : Me Unit View) → m ≡ (alone (Calls c) (Done r upto at), []) → c.about.shards + c.pass ≡ at_word → r.ask.pass ≡ c.pass
-    → IsFirstNumber r.ask.number c.pending → word ≡ number_of c.last (behind_first c.pending) → IsRested c → Allows Holds slots id m at_word (λ _. word) (λ _. collected (step slots at_word word 0 none) m word)
+    → IsFirstIfAmong r.ask c.pending → word ≡ number_of c.last (behind_first c.pending) → IsRested c → Allows Holds slots id m at_word (λ _. word) (λ _. collected (step slots at_word word 0 none) m word)
 collects_as slots id at_word word c r upto at m is there own number due rested =
     subst (λ (u : Me Unit View). Allows Holds slots id u at_word (λ _. word) (λ _. collected (step slots at_word word 0 none) u word)) (sym is)
     (subst (λ (z : ℕ). Allows Holds slots id (alone (Calls c) (Done r upto at), []) z (λ _. word) (λ _. collected (step slots z word 0 none) (alone (Calls c) (Done r upto at), []) word)) there (collects slots id word c r upto at own number due rested))

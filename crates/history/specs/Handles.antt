@@ -119,9 +119,11 @@ IsTicket s n p =
 abbrev pub received : Seat Unit View → Received
 received s = record { table = s.table_id; step = step_in s.me.0.hand; upto = upto_in s.me.0.hand; moment = moment_in s.me.0.hand }
 
--- the seat has a call with its step in hand, with this number
-abbrev pub IsReceipt : Seat Unit View → ℕ → Type 0
-IsReceipt s n = (s.me ≡ (alone Nobody (Done (step_in s.me.0.hand) (upto_in s.me.0.hand) (moment_in s.me.0.hand)), [])) × ((step_in s.me.0.hand).ask.number ≡ n)
+-- the seat has a call with its step in hand, with this number, of this pass
+abbrev pub IsReceipt : Seat Unit View → ℕ → ℕ → Type 0
+IsReceipt s n p =
+    (s.me ≡ (alone Nobody (Done (step_in s.me.0.hand) (upto_in s.me.0.hand) (moment_in s.me.0.hand)), []))
+    × ((step_in s.me.0.hand).ask.number ≡ n) × ((step_in s.me.0.hand).ask.pass ≡ p)
 
 -- what contracts see of a book
 abbrev pub booked : Seat Unit View → Booked

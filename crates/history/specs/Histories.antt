@@ -147,6 +147,10 @@ abbrev pub IsFirstNumber : ℕ → List Ask → Type 0
 IsFirstNumber n [] = ⊥
 IsFirstNumber n (a ∷ asks) = a.number ≡ n
 
+-- if the call is one of these, it is the first, by its number
+abbrev pub IsFirstIfAmong : Ask → List Ask → Type 0
+IsFirstIfAmong a asks = IsAmong a asks → IsFirstNumber a.number asks
+
 -- those behind the first
 abbrev pub behind_first : List Ask → List Ask
 behind_first [] = []

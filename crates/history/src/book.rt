@@ -101,16 +101,13 @@ impl Book {
     {
         let _ = kept;
         let _ = reply;
-        let Ticket {
-            number,
-            pass: _,
-            seat,
-        } = ticket;
+        let Ticket { number, pass, seat } = ticket;
         let shared = &self.table.shared;
         shared.join_seat::<Takes>(&mut self.seat, seat);
         shared.fetch_add::<Commits<J>>(&mut self.seat, self.shard, 1);
         Receipt {
             number,
+            pass,
             seat: shared.split_seat::<Gives>(&mut self.seat),
         }
     }

@@ -57,6 +57,7 @@ impl Ticket {
 #[derive(Drop)]
 pub struct Receipt {
     pub(crate) number: u64,
+    pub(crate) pass: usize,
     pub(crate) seat: ViewSeat,
 }
 
@@ -73,7 +74,7 @@ impl Model for Receipt {
 
     ghost view = { λ r. received r.seat };
 
-    ghost invariant = { λ r. IsReceipt r.seat r.number };
+    ghost invariant = { λ r. IsReceipt r.seat r.number r.pass };
 }
 
 impl Receipt {
@@ -82,6 +83,13 @@ impl Receipt {
         ensures { result ≡ self.now.step.ask.number }
     {
         self.number
+    }
+
+    /// The number of its pass, from 0.
+    pub fn pass(&self) -> usize
+        ensures { result ≡ self.now.step.ask.pass }
+    {
+        self.pass
     }
 }
 
@@ -134,10 +142,11 @@ impl Pass {
         self.calls == Pass::CALLS
     }
 
-    // Its own number, from 0: the words of the passes stand behind those of the shards.
-    pub(crate) fn index(&self) -> usize
-        ensures { result ≡ self.now.caller.pass }
+    /// Its own number, from 0, below the number of passes of its opening.
+    pub fn number(&self) -> usize
+        ensures { (result ≡ self.now.caller.pass) × (result < self.now.caller.about.passes) }
     {
+        // (the words of the passes stand behind those of the shards)
         self.word - self.shards
     }
 

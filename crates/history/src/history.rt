@@ -1,5 +1,5 @@
 ghost use Rattle.std.specs.Prelude.{◌≡◌, ◌≢◌, ◌↔◌, ℕ, ◌+◌, ◌<◌, ◌≤◌, ◌==◌, [], true, false, length, IfOk, OnOk, OnErr, IsOk};
-ghost use Rattle.history.specs.Histories.{IsBeginning, IsLegalAt, IsByPasses, shard_in, IsFirst, IsFirstNumber, bound};
+ghost use Rattle.history.specs.Histories.{IsBeginning, IsLegalAt, IsByPasses, shard_in, IsFirst, IsFirstIfAmong, bound};
 ghost use Rattle.history.specs.Plays.{seen_at, ask_of, before_of, announce_to, withdraw_to, collect_to, look_to, IsRested, Extends, HasStepsOf};
 ghost use Rattle.history.specs.Handles.{is_closed, caller_in, pair_of, with_seen, HaveMet};
 
@@ -92,24 +92,25 @@ impl History {
         ensures pass { pass.new ≡ record pass.old { caller = announce_to pass.old.caller number J.call } }
         ensures rested { pass.old.caller.pending ≡ [] → IsRested pass.old.caller }
     {
-        let index = pass.index();
+        let own = pass.number();
         let shared = &self.table.shared;
         shared.store::<Announces<J>>(&mut pass.seat, pass.word, number);
         pass.last = number;
         pass.calls += 1;
         Ticket {
             number,
-            pass: index,
+            pass: own,
             seat: shared.split_seat::<Gives>(&mut pass.seat),
         }
     }
 
     /// Takes the answer to the first open call in: what the pass has seen of the shard is then what it had seen, items of
-    /// others, and this step. Answers that came in another order are told apart by their numbers.
+    /// others, and this step. Answers that came in another order are told apart by their numbers. The answer to the only
+    /// open call needs no look at its number.
     pub fn collect(&self, pass: &mut Pass, receipt: Receipt)
         requires table { (pass.old.table ≡ self.now) × (receipt.table ≡ self.now) }
         requires pass { receipt.step.ask.pass ≡ pass.old.caller.pass }
-        requires number { IsFirstNumber receipt.step.ask.number pass.old.caller.pending }
+        requires number { IsFirstIfAmong receipt.step.ask pass.old.caller.pending }
         requires rested { IsRested pass.old.caller }
         ensures first { IsFirst receipt.step.ask pass.old.caller.pending }
         ensures pass { pass.new ≡ record pass.old { caller = collect_to pass.old.caller receipt.step receipt.upto } }
@@ -122,7 +123,11 @@ impl History {
         ensures extends { Extends pass.old.caller.pass
             (seen_at pass.old.caller (shard_in pass.old.caller.about receipt.step.ask)) receipt.step receipt.upto }
     {
-        let Receipt { number: _, seat } = receipt;
+        let Receipt {
+            number: _,
+            pass: _,
+            seat,
+        } = receipt;
         let word = pass.word_behind_first();
         let shared = &self.table.shared;
         shared.join_seat::<Takes>(&mut pass.seat, seat);
@@ -134,7 +139,7 @@ impl History {
     pub fn withdraw(&self, pass: &mut Pass, ticket: Ticket)
         requires table { (pass.old.table ≡ self.now) × (ticket.table ≡ self.now) }
         requires pass { (ticket.ask.pass ≡ pass.old.caller.pass) × (ticket.doubted ≡ false) }
-        requires number { IsFirstNumber ticket.ask.number pass.old.caller.pending }
+        requires number { IsFirstIfAmong ticket.ask pass.old.caller.pending }
         ensures first { IsFirst ticket.ask pass.old.caller.pending }
         ensures pass { pass.new ≡ record pass.old { caller = withdraw_to pass.old.caller ticket.ask.number } }
     {

@@ -1,10 +1,12 @@
 pub mod Comparing
 pub mod Finding
 pub mod Grounding
-pub mod Keeping
 pub mod Lasting
 pub mod Listing
 pub mod Making
+pub mod Refusing
 pub mod Returning
 pub mod Routing
 pub mod Sent
+pub mod Turning
+pub mod Waiting

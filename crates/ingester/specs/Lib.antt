@@ -2,6 +2,8 @@ pub mod Faults
 pub mod Openings
 pub mod Places
 pub mod Calls
+pub mod Lanes
+pub mod Queues
 pub mod Closings
 pub mod Findings
 pub mod Makings

@@ -13,14 +13,15 @@ use crate::fault::CallFault;
 use crate::opened::Ingester;
 use accept::{Call, Reply};
 use disk::Disk;
-use history::{Pass, Receipt, Ticket};
+use history::Pass;
 use labels::shard_of;
-use shard::ApplyFault;
+use shard::{Job, Settled};
 use std::alloc::Global;
 use std::sync::Wait;
 
 impl<D: Disk + Drop> Ingester<D> {
-    /// Makes a call. It waits for the lock of the shard of its key alone.
+    /// Makes a call. It waits for the calls to the shard of its key alone: those that wait there together are written at
+    /// once, by the thread of one of them.
     ///
     /// # Errors
     ///
@@ -42,42 +43,18 @@ impl<D: Disk + Drop> Ingester<D> {
         ensures spent { IsErrOf result faults.LogSpent → HasSpentLog self.now (shard_for pass.old.caller call) call }
     {
         let shard = shard_of(call.key(), self.count) as usize;
+        let own = pass.number();
         let ticket = self.history.announce(pass, &call)?;
-        match self.apply(rt, alloc, shard, ticket, &call) {
-            Ok((reply, receipt)) => {
+        match self.make(rt, alloc, shard, own, Job { ticket, call }) {
+            Settled::Answered(reply, receipt) => {
                 self.history.collect(pass, receipt);
                 Ok(reply)
             }
-            Err((fault, ticket)) => {
+            Settled::Refused(fault, ticket) => {
                 self.history.withdraw(pass, ticket);
                 Err(CallFault::from(fault))
             }
         }
-    }
-
-    // Applies an announced call to its shard, under the shard's lock.
-    fn apply<R: Wait>(
-        &self,
-        rt: &R,
-        alloc: Global,
-        shard: usize,
-        ticket: Ticket,
-        call: &Call,
-    ) -> Result<(Reply, Receipt), (ApplyFault, Ticket)>
-        requires table { ticket.table ≡ self.now.table }
-        requires shard { (shard_in self.now.about ticket.ask ≡ shard) × (shard < self.now.about.shards) }
-        requires alone { ticket.before ≡ [] }
-        requires call { ticket.ask.call ≡ call.now }
-        requires numbers { AreNumbers call.now }
-        ensures step { IfOk result (λ it. it.1.step ≡ step_of ticket.ask it.0) }
-        ensures table { IfOk result (λ it. it.1.table ≡ ticket.table) }
-        ensures refused { IfErr result (λ e. e.1 ≡ ticket) }
-        ensures spent { IfErr result (λ e. e.0 ≡ causes.GenerationSpent → HasSpentLog self.now shard call.now) }
-    {
-        let (mut state, grip) = self.shards.take(rt, shard);
-        let applied = state.apply(alloc, ticket, call);
-        self.shards.give(state, grip);
-        applied
     }
 
     /// Sees the history of a shard as it is, and answers its length, a failure mark included. It waits for no lock.

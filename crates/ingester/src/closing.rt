@@ -88,6 +88,7 @@ impl<D: Disk + Drop> Ingester<D> {
             history: _history,
             shards: locks,
             room,
+            queues: _queues,
             count,
             origin,
         } = self;

@@ -6,6 +6,7 @@ ghost use Rattle.history.specs.Handles.{about_of};
 ghost use Rattle.ingester.specs.Openings.{AreFresh};
 ghost use Rattle.ingester.specs.Findings.{AreOpenedFrom, IsUnmade};
 
+use crate::lanes::Queues;
 use crate::locking::{lock_shards, reserve_room};
 use crate::opening::{give_back, open_logs};
 use crate::places::{ListLocks, Origin, ShardLocks};
@@ -25,6 +26,7 @@ pub struct Ingester<D: Disk> {
     pub(crate) history: History,
     pub(crate) shards: ShardLocks<D>,
     pub(crate) room: ListLocks<D>,
+    pub(crate) queues: Queues<D>,
     pub(crate) count: u32,
     pub(crate) origin: Origin<D>,
 }
@@ -45,7 +47,8 @@ impl<D: Disk> Model for Ingester<D> {
     ghost view = { λ i. opening_of i.origin.first.value i.origin.logs.value.items };
 
     ghost invariant = { λ i. IsOpening i.history i.origin.first.value i.count (count_of i.shards)
-        × (key_of i.shards ≡ i.origin) × (count_of i.room ≡ 1) × (key_of i.room ≡ i.count) };
+        × (key_of i.shards ≡ i.origin) × (count_of i.room ≡ 1) × (key_of i.room ≡ i.count)
+        × (count_of i.queues.lanes ≡ i.count) × (key_of i.queues.lanes ≡ i.origin) };
 }
 
 impl<D: Disk + Drop> Ingester<D> {
@@ -119,6 +122,10 @@ fn open_all<D: Disk + Drop>(
         first: Snapshot::of(&books[0]),
         logs: Snapshot::of(&logs),
     };
+    let Ok(queues) = Queues::new(alloc, count as usize, passes as usize, &origin) else {
+        give_back(slots, &mut logs);
+        return Err(OpenFault::Memory);
+    };
     let Ok(locks) = lock_shards(alloc, slots, shards, logs, images, books, limits, &origin) else {
         return Err(OpenFault::Memory);
     };
@@ -126,6 +133,7 @@ fn open_all<D: Disk + Drop>(
         history,
         shards: locks,
         room,
+        queues,
         count,
         origin,
     };

@@ -58,7 +58,7 @@ impl<T, K, P: Fits<T, K>> Play<Option<T>, Hold<K>> for Tries<P> {
 /// A step that tells nothing.
 pub(crate) struct Tells;
 
-impl<T, K> Play<Option<T>, Hold<K>> for Tells {
+impl<S, V> Play<S, V> for Tells {
     ghost use Rattle.std.specs.Prelude.{⊤};
 
     ghost then = { λ _ _ _ _. ⊤ };

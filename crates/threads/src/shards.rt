@@ -16,7 +16,7 @@ use std::thread::{self, Threads, join};
 use std::time::{Clock, Duration};
 
 /// A slot in memory, whose syncs a gate can hold.
-type Slot = GateDisk<MemDisk>;
+pub(crate) type Slot = GateDisk<MemDisk>;
 
 /// How many bytes a segment may have.
 const CAPACITY: u64 = 4_096;
@@ -26,10 +26,10 @@ const NOW: u64 = 7_200_000_000_000;
 
 /// Pushes of one entry each to the stream `{a=VALUE}`, at rising times. Each line is the label's value.
 #[derive(Clone, Copy)]
-struct Pushes {
-    value: &'static str,
-    first: u64,
-    count: u64,
+pub(crate) struct Pushes {
+    pub(crate) value: &'static str,
+    pub(crate) first: u64,
+    pub(crate) count: u64,
 }
 
 /// A push to shard 0, where there are two.
@@ -74,13 +74,12 @@ fn slot(alloc: Global, gate: &Gate) -> Result<Slot, Fail> {
     Ok(GateDisk::new(disk, gate.try_clone()?))
 }
 
-/// The empty slots of one shard, behind no gate that is ever closed.
-fn slots_of_one(alloc: Global) -> Result<Vec<[Slot; 2]>, Fail>
+/// The empty slots of one shard, behind this gate.
+pub(crate) fn slots_of_one(alloc: Global, gate: &Gate) -> Result<Vec<[Slot; 2]>, Fail>
     ensures { IfOk result (λ slots. vec_len slots ≡ 1) }
 {
-    let free = Gate::new(alloc)?;
     let mut slots = Vec::new(alloc);
-    slots.push([slot(alloc, &free)?, slot(alloc, &free)?])?;
+    slots.push([slot(alloc, gate)?, slot(alloc, gate)?])?;
     Ok(slots)
 }
 
@@ -95,7 +94,7 @@ fn slots_of_two(alloc: Global, gate: &Gate) -> Result<Vec<[Slot; 2]>, Fail>
     Ok(slots)
 }
 
-fn open(
+pub(crate) fn open(
     alloc: Global,
     slots: Vec<[Slot; 2]>,
     passes: u32,
@@ -113,7 +112,7 @@ fn open(
 }
 
 /// The last of these passes.
-fn last_of(ingester: &Ingester<Slot>, passes: &mut Vec<Pass>) -> Result<Pass, Fail>
+pub(crate) fn last_of(ingester: &Ingester<Slot>, passes: &mut Vec<Pass>) -> Result<Pass, Fail>
     requires { (p : ℕ) (pass : Passed) → slice_get passes.old.items p ≡ Some pass → IsPassOf ingester.now pass }
     ensures pass { IfOk result (IsPassOf ingester.now) }
     ensures passes { (p : ℕ) (pass : Passed) → slice_get passes.new.items p ≡ Some pass → IsPassOf ingester.now pass }
@@ -184,7 +183,7 @@ fn stores<R: Wait>(
 }
 
 /// Makes these pushes, where each is stored.
-fn push_all<R: Wait>(
+pub(crate) fn push_all<R: Wait>(
     rt: &R,
     alloc: Global,
     ingester: &Ingester<Slot>,
@@ -299,7 +298,7 @@ fn push_together<R: Threads + Wait + Clock + Sync>(
 }
 
 /// What a read of all times gives, where it has entries: each a time and a line.
-fn read<R: Wait>(
+pub(crate) fn read<R: Wait>(
     rt: &R,
     alloc: Global,
     ingester: &Ingester<Slot>,
@@ -321,7 +320,7 @@ fn read<R: Wait>(
 }
 
 /// Whether these are the entries of these pushes.
-fn are_of(entries: Option<EntryList>, pushes: Pushes) -> bool {
+pub(crate) fn are_of(entries: Option<EntryList>, pushes: Pushes) -> bool {
     let Some(entries) = entries else {
         return false;
     };
@@ -376,7 +375,7 @@ fn gate_look_while_held(rt: HostRuntime) -> Result<(), Fail> {
 fn two_threads_push_to_one_stream(rt: HostRuntime) -> Result<(), Fail> {
     let alloc = rt.alloc();
     let free = Gate::new(alloc)?;
-    let (ingester, one, two, _) = open_three(alloc, slots_of_one(alloc)?)?;
+    let (ingester, one, two, _) = open_three(alloc, slots_of_one(alloc, &free)?)?;
     let first = Pushes {
         value: "1",
         first: 1_000,

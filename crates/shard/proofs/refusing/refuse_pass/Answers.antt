@@ -24,6 +24,10 @@ loop-turn-preserved c =
         | then-pass w ↦ rw w.settled-is (w.push_reserved.ensures.capacity ∙ inv.capacity)
         | else-pass w ↦ rw w.settled-is inv.capacity
       ];
+      places = elim c.if-pass.branch [
+        | then-pass w ↦ rw w.jobs-is (c.in-Some.ensures.capacity ∙ inv.places)
+        | else-pass w ↦ rw w.jobs-is (w.push_back_reserved.ensures.capacity ∙ (c.in-Some.ensures.capacity ∙ inv.places))
+      ];
       room = elim c.if-pass.branch [
         | then-pass w ↦ rw w.jobs-is (rw w.settled-is (omega (arith, inv.room, c.in-Some.ensures.cases, w.push_reserved.ensures.len)))
         | else-pass w ↦ rw w.jobs-is (rw w.settled-is (omega (arith, inv.room, c.in-Some.ensures.cases, w.push_back_reserved.ensures.len)))

@@ -5,17 +5,14 @@ use denote.Struct.Declared as declared
 use denote.Struct.Struct.{Struct}
 use Rattle.std.proofs.Common.{subst}
 use Rattle.std.specs.Prelude.{IfSome}
-use Rattle.std.proofs.Crossing.{crosses}
-use Rattle.disk.proofs.gate.GateDisk.TheSendSync as gate
-use Rattle.disk.proofs.memory.MemDisk.TheSendSync as memory
 use Rattle.history.proofs.handles.Pass.TheSendSync as pass
 use Rattle.ingester.specs.Calls.{IsPassOf}
-use Rattle.ingester.proofs.Sent.{ingester_sync}
+use Rattle.threads.proofs.Sent.{ingester_moves}
 use Rattle.threads.specs.contracts.shards.Caller as caller
 use Rattle.threads.proofs.shards.push_together.Goals as goal
 
 fields_send : (κ : NamedLft) (R : RattleType) → IsSync R → AllSend (declared.fields (caller.the_type κ R))
-fields_send κ R r = (search (r, sendable), (search sendable, (search (ingester_sync, gate.the_send, gate.the_field_send, memory.the_send, crosses, sendable) depth 20, (pass.the_send, (search sendable, tt)))))
+fields_send κ R r = (search (r, sendable), (search sendable, (ingester_moves κ, (pass.the_send, (search sendable, tt)))))
 
 caller_send : (κ : NamedLft) (R : RattleType) → IsSync R → IsSend (caller.the_row κ R)
 caller_send κ R r = let T = caller.the_type κ R in recorded_send (Struct (declared.shape T)) T.D T.to T.to_one (struct_send (declared.shape T) (fields_send κ R r))

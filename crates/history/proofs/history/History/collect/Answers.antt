@@ -1,5 +1,5 @@
 use Rattle.std.proofs.Common.{◌+◌, ◌<◌, sym, ap, ◌∙◌, subst}
-use Rattle.history.specs.Histories.{IsFirstNumber, behind_first}
+use Rattle.history.specs.Histories.{IsFirstIfAmong, behind_first}
 use Rattle.history.specs.Rule.{number_of}
 use Rattle.history.specs.Plays.{taken, IsRested}
 use Rattle.history.specs.Handles.{Passed, Received, caller_in, step_in, upto_in, moment_in}
@@ -31,7 +31,7 @@ store-requires c =
           (c.join_seat.ensures.2 ∙ (λ i. (taken (pass.0 i).0 (c.receipt.invariant.0 i).0, (pass.0 i).1)))
           (ap (λ n. n + k.pass) pass.2 ∙ pass.3)
           (ap (λ r. r.step.ask.pass) c.receipt.view_is ∙ c.requires.pass ∙ ap (λ p. p.caller.pass) (sym c.pass.view_is))
-          (subst (λ (z : Passed × Received). IsFirstNumber z.1.step.ask.number z.0.caller.pending) (λ i. (sym c.pass.view_is i, sym c.receipt.view_is i)) c.requires.number)
+          (subst (λ (z : Passed × Received). IsFirstIfAmong z.1.step.ask z.0.caller.pending) (λ i. (sym c.pass.view_is i, sym c.receipt.view_is i)) c.requires.number)
           (c.word_behind_first-word.ensures ∙ ap (λ p. number_of p.caller.last (behind_first p.caller.pending)) (sym c.pass.view_is))
           (subst (λ (p : Passed). IsRested p.caller) (sym c.pass.view_is) c.requires.rested),
     )

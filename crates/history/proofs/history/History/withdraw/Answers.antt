@@ -1,7 +1,7 @@
 use Rattle.std.proofs.Common.{◌+◌, ◌<◌, [], sym, ap, ◌∙◌, subst}
 use Rattle.history.specs.declared.views.Role.TheVariants.{Calls}
 use Rattle.history.specs.declared.views.Token.TheVariants.{Open}
-use Rattle.history.specs.Histories.{IsFirstNumber, behind_first}
+use Rattle.history.specs.Histories.{IsFirstIfAmong, behind_first}
 use Rattle.history.specs.Rule.{alone, number_of}
 use Rattle.history.specs.Plays.{taken}
 use Rattle.history.specs.Handles.{Passed, Announced, caller_in, ask_in, before_in}
@@ -34,6 +34,6 @@ store-requires c =
           (c.join_seat.ensures.2 ∙ (λ i. (taken (pass.0 i).0 (c.ticket.invariant.0 i).0, (pass.0 i).1)) ∙ ap (λ f. (alone (Calls k) (Open a f (before_in hand)), [])) (ap (λ t. t.doubted) c.ticket.view_is ∙ c.requires.pass.1))
           (ap (λ n. n + k.pass) pass.2 ∙ pass.3)
           (ap (λ t. t.ask.pass) c.ticket.view_is ∙ c.requires.pass.0 ∙ ap (λ p. p.caller.pass) (sym c.pass.view_is))
-          (subst (λ (z : Passed × Announced). IsFirstNumber z.1.ask.number z.0.caller.pending) (λ i. (sym c.pass.view_is i, sym c.ticket.view_is i)) c.requires.number)
+          (subst (λ (z : Passed × Announced). IsFirstIfAmong z.1.ask z.0.caller.pending) (λ i. (sym c.pass.view_is i, sym c.ticket.view_is i)) c.requires.number)
           (c.word_behind_first-word.ensures ∙ ap (λ p. number_of p.caller.last (behind_first p.caller.pending)) (sym c.pass.view_is)),
     )

@@ -1,30 +1,38 @@
 use Rattle.std.proofs.Common.{◌≡◌, ◌+◌, ◌<◌, sym, ap, ◌∙◌, subst}
 use Rattle.labels.specs.Shards.{shard}
-use Rattle.history.proofs.Lines.{alone_before}
+use Rattle.accept.specs.declared.history.Ask.{Ask}
+use Rattle.history.specs.declared.views.About.{About}
 use Rattle.history.specs.Histories.{shard_in}
-use Rattle.ingester.specs.Calls.{shard_for, HasSpentLog}
-use Rattle.ingester.proofs.Keeping.{log_spent}
+use Rattle.history.specs.Plays.{ask_of}
+use Rattle.history.proofs.Lines.{alone_before}
+use Rattle.ingester.specs.Calls.{HasSpentLog}
+use Rattle.ingester.proofs.Refusing.{first_only, log_spent}
 use Rattle.ingester.proofs.Routing.{routed}
 use Rattle.ingester.proofs.opened.Ingester.call.Goals as goal
 
-pub apply-requires-clause-shard : goal.apply-requires-clause-shard
-apply-requires-clause-shard g c =
-    let shards = ap (λ o. o.about.shards) (sym c.self.view_is) ∙ c.self.invariant.0.shards in (
-      routed c.args.self.now.about c.in_ok-ticket.ticket.ask c.args.call c.self.inside.count c.shard_of-shard.result (ap (λ t. t.ask.call) c.in_ok-ticket.ensures.ticket) shards
-          (c.shard_of-shard.ensures.shard ∙ ap (λ k. shard k c.self.inside.count) c.key.ensures),
-      subst (λ n. c.shard_of-shard.result < n) (sym shards) c.shard_of-shard.ensures.within,
-    )
-
-pub apply-requires-clause-alone : goal.apply-requires-clause-alone
-apply-requires-clause-alone g c =
+pub make-requires-clause-job : goal.make-requires-clause-job
+make-requires-clause-job g c =
     let k = c.args.pass.now.caller in
-    ap (λ t. t.before) c.in_ok-ticket.ensures.ticket ∙ alone_before k (k.last + 1) c.args.call c.requires.pass.idle
-
-pub returns-clause-spent : goal.returns-clause-spent
-returns-clause-spent g c = λ is.
+    let ticket = c.in_ok-ticket.ensures.ticket in
+    let own = c.number-own.ensures in
     let shards = ap (λ o. o.about.shards) (sym c.self.view_is) ∙ c.self.invariant.0.shards in
-    let there : shard_in c.args.self.now.about c.in_ok-ticket.ticket.ask ≡ c.shard_of-shard.result =
-    routed c.args.self.now.about c.in_ok-ticket.ticket.ask c.args.call c.self.inside.count c.shard_of-shard.result (ap (λ t. t.ask.call) c.in_ok-ticket.ensures.ticket) shards
-    (c.shard_of-shard.ensures.shard ∙ ap (λ k. shard k c.self.inside.count) c.key.ensures) in
-    let here : c.shard_of-shard.result ≡ shard_for c.args.pass.now.caller c.args.call = sym there ∙ (λ i. shard_in (sym c.requires.pass.about i) (c.in_ok-ticket.ensures.ticket i).ask) in
-    subst (λ k. HasSpentLog c.args.self.now k c.args.call) here (c.in-Err.ensures.spent (log_spent c.in-Err.fault c.from.result c.from.ensures is))
+    record {
+      ticket = record {
+        same_table = ap (λ t. t.table) ticket ∙ (sym c.self.invariant.0.same_table ∙ ap (λ o. o.table) c.self.view_is);
+        pass = subst (λ (a : About). c.in_ok-ticket.ticket.ask.pass < a.passes) c.requires.pass.about (subst (λ n. n < k.about.passes) (own.0 ∙ ap (λ t. t.ask.pass) (sym ticket)) own.1);
+        sure = ap (λ t. t.doubted) ticket;
+      };
+      shard = routed c.args.self.now.about c.in_ok-ticket.ticket.ask c.args.call c.self.inside.count c.shard_of-shard.result (ap (λ t. t.ask.call) ticket) shards
+          (c.shard_of-shard.ensures.shard ∙ ap (λ n. shard n c.self.inside.count) c.key.ensures);
+      call = ap (λ t. t.ask.call) ticket;
+      numbers = c.requires.numbers;
+      alone = ap (λ t. t.before) ticket ∙ alone_before k (k.last + 1) c.args.call c.requires.pass.idle;
+    }
+
+pub returns-in-Refused-clause-spent : goal.returns-in-Refused-clause-spent
+returns-in-Refused-clause-spent g c = λ is.
+    let k = c.args.pass.now.caller in
+    let mine : ask_of k (k.last + 1) c.args.call ≡ c.in-Refused.ticket.ask = first_only c.announce.new.pass.caller.pending k.pending c.in-Refused.ticket.ask (ask_of k (k.last + 1) c.args.call)
+    (ap (λ p. p.caller.pending) c.in_ok-ticket.ensures.pass) c.requires.pass.idle c.withdraw.ensures.first in
+    subst (λ (z : About × Ask). HasSpentLog c.args.self.now (shard_in z.0 z.1) z.1.call) (λ i. (sym c.requires.pass.about i, sym mine i))
+    (c.in-Refused.ensures.spent (log_spent c.in-Refused.fault c.from.result c.from.ensures is))

@@ -1,0 +1,6 @@
+use denote.Param.Send.{given_send, sendable}
+use Rattle.threads.proofs.Sent.{part_send}
+use Rattle.threads.proofs.groups.play_one.Goals as goal
+
+pub join-one-requires-send-F : goal.join-one-requires-send-F
+join-one-requires-send-F g c κs within = search (part_send, given_send, sendable) depth 20

@@ -1,0 +1,293 @@
+//! Calls that come to a shard while it writes: they wait, and are made and written together.
+ghost use Rattle.std.specs.Prelude.{◌≡◌, ℕ, Some, slice_get, IfOk, IsOk};
+ghost use Rattle.history.specs.Handles.{Passed};
+ghost use Rattle.ingester.specs.Calls.{IsPassOf};
+
+use crate::shards::{Pushes, Slot, are_of, last_of, open, push_all, read, slots_of_one};
+use disk::{Disk, Gate};
+use history::Pass;
+use ingester::Ingester;
+use std::alloc::Global;
+use std::sync::Wait;
+use std::test::*;
+use std::thread::{self, Threads, join};
+use std::time::{Clock, Duration};
+
+/// How long a thread lets the one before it come to the shard, in milliseconds. Where that was too short for the threads
+/// to come in their order, all is made anew with the next time.
+const TIMES: [u64; 6] = [10, 20, 40, 80, 160, 320];
+
+/// The lengths of the slots with a segment of one push and of one block with two more. (With a block for each it would
+/// be longer.)
+const GROUPED: [u64; 2] = [0, 149];
+
+/// What a thread does at a stream.
+#[derive(Clone, Copy)]
+enum Task {
+    /// It makes these pushes, each of which is to be stored.
+    Push(Pushes),
+    /// It reads all, and is to find these.
+    Read(Pushes),
+}
+
+/// A thread's task, and how many milliseconds it waits before it.
+#[derive(Clone, Copy)]
+struct Turn {
+    after: u64,
+    task: Task,
+}
+
+/// What a thread has for its task.
+#[derive(Drop)]
+struct Part<'a, R> {
+    rt: &'a R,
+    alloc: Global,
+    ingester: &'a Ingester<Slot>,
+    pass: Pass,
+    turn: Turn,
+}
+
+/// What opens a gate, and after how many milliseconds.
+#[derive(Clone, Copy)]
+struct Opener<'a> {
+    gate: &'a Gate,
+    after: u64,
+}
+
+/// So many pushes from this time on.
+fn pushes(first: u64, count: u64) -> Pushes {
+    Pushes {
+        value: "1",
+        first,
+        count,
+    }
+}
+
+/// Does a task: whether all was as it is to be.
+fn play<R: Wait + Clock>(part: Part<R>) -> bool
+    requires { IsPassOf part.ingester.now part.pass }
+{
+    let Part {
+        rt,
+        alloc,
+        ingester,
+        mut pass,
+        turn,
+    } = part;
+    thread::sleep(rt, Duration::from_millis(turn.after));
+    match turn.task {
+        Task::Push(pushes) => push_all(rt, alloc, ingester, pass, pushes).is_some(),
+        Task::Read(pushes) => are_of(read(rt, alloc, ingester, &mut pass, pushes.value), pushes),
+    }
+}
+
+/// A thread does its task, and meanwhile the gate is opened.
+fn play_one<R: Threads + Wait + Clock + Sync>(rt: &R, one: Part<R>, opener: Opener) -> bool
+    requires { IsPassOf one.ingester.now one.pass }
+{
+    let (one, ()) = join(
+        rt,
+        move || -> bool
+            requires { IsPassOf one.ingester.now one.pass }
+        { play(one) },
+        move || {
+            thread::sleep(rt, Duration::from_millis(opener.after));
+            opener.gate.open();
+        },
+    );
+    one
+}
+
+/// Two threads do their tasks.
+fn play_two<R: Threads + Wait + Clock + Sync>(
+    rt: &R,
+    one: Part<R>,
+    two: Part<R>,
+    opener: Opener,
+) -> bool
+    requires one { IsPassOf one.ingester.now one.pass }
+    requires two { IsPassOf two.ingester.now two.pass }
+{
+    let (one, others) = join(
+        rt,
+        move || -> bool
+            requires { IsPassOf one.ingester.now one.pass }
+        { play(one) },
+        move || -> bool
+            requires { IsPassOf two.ingester.now two.pass }
+        { play_one(rt, two, opener) },
+    );
+    one && others
+}
+
+/// Three threads do their tasks.
+fn play_three<R: Threads + Wait + Clock + Sync>(
+    rt: &R,
+    one: Part<R>,
+    two: Part<R>,
+    three: Part<R>,
+    opener: Opener,
+) -> bool
+    requires one { IsPassOf one.ingester.now one.pass }
+    requires two { IsPassOf two.ingester.now two.pass }
+    requires three { IsPassOf three.ingester.now three.pass }
+{
+    let (one, others) = join(
+        rt,
+        move || -> bool
+            requires { IsPassOf one.ingester.now one.pass }
+        { play(one) },
+        move || -> bool
+            requires { IsPassOf two.ingester.now two.pass × IsPassOf three.ingester.now three.pass }
+        { play_two(rt, two, three, opener) },
+    );
+    one && others
+}
+
+/// Four threads do these tasks, each with the next of these passes.
+fn play_four<R: Threads + Wait + Clock + Sync>(
+    rt: &R,
+    alloc: Global,
+    ingester: &Ingester<Slot>,
+    passes: &mut Vec<Pass>,
+    turns: [Turn; 4],
+    opener: Opener,
+) -> Result<bool, Fail>
+    requires { (p : ℕ) (pass : Passed) → slice_get passes.old.items p ≡ Some pass → IsPassOf ingester.now pass }
+    ensures { IsOk result → (p : ℕ) (pass : Passed) → slice_get passes.new.items p ≡ Some pass
+        → IsPassOf ingester.now pass }
+{
+    let [first, second, third, fourth] = turns;
+    let one = next_part(rt, alloc, ingester, passes, first)?;
+    let two = next_part(rt, alloc, ingester, passes, second)?;
+    let three = next_part(rt, alloc, ingester, passes, third)?;
+    let four = next_part(rt, alloc, ingester, passes, fourth)?;
+    let (one, others) = join(
+        rt,
+        move || -> bool
+            requires { IsPassOf one.ingester.now one.pass }
+        { play(one) },
+        move || -> bool
+            requires two { IsPassOf two.ingester.now two.pass }
+            requires three { IsPassOf three.ingester.now three.pass }
+            requires four { IsPassOf four.ingester.now four.pass }
+        { play_three(rt, two, three, four, opener) },
+    );
+    Ok(one && others)
+}
+
+/// What a thread has for its task: the last of these passes.
+fn next_part<'a, R: Wait>(
+    rt: &'a R,
+    alloc: Global,
+    ingester: &'a Ingester<Slot>,
+    passes: &mut Vec<Pass>,
+    turn: Turn,
+) -> Result<Part<'a, R>, Fail>
+    requires { (p : ℕ) (pass : Passed) → slice_get passes.old.items p ≡ Some pass → IsPassOf ingester.now pass }
+    ensures part { IfOk result (λ it. IsPassOf it.ingester.now it.pass) }
+    ensures passes { (p : ℕ) (pass : Passed) → slice_get passes.new.items p ≡ Some pass → IsPassOf ingester.now pass }
+{
+    Ok(Part {
+        rt,
+        alloc,
+        ingester,
+        pass: last_of(ingester, passes)?,
+        turn,
+    })
+}
+
+/// How many bytes a slot has.
+fn length_of(slot: Slot) -> Result<u64, Fail> {
+    let mut slot = slot;
+    Ok(slot.len()?)
+}
+
+/// How many bytes each of a shard's slots has.
+fn lengths_of(slots: [Slot; 2]) -> Result<[u64; 2], Fail> {
+    let [first, second] = slots;
+    Ok([length_of(first)?, length_of(second)?])
+}
+
+/// The lengths of the slots of the shard that an ingester leaves.
+fn slot_lengths<R: Wait>(
+    rt: &R,
+    alloc: Global,
+    ingester: Ingester<Slot>,
+    pass: Pass,
+) -> Result<[u64; 2], Fail>
+    requires { IsPassOf ingester pass }
+{
+    let passes = vec![in alloc; pass]?;
+    let mut closed = ingester.close(rt, passes);
+    let Some(shard) = closed.take() else {
+        return Err("there is no shard".into());
+    };
+    lengths_of(shard.0)
+}
+
+/// A push, and while it is written another one, a read that is to find both, and a third: whether all was so, and the
+/// lengths of the slots. Each comes so many milliseconds after the one before it.
+fn three_while_written<R: Threads + Wait + Clock + Sync>(
+    rt: &R,
+    alloc: Global,
+    time: u64,
+) -> Result<(bool, [u64; 2]), Fail> {
+    let gate = Gate::new(alloc)?;
+    let (ingester, mut passes) = open(alloc, slots_of_one(alloc, &gate)?, 5)?;
+    let turn = |number: u64, task: Task| Turn {
+        after: time.saturating_mul(number),
+        task,
+    };
+    let turns = [
+        turn(0, Task::Push(pushes(10, 1))),
+        turn(1, Task::Push(pushes(11, 1))),
+        turn(2, Task::Read(pushes(10, 2))),
+        turn(3, Task::Push(pushes(12, 1))),
+    ];
+    gate.close();
+    let opener = Opener {
+        gate: &gate,
+        after: time.saturating_mul(4),
+    };
+    let played = play_four(rt, alloc, &ingester, &mut passes, turns, opener)?;
+    let last = last_of(&ingester, &mut passes)?;
+    Ok((played, slot_lengths(rt, alloc, ingester, last)?))
+}
+
+#[test]
+fn gate_three_calls_in_one_group(rt: HostRuntime) -> Result<(), Fail> {
+    for time in TIMES {
+        let (played, lengths) = three_while_written(&rt, rt.alloc(), time)?;
+        if played && lengths == GROUPED {
+            return Ok(());
+        }
+    }
+    Err("calls that came while the shard was written are no group".into())
+}
+
+#[test]
+fn four_threads_push_to_one_stream(rt: HostRuntime) -> Result<(), Fail> {
+    let alloc = rt.alloc();
+    let free = Gate::new(alloc)?;
+    let (ingester, mut passes) = open(alloc, slots_of_one(alloc, &free)?, 5)?;
+    let turn = |first: u64| Turn {
+        after: 0,
+        task: Task::Push(pushes(first, 50)),
+    };
+    let turns = [turn(1_000), turn(1_050), turn(1_100), turn(1_150)];
+    let opener = Opener {
+        gate: &free,
+        after: 0,
+    };
+    let played = play_four(&rt, alloc, &ingester, &mut passes, turns, opener)?;
+    assert!(rt; played);
+    let mut last = last_of(&ingester, &mut passes)?;
+    assert!(rt;
+        are_of(
+            read(&rt, alloc, &ingester, &mut last, "1"),
+            pushes(1_000, 200)
+        )
+    );
+    Ok(())
+}
