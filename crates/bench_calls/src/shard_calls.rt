@@ -107,15 +107,24 @@ fn push_all(shard: &mut LoneShard<MemDisk>, alloc: Global, calls: &[Call]) -> Re
     Ok(())
 }
 
-/// How long the timed pushes of one run take, which go to the first stream.
-fn run<R: Clock + AllocGlobal>(rt: &R, state: State) -> Result<Duration> {
+/// How long the timed pushes take once a shard is filled. They go to the first stream.
+fn time_pushes<R: Clock + AllocGlobal>(
+    rt: &R,
+    shard: &mut LoneShard<MemDisk>,
+    state: State,
+) -> Result<Duration> {
     let alloc = rt.alloc();
-    let mut shard = open(alloc, ROOM)?;
-    fill(&mut shard, alloc, state)?;
+    fill(shard, alloc, state)?;
     let calls = pushes_of(alloc, 0, state.share(), PUSHES)?;
     let start = Instant::now(rt)?;
-    push_all(&mut shard, alloc, &calls)?;
+    push_all(shard, alloc, &calls)?;
     Ok(start.elapsed(rt)?)
+}
+
+/// How long the timed pushes of one run take, over a shard of its own.
+fn run<R: Clock + AllocGlobal>(rt: &R, state: State) -> Result<Duration> {
+    let mut shard = open(rt.alloc(), ROOM)?;
+    time_pushes(rt, &mut shard, state)
 }
 
 /// The best time of all runs at a state.

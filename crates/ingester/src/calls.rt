@@ -1,7 +1,9 @@
 //! Calls, looks and meetings.
-ghost use Rattle.std.specs.Prelude.{◌≡◌, ◌≢◌, ◌↔◌, ◌<◌, ℕ, [], true, false, length, IfOk, IfErr};
+ghost use Rattle.std.specs.Prelude.{◌≡◌, ◌≢◌, ◌↔◌, ◌<◌, ◌≤◌, ℕ, [], true, false, length, IfOk, IfErr};
 ghost use Rattle.std.specs.Result.{IsErrOf};
+ghost use Rattle.labels.specs.Shards.{shard};
 ghost use Rattle.accept.specs.Calls.{AreNumbers};
+ghost use Rattle.accept.specs.Histories.{key_of};
 ghost use Rattle.history.specs.Histories.{IsBeginning, IsLegalAt, IsByPasses, shard_in, step_of};
 ghost use Rattle.history.specs.Plays.{seen_at, look_to, HasStepsOf};
 ghost use Rattle.history.specs.Handles.{is_closed, with_seen, HaveMet};
@@ -18,6 +20,15 @@ use labels::shard_of;
 use shard::{Job, Settled};
 use std::alloc::Global;
 use std::sync::Wait;
+
+// The number of the shard that a call belongs to, among so many.
+fn shard_number(call: &Call, shards: u32) -> usize
+    requires some { 1 ≤ shards }
+    requires few { shards ≤ 64 }
+    ensures { result ≡ shard (key_of call.now) shards }
+{
+    shard_of(call.key(), shards) as usize
+}
 
 impl<D: Disk + Drop> Ingester<D> {
     /// Makes a call. It waits for the calls to the shard of its key alone: those that wait there together are written at
@@ -42,7 +53,7 @@ impl<D: Disk + Drop> Ingester<D> {
         ensures closed { IsErrOf result faults.PassClosed ↔ (is_closed pass.old ≡ true) }
         ensures spent { IsErrOf result faults.LogSpent → HasSpentLog self.now (shard_for pass.old.caller call) call }
     {
-        let shard = shard_of(call.key(), self.count) as usize;
+        let shard = shard_number(&call, self.count);
         let own = pass.number();
         let ticket = self.history.announce(pass, &call)?;
         match self.make(rt, alloc, shard, own, Job { ticket, call }) {

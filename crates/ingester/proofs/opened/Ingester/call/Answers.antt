@@ -1,5 +1,4 @@
 use Rattle.std.proofs.Common.{◌≡◌, ◌+◌, ◌<◌, sym, ap, ◌∙◌, subst}
-use Rattle.labels.specs.Shards.{shard}
 use Rattle.accept.specs.declared.history.Ask.{Ask}
 use Rattle.history.specs.declared.views.About.{About}
 use Rattle.history.specs.Histories.{shard_in}
@@ -22,8 +21,7 @@ make-requires-clause-job g c =
         pass = subst (λ (a : About). c.in_ok-ticket.ticket.ask.pass < a.passes) c.requires.pass.about (subst (λ n. n < k.about.passes) (own.0 ∙ ap (λ t. t.ask.pass) (sym ticket)) own.1);
         sure = ap (λ t. t.doubted) ticket;
       };
-      shard = routed c.args.self.now.about c.in_ok-ticket.ticket.ask c.args.call c.self.inside.count c.shard_of-shard.result (ap (λ t. t.ask.call) ticket) shards
-          (c.shard_of-shard.ensures.shard ∙ ap (λ n. shard n c.self.inside.count) c.key.ensures);
+      shard = routed c.args.self.now.about c.in_ok-ticket.ticket.ask c.args.call c.self.inside.count c.shard_number-shard.result (ap (λ t. t.ask.call) ticket) shards c.shard_number-shard.ensures;
       call = ap (λ t. t.ask.call) ticket;
       numbers = c.requires.numbers;
       alone = ap (λ t. t.before) ticket ∙ alone_before k (k.last + 1) c.args.call c.requires.pass.idle;
