@@ -12,7 +12,7 @@ part_fields : (κ : NamedLft) (R : RattleType) → IsSync R → AllSend (declare
 part_fields κ R r = (search (r, sendable), (search sendable, (ingester_moves κ, (pass.the_send, (search sendable depth 30, tt)))))
 
 -- What a thread has for its task goes to it.
-pub part_send : (κ : NamedLft) (R : RattleType) → IsSync R → IsSend (part.the_row κ R)
+part_send : (κ : NamedLft) (R : RattleType) → IsSync R → IsSend (part.the_row κ R)
 part_send κ R r = let T = part.the_type κ R in recorded_send (Struct (declared.shape T)) T.D T.to T.to_one (struct_send (declared.shape T) (part_fields κ R r))
 
 pub join-one-requires-send-F : goal.join-one-requires-send-F
