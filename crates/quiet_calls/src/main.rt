@@ -1,0 +1,14 @@
+//! `quiet_calls` makes calls that request no memory, and one that does, each kind between two lines of output.
+#![tactic(auto)]
+
+mod ingesters;
+mod logs;
+mod trims;
+
+use anyhow::Result;
+
+fn main(rt: HostRuntime) -> Result<()> {
+    ingesters::run(&rt)?;
+    trims::run(&rt)?;
+    logs::run(&rt)
+}
