@@ -135,9 +135,21 @@ fn open(alloc: Global) -> Result<(Ingester<MemDisk>, Pass)>
     }
 }
 
-/// Serves a load, and gives how long that took.
+/// Serves a load from empty slots on, and gives how long that took.
 fn time_serve<R: Clock + Wait + AllocGlobal>(rt: &R, load: &Load) -> Result<Duration> {
     let (ingester, mut pass) = open(rt.alloc())?;
+    time_serve_over(rt, &ingester, &mut pass, load)
+}
+
+/// The same over this ingester.
+fn time_serve_over<R: Clock + Wait + AllocGlobal>(
+    rt: &R,
+    ingester: &Ingester<MemDisk>,
+    pass: &mut Pass,
+    load: &Load,
+) -> Result<Duration>
+    requires { IsPassOf ingester.now pass.old }
+{
     let mut clock = Standing;
     let mut reader = load.bytes.as_slice();
     let mut writer = Counter { bytes: 0 };
@@ -145,8 +157,8 @@ fn time_serve<R: Clock + Wait + AllocGlobal>(rt: &R, load: &Load) -> Result<Dura
     let end = serve(
         rt,
         rt.alloc(),
-        &ingester,
-        &mut pass,
+        ingester,
+        pass,
         &mut clock,
         &mut reader,
         &mut writer,
@@ -288,16 +300,25 @@ fn time_load<R: Clock + Print + Wait + AllocGlobal>(
     entries: u64,
 ) -> Result<()> {
     let load = load_of(rt.alloc(), requests, entries)?;
+    time_each(rt, &load, entries)
+}
+
+/// Prints how fast a load of requests of so many lines is served, and its parts alone.
+fn time_each<R: Clock + Print + Wait + AllocGlobal>(
+    rt: &R,
+    load: &Load,
+    entries: u64,
+) -> Result<()> {
     let (mut serving, mut alone) = (Duration::MAX, Duration::MAX);
     let (mut reading, mut calling) = (Duration::MAX, Duration::MAX);
     for _ in 0..RUNS {
-        serving = serving.min(time_serve(rt, &load)?);
+        serving = serving.min(time_serve(rt, load)?);
         alone = alone.min(time_reading(rt, &load.bodies)?);
-        let (read, called) = time_parts(rt, &load)?;
+        let (read, called) = time_parts(rt, load)?;
         reading = reading.min(read);
         calling = calling.min(called);
     }
-    let (count, size) = (load.bodies.len(), size_of_bodies(&load));
+    let (count, size) = (load.bodies.len(), size_of_bodies(load));
     rt.println(format_args!(
         "{count} requests of {entries} lines of {LINE} bytes on one connection: {size} bytes of bodies"
     ))?;
@@ -329,10 +350,14 @@ pub fn time<R: Clock + Print + Wait + AllocGlobal>(rt: &R) -> Result<()> {
 /// Serves a short connection, and makes its calls alone.
 pub fn check<R: Clock + Print + Wait + AllocGlobal>(rt: &R) -> Result<()> {
     let load = load_of(rt.alloc(), 3, 2)?;
-    time_serve(rt, &load)?;
+    check_load(rt, &load)
+}
+
+fn check_load<R: Clock + Print + Wait + AllocGlobal>(rt: &R, load: &Load) -> Result<()> {
+    time_serve(rt, load)?;
     time_reading(rt, &load.bodies)?;
-    time_parts(rt, &load)?;
-    let (count, size) = (load.bodies.len(), size_of_bodies(&load));
+    time_parts(rt, load)?;
+    let (count, size) = (load.bodies.len(), size_of_bodies(load));
     rt.println(format_args!("served {count} requests with bodies of {size} bytes"))?;
     Ok(())
 }

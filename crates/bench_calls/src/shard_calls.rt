@@ -160,16 +160,21 @@ fn report<R: Print>(rt: &R, state: State, nanos: u128, first: u128) -> Result<()
     Ok(())
 }
 
-/// Makes a few pushes, and opens what the slots hold then.
-pub fn check<R: Print + AllocGlobal>(rt: &R) -> Result<()> {
-    let alloc = rt.alloc();
+/// Fills a shard with a few entries, and makes two pushes.
+fn push_some(shard: &mut LoneShard<MemDisk>, alloc: Global) -> Result<()> {
     let state = State {
         entries: 6,
         streams: 3,
     };
+    fill(shard, alloc, state)?;
+    push_all(shard, alloc, &pushes_of(alloc, 0, state.share(), 2)?)
+}
+
+/// Makes some pushes, and opens what the slots hold then.
+pub fn check<R: Print + AllocGlobal>(rt: &R) -> Result<()> {
+    let alloc = rt.alloc();
     let mut shard = open(alloc, 1 << 16)?;
-    fill(&mut shard, alloc, state)?;
-    push_all(&mut shard, alloc, &pushes_of(alloc, 0, state.share(), 2)?)?;
+    push_some(&mut shard, alloc)?;
     let (generation, entries) = kept_in(alloc, shard.into_slots())?;
     rt.println(format_args!("shard generation {generation} entries {entries}"))?;
     Ok(())

@@ -81,70 +81,33 @@ fn play<R: Wait + Clock>(part: Part<R>) -> bool
     }
 }
 
-/// A thread does its task, and meanwhile the gate is opened.
-fn play_one<R: Threads + Wait + Clock + Sync>(rt: &R, one: Part<R>, opener: Opener) -> bool
-    requires { IsPassOf one.ingester.now one.pass }
-{
-    let (one, ()) = join(
-        rt,
-        move || -> bool
-            requires { IsPassOf one.ingester.now one.pass }
-        { play(one) },
-        move || {
-            thread::sleep(rt, Duration::from_millis(opener.after));
-            opener.gate.open();
-        },
-    );
-    one
-}
-
-/// Two threads do their tasks.
-fn play_two<R: Threads + Wait + Clock + Sync>(
+/// A thread does its task while this one does what others do.
+fn play_beside<R: Threads + Wait + Clock + Sync, G: FnOnce() -> bool>(
     rt: &R,
     one: Part<R>,
-    two: Part<R>,
-    opener: Opener,
+    others: G,
 ) -> bool
     requires one { IsPassOf one.ingester.now one.pass }
-    requires two { IsPassOf two.ingester.now two.pass }
+    requires others { G.pre others }
 {
     let (one, others) = join(
         rt,
         move || -> bool
             requires { IsPassOf one.ingester.now one.pass }
         { play(one) },
-        move || -> bool
-            requires { IsPassOf two.ingester.now two.pass }
-        { play_one(rt, two, opener) },
+        others,
     );
     one && others
 }
 
-/// Three threads do their tasks.
-fn play_three<R: Threads + Wait + Clock + Sync>(
-    rt: &R,
-    one: Part<R>,
-    two: Part<R>,
-    three: Part<R>,
-    opener: Opener,
-) -> bool
-    requires one { IsPassOf one.ingester.now one.pass }
-    requires two { IsPassOf two.ingester.now two.pass }
-    requires three { IsPassOf three.ingester.now three.pass }
-{
-    let (one, others) = join(
-        rt,
-        move || -> bool
-            requires { IsPassOf one.ingester.now one.pass }
-        { play(one) },
-        move || -> bool
-            requires { IsPassOf two.ingester.now two.pass × IsPassOf three.ingester.now three.pass }
-        { play_two(rt, two, three, opener) },
-    );
-    one && others
+/// Opens a gate after its time.
+fn open_gate<R: Wait>(rt: &R, opener: Opener) -> bool {
+    thread::sleep(rt, Duration::from_millis(opener.after));
+    opener.gate.open();
+    true
 }
 
-/// Four threads do these tasks, each with the next of these passes.
+/// Four threads do these tasks, each with the next of these passes, while this one opens the gate.
 fn play_four<R: Threads + Wait + Clock + Sync>(
     rt: &R,
     alloc: Global,
@@ -162,18 +125,32 @@ fn play_four<R: Threads + Wait + Clock + Sync>(
     let two = next_part(rt, alloc, ingester, passes, second)?;
     let three = next_part(rt, alloc, ingester, passes, third)?;
     let four = next_part(rt, alloc, ingester, passes, fourth)?;
-    let (one, others) = join(
+    Ok(play_beside(
         rt,
-        move || -> bool
-            requires { IsPassOf one.ingester.now one.pass }
-        { play(one) },
+        one,
         move || -> bool
             requires two { IsPassOf two.ingester.now two.pass }
             requires three { IsPassOf three.ingester.now three.pass }
             requires four { IsPassOf four.ingester.now four.pass }
-        { play_three(rt, two, three, four, opener) },
-    );
-    Ok(one && others)
+        {
+            play_beside(
+                rt,
+                two,
+                move || -> bool
+                    requires three { IsPassOf three.ingester.now three.pass }
+                    requires four { IsPassOf four.ingester.now four.pass }
+                {
+                    play_beside(
+                        rt,
+                        three,
+                        move || -> bool
+                            requires { IsPassOf four.ingester.now four.pass }
+                        { play_beside(rt, four, move || open_gate(rt, opener)) },
+                    )
+                },
+            )
+        },
+    ))
 }
 
 /// What a thread has for its task: the last of these passes.
