@@ -101,7 +101,7 @@ fn play_beside<R: Threads + Wait + Clock + Sync, G: FnOnce() -> bool>(
 }
 
 /// Opens a gate after its time.
-fn open_gate<R: Wait>(rt: &R, opener: Opener) -> bool {
+fn open_gate<R: Wait + Clock>(rt: &R, opener: Opener) -> bool {
     thread::sleep(rt, Duration::from_millis(opener.after));
     opener.gate.open();
     true
