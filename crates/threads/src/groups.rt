@@ -81,33 +81,70 @@ fn play<R: Wait + Clock>(part: Part<R>) -> bool
     }
 }
 
-/// A thread does its task while this one does what others do.
-fn play_beside<R: Threads + Wait + Clock + Sync, G: FnOnce() -> bool>(
+/// A thread does its task, and meanwhile the gate is opened.
+fn play_one<R: Threads + Wait + Clock + Sync>(rt: &R, one: Part<R>, opener: Opener) -> bool
+    requires { IsPassOf one.ingester.now one.pass }
+{
+    let (one, ()) = join(
+        rt,
+        move || -> bool
+            requires { IsPassOf one.ingester.now one.pass }
+        { play(one) },
+        move || {
+            thread::sleep(rt, Duration::from_millis(opener.after));
+            opener.gate.open();
+        },
+    );
+    one
+}
+
+/// Two threads do their tasks.
+fn play_two<R: Threads + Wait + Clock + Sync>(
     rt: &R,
     one: Part<R>,
-    others: G,
+    two: Part<R>,
+    opener: Opener,
 ) -> bool
     requires one { IsPassOf one.ingester.now one.pass }
-    requires others { G.pre others }
+    requires two { IsPassOf two.ingester.now two.pass }
 {
     let (one, others) = join(
         rt,
         move || -> bool
             requires { IsPassOf one.ingester.now one.pass }
         { play(one) },
-        others,
+        move || -> bool
+            requires { IsPassOf two.ingester.now two.pass }
+        { play_one(rt, two, opener) },
     );
     one && others
 }
 
-/// Opens a gate after its time.
-fn open_gate<R: Wait + Clock>(rt: &R, opener: Opener) -> bool {
-    thread::sleep(rt, Duration::from_millis(opener.after));
-    opener.gate.open();
-    true
+/// Three threads do their tasks.
+fn play_three<R: Threads + Wait + Clock + Sync>(
+    rt: &R,
+    one: Part<R>,
+    two: Part<R>,
+    three: Part<R>,
+    opener: Opener,
+) -> bool
+    requires one { IsPassOf one.ingester.now one.pass }
+    requires two { IsPassOf two.ingester.now two.pass }
+    requires three { IsPassOf three.ingester.now three.pass }
+{
+    let (one, others) = join(
+        rt,
+        move || -> bool
+            requires { IsPassOf one.ingester.now one.pass }
+        { play(one) },
+        move || -> bool
+            requires { IsPassOf two.ingester.now two.pass × IsPassOf three.ingester.now three.pass }
+        { play_two(rt, two, three, opener) },
+    );
+    one && others
 }
 
-/// Four threads do these tasks, each with the next of these passes, while this one opens the gate.
+/// Four threads do these tasks, each with the next of these passes.
 fn play_four<R: Threads + Wait + Clock + Sync>(
     rt: &R,
     alloc: Global,
@@ -125,32 +162,18 @@ fn play_four<R: Threads + Wait + Clock + Sync>(
     let two = next_part(rt, alloc, ingester, passes, second)?;
     let three = next_part(rt, alloc, ingester, passes, third)?;
     let four = next_part(rt, alloc, ingester, passes, fourth)?;
-    Ok(play_beside(
+    let (one, others) = join(
         rt,
-        one,
+        move || -> bool
+            requires { IsPassOf one.ingester.now one.pass }
+        { play(one) },
         move || -> bool
             requires two { IsPassOf two.ingester.now two.pass }
             requires three { IsPassOf three.ingester.now three.pass }
             requires four { IsPassOf four.ingester.now four.pass }
-        {
-            play_beside(
-                rt,
-                two,
-                move || -> bool
-                    requires three { IsPassOf three.ingester.now three.pass }
-                    requires four { IsPassOf four.ingester.now four.pass }
-                {
-                    play_beside(
-                        rt,
-                        three,
-                        move || -> bool
-                            requires { IsPassOf four.ingester.now four.pass }
-                        { play_beside(rt, four, move || open_gate(rt, opener)) },
-                    )
-                },
-            )
-        },
-    ))
+        { play_three(rt, two, three, four, opener) },
+    );
+    Ok(one && others)
 }
 
 /// What a thread has for its task: the last of these passes.

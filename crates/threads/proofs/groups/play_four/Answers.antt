@@ -6,7 +6,7 @@ use denote.Struct.Struct.{Struct}
 use Rattle.history.proofs.handles.Pass.TheSendSync as pass
 use Rattle.threads.specs.contracts.groups.Part as part
 use Rattle.threads.proofs.Sent.{ingester_moves}
-use Rattle.threads.proofs.groups.play_beside.Goals as goal
+use Rattle.threads.proofs.groups.play_four.Goals as goal
 
 part_fields : (κ : NamedLft) (R : RattleType) → IsSync R → AllSend (declared.fields (part.the_type κ R))
 part_fields κ R r = (search (r, sendable), (search sendable, (ingester_moves κ, (pass.the_send, (search sendable depth 30, tt)))))
