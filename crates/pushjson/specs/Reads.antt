@@ -2,7 +2,7 @@
 use Rattle.std.specs.Prelude.{◌≡◌, ◌≢◌, ⊤, ℕ, ◌<◌, ◌≤◌, List, map, Result, Ok, Err, Vec}
 use Rattle.std.specs.declared.alloc.Global.{Global}
 use Rattle.serde_json.specs.Data.{Data}
-use Rattle.accept.specs.declared.entry.Entry.{Entry}
+use Rattle.entries.specs.declared.entry.Entry.{Entry}
 use Rattle.pushjson.specs.Bodies.{Stream, TimedLine, body_tree, IsJson, AreTimed, HaveTimes, IsFirstBad, IsFirstBadTime, entry_count, entry_of, batch_of}
 use Rattle.pushjson.specs.declared.push.RawBatch.{RawBatch}
 use Rattle.pushjson.specs.declared.fault.PushFault.{PushFault}

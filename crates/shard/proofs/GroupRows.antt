@@ -4,7 +4,7 @@ use Rattle.std.specs.FinMap as finite
 use Rattle.labels.specs.Keys.{key_cmp}
 use Rattle.labels.specs.declared.key.StreamKey.{StreamKey}
 use Rattle.atomic_table.specs.Seated.{TableId}
-use Rattle.accept.specs.declared.entry.Entry.{Entry}
+use Rattle.entries.specs.declared.entry.Entry.{Entry}
 use Rattle.accept.specs.declared.image.StreamImage.{StreamImage}
 use Rattle.accept.specs.declared.limits.Limits.{Limits}
 use Rattle.accept.specs.declared.outcome.Outcome.TheVariants.{Repeat, Stored}

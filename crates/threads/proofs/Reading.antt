@@ -4,7 +4,7 @@ use Rattle.std.specs.Prelude.{nat_le, true}
 use borrow.Author.Tests.{le-ltb}
 use Rattle.std.specs.List.{filter}
 use Rattle.labels.specs.declared.key.StreamKey.{StreamKey}
-use Rattle.accept.specs.declared.entry.Entry.{Entry}
+use Rattle.entries.specs.declared.entry.Entry.{Entry}
 use Rattle.accept.specs.declared.call.Call.{Call}
 use Rattle.accept.specs.declared.call.Call.TheVariants.{Read}
 use Rattle.accept.specs.declared.call.Reply.TheVariants.{Entries, Unavailable}
