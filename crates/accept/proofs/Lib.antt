@@ -14,7 +14,6 @@ pub mod ReadLaws
 pub mod Rows
 pub mod Images
 pub mod Running
-pub mod Sorting
 pub mod Storing
 pub mod Views
 pub mod ImageMaps

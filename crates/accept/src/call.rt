@@ -1,6 +1,6 @@
 ghost use Rattle.std.specs.Prelude.{◌≡◌, ◌↔◌, ◌<◌, ◌^◌, IsTrue};
 
-use crate::entry::EntryList;
+use entries::EntryList;
 use crate::outcome::OutcomeList;
 use labels::StreamKey;
 

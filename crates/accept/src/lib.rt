@@ -2,7 +2,6 @@
 #![tactic(auto)]
 
 mod call;
-mod entry;
 mod history;
 mod image;
 mod laws;
@@ -12,7 +11,7 @@ mod refusal;
 mod stream;
 
 pub use call::{Call, MAX_ENTRIES, Reply};
-pub use entry::{Entry, EntryList, Line};
+pub use entries::{Entry, EntryList, Line};
 pub use history::{Ask, History, Item, Step};
 pub use image::{Image, StreamImage};
 pub use laws::{

@@ -3,7 +3,7 @@ ghost use Rattle.std.specs.Prelude.{ℕ, OnOk};
 ghost use Rattle.segment.specs.Blocks.{IsOpenAt, EndsOpen};
 
 use crate::sizes::{MANY, are_small, is_small, is_small_image};
-use accept::{Image, StreamImage};
+use accept::{Entry, Image, StreamImage};
 use anyhow::{Result, bail};
 use labels::StreamKey;
 use log_words::{number_of, owner_of};
@@ -87,7 +87,8 @@ fn put_state_split(record: &Record, first: usize, slot: &mut Vec<u8>) -> Result<
         bail!("too large");
     }
     let (front, back) = entries.as_slice().split_at(first);
-    put_state_parts(key, *highest, last, front, back, slot)?;
+    let front: Vec<&Entry> = front.iter().collect(*slot.allocator())?;
+    put_state_parts(key, *highest, last, &front, back, slot)?;
     Ok(())
 }
 

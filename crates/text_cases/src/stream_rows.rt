@@ -101,7 +101,7 @@ impl Opened {
             None => said.push_str(" nothing")?,
         }
         said.push_str(", kept")?;
-        say_entries(self.alloc, stream.kept(), said)
+        say_kept(self.alloc, stream, said)
     }
 
     /// Takes the stream apart, and makes it of its parts again.
@@ -176,6 +176,17 @@ fn write_entry(alloc: Global, entry: &Entry, into: &mut String) -> Result<()> {
 }
 
 /// Ends a line with these entries.
+fn say_kept(alloc: Global, stream: &StreamState, said: &mut String) -> Result<()> {
+    let kept = stream.kept(alloc)?;
+    if kept.is_empty() {
+        said.push_str(" nothing")?;
+    }
+    for entry in kept {
+        write_entry(alloc, entry, said)?;
+    }
+    Ok(said.push('\n')?)
+}
+
 fn say_entries(alloc: Global, entries: &[Entry], said: &mut String) -> Result<()> {
     if entries.is_empty() {
         said.push_str(" nothing")?;

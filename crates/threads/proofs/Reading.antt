@@ -10,7 +10,8 @@ use Rattle.accept.specs.declared.call.Call.TheVariants.{Read}
 use Rattle.accept.specs.declared.call.Reply.TheVariants.{Entries, Unavailable}
 use Rattle.accept.specs.declared.history.Ask.{Ask}
 use Rattle.accept.specs.declared.history.Item.{Item}
-use Rattle.accept.specs.OneStream.{between, by_time, base_kept}
+use Rattle.entries.specs.ByTime.{between, by_time}
+use Rattle.accept.specs.OneStream.{base_kept}
 use Rattle.accept.specs.Histories.{is_marked, stream_of}
 use Rattle.history.specs.declared.views.About.{About}
 use Rattle.history.specs.Histories.{reply_of, history_of, shard_in}
