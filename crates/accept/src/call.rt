@@ -1,7 +1,7 @@
 ghost use Rattle.std.specs.Prelude.{◌≡◌, ◌↔◌, ◌<◌, ◌^◌, IsTrue};
 
-use entries::EntryList;
 use crate::outcome::OutcomeList;
+use entries::EntryList;
 use labels::StreamKey;
 
 /// The most entries of a push.
