@@ -23,7 +23,7 @@ const RUNS: u32 = 5;
 
 /// What a check makes.
 const FEW: Load = Load {
-    kept: 1_000,
+    kept: 10_000,
     pushes: 20,
 };
 
@@ -44,9 +44,9 @@ fn time<R: Clock + Print + AllocGlobal>(rt: &R) -> Result<()> {
             kept,
             pushes: PUSHES,
         };
-        let mut best = stream::run(rt, load)?.times;
+        let mut best = stream::make_run(rt, load)?.times;
         for _ in 1..RUNS {
-            best = best.or_less(stream::run(rt, load)?.times);
+            best = best.or_less(stream::make_run(rt, load)?.times);
         }
         report(rt, load, best)?;
     }
@@ -71,7 +71,7 @@ fn nanos_each(time: Duration, calls: u64) -> u128 {
 
 /// Makes a few of each, and says what came of them.
 fn check<R: Clock + Print + AllocGlobal>(rt: &R) -> Result<()> {
-    let counts = stream::run(rt, FEW)?.counts;
+    let counts = stream::make_run(rt, FEW)?.counts;
     let (in_order, late, read, removed) = (counts.in_order, counts.late, counts.read, counts.removed);
     rt.println(format_args!(
         "{in_order} lines stored in order, {late} a second late, {read} read, {removed} removed"

@@ -16,6 +16,12 @@ const LATE: u64 = 1_000_000_000;
 /// What the clock says, in nanoseconds: all lines are within the limits then.
 const NOW: u64 = START + 1_000_000_000_000;
 
+/// The profile's limits, but that lines are accepted for two seconds alone, so that the older half may be trimmed.
+const LIMITS: Limits = Limits {
+    half_age: 2 * LATE,
+    ..Limits::PROFILE
+};
+
 /// The most lines of a push.
 const MOST: u64 = 10_000;
 
@@ -60,6 +66,7 @@ pub struct Counts {
 }
 
 /// What a run took and did.
+#[derive(Clone, Copy)]
 pub struct Run {
     pub times: Times,
     pub counts: Counts,
@@ -100,7 +107,7 @@ fn store(alloc: Global, stream: &mut StreamState, call: &Call) -> Result<usize> 
     let Call::Push { now, entries, .. } = call else {
         bail!("no push");
     };
-    let outcomes = stream.judge(alloc, *now, entries.as_slice(), &Limits::PROFILE)?;
+    let outcomes = stream.judge(alloc, *now, entries.as_slice(), &LIMITS)?;
     let reserved = stream.reserve(alloc, entries.as_slice(), outcomes.as_slice())?;
     let stored = reserved.as_slice().len();
     stream.store(reserved);
@@ -121,7 +128,7 @@ fn filled(alloc: Global, kept: u64) -> Result<StreamState> {
     let mut left = kept;
     for _ in 0..=kept / MOST {
         let lines = left.min(MOST);
-        let first = START.saturating_add((kept - left).saturating_mul(STEP));
+        let first = START.saturating_add(kept.saturating_sub(left).saturating_mul(STEP));
         store(alloc, &mut stream, &push_of(alloc, first, STEP, lines)?)?;
         left -= lines;
     }
@@ -140,7 +147,7 @@ fn time_pushes<R: Clock + AllocGlobal>(
 }
 
 /// Makes the calls on a new stream.
-pub fn run<R: Clock + AllocGlobal>(rt: &R, load: Load) -> Result<Run> {
+pub fn make_run<R: Clock + AllocGlobal>(rt: &R, load: Load) -> Result<Run> {
     let alloc = rt.alloc();
     let end = START.saturating_add(load.kept.saturating_mul(STEP));
     let middle = START.saturating_add((load.kept / 2).saturating_mul(STEP));
@@ -154,7 +161,7 @@ pub fn run<R: Clock + AllocGlobal>(rt: &R, load: Load) -> Result<Run> {
     let found = stream.read(alloc, middle, middle.saturating_add(READ.saturating_mul(STEP)))?;
     let read = start.elapsed(rt)?;
     let start = Instant::now(rt)?;
-    let removed = stream.trim(middle, &Limits::PROFILE).unwrap_or(0);
+    let removed = stream.trim(middle, &LIMITS).unwrap_or(0);
     let trim = start.elapsed(rt)?;
     Ok(Run {
         times: Times {
