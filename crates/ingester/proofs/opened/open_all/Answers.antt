@@ -135,20 +135,3 @@ returns-clause-passes g c =
     let first : c.of.result.value ≡ fresh_book c.in-Ok.history about 0 = c.of.ensures ∙ first_fresh c.in-Ok.history about (length images) c.in-Ok.books.items c.index.result.now are some_image c.index.ensures in
     let dealt : c.in-Ok.dealt.items ≡ fresh_passes c.in-Ok.history about c.args.passes = c.in-Ok.ensures.passes ∙ ap (λ m. fresh_passes c.in-Ok.history (about_of m c.args.passes c.args.limits c.args.capacity) c.args.passes) c.deref.ensures.value in
     passes_first c.in-Ok.history about c.args.passes c.of-2.result.value.items c.of.result.value c.in-Ok.dealt.items first dealt
-
-pub new-requires-2 : goal.new-requires-2
-new-requires-2 g c =
-    let images = c.open_logs.new.images.items in
-    let about = about_of images c.args.passes c.args.limits c.args.capacity in
-    let are : c.in-Ok.books.items ≡ fresh_books c.in-Ok.history about (length images) = c.in-Ok.ensures.books ∙ ap (λ m. fresh_books c.in-Ok.history (about_of m c.args.passes c.args.limits c.args.capacity) (length m)) c.deref.ensures.value in
-    let images_len = c.in_default.ensures.lens.1 in
-    let some = c.requires.slots.0 in
-    let count = c.len-count.ensures in
-    let some_image : 0 < length images = omega (arith, c.open_logs.new.images.ok.0) in
-    let first : c.of.result.value ≡ fresh_book c.in-Ok.history about 0 = c.of.ensures ∙ first_fresh c.in-Ok.history about (length images) c.in-Ok.books.items c.index.result.now are some_image c.index.ensures in
-    record { passes = ap (λ (b : Booked). b.about.passes) first }
-
-pub returns-in_default-new-2-clause-unmade : goal.returns-in_default-new-2-clause-unmade
-returns-in_default-new-2-clause-unmade g c =
-    let opened = c.in_default.ensures.ok in
-    inr (returned_all g.D.Disk.sight g.D.Disk.follows c.len-count.result c.args.capacity c.args.slots.now.items _ _ c.open_logs.new.logs.items c.open_logs.new.images.items opened.0 opened.1 c.give_back-in_default-new-2.ensures.items)

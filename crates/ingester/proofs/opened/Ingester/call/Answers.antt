@@ -4,7 +4,7 @@ use Rattle.history.specs.declared.views.About.{About}
 use Rattle.history.specs.Histories.{shard_in}
 use Rattle.history.specs.Plays.{ask_of}
 use Rattle.history.proofs.Lines.{alone_before}
-use Rattle.ingester.specs.Calls.{HasSpentLog}
+use Rattle.lanes.specs.Openings.{HasSpentLog}
 use Rattle.ingester.proofs.Refusing.{first_only, log_spent}
 use Rattle.ingester.proofs.Routing.{routed}
 use Rattle.ingester.proofs.opened.Ingester.call.Goals as goal
