@@ -44,9 +44,9 @@ impl<D: Disk> Model for Ingester<D> {
     ghost use Rattle.lanes.specs.Openings.{opening_of};
     ghost use Rattle.ingester.specs.Openings.{IsOpening};
 
-    ghost view = { λ i. i.lanes };
+    ghost view = { λ i. opening_of i.origin.first.value i.origin.logs.value.items };
 
-    ghost invariant = { λ i. IsOpening i.history i.lanes i.count
+    ghost invariant = { λ i. IsOpening i.history i.origin.first.value i.count
         × (i.lanes ≡ opening_of i.origin.first.value i.origin.logs.value.items)
         × (count_of i.room ≡ 1) × (key_of i.room ≡ i.count) };
 }

@@ -53,7 +53,7 @@ lock_shards-requires g c =
       search rules,
       (
         grounded g.D.Disk.sight g.D.Disk.follows c.in-Ok.history c.args.passes c.args.limits c.len-count.result c.args.capacity c.args.slots.now.items c.open_logs.new.logs.items images c.in-Ok.books.items c.in_default.ensures.ok.0 counted c.requires.limits c.requires.capacity are,
-        ((omega arith, omega (arith, c.in-Ok.books.ok.0)), ((shards.items, shards.len, omega arith), (omega arith, (ap (λ v. v.items) c.of-2.ensures, like_first c.in-Ok.history about (length images) (vec_len c.open_logs.new.logs) c.in-Ok.books.items c.of.result.value are first as_logs)))),
+        ((omega arith, omega (arith, c.in-Ok.books.ok.0)), ((shards.items, shards.len, omega arith), (omega arith, (ap (λ (b : Booked). b.about.shards) first ∙ as_logs, (ap (λ (b : Booked). b.about.passes) first, (ap (λ v. v.items) c.of-2.ensures, like_first c.in-Ok.history about (length images) (vec_len c.open_logs.new.logs) c.in-Ok.books.items c.of.result.value are first as_logs)))))),
       ),
     )
 
@@ -76,14 +76,11 @@ invariant_of-ingester g c =
     let some_image : 0 < length images = omega (arith, c.open_logs.new.images.ok.0) in
     let counted : length images ≡ c.len-count.result = omega (arith, c.open_logs.new.images.ok.0) in
     let first : c.of.result.value ≡ fresh_book c.in-Ok.history about 0 = c.of.ensures ∙ first_fresh c.in-Ok.history about (length images) c.in-Ok.books.items c.index.result.now are some_image c.index.ensures in
-    let locks = c.in-Ok-lock_shards.ensures.locks in
     let room = c.in_ok-room.ensures in (
-      record { same_table = ap (λ (b : Booked). b.table) first; shards = ap (λ (b : Booked). b.about.shards) first ∙ counted; locked = locks.0 ∙ logs_len; some_shard = omega arith; few = omega arith },
-      locks.1,
+      record { same_table = ap (λ (b : Booked). b.table) first; shards = ap (λ (b : Booked). b.about.shards) first ∙ counted; some_shard = omega arith; few = omega arith },
+      c.in-Ok-lock_shards.ensures.lanes,
       room.0,
       room.1,
-      c.in-Ok-new.ensures.0,
-      c.in-Ok-new.ensures.1,
     )
 
 pub returns-clause-found : goal.returns-clause-found
