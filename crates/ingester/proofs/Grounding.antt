@@ -1,5 +1,5 @@
 -- Shards that are made of opened logs with their books, and put under locks.
-use Rattle.std.proofs.Common.{◌≡◌, ◌≢◌, ◌⊎◌, ℕ, zero, suc, ◌+◌, ◌<◌, ◌≤◌, ◌^◌, List, [], ◌∷◌, ◌++◌, length, length-append, get_or, map, refl, sym, ap, ◌∙◌, subst, ⊎_elim, append_assoc, arith}
+use Rattle.std.proofs.Common.{◌≡◌, ◌≢◌, ℕ, zero, suc, ◌+◌, ◌<◌, ◌≤◌, ◌^◌, List, [], ◌∷◌, ◌++◌, length, length-append, get_or, map, refl, sym, ap, ◌∙◌, subst, ⊎_elim, append_assoc, arith}
 use Rattle.std.specs.Prelude.{Option, Some, None, slice_get}
 use Rattle.std.proofs.lemmas.Option.{none-some, same_Some, slice_get_within, slice_get_read, get_or_from_slice_get}
 use Rattle.std.specs.FinMap as finite
@@ -10,16 +10,13 @@ use Rattle.accept.specs.Rooms.{Streams}
 use Rattle.accept.specs.OneStream.{AreLimits}
 use Rattle.accept.specs.declared.limits.Limits.{Limits}
 use Rattle.disk.specs.Sight.{Sight}
-use Rattle.segment.specs.declared.owner.Owner.{Owner}
 use Rattle.segment.specs.Segments.{owner_of}
 use Rattle.segment.specs.Fitting.{FitStreams}
 use Rattle.wal.specs.declared.log.Wal.{Wal}
 use Rattle.wal.specs.Opening.{disks}
 use Rattle.history.specs.declared.views.About.{About}
-use Rattle.history.specs.Histories.{base_at}
 use Rattle.history.specs.Handles.{Booked, Passed, about_of, fresh_book, fresh_books, fresh_pass, fresh_passes}
 use Rattle.shard.specs.Shards.{Sharded}
-use Rattle.keyed.specs.Grips.{AllFit}
 use Rattle.keyed.proofs.Filling.{get_before, get_last}
 use Rattle.lanes.specs.Openings.{Opening, opening_of}
 use Rattle.lanes.specs.Places.{AreShardsOf}

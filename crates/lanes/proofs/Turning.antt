@@ -1,12 +1,11 @@
 -- What a turn leaves: the shard of its lock, what came of its calls, and calls for the next turn.
-use Rattle.std.proofs.Common.{◌≡◌, ◌⊎◌, ℕ, suc, ◌+◌, ◌<◌, ◌≤◌, Bool, true, false, cond, ◌==◌, eqb, List, [], ◌∷◌, ◌++◌, length, length-append, inl, inr, refl, sym, ap, ◌∙◌, subst, eq-eqb, arith}
+use Rattle.std.proofs.Common.{◌≡◌, ◌⊎◌, ℕ, suc, ◌+◌, ◌<◌, ◌≤◌, Bool, true, false, cond, ◌==◌, List, [], ◌∷◌, ◌++◌, length, length-append, inl, inr, refl, sym, ap, ◌∙◌, subst, eq-eqb, arith}
 use Rattle.std.specs.Prelude.{Some, slice_get}
 use Rattle.atomic_table.specs.Seated.{TableId}
 use Rattle.accept.specs.declared.history.Ask.{Ask}
 use Rattle.accept.specs.declared.history.Item.{Item}
 use Rattle.accept.specs.declared.call.Reply.{Reply}
 use Rattle.disk.specs.Sight.{Sight}
-use Rattle.wal.specs.declared.log.Wal.{Wal}
 use Rattle.wal.specs.Logs.{slots}
 use Rattle.history.specs.declared.views.About.{About}
 use Rattle.history.specs.Histories.{shard_in, step_of, of_pass}
@@ -24,9 +23,9 @@ use Rattle.shard.specs.Jobs.{tickets_of, jobs_by, jobs_but, AreLawful, AreInPass
 use Rattle.shard.specs.Parts.{IsApplied}
 use Rattle.shard.specs.Queues.{settled_of}
 use Rattle.shard.specs.Shards.{Sharded}
-use Rattle.shard.specs.Turns.{AreReady, AreStepped, AreApplied, HasFront, IsAlone, IsGivenBack, IsTurn, refused_of}
-use Rattle.lanes.specs.Lanes.{IsOpen, AreOpen, IsWaiting, AreWaiting, AreOfCalls, IsFirstSpent, AreTurned, IsOfCall, IsSpentAsSaid, IsDueTo, pass_in, with_memory}
-use Rattle.lanes.specs.Openings.{Opening, HasSpentLog}
+use Rattle.shard.specs.Turns.{AreReady, AreStepped, IsAlone, IsGivenBack, IsTurn, refused_of}
+use Rattle.lanes.specs.Lanes.{AreOpen, AreWaiting, AreOfCalls, IsFirstSpent, AreTurned, IsOfCall, IsSpentAsSaid, IsDueTo, pass_in, with_memory}
+use Rattle.lanes.specs.Openings.{Opening}
 use Rattle.lanes.specs.Places.{IsOf}
 
 -- Before the first turn.

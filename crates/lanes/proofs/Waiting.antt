@@ -1,14 +1,11 @@
 -- Lanes, and the lists that they and the mails are made of.
-use Rattle.std.proofs.Common.{◌≡◌, ◌⊎◌, ℕ, ◌+◌, ◌<◌, ◌≤◌, List, [], ◌∷◌, ◌++◌, length, refl, sym, ap, ◌∙◌, subst, ⊎_elim, arith}
-use Rattle.std.specs.Prelude.{Option, Some, None, slice_get, IfSome}
+use Rattle.std.proofs.Common.{◌≡◌, ℕ, ◌+◌, ◌<◌, ◌≤◌, List, [], ◌∷◌, ◌++◌, refl, sym, ap, ◌∙◌, subst, arith}
+use Rattle.std.specs.Prelude.{Option, Some, IfSome}
 use Rattle.std.specs.VecDeque.{deque_len, deque_capacity}
 use Rattle.atomic_table.specs.Seated.{TableId}
 use Rattle.history.specs.declared.views.About.{About}
-use Rattle.keyed.specs.Grips.{AllFit}
 use Rattle.keyed.proofs.Filling.{fit_more}
 use Rattle.shard.specs.declared.front.Job.{Job}
-use Rattle.wal.specs.declared.log.Wal.{Wal}
-use Rattle.history.specs.Handles.{Booked}
 use Rattle.lanes.specs.declared.lane.Lane.{Lane}
 use Rattle.lanes.specs.declared.mail.Mail.{Mail}
 use Rattle.lanes.specs.declared.mail.Mail.TheVariants.{Nothing}

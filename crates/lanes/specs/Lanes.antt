@@ -6,7 +6,6 @@ use Rattle.atomic_table.specs.Seated.{TableId}
 use Rattle.history.specs.declared.views.About.{About}
 use Rattle.history.specs.Histories.{shard_in, step_of}
 use Rattle.history.specs.Handles.{Announced}
-use Rattle.keyed.specs.Grips.{key_of}
 use Rattle.shard.specs.declared.fault.ApplyFault.TheVariants.{Memory, GenerationSpent}
 use Rattle.shard.specs.declared.front.Job.{Job}
 use Rattle.shard.specs.declared.group.Settled.{Settled}

@@ -1,4 +1,4 @@
-use Rattle.std.proofs.Common.{rules, ◌≡◌, ◌+◌, ◌≤◌, ◌++◌, length, map, ap, sym, ◌∙◌, subst, arith, vec_len}
+use Rattle.std.proofs.Common.{rules, ◌≡◌, ◌++◌, length, map, ap, sym, ◌∙◌, subst, arith, vec_len}
 use Rattle.std.specs.VecDeque.{deque_len, deque_capacity}
 use Rattle.wal.specs.Opening.{disks}
 use Rattle.ingester.specs.Makings.{AreThere, logs_in}

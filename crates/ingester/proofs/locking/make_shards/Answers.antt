@@ -1,4 +1,4 @@
-use Rattle.std.proofs.Common.{rules, ◌≡◌, ◌+◌, ◌<◌, ◌≤◌, ◌++◌, [], ◌∷◌, length, map, refl, ap, sym, ◌∙◌, subst, arith, vec_len}
+use Rattle.std.proofs.Common.{rules, ◌≡◌, ◌≤◌, ◌++◌, ◌∷◌, length, map, refl, ap, sym, ◌∙◌, subst, arith, vec_len}
 use Rattle.std.specs.VecDeque.{deque_len, deque_capacity}
 use Rattle.std.proofs.lemmas.List.{nil_from_length}
 use Rattle.wal.specs.Opening.{disks}

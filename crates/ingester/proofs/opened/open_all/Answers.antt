@@ -1,5 +1,5 @@
-use Rattle.std.proofs.Common.{rules, ◌≡◌, ◌+◌, ◌<◌, ◌≤◌, ◌++◌, length, map, ap, sym, ◌∙◌, inr, arith, vec_len}
-use Rattle.std.specs.VecDeque.{deque_len, deque_capacity}
+use Rattle.std.proofs.Common.{rules, ◌≡◌, ◌<◌, length, ap, ◌∙◌, inr, arith, vec_len}
+use Rattle.std.specs.VecDeque.{deque_len}
 use Rattle.history.specs.Handles.{Booked, about_of, fresh_book, fresh_books, fresh_passes}
 use Rattle.ingester.proofs.Grounding.{length-fresh_books, first_fresh, like_first, grounded, returned_all, about_first, found_first, passes_first}
 use Rattle.ingester.proofs.opened.open_all.Goals as goal

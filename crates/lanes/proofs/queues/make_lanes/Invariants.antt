@@ -1,4 +1,4 @@
-use Rattle.std.proofs.Common.{◌≡◌, ◌≤◌, length, vec_len}
+use Rattle.std.proofs.Common.{◌≡◌, ◌≤◌, length}
 use Rattle.std.specs.Vec.{vec_capacity}
 use Rattle.lanes.specs.Lanes.{AreEmptyLanes}
 use Rattle.lanes.proofs.queues.make_lanes.Given as goal

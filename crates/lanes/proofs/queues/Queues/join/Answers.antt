@@ -1,4 +1,4 @@
-use Rattle.std.proofs.Common.{◌<◌, sym, ap, ◌∙◌, subst, arith, refl}
+use Rattle.std.proofs.Common.{◌<◌, sym, subst, refl}
 use Rattle.std.specs.VecDeque.{deque_len}
 use Rattle.lanes.specs.declared.lane.Lane.{Lane}
 use Rattle.keyed.specs.Grips.{key_of}
