@@ -1,15 +1,15 @@
 -- A book that is compared with passes, and what its slots keep.
-use Rattle.std.proofs.Common.{◌≡◌, ◌≢◌, ◌⊎◌, ℕ, ◌+◌, ◌<◌, List, [], ◌∷◌, Bool, true, false, refl, sym, ap, ◌∙◌, subst, ⊎_elim, arith}
+use Rattle.std.proofs.Common.{◌≡◌, ◌≢◌, ℕ, ◌+◌, ◌<◌, List, [], ◌∷◌, Bool, true, false, refl, sym, ap, ◌∙◌, subst, ⊎_elim, arith}
 use Rattle.std.specs.Prelude.{Some, slice_get, slice_set, slice_index_or, if◌then◌else◌, length}
 use Rattle.std.proofs.lemmas.List.{set-get_or}
-use Rattle.std.proofs.lemmas.Option.{slice_get-get_or, slice_get_within}
+use Rattle.std.proofs.lemmas.Option.{slice_get_within}
 use Rattle.std.proofs.lemmas.Bool.{cases_eq}
 use Rattle.accept.specs.Histories.{is_marked}
 use Rattle.disk.specs.Sight.{Sight}
 use Rattle.segment.specs.Segments.{owner_of}
 use Rattle.wal.specs.declared.log.Wal.{Wal}
 use Rattle.wal.specs.Recovery.{is_even}
-use Rattle.wal.specs.Moments.{Pair, pair, HasFailed, HasNoFailure}
+use Rattle.wal.specs.Moments.{pair, HasFailed, HasNoFailure}
 use Rattle.wal.specs.Logs.{Follow, slots}
 use Rattle.wal.specs.Covers.{Covers}
 use Rattle.wal.specs.Opening.{slots_of, disks, AllFollow, PairRests}
@@ -22,7 +22,7 @@ use Rattle.history.specs.Histories.{IsLegalAt, IsByPasses, doubt_of, history_of}
 use Rattle.history.specs.Handles.{Booked, Passed}
 use Rattle.shard.specs.Keeping.{Keeps}
 use Rattle.shard.specs.Shards.{Sharded}
-use Rattle.ingester.specs.Openings.{Opening}
+use Rattle.lanes.specs.Openings.{Opening}
 use Rattle.ingester.specs.Closings.{IsComparedTo, AreComparedTo, IsHandedOut}
 
 pub one_more : (book : Booked) (passes : List Passed) (n : ℕ) (p : Passed) → AreComparedTo book passes n → slice_get passes n ≡ Some p → IsComparedTo book p → AreComparedTo book passes (n + 1)

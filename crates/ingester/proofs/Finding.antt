@@ -6,7 +6,7 @@ use Rattle.segment.specs.Segments.{owner_of}
 use Rattle.wal.specs.declared.fault.OpenFault.{OpenFault as LogFault}
 use Rattle.wal.specs.declared.log.Wal.{Wal}
 use Rattle.wal.specs.Opening.{disks}
-use Rattle.ingester.specs.Findings.{IsOpenedFrom, AreOpenedFrom, IsReturned, AreReturned, AreGood, IsFirstRefused, IsNextOpened, IsNextRefused}
+use Rattle.ingester.specs.Findings.{IsOpenedFrom, AreOpenedFrom, AreGood, IsFirstRefused, IsNextOpened, IsNextRefused}
 use Rattle.ingester.proofs.Comparing.{ordered}
 
 module _ {D : Type 0} (sight : D → Sight) (follows : D → Type 0) where

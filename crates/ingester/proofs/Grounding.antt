@@ -1,5 +1,5 @@
 -- Shards that are made of opened logs with their books, and put under locks.
-use Rattle.std.proofs.Common.{◌≡◌, ◌≢◌, ◌⊎◌, ℕ, zero, suc, ◌+◌, ◌<◌, ◌≤◌, ◌^◌, List, [], ◌∷◌, ◌++◌, length, length-append, get_or, map, refl, sym, ap, ◌∙◌, subst, ⊎_elim, append_assoc, arith}
+use Rattle.std.proofs.Common.{◌≡◌, ◌≢◌, ℕ, zero, suc, ◌+◌, ◌<◌, ◌≤◌, ◌^◌, List, [], ◌∷◌, ◌++◌, length, length-append, get_or, map, refl, sym, ap, ◌∙◌, subst, ⊎_elim, append_assoc, arith}
 use Rattle.std.specs.Prelude.{Option, Some, None, slice_get}
 use Rattle.std.proofs.lemmas.Option.{none-some, same_Some, slice_get_within, slice_get_read, get_or_from_slice_get}
 use Rattle.std.specs.FinMap as finite
@@ -10,19 +10,17 @@ use Rattle.accept.specs.Rooms.{Streams}
 use Rattle.accept.specs.OneStream.{AreLimits}
 use Rattle.accept.specs.declared.limits.Limits.{Limits}
 use Rattle.disk.specs.Sight.{Sight}
-use Rattle.segment.specs.declared.owner.Owner.{Owner}
 use Rattle.segment.specs.Segments.{owner_of}
 use Rattle.segment.specs.Fitting.{FitStreams}
 use Rattle.wal.specs.declared.log.Wal.{Wal}
 use Rattle.wal.specs.Opening.{disks}
 use Rattle.history.specs.declared.views.About.{About}
-use Rattle.history.specs.Histories.{base_at}
 use Rattle.history.specs.Handles.{Booked, Passed, about_of, fresh_book, fresh_books, fresh_pass, fresh_passes}
 use Rattle.shard.specs.Shards.{Sharded}
-use Rattle.keyed.specs.Grips.{AllFit}
 use Rattle.keyed.proofs.Filling.{get_before, get_last}
-use Rattle.ingester.specs.Openings.{Opening, opening_of, AreFresh}
-use Rattle.ingester.specs.Places.{IsOf}
+use Rattle.lanes.specs.Openings.{Opening, opening_of}
+use Rattle.lanes.specs.Places.{AreShardsOf}
+use Rattle.ingester.specs.Openings.{AreFresh}
 use Rattle.ingester.specs.Calls.{IsPassOf}
 use Rattle.ingester.specs.Findings.{IsOpenedFrom, AreOpenedFrom, AreReturned}
 use Rattle.ingester.specs.Makings.{IsGround, AreGround, AreMade, AreThere, logs_in}
@@ -62,10 +60,6 @@ first_fresh table about n books book e some is =
 -- books of the table and opening of the first
 pub like_first : (table : TableId) (about : About) (n k : ℕ) (books : List Booked) (first : Booked) → books ≡ fresh_books table about n → first ≡ fresh_book table about 0 → n ≡ k → books ≡ fresh_books first.table first.about k
 like_first table about n k books first e is same = e ∙ (λ i. fresh_books (sym is i).table (sym is i).about (same i))
-
-pub none_left : {A : Type 0} (xs : List A) → length xs ≡ 0 → xs ≡ []
-none_left [] e = refl
-none_left (x ∷ xs) e = absurd (omega arith)
 
 pub are_fresh : {D : Type 0} (opening : Opening D) (n : ℕ) (passes : List Passed) → passes ≡ fresh_passes opening.table opening.about n → AreFresh opening n passes
 are_fresh opening n passes e = record {
@@ -216,7 +210,7 @@ module _ {D : Type 0} where
 
   -- each shard fits under its number
   pub made_fit : (first : Booked) (opened logs : List (Wal D)) (shards : List (Option (Sharded D))) (books : List Booked) (n : ℕ) → opened ≡ logs → books ≡ fresh_books first.table first.about n → AreMade shards logs books
-      → (k : ℕ) → k < length shards → (y : Sharded D) × (slice_get shards k ≡ Some (Some y)) × IsOf first opened k y
+      → AreShardsOf (opening_of first opened) shards
   made_fit first opened logs shards books n e is h k lt =
       let r = made_at shards logs books k h lt in
       let fresh = fresh_book_at first.table first.about n k r.book (ap (λ l. slice_get l k) (sym is) ∙ r.book_is) in (

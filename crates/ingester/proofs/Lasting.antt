@@ -1,23 +1,21 @@
 -- The shards that close takes out, one after another, and gives away from the last.
-use Rattle.std.proofs.Common.{◌≡◌, ◌≢◌, ◌⊎◌, ℕ, ◌+◌, ◌<◌, ◌≤◌, List, [], ◌∷◌, ◌++◌, Bool, true, false, length, length-append, take, drop, get_or, refl, sym, ap, ◌∙◌, subst, ⊎_elim, arith}
-use Rattle.std.specs.Prelude.{Some, None, slice_get, if◌then◌else◌}
+use Rattle.std.proofs.Common.{◌≡◌, ◌≢◌, ℕ, ◌<◌, ◌≤◌, List, [], ◌∷◌, ◌++◌, Bool, true, false, length, length-append, take, drop, get_or, sym, ap, ◌∙◌, subst, ⊎_elim, arith}
+use Rattle.std.specs.Prelude.{Some, None, slice_get}
 use Rattle.std.proofs.lemmas.Option.{slice_get_within, slice_get_cases}
 use Rattle.std.proofs.lemmas.Bool.{cases_eq}
 use Rattle.std.proofs.Math.Seq.{take-append_seam}
 use Rattle.accept.specs.Histories.{is_marked}
 use Rattle.disk.specs.Sight.{Sight}
-use Rattle.wal.specs.declared.log.Wal.{Wal}
-use Rattle.wal.specs.Recovery.{is_even}
 use Rattle.wal.specs.Moments.{HasFailed, HasNoFailure}
 use Rattle.wal.specs.Logs.{Follow, slots}
 use Rattle.wal.specs.Opening.{disks, AllFollow}
 use Rattle.history.specs.Histories.{doubt_of}
-use Rattle.history.specs.Handles.{Booked, Passed}
+use Rattle.history.specs.Handles.{Passed}
 use Rattle.shard.specs.Keeping.{Keeps}
 use Rattle.shard.specs.Shards.{Sharded}
 use Rattle.keyed.proofs.Filling.{get_before, get_last}
-use Rattle.ingester.specs.Openings.{Opening, opening_of}
-use Rattle.ingester.specs.Places.{IsOf}
+use Rattle.lanes.specs.Openings.{Opening}
+use Rattle.lanes.specs.Places.{IsOf}
 use Rattle.ingester.specs.Closings.{AreComparedTo, IsHandedOut, IsLast, AreLast}
 use Rattle.ingester.proofs.Comparing.{handed}
 
@@ -52,12 +50,12 @@ module _ {D : Type 0} (opening : Opening D) (passes : List Passed) where
   pub the_last : (shards front : List (Sharded D)) (s : Sharded D) → shards ≡ front ++ s ∷ [] → AreLast opening passes shards → IsLast opening passes (length front) s
   the_last shards front s e h = h.each (length front) s (ap (λ l. slice_get l (length front)) e ∙ get_last front s)
 
-  pub last_of : (first : Booked) (logs : List (Wal D)) (compared : List Passed) (k : ℕ) (shard again : Sharded D) → opening_of first logs ≡ opening → IsOf first logs k shard → again ≡ shard
+  pub last_of : (compared : List Passed) (k : ℕ) (shard again : Sharded D) → IsOf opening k shard → again ≡ shard
       → compared ≡ passes → AreComparedTo shard.book compared (length compared) → IsLast opening passes k again
-  last_of first logs compared k shard again e is same to h = subst (IsLast opening passes k) (sym same) (record {
-    about = is.about ∙ ap (λ (o : Opening D). o.about) e;
+  last_of compared k shard again is same to h = subst (IsLast opening passes k) (sym same) (record {
+    about = is.about;
     number = is.number;
-    opened = ap (λ (o : Opening D). slice_get o.logs k) (sym e) ∙ is.opened;
+    opened = is.opened;
     compared = subst (λ l. AreComparedTo shard.book l (length l)) to h;
   })
 

@@ -8,5 +8,3 @@ pub mod Refusing
 pub mod Returning
 pub mod Routing
 pub mod Sent
-pub mod Turning
-pub mod Waiting

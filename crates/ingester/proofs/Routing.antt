@@ -1,5 +1,5 @@
 -- Which shard a call goes to.
-use Rattle.std.proofs.Common.{◌≡◌, ℕ, ap, ◌∙◌, sym}
+use Rattle.std.proofs.Common.{◌≡◌, ℕ, ◌∙◌, sym}
 use Rattle.labels.specs.Shards.{shard}
 use Rattle.accept.specs.declared.call.Call.{Call}
 use Rattle.accept.specs.declared.history.Ask.{Ask}

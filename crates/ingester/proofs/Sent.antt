@@ -9,31 +9,16 @@ use Rattle.history.proofs.history.History.TheSendSync as history
 use Rattle.keyed.proofs.locks.Locks.TheSendSync as locks
 use Rattle.shard.proofs.Sent.{shard_send}
 use Rattle.shard.specs.contracts.shard.Shard as shard
-use Rattle.keyed.proofs.bells.Bells.TheSendSync as bells
-use Rattle.ingester.proofs.lanes.Lane.TheSendSync as lane
-use Rattle.ingester.proofs.lanes.Mail.TheSendSync as mail
-use Rattle.ingester.specs.contracts.lanes.Queues as queues
+use Rattle.lanes.proofs.Sent.{lanes_sync}
 use Rattle.ingester.specs.contracts.opened.Ingester.{the_row}
 use Rattle.ingester.specs.contracts.opened.Ingester.TheInside as inside
 
-queue_fields : (D : RattleType) (g : disk.Ghosts D.Denot) → IsSend D → AllSync (declared.fields (queues.the_type D g))
-queue_fields D g s = (
-  search (sendable, crosses, lane.the_send, locks.the_field_sync) depth 30,
-  (
-    search (sendable, crosses, mail.the_send, locks.the_field_sync) depth 30,
-    (search (sendable, bells.the_field_sync), (search sendable, tt)),
-  ),
-)
-
 fields_sync : (D : RattleType) (g : disk.Ghosts D.Denot) → IsSend D → AllSync (declared.fields (inside.the_type D g))
-fields_sync D g s = let one = shard_send D g s in let many = Vec-send (shard.the_row D g) one in (
+fields_sync D g s = let many = Vec-send (shard.the_row D g) (shard_send D g s) in (
   search (history.the_sync, sendable),
   (
-    search (sendable, crosses, one, locks.the_field_sync) depth 30,
-    (
-      search (sendable, many, locks.the_field_sync) depth 30,
-      (struct_sync (declared.shape (queues.the_type D g)) (queue_fields D g s), (search sendable, (search (sendable, crosses) depth 30, tt))),
-    ),
+    lanes_sync D g s,
+    (search (sendable, many, locks.the_field_sync) depth 30, (search sendable, (search (sendable, crosses) depth 30, tt))),
   ),
 )
 

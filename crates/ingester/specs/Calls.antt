@@ -1,19 +1,15 @@
 -- What a call, a look and a meeting leave of what passes know.
-use Rattle.std.specs.Prelude.{◌≡◌, ◌≢◌, ℕ, ◌+◌, ◌-◌, ◌^◌, ◌≤◌, [], ◌∷◌, ◌++◌, Some, slice_get}
-use Rattle.atomic_table.specs.Seated.{TableId}
+use Rattle.std.specs.Prelude.{◌≡◌, ◌≢◌, ℕ, ◌+◌, [], ◌∷◌, ◌++◌}
 use Rattle.accept.specs.declared.call.Call.{Call}
 use Rattle.accept.specs.declared.call.Reply.{Reply}
 use Rattle.accept.specs.declared.history.Step.{Step}
-use Rattle.history.specs.declared.views.About.{About}
 use Rattle.history.specs.declared.views.Caller.{Caller}
 use Rattle.history.specs.Histories.{IsLegalAt, IsByPasses, shard_in, step_of}
 use Rattle.history.specs.Plays.{seen_at, ask_of, announce_to, collect_to, Extends}
 use Rattle.history.specs.Handles.{Passed}
-use Rattle.shard.specs.Shards.{Sharded}
-use Rattle.shard.specs.Calls.{Writes, FitsBehind, IsLate}
 use Rattle.ingester.specs.declared.fault.CallFault.{CallFault}
 use Rattle.ingester.specs.declared.fault.CallFault.TheVariants.{PassClosed}
-use Rattle.ingester.specs.Openings.{Opening}
+use Rattle.lanes.specs.Openings.{Opening}
 
 -- the pass is of this opening, and waits for no answer
 pub record IsPassOf {D : Type 0} (opening : Opening D) (pass : Passed) : Type 0 where
@@ -55,14 +51,3 @@ without_next pass = record pass {
 abbrev pub IsRefused : Passed → Passed → CallFault → Type 0
 IsRefused old new PassClosed = new ≡ old
 IsRefused old new fault = new ≡ without_next old
-
--- The call needs another generation of its shard's log, which has used its last one. The log was opened so late that a history may have rolled it there.
-pub record HasSpentLog {D : Type 0} (opening : Opening D) (k : ℕ) (call : Call) : Type 0 where
-  pub shard : Sharded D
-  pub about : shard.book.about ≡ opening.about
-  pub number : shard.book.shard ≡ k
-  pub opened : slice_get opening.logs k ≡ Some shard.opened
-  pub last : 2 ^ 63 - 1 ≤ shard.log.generation
-  pub writes : Writes shard.book call
-  pub full : ¬ FitsBehind shard.log shard.book call
-  pub late : IsLate shard.opened shard.book

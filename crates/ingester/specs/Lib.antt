@@ -1,9 +1,6 @@
 pub mod Faults
 pub mod Openings
-pub mod Places
 pub mod Calls
-pub mod Lanes
-pub mod Queues
 pub mod Closings
 pub mod Findings
 pub mod Makings

@@ -1,24 +1,13 @@
 -- What an ingester is, and the passes of its opening.
 use Rattle.std.specs.Prelude.{◌≡◌, ℕ, ◌≤◌, List, Some, length, slice_get}
 use Rattle.atomic_table.specs.Seated.{TableId}
-use Rattle.wal.specs.declared.log.Wal.{Wal}
-use Rattle.history.specs.declared.views.About.{About}
 use Rattle.history.specs.Handles.{Booked, Passed, fresh_pass}
+use Rattle.lanes.specs.Openings.{Opening}
 
--- an ingester as contracts see it: the table of its histories, what was opened, and each shard's log as it was then
-pub record Opening (D : Type 0) : Type 0 where
-  pub table : TableId
-  pub about : About
-  pub logs : List (Wal D)
-
-abbrev pub opening_of : {D : Type 0} → Booked → List (Wal D) → Opening D
-opening_of first logs = record { table = first.table; about = first.about; logs = logs }
-
--- so many shards and locks, with histories in this table
-pub record IsOpening (table : TableId) (first : Booked) (count locks : ℕ) : Type 0 where
+-- so many shards, with histories in this table
+pub record IsOpening (table : TableId) (first : Booked) (count : ℕ) : Type 0 where
   pub same_table : first.table ≡ table
   pub shards : first.about.shards ≡ count
-  pub locked : locks ≡ count
   pub some_shard : 1 ≤ count
   pub few : count ≤ 64
 

@@ -7,7 +7,8 @@ ghost use Rattle.accept.specs.Histories.{key_of};
 ghost use Rattle.history.specs.Histories.{IsBeginning, IsLegalAt, IsByPasses, shard_in, step_of};
 ghost use Rattle.history.specs.Plays.{seen_at, look_to, HasStepsOf};
 ghost use Rattle.history.specs.Handles.{is_closed, with_seen, HaveMet};
-ghost use Rattle.ingester.specs.Calls.{IsPassOf, IsAnswered, IsRefused, HasSpentLog, shard_for};
+ghost use Rattle.lanes.specs.Openings.{HasSpentLog};
+ghost use Rattle.ingester.specs.Calls.{IsPassOf, IsAnswered, IsRefused, shard_for};
 ghost use Rattle.shard.specs.declared.fault.ApplyFault.TheVariants as causes;
 ghost use Rattle.ingester.specs.declared.fault.CallFault.TheVariants as faults;
 
@@ -56,7 +57,7 @@ impl<D: Disk + Drop> Ingester<D> {
         let shard = shard_number(&call, self.count);
         let own = pass.number();
         let ticket = self.history.announce(pass, &call)?;
-        match self.make(rt, alloc, shard, own, Job { ticket, call }) {
+        match self.lanes.make(rt, alloc, shard, own, Job { ticket, call }) {
             Settled::Answered(reply, receipt) => {
                 self.history.collect(pass, receipt);
                 Ok(reply)

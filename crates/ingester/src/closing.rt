@@ -5,9 +5,9 @@ ghost use Rattle.ingester.specs.Calls.{IsPassOf};
 ghost use Rattle.ingester.specs.Closings.{IsHandedOut, AreComparedTo};
 
 use crate::opened::Ingester;
-use crate::places::Origin;
 use disk::Disk;
 use history::Pass;
+use lanes::Origin;
 use shard::Shard;
 use std::marker::Model;
 use std::sync::Wait;
@@ -30,7 +30,7 @@ impl<D: Disk> Model for Closed<D> {
     ghost coded = { Prim.hlevel (codes, image.the_row.coded) };
 
     ghost use Rattle.std.specs.Prelude.{length};
-    ghost use Rattle.ingester.specs.Openings.{opening_of};
+    ghost use Rattle.lanes.specs.Openings.{opening_of};
     ghost use Rattle.ingester.specs.Closings.{AreLast};
 
     ghost view = { λ c. record {
@@ -86,16 +86,15 @@ impl<D: Disk + Drop> Ingester<D> {
     {
         let Ingester {
             history: _history,
-            shards: locks,
+            lanes,
             room,
-            queues: _queues,
             count,
             origin,
         } = self;
         let mut passes = passes;
         let mut shards = room.take_out(rt, 0);
         for number in 0..count as usize {
-            let mut shard = locks.take_out(rt, number);
+            let mut shard = lanes.take_out(rt, number);
             compare(&mut shard, passes.as_mut_slice());
             shards.push_reserved(shard);
         }

@@ -5,13 +5,10 @@
 mod calls;
 mod closing;
 mod fault;
-mod lanes;
-mod leading;
 mod locking;
 mod opened;
 mod opening;
 mod places;
-mod queues;
 mod refusal;
 
 pub use closing::Closed;

@@ -4,14 +4,16 @@ ghost use Rattle.std.specs.VecDeque.{deque_len, deque_capacity};
 ghost use Rattle.wal.specs.Opening.{disks};
 ghost use Rattle.history.specs.Handles.{fresh_books};
 ghost use Rattle.keyed.specs.Grips.{count_of, key_of};
+ghost use Rattle.lanes.specs.Openings.{opening_of};
 ghost use Rattle.ingester.specs.Makings.{AreGround, AreMade};
 
 use crate::opening::{give_back, make_one, put_front, return_shards};
-use crate::places::{ListLocks, Origin, ShardLocks};
+use crate::places::ListLocks;
 use accept::{Image, Limits};
 use disk::Disk;
 use history::Book;
 use keyed::Locks;
+use lanes::{Lanes, Origin};
 use shard::Shard;
 use std::alloc::{AllocError, Global};
 use std::collections::VecDeque;
@@ -68,7 +70,7 @@ fn make_shards<D: Disk + Drop>(
     Ok(shards.into_vec())
 }
 
-// Puts the shards of these logs, images and books under locks. Without memory all slots are put back.
+// Puts the shards of these logs, images and books behind lanes. Without memory all slots are put back.
 pub(crate) fn lock_shards<D: Disk + Drop>(
     alloc: Global,
     slots: &mut VecDeque<[D; 2]>,
@@ -77,21 +79,24 @@ pub(crate) fn lock_shards<D: Disk + Drop>(
     images: Vec<Image>,
     books: Vec<Book>,
     limits: Limits,
+    passes: usize,
     origin: &Origin<D>,
-) -> Result<ShardLocks<D>, AllocError>
+) -> Result<Lanes<D>, AllocError>
     requires ground { AreGround D.sight D.follows limits logs.items images.items books.items }
     requires lens { (vec_len images ≡ vec_len logs) × (vec_len books ≡ vec_len logs) }
     requires shards { (shards.items ≡ []) × (deque_len shards ≡ 0) × (vec_len logs ≤ deque_capacity shards) }
     requires slots { vec_len logs + deque_len slots.old ≤ deque_capacity slots.old }
+    requires count { origin.now.first.value.about.shards ≡ vec_len logs }
+    requires passes { origin.now.first.value.about.passes ≡ passes }
     requires logs { origin.now.logs.value.items ≡ logs.items }
     requires books { books.items
         ≡ fresh_books origin.now.first.value.table origin.now.first.value.about (vec_len logs) }
-    ensures locks { IfOk result (λ locks. (count_of locks ≡ vec_len logs) × (key_of locks ≡ origin.now)) }
+    ensures lanes { IfOk result (λ lanes. lanes ≡ opening_of origin.now.first.value origin.now.logs.value.items) }
     ensures unmade { OnErr result (slots.new.items ≡ map disks logs.items ++ slots.old.items) }
 {
     let made = make_shards(alloc, slots, shards, logs, images, books, limits)?;
-    match Locks::new(alloc, made, origin) {
-        Ok(locks) => Ok(locks),
+    match Lanes::new(alloc, made, passes, origin) {
+        Ok(lanes) => Ok(lanes),
         Err(made) => {
             return_shards(slots, made);
             Err(AllocError)

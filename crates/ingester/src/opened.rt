@@ -6,14 +6,14 @@ ghost use Rattle.history.specs.Handles.{about_of};
 ghost use Rattle.ingester.specs.Openings.{AreFresh};
 ghost use Rattle.ingester.specs.Findings.{AreOpenedFrom, IsUnmade};
 
-use crate::lanes::Queues;
 use crate::locking::{lock_shards, reserve_room};
 use crate::opening::{give_back, open_logs};
-use crate::places::{ListLocks, Origin, ShardLocks};
+use crate::places::ListLocks;
 use crate::refusal::OpenFault;
 use accept::Limits;
 use disk::Disk;
 use history::{History, Pass};
+use lanes::{Lanes, Origin};
 use std::alloc::Global;
 use std::collections::VecDeque;
 use std::marker::Model;
@@ -24,9 +24,8 @@ use std::snapshot::Snapshot;
 #[derive(Drop)]
 pub struct Ingester<D: Disk> {
     pub(crate) history: History,
-    pub(crate) shards: ShardLocks<D>,
+    pub(crate) lanes: Lanes<D>,
     pub(crate) room: ListLocks<D>,
-    pub(crate) queues: Queues<D>,
     pub(crate) count: u32,
     pub(crate) origin: Origin<D>,
 }
@@ -34,7 +33,7 @@ pub struct Ingester<D: Disk> {
 impl<D: Disk> Model for Ingester<D> {
     ghost use Rattle.std.specs.Coded.{codes};
     ghost use Rattle.accept.specs.contracts.image.Image as image;
-    ghost use Rattle.ingester.specs.Openings.{Opening};
+    ghost use Rattle.lanes.specs.Openings.{Opening};
 
     ghost Value = { Opening D };
 
@@ -42,13 +41,14 @@ impl<D: Disk> Model for Ingester<D> {
 
     ghost use Rattle.std.specs.Prelude.{◌≡◌};
     ghost use Rattle.keyed.specs.Grips.{count_of, key_of};
-    ghost use Rattle.ingester.specs.Openings.{opening_of, IsOpening};
+    ghost use Rattle.lanes.specs.Openings.{opening_of};
+    ghost use Rattle.ingester.specs.Openings.{IsOpening};
 
     ghost view = { λ i. opening_of i.origin.first.value i.origin.logs.value.items };
 
-    ghost invariant = { λ i. IsOpening i.history i.origin.first.value i.count (count_of i.shards)
-        × (key_of i.shards ≡ i.origin) × (count_of i.room ≡ 1) × (key_of i.room ≡ i.count)
-        × (count_of i.queues.lanes ≡ i.count) × (key_of i.queues.lanes ≡ i.origin) };
+    ghost invariant = { λ i. IsOpening i.history i.origin.first.value i.count
+        × (i.lanes ≡ opening_of i.origin.first.value i.origin.logs.value.items)
+        × (count_of i.room ≡ 1) × (key_of i.room ≡ i.count) };
 }
 
 impl<D: Disk + Drop> Ingester<D> {
@@ -122,18 +122,23 @@ fn open_all<D: Disk + Drop>(
         first: Snapshot::of(&books[0]),
         logs: Snapshot::of(&logs),
     };
-    let Ok(queues) = Queues::new(alloc, count as usize, passes as usize, &origin) else {
-        give_back(slots, &mut logs);
-        return Err(OpenFault::Memory);
-    };
-    let Ok(locks) = lock_shards(alloc, slots, shards, logs, images, books, limits, &origin) else {
+    let Ok(lanes) = lock_shards(
+        alloc,
+        slots,
+        shards,
+        logs,
+        images,
+        books,
+        limits,
+        passes as usize,
+        &origin,
+    ) else {
         return Err(OpenFault::Memory);
     };
     let ingester = Ingester {
         history,
-        shards: locks,
+        lanes,
         room,
-        queues,
         count,
         origin,
     };

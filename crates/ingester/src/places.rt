@@ -1,30 +1,7 @@
-//! What lies under the locks.
+//! What lies under a lock.
 
-use disk::Disk;
-use history::Book;
 use keyed::{Fits, Locks};
 use shard::Shard;
-use std::snapshot::Snapshot;
-use wal::Wal;
-
-/// What was opened: the book of the first shard, and the shards' logs. It has no bytes.
-#[derive(Drop)]
-pub(crate) struct Origin<D: Disk> {
-    pub(crate) first: Snapshot<Book>,
-    pub(crate) logs: Snapshot<Vec<Wal<D>>>,
-}
-
-/// Under a lock lies the shard of its number, of that opening.
-pub(crate) struct OfOpening;
-
-impl<D: Disk> Fits<Shard<D>, Origin<D>> for OfOpening {
-    ghost use Rattle.ingester.specs.Places.{IsOf};
-
-    ghost fits = { λ origin k shard. IsOf origin.first.value origin.logs.value.items k shard };
-}
-
-/// The shards of an opening.
-pub(crate) type ShardLocks<D> = Locks<Shard<D>, Origin<D>, OfOpening>;
 
 /// A list with room for so many.
 pub(crate) struct HasRoom;

@@ -1,12 +1,12 @@
-use Rattle.std.proofs.Common.{rules, ◌≡◌, ◌+◌, ◌≤◌, ◌++◌, length, map, ap, sym, ◌∙◌, subst, arith, vec_len}
+use Rattle.std.proofs.Common.{rules, ◌≡◌, ◌++◌, length, map, ap, sym, ◌∙◌, subst, arith, vec_len}
 use Rattle.std.specs.VecDeque.{deque_len, deque_capacity}
 use Rattle.wal.specs.Opening.{disks}
 use Rattle.ingester.specs.Makings.{AreThere, logs_in}
 use Rattle.ingester.proofs.Grounding.{made_fit, made_there}
 use Rattle.ingester.proofs.locking.lock_shards.Goals as goal
 
-pub new-requires : goal.new-requires
-new-requires g c = made_fit c.args.origin.now.first.value c.args.origin.now.logs.value.items c.args.logs.items c.in_ok-made.made.items c.args.books.items (vec_len c.args.logs) c.requires.logs c.requires.books c.in_ok-made.ensures.made
+pub new-requires-clause-shards : goal.new-requires-clause-shards
+new-requires-clause-shards g c = made_fit c.args.origin.now.first.value c.args.origin.now.logs.value.items c.args.logs.items c.in_ok-made.made.items c.args.books.items (vec_len c.args.logs) c.requires.logs c.requires.books c.in_ok-made.ensures.made
 
 pub return_shards-requires : goal.return_shards-requires
 return_shards-requires g c =

@@ -1,8 +1,9 @@
-use Rattle.std.proofs.Common.{rules, ◌≡◌, ◌+◌, ◌<◌, ◌≤◌, ◌++◌, [], ◌∷◌, length, map, refl, ap, sym, ◌∙◌, subst, arith, vec_len}
+use Rattle.std.proofs.Common.{rules, ◌≡◌, ◌≤◌, ◌++◌, ◌∷◌, length, map, refl, ap, sym, ◌∙◌, subst, arith, vec_len}
 use Rattle.std.specs.VecDeque.{deque_len, deque_capacity}
+use Rattle.std.proofs.lemmas.List.{nil_from_length}
 use Rattle.wal.specs.Opening.{disks}
 use Rattle.ingester.specs.Makings.{AreMade, AreThere, logs_in}
-use Rattle.ingester.proofs.Grounding.{partly_none, partly_more, partly_all, partly_back, made_there, ground_popped, none_left}
+use Rattle.ingester.proofs.Grounding.{partly_none, partly_more, partly_all, partly_back, made_there, ground_popped}
 use Rattle.ingester.proofs.locking.make_shards.Goals as goal
 
 pub loop-log-init : goal.loop-log-init
@@ -108,4 +109,4 @@ returns-clause-made g c =
     let no_logs : length c.loop-log.logs.items ≡ 0 = omega arith in
     let no_books : length c.loop-log.books.items ≡ 0 = omega arith in
     subst (λ s. AreMade s c.args.logs.items c.args.books.items) (sym c.into_vec-2.ensures.items)
-    (partly_all c.loop-log.shards.items c.loop-log.logs.items c.args.logs.items c.loop-log.books.items c.args.books.items inv.partly (none_left _ no_logs) (none_left _ no_books))
+    (partly_all c.loop-log.shards.items c.loop-log.logs.items c.args.logs.items c.loop-log.books.items c.args.books.items inv.partly (nil_from_length _ no_logs) (nil_from_length _ no_books))

@@ -1,6 +1,4 @@
-use Rattle.std.proofs.Common.{◌≡◌, ◌+◌, ◌++◌, [], ◌∷◌, map, ap, ◌∙◌, subst, arith}
-use Rattle.std.specs.Prelude.{vec_len}
-use Rattle.std.specs.VecDeque.{deque_len}
+use Rattle.std.proofs.Common.{◌++◌, [], ◌∷◌, map, ap, ◌∙◌, subst, arith}
 use Rattle.wal.specs.Opening.{disks}
 use Rattle.ingester.specs.Makings.{AreThere, logs_in}
 use Rattle.ingester.proofs.Making.{there_front, there_last, moved_shard}

@@ -1,6 +1,7 @@
 use Rattle.std.proofs.Common.{ℕ, List, refl, sym, subst}
 use Rattle.history.specs.Handles.{Passed}
-use Rattle.ingester.specs.Openings.{Opening, AreFresh}
+use Rattle.lanes.specs.Openings.{Opening}
+use Rattle.ingester.specs.Openings.{AreFresh}
 use Rattle.ingester.specs.Calls.{IsPassOf}
 use Rattle.ingester.proofs.Listing.{Each, each_front}
 use Rattle.call_cases.proofs.together.Together.open.Goals as goal

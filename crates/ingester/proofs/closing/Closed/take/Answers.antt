@@ -1,4 +1,4 @@
-use Rattle.std.proofs.Common.{◌≡◌, length, subst}
+use Rattle.std.proofs.Common.{length, subst}
 use Rattle.ingester.specs.Closings.{Handed, IsHandedOut}
 use Rattle.ingester.proofs.Lasting.{front_last, last_handed}
 use Rattle.ingester.proofs.closing.Closed.take.Goals as goal

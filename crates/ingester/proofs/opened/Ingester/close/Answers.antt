@@ -1,7 +1,8 @@
-use Rattle.std.proofs.Common.{◌≡◌, ◌+◌, ◌<◌, ◌≤◌, ℕ, List, [], ◌∷◌, ◌++◌, length, length-append, sym, ap, ◌∙◌, subst, arith}
-use Rattle.std.specs.Prelude.{Some, slice_get}
+use Rattle.std.proofs.Common.{◌+◌, ◌<◌, ◌≤◌, List, [], ◌∷◌, length, length-append, sym, ap, ◌∙◌, subst, arith}
+use Rattle.std.specs.Prelude.{slice_get}
 use Rattle.history.specs.Handles.{Passed}
-use Rattle.ingester.specs.Openings.{Opening, opening_of}
+use Rattle.lanes.specs.Openings.{Opening}
+use Rattle.lanes.specs.Places.{IsOf}
 use Rattle.ingester.specs.Closings.{IsLast, AreLast}
 use Rattle.ingester.proofs.Lasting.{last_of, last_more, written_back}
 use Rattle.ingester.proofs.opened.Ingester.close.Goals as goal
@@ -9,7 +10,7 @@ use Rattle.ingester.proofs.opened.Ingester.close.Goals as goal
 pub compare-requires : goal.compare-requires
 compare-requires g c =
     let inv = c.loop-number.invariant in
-    let table = c.take_out-shard.ensures.table ∙ (ap (λ o. o.first.value.table) c.self.invariant.1 ∙ ap (λ o. o.table) c.self.view_is) in
+    let table = c.take_out-shard.ensures.table ∙ ap (λ o. o.table) (c.self.invariant.1 ∙ c.self.view_is) in
     let all = c.as_mut_slice.ensures.value ∙ inv.passes in
     record { table = λ i pass e. (c.requires.passes i pass (ap (λ l. slice_get l i) (sym all) ∙ e)).table ∙ sym table }
 
@@ -18,8 +19,8 @@ loop-number-preserved g c =
     let inv = c.loop-number.invariant in
     let lent = c.as_mut_slice.ensures in
     let pushed = c.push_reserved.ensures in
-    let opening = ap (λ o. opening_of o.first.value o.logs.value.items) c.self.invariant.1 ∙ c.self.view_is in
-    let last = last_of c.args.self c.args.passes.items _ _ _ c.loop-number.number c.take_out-shard.result c.compare.new.shard opening c.take_out-shard.ensures c.compare.ensures.shard (lent.value ∙ inv.passes) c.compare.ensures.compared in
+    let taken = subst (λ (o : Opening g.row.D.Denot). IsOf o c.loop-number.number c.take_out-shard.result) (c.self.invariant.1 ∙ c.self.view_is) c.take_out-shard.ensures in
+    let last = last_of c.args.self c.args.passes.items _ c.loop-number.number c.take_out-shard.result c.compare.new.shard taken c.compare.ensures.shard (lent.value ∙ inv.passes) c.compare.ensures.compared in
     record {
       passes = written_back c.loop-number.passes.items c.compare.new.passes c.loop-number.passes.len (c.compare.ensures.passes ∙ lent.value) (sym lent.len ∙ ap length lent.value) ∙ inv.passes;
       room = subst (λ n. c.self.inside.count ≤ n) (sym pushed.capacity) inv.room;

@@ -1,0 +1,4 @@
+pub mod Openings
+pub mod Places
+pub mod Lanes
+pub mod Queues
