@@ -84,7 +84,8 @@ fmt:
 
 # (calls in memory that the process already has, since page faults would hide what a call costs)
 bench:
-	@RT='$(RT)' tests/build bench bench_calls bench_groups
+	@RT='$(RT)' tests/build bench bench_streams bench_calls bench_groups
 	@cd crates/bench && out/bench time
+	@GLIBC_TUNABLES=glibc.malloc.mmap_max=0:glibc.malloc.trim_threshold=17179869184 crates/bench_streams/out/bench_streams time
 	@GLIBC_TUNABLES=glibc.malloc.mmap_max=0:glibc.malloc.trim_threshold=17179869184 crates/bench_calls/out/bench_calls time
 	@GLIBC_TUNABLES=glibc.malloc.mmap_max=0:glibc.malloc.trim_threshold=17179869184 crates/bench_groups/out/bench_groups time "$(CURDIR)"
