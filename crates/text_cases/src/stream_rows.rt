@@ -1,6 +1,7 @@
 ghost use Rattle.std.specs.Prelude.{◌↔◌, IsTrue};
 ghost use Rattle.accept.specs.OneStream.{AreTimes};
 
+use crate::shuffled_rows::{self, Order};
 use crate::texts::{text_of_word, write_word};
 use accept::{Entry, Limits, Line, Outcome, StreamState, TrimRefusal};
 use anyhow::{Result, bail};
@@ -9,7 +10,7 @@ use std::alloc::Global;
 use std::fmt::Write;
 
 /// The greatest time, and the greatest that a clock may tell.
-const MOST: u64 = 0x7fff_ffff_ffff_ffff;
+pub const MOST: u64 = 0x7fff_ffff_ffff_ffff;
 
 /// A stream, and the limits that its calls are under.
 #[derive(Drop)]
@@ -43,7 +44,10 @@ impl Opened {
             "trim" => self.trim(rest, said),
             "state" => self.say_state(said),
             "reopen" => self.reopen(said),
-            _ => bail!("no such word: {word}"),
+            _ => match Order::of(word) {
+                Some(order) => shuffled_rows::take_words(self.alloc, order, rest, said),
+                None => bail!("no such word: {word}"),
+            },
         }
     }
 
@@ -145,7 +149,8 @@ fn entries_of(alloc: Global, words: &str) -> Result<Vec<Entry>> {
     Ok(entries)
 }
 
-fn are_times(entries: &[Entry]) -> bool
+/// Whether each time may be one.
+pub fn are_times(entries: &[Entry]) -> bool
     ensures { IsTrue result ↔ AreTimes entries.now }
 {
     entries.iter().all(|entry| entry.time <= MOST)
@@ -169,7 +174,7 @@ fn say_outcomes(outcomes: &[Outcome], said: &mut String) -> Result<()> {
 }
 
 /// Writes an entry behind a blank.
-fn write_entry(alloc: Global, entry: &Entry, into: &mut String) -> Result<()> {
+pub fn write_entry(alloc: Global, entry: &Entry, into: &mut String) -> Result<()> {
     let time = entry.time;
     write!(into, " {time}:")?;
     write_word(alloc, entry.line.as_str(), into)
