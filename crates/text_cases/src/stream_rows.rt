@@ -41,6 +41,7 @@ impl Opened {
             "push" => self.judge(rest, true, said),
             "judge" => self.judge(rest, false, said),
             "read" => self.read(rest, said),
+            "buckets" => self.say_buckets(rest, said),
             "trim" => self.trim(rest, said),
             "state" => self.say_state(said),
             "reopen" => self.reopen(said),
@@ -84,6 +85,13 @@ impl Opened {
         let found = self.stream.read(self.alloc, from.parse()?, to.parse()?)?;
         said.push_str("found")?;
         say_entries(self.alloc, found.as_slice(), said)
+    }
+
+    /// Says how many buckets a read would look into.
+    fn say_buckets(&self, words: &str, said: &mut String) -> Result<()> {
+        let (from, to) = word_of(words);
+        let met = self.stream.buckets_met(from.parse()?, to.parse()?);
+        Ok(writeln!(said, "met {met}")?)
     }
 
     fn trim(&mut self, bound: &str, said: &mut String) -> Result<()> {
