@@ -72,7 +72,12 @@ fn nanos_each(time: Duration, calls: u64) -> u128 {
 /// Makes a few of each, and says what came of them.
 fn check<R: Clock + Print + AllocGlobal>(rt: &R) -> Result<()> {
     let counts = stream::make_run(rt, FEW)?.counts;
-    let (in_order, late, read, removed) = (counts.in_order, counts.late, counts.read, counts.removed);
+    let (in_order, late, read, removed) = (
+        counts.in_order,
+        counts.late,
+        counts.read,
+        counts.removed,
+    );
     rt.println(format_args!(
         "{in_order} lines stored in order, {late} a second late, {read} read, {removed} removed"
     ))?;

@@ -158,7 +158,11 @@ pub fn make_run<R: Clock + AllocGlobal>(rt: &R, load: Load) -> Result<Run> {
     let mut stream = filled(alloc, load.kept)?;
     let (late, stored_late) = time_pushes(rt, &mut stream, &late_calls)?;
     let start = Instant::now(rt)?;
-    let found = stream.read(alloc, middle, middle.saturating_add(READ.saturating_mul(STEP)))?;
+    let found = stream.read(
+        alloc,
+        middle,
+        middle.saturating_add(READ.saturating_mul(STEP)),
+    )?;
     let read = start.elapsed(rt)?;
     let start = Instant::now(rt)?;
     let removed = stream.trim(middle, &LIMITS).unwrap_or(0);
