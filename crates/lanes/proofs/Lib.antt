@@ -1,3 +1,4 @@
+pub mod Posted
 pub mod Sent
 pub mod Turning
 pub mod Waiting

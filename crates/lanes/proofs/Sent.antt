@@ -19,7 +19,7 @@ queue_fields D g s = (
   search (sendable, crosses, lane.the_send, locks.the_field_sync) depth 30,
   (
     search (sendable, crosses, mail.the_send, locks.the_field_sync) depth 30,
-    (search (sendable, bells.the_field_sync), (search sendable, tt)),
+    (search (sendable, bells.the_field_sync), (search (sendable, bells.the_field_sync), (search sendable, (search sendable, tt)))),
   ),
 )
 

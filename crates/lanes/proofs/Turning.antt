@@ -3,12 +3,11 @@ use Rattle.std.proofs.Common.{◌≡◌, ◌⊎◌, ℕ, suc, ◌+◌, ◌<◌, 
 use Rattle.std.specs.Prelude.{Some, slice_get}
 use Rattle.atomic_table.specs.Seated.{TableId}
 use Rattle.accept.specs.declared.history.Ask.{Ask}
-use Rattle.accept.specs.declared.history.Item.{Item}
 use Rattle.accept.specs.declared.call.Reply.{Reply}
 use Rattle.disk.specs.Sight.{Sight}
 use Rattle.wal.specs.Logs.{slots}
 use Rattle.history.specs.declared.views.About.{About}
-use Rattle.history.specs.Histories.{shard_in, step_of, of_pass}
+use Rattle.history.specs.Histories.{shard_in, step_of}
 use Rattle.history.specs.Handles.{Announced, Booked, Received, AreOf, asks_of}
 use Rattle.shard.specs.declared.fault.ApplyFault.{ApplyFault}
 use Rattle.shard.specs.declared.fault.ApplyFault.TheVariants.{Memory, GenerationSpent}
@@ -17,13 +16,14 @@ use Rattle.shard.specs.declared.front.Job.{Job}
 use Rattle.shard.specs.declared.group.Settled.{Settled}
 use Rattle.shard.specs.declared.group.Settled.TheVariants.{Answered, Refused}
 use Rattle.shard.specs.Calls.{Writes, FitsBehind}
-use Rattle.shard.specs.Groups.{HaveStepsOr, with_step, marked_by}
+use Rattle.shard.specs.Groups.{with_step, marked_by}
 use Rattle.shard.specs.Keeping.{moments}
 use Rattle.shard.specs.Jobs.{tickets_of, jobs_by, jobs_but, AreLawful, AreInPassTurn}
 use Rattle.shard.specs.Parts.{IsApplied}
 use Rattle.shard.specs.Queues.{settled_of}
 use Rattle.shard.specs.Shards.{Sharded}
 use Rattle.shard.specs.Turns.{AreReady, AreStepped, IsAlone, IsGivenBack, IsTurn, refused_of}
+use Rattle.shard.proofs.Turning.{pass_turn_more}
 use Rattle.lanes.specs.Lanes.{AreOpen, AreWaiting, AreOfCalls, IsFirstSpent, AreTurned, IsOfCall, IsSpentAsSaid, IsDueTo, pass_in, with_memory}
 use Rattle.lanes.specs.Openings.{Opening}
 use Rattle.lanes.specs.Places.{IsOf}
@@ -44,13 +44,9 @@ module _ (table : TableId) (about : About) where
     are_lawful [] h = tt
     are_lawful (j ∷ jobs) h = (ap (λ (a : About). shard_in a j.ticket.ask) same_about ∙ h.0.shard, h.0.call, h.0.numbers, are_lawful jobs h.1)
 
-    in_turn : (items : List Item) (front : List Ask) (jobs : List Job) → AreWaiting table about book.shard jobs → AreInPassTurn items front (tickets_of jobs)
-    in_turn items front [] h = tt
-    in_turn items front (j ∷ jobs) h = (subst (λ (l : List Ask). HaveStepsOr l items (of_pass j.ticket.ask.pass front)) (sym h.0.alone) tt, in_turn items (front ++ j.ticket.ask ∷ []) jobs h.1)
-
     -- calls that wait at the shard may be made
-    pub waiting_ready : (jobs : List Job) → AreWaiting table about book.shard jobs → AreReady book jobs
-    waiting_ready jobs h = record { of_book = are_of jobs h; lawful = are_lawful jobs h; turn = in_turn book.items [] jobs h }
+    pub waiting_ready : (jobs : List Job) → AreWaiting table about book.shard jobs → AreInPassTurn [] [] (tickets_of jobs) → AreReady book jobs
+    waiting_ready jobs h turn = record { of_book = are_of jobs h; lawful = are_lawful jobs h; turn = pass_turn_more [] book.items [] (tickets_of jobs) turn }
 
   -- Tickets among others.
 

@@ -1,36 +1,101 @@
 -- Lanes, and the lists that they and the mails are made of.
-use Rattle.std.proofs.Common.{◌≡◌, ℕ, ◌+◌, ◌<◌, ◌≤◌, List, [], ◌∷◌, ◌++◌, refl, sym, ap, ◌∙◌, subst, arith}
-use Rattle.std.specs.Prelude.{Option, Some, IfSome}
-use Rattle.std.specs.VecDeque.{deque_len, deque_capacity}
+use Rattle.std.proofs.Common.{◌≡◌, ◌⊎◌, ℕ, Bool, true, false, cond, eqb, eq-eqb, List, [], ◌∷◌, ◌++◌, append_assoc, inl, inr, refl, sym, ap, ◌∙◌, subst}
+use Rattle.std.specs.Prelude.{Option, Some, IfSome, ◌<◌, length, slice_get}
 use Rattle.atomic_table.specs.Seated.{TableId}
+use Rattle.accept.specs.declared.history.Ask.{Ask}
+use Rattle.accept.specs.declared.history.Item.{Item}
 use Rattle.history.specs.declared.views.About.{About}
+use Rattle.history.specs.Histories.{of_pass, IsAmong}
+use Rattle.history.specs.Handles.{Announced, AreInLine}
 use Rattle.keyed.proofs.Filling.{fit_more}
 use Rattle.shard.specs.declared.front.Job.{Job}
+use Rattle.shard.specs.Groups.{HaveStepsOr}
+use Rattle.shard.specs.Jobs.{tickets_of, AreInPassTurn}
 use Rattle.lanes.specs.declared.lane.Lane.{Lane}
 use Rattle.lanes.specs.declared.mail.Mail.{Mail}
-use Rattle.lanes.specs.declared.mail.Mail.TheVariants.{Nothing}
-use Rattle.lanes.specs.Lanes.{IsEmptyLane, AreEmptyLanes, IsNoMail, IsWaiting, AreWaiting, IsLane, IsIdle}
+use Rattle.lanes.specs.Lanes.{IsEmptyLane, AreEmptyLanes, IsEmptyMail, AreEmptyMails, AreOfPass, IsWaiting, AreWaiting, IsBatch, IsLane, IsIdle}
+
+-- Calls of a pass behind others.
+
+tickets_append : (some more : List Job) → tickets_of (some ++ more) ≡ tickets_of some ++ tickets_of more
+tickets_append [] more = refl
+tickets_append (j ∷ some) more = ap (λ (ts : List Announced). j.ticket ∷ ts) (tickets_append some more)
+
+cond_more : (a b : Ask) (asks : List Ask) (mine : Bool) (some all : List Ask) → (IsAmong a some → IsAmong a all) → IsAmong a (cond mine (b ∷ some) some) → IsAmong a (cond mine (b ∷ all) all)
+cond_more a b asks true some all f (inl e) = inl e
+cond_more a b asks true some all f (inr m) = inr (f m)
+cond_more a b asks false some all f m = f m
+
+-- whose pass's calls are among some are among more
+among_more : (p : ℕ) (a : Ask) (front more : List Ask) → IsAmong a (of_pass p front) → IsAmong a (of_pass p (front ++ more))
+among_more p a [] more m = absurd m
+among_more p a (b ∷ front) more m = cond_more a b front (eqb p b.pass) (of_pass p front) (of_pass p (front ++ more)) (among_more p a front more) m
+
+cond_last : (a b : Ask) (mine : Bool) (all : List Ask) → IsAmong a all → IsAmong a (cond mine (b ∷ all) all)
+cond_last a b true all m = inr m
+cond_last a b false all m = m
+
+-- the last one is among those of its pass
+among_last : (p : ℕ) (a : Ask) (front : List Ask) → a.pass ≡ p → IsAmong a (of_pass p (front ++ a ∷ []))
+among_last p a [] e = subst (λ (mine : Bool). IsAmong a (cond mine (a ∷ []) [])) (sym (eq-eqb p a.pass (sym e))) (inl refl)
+among_last p a (b ∷ front) e = cond_last a b (eqb p b.pass) (of_pass p (front ++ a ∷ [])) (among_last p a front e)
+
+or_more : (p : ℕ) (asks : List Ask) (items : List Item) (front more : List Ask) → HaveStepsOr asks items (of_pass p front) → HaveStepsOr asks items (of_pass p (front ++ more))
+or_more p [] items front more h = tt
+or_more p (a ∷ asks) items front more h = (
+  elim h.0 [
+    | inl s ↦ inl s
+    | inr m ↦ inr (among_more p a front more m)
+  ],
+  or_more p asks items front more h.1,
+)
+
+or_last : (asks : List Ask) (a : Ask) (items : List Item) (front : List Ask) → HaveStepsOr asks items front → IsAmong a front → HaveStepsOr (asks ++ a ∷ []) items front
+or_last [] a items front h m = (inr m, tt)
+or_last (b ∷ asks) a items front h m = (h.0, or_last asks a items front h.1 m)
+
+-- calls of a pass in line, behind those of its calls in front
+line_turn : (p : ℕ) (items : List Item) (front done : List Ask) (ts : List Announced) → AreOfPass p ts → AreInLine done ts → HaveStepsOr done items (of_pass p front) → AreInPassTurn items front ts
+line_turn p items front done [] of line h = tt
+line_turn p items front done (t ∷ ts) of line h = (
+  subst (λ (before : List Ask). HaveStepsOr before items (of_pass t.ask.pass front)) (sym line.0) (subst (λ (q : ℕ). HaveStepsOr done items (of_pass q front)) (sym of.0) h),
+  line_turn p items (front ++ t.ask ∷ []) (done ++ t.ask ∷ []) ts of.1 line.1
+  (or_last done t.ask items (of_pass p (front ++ t.ask ∷ [])) (or_more p done items front (t.ask ∷ []) h) (among_last p t.ask front of.0)),
+)
+
+turn_batch : (p : ℕ) (items : List Item) (front : List Ask) (ts batch : List Announced) → AreInPassTurn items front ts → AreOfPass p batch → AreInLine [] batch → AreInPassTurn items front (ts ++ batch)
+turn_batch p items front [] batch h of line = line_turn p items front [] batch of line tt
+turn_batch p items front (t ∷ ts) batch h of line = (h.0, turn_batch p items (front ++ t.ask ∷ []) ts batch h.1 of line)
 
 module _ (table : TableId) (about : About) (k : ℕ) where
-  waiting_more : (jobs : List Job) (job : Job) → AreWaiting table about k jobs → IsWaiting table about k job → AreWaiting table about k (jobs ++ job ∷ [])
-  waiting_more [] job h is = (is, tt)
-  waiting_more (j ∷ jobs) job h is = (h.0, waiting_more jobs job h.1 is)
+  waiting_more : (jobs more : List Job) → AreWaiting table about k jobs → AreWaiting table about k more → AreWaiting table about k (jobs ++ more)
+  waiting_more [] more h is = is
+  waiting_more (j ∷ jobs) more h is = (h.0, waiting_more jobs more h.1 is)
 
-  -- one call more waits
-  pub lane_more : (lane now : Lane) (job : Job) → IsLane table about k lane → IsWaiting table about k job → deque_len lane.jobs < 64
-      → now.jobs.items ≡ lane.jobs.items ++ job ∷ [] → deque_len now.jobs ≡ deque_len lane.jobs + 1 → deque_capacity now.jobs ≡ deque_capacity lane.jobs → now.work ≡ lane.work → IsLane table about k now
-  lane_more lane now job h is few items len capacity work = record {
-    waiting = subst (AreWaiting table about k) (sym items) (waiting_more lane.jobs.items job h.waiting is);
-    few = omega arith;
-    room = subst (λ (n : ℕ). 64 ≤ n) (sym capacity) h.room;
+  -- calls of a pass wait behind the others
+  pub lane_more : (p : ℕ) (lane now : Lane) (batch : List Job) → IsLane table about k lane → IsBatch table about k p batch → now.jobs.items ≡ lane.jobs.items ++ batch → now.work ≡ lane.work → IsLane table about k now
+  lane_more p lane now batch h is items work = record {
+    waiting = subst (AreWaiting table about k) (sym items) (waiting_more lane.jobs.items batch h.waiting is.waiting);
+    turn = subst (AreInPassTurn [] []) (sym (ap tickets_of items ∙ tickets_append lane.jobs.items batch)) (turn_batch p [] [] (tickets_of lane.jobs.items) (tickets_of batch) h.turn is.pass is.line);
+    work = subst (λ w. IfSome w IsIdle) (sym work) h.work;
+  }
+
+  -- a call that names no other
+  pub one_batch : (job : Job) → IsWaiting table about k job → job.ticket.before ≡ [] → IsBatch table about k job.ticket.ask.pass (job ∷ [])
+  one_batch job is alone = record { waiting = (is, tt); pass = (refl, tt); line = (alone, tt) }
+
+  -- the same calls
+  pub lane_same : (lane now : Lane) → IsLane table about k lane → now.jobs.items ≡ lane.jobs.items → now.work ≡ lane.work → IsLane table about k now
+  lane_same lane now h items work = record {
+    waiting = subst (AreWaiting table about k) (sym items) h.waiting;
+    turn = subst (λ (jobs : List Job). AreInPassTurn [] [] (tickets_of jobs)) (sym items) h.turn;
     work = subst (λ w. IfSome w IsIdle) (sym work) h.work;
   }
 
   pub lane_empty : (lane : Lane) → IsEmptyLane lane → IsLane table about k lane
   lane_empty lane h = record {
     waiting = subst (AreWaiting table about k) (sym h.jobs) tt;
-    few = let none = h.none in omega arith;
-    room = h.room;
+    turn = subst (λ (jobs : List Job). AreInPassTurn [] [] (tickets_of jobs)) (sym h.jobs) tt;
     work = h.work;
   }
 
@@ -38,6 +103,6 @@ module _ (table : TableId) (about : About) (k : ℕ) where
 pub lanes_more : (lanes : List (Option Lane)) (lane : Lane) → AreEmptyLanes lanes → IsEmptyLane lane → AreEmptyLanes (lanes ++ Some lane ∷ [])
 lanes_more lanes lane = fit_more {T = Lane} {K = Unit {0}} (λ _ _ l. IsEmptyLane l) tt lanes lane
 
--- one place for mail more
-pub mails_more : (mails : List (Option Mail)) → IsNoMail mails → IsNoMail (mails ++ Some Nothing ∷ [])
-mails_more mails h p lt = let all = fit_more {T = Mail} {K = Unit {0}} (λ _ _ m. m ≡ Nothing) tt mails Nothing (λ q below. (Nothing, h q below, refl)) refl p lt in all.1 ∙ ap (λ m. Some (Some m)) all.2
+-- mail for one pass more
+pub mails_more : (mails : List (Option Mail)) (mail : Mail) → AreEmptyMails mails → IsEmptyMail mail → AreEmptyMails (mails ++ Some mail ∷ [])
+mails_more mails mail = fit_more {T = Mail} {K = Unit {0}} (λ _ _ m. IsEmptyMail m) tt mails mail

@@ -12,8 +12,8 @@ use std::alloc::{AllocError, Global};
 use std::collections::VecDeque;
 use std::mem;
 
-/// How many calls wait at a shard at most: one of each pass.
-pub(crate) const MOST: usize = 64;
+/// For how many calls there is room from the start: one of each pass.
+const ROOM: usize = 64;
 
 /// The jobs of a thread that leads, and what became of them. Each shard has one, and whoever has it leads there. It is
 /// kept from turn to turn for its memory.
@@ -24,13 +24,13 @@ pub(crate) struct Work {
 }
 
 impl Work {
-    // Work without a job, and with room for as many as may wait.
+    // Work without a job.
     fn new(alloc: Global) -> Result<Work, AllocError>
         ensures { IfOk result IsIdle }
     {
         Ok(Work {
-            jobs: VecDeque::with_capacity(alloc, MOST)?,
-            settled: Vec::with_capacity(alloc, MOST)?,
+            jobs: VecDeque::with_capacity(alloc, ROOM)?,
+            settled: Vec::with_capacity(alloc, ROOM)?,
         })
     }
 }
@@ -52,18 +52,26 @@ impl Lane {
         ensures { IfOk result IsEmptyLane }
     {
         Ok(Lane {
-            jobs: VecDeque::with_capacity(alloc, MOST)?,
+            jobs: VecDeque::with_capacity(alloc, ROOM)?,
             work: Some(Work::new(alloc)?),
         })
     }
 
-    /// The work with all calls that wait, where no thread leads.
+    /// Whether no call waits, and no thread leads.
+    pub(crate) fn is_idle(&self) -> bool {
+        self.jobs.is_empty() && self.work.is_some()
+    }
+
+    /// The work with all calls that wait, where some do and no thread leads.
     pub(crate) fn take_work(&mut self) -> Option<Work>
         ensures lane { (table : TableId) (about : About) (k : ℕ) → IsLane table about k self.old
             → IsLane table about k self.new }
         ensures work { (table : TableId) (about : About) (k : ℕ) → IsLane table about k self.old
             → IfSome result (IsWork table about k) }
     {
+        if self.jobs.is_empty() {
+            return None;
+        }
         let Some(mut work) = self.work.take() else {
             return None;
         };

@@ -2,11 +2,13 @@
 //! calls of the lane.
 #![tactic(auto)]
 
+mod joining;
 mod lane;
 mod lanes;
 mod leading;
 mod mail;
-mod passes;
+mod making;
+mod numbers;
 mod places;
 mod posting;
 mod queues;

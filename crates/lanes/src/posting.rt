@@ -1,101 +1,95 @@
-//! How calls are put into lanes and mail into its places, and how both are taken out.
-ghost use Rattle.std.specs.Prelude.{◌≡◌, ◌<◌, IfOk, IfErr, IfSome};
+//! How mail is put into its places and taken out, and whose bells are rung and waited for.
+ghost use Rattle.std.specs.Prelude.{◌≡◌, ◌<◌, ◌≤◌, []};
 ghost use Rattle.keyed.specs.Grips.{count_of};
-ghost use Rattle.lanes.specs.Lanes.{IsIdle, IsWaiting, IsWork, IsMailFor};
+ghost use Rattle.shard.specs.Jobs.{tickets_of};
+ghost use Rattle.lanes.specs.Lanes.{IsOpen, AreOpen, IsDueTo, IsLetterFor, pass_in};
 ghost use Rattle.lanes.specs.Queues.{opening_in};
 
-use crate::lane::{MOST, Work};
-use crate::mail::Mail;
-use crate::passes::PassSet;
+use crate::mail::{Letter, pass_of};
+use crate::numbers::NumberSet;
 use crate::queues::Queues;
 use disk::Disk;
 use history::Ticket;
-use shard::Job;
-use std::mem;
+use shard::{ApplyFault, Job, Settled};
+use std::collections::VecDeque;
 use std::sync::Wait;
 
 impl<D: Disk + Drop> Queues<D> {
-    /// Puts a call behind those that wait at its shard. Where no thread leads there, the work comes back with all of them.
-    ///
-    /// # Errors
-    ///
-    /// The ticket, where 64 calls wait. With one open call a pass there are never so many.
-    pub(crate) fn join<R: Wait>(
-        &self,
-        rt: &R,
-        shard: usize,
-        job: Job,
-    ) -> Result<Option<Work>, Ticket>
-        requires shard { shard < count_of self.now.lanes }
-        requires job { IsWaiting (opening_in self.now).table (opening_in self.now).about shard job }
-        ensures work { IfOk result (λ work. IfSome work (IsWork (opening_in self.now).table (opening_in self.now).about shard)) }
-        ensures full { IfErr result (λ ticket. ticket ≡ job.ticket) }
-    {
-        let (mut lane, grip) = self.lanes.take(rt, shard);
-        if lane.jobs.len() >= MOST {
-            self.lanes.give(lane, grip);
-            let Job { ticket, call: _ } = job;
-            return Err(ticket);
-        }
-        lane.jobs.push_back_reserved(job);
-        let work = lane.take_work();
-        self.lanes.give(lane, grip);
-        Ok(work)
-    }
-
-    /// Takes the calls that wait at a shard into its work.
-    pub(crate) fn load<R: Wait>(&self, rt: &R, shard: usize, mut work: Work) -> Work
-        requires shard { shard < count_of self.now.lanes }
-        requires idle { IsIdle work }
-        ensures { IsWork (opening_in self.now).table (opening_in self.now).about shard result }
-    {
-        let (mut lane, grip) = self.lanes.take(rt, shard);
-        mem::swap(&mut lane.jobs, &mut work.jobs);
-        self.lanes.give(lane, grip);
-        work
-    }
-
-    /// Puts mail for a pass in its place. Its bell is not rung.
-    pub(crate) fn send<R: Wait>(&self, rt: &R, pass: usize, mail: Mail)
+    /// Makes room for what becomes of so many calls of a pass, whose numbers begin with `first`. What came for earlier ones
+    /// is dropped.
+    pub(crate) fn expect<R: Wait>(&self, rt: &R, pass: usize, first: u64, count: usize)
         requires pass { pass < self.now.passes }
-        requires mail { IsMailFor (opening_in self.now) pass mail }
+        requires count { count ≤ 64 }
     {
-        // (a pass has one call on its way, and opens its mail before the next one: there is none)
-        let (_none, grip) = self.mails.take(rt, pass);
+        let (mut mail, grip) = self.mails.take(rt, pass);
+        mail.expect(first, count);
         self.mails.give(mail, grip);
     }
 
-    /// Takes the mail of a pass out.
-    pub(crate) fn open<R: Wait>(&self, rt: &R, pass: usize) -> Mail
-        requires pass { pass < self.now.passes }
-        ensures { IsMailFor (opening_in self.now) pass result }
+    /// Sends what became of a call to its pass, whose bell is not rung.
+    pub(crate) fn send<R: Wait>(&self, rt: &R, settled: Settled)
+        requires pass { pass_in settled < self.now.passes }
+        requires due { IsDueTo (opening_in self.now) (pass_in settled) settled }
     {
-        let (mail, grip) = self.mails.take(rt, pass);
-        self.mails.give(Mail::Nothing, grip);
-        mail
+        let (mut mail, grip) = self.mails.take(rt, pass_of(&settled));
+        mail.put(settled);
+        self.mails.give(mail, grip);
     }
 
-    /// Lets the pass of the first call that waits at a shard lead there. Where none waits, the work goes into the lane.
-    pub(crate) fn hand_over<R: Wait>(&self, rt: &R, shard: usize, work: Work)
-        requires shard { shard < count_of self.now.lanes }
-        requires idle { IsIdle work }
+    /// Sends a call back to its pass, whose bell is not rung: there was no memory for it.
+    pub(crate) fn refuse<R: Wait>(&self, rt: &R, ticket: Ticket)
+        requires { IsOpen (opening_in self.now).table (opening_in self.now).about ticket }
     {
-        let (mut lane, grip) = self.lanes.take(rt, shard);
-        match lane.first_pass() {
-            Some(pass) => {
-                self.lanes.give(lane, grip);
-                self.send(rt, pass, Mail::Lead(work));
-                self.bells.ring(pass);
-            }
-            None => {
-                lane.work = Some(work);
-                self.lanes.give(lane, grip);
-            }
+        self.send(rt, Settled::Refused(ApplyFault::Memory, ticket));
+    }
+
+    /// Sends calls back to their passes: there was no memory for them. Whose bells are to be rung is added to `passes`.
+    pub(crate) fn refuse_all<R: Wait>(
+        &self,
+        rt: &R,
+        jobs: &mut VecDeque<Job>,
+        passes: &mut NumberSet,
+    )
+        requires { AreOpen (opening_in self.now).table (opening_in self.now).about (tickets_of jobs.old.items) }
+        ensures { jobs.new.items ≡ [] }
+    {
+        while let Some(Job { ticket, call: _ }) = jobs.pop_front() {
+            passes.add(ticket.pass());
+            self.refuse(rt, ticket);
         }
     }
 
+    /// Opens the mail of a pass that waits for the call of this number. Where the pass is to lead, it is told so first, since
+    /// others wait for that.
+    pub(crate) fn open<R: Wait>(&self, rt: &R, pass: usize, number: u64) -> Letter
+        requires pass { pass < self.now.passes }
+        ensures { IsLetterFor (opening_in self.now) pass number result }
+    {
+        let (mut mail, grip) = self.mails.take(rt, pass);
+        if let Some(shard) = mail.leads.take_first(self.shards) {
+            self.mails.give(mail, grip);
+            return Letter::Lead(shard);
+        }
+        let came = mail.take(number);
+        self.mails.give(mail, grip);
+        match came {
+            Some(settled) => Letter::Came(settled),
+            None => Letter::Nothing,
+        }
+    }
+
+    /// Says to a pass that it is to lead at a shard, and rings its bell.
+    pub(crate) fn appoint<R: Wait>(&self, rt: &R, pass: usize, shard: usize)
+        requires pass { pass < self.now.passes }
+    {
+        let (mut mail, grip) = self.mails.take(rt, pass);
+        mail.leads.add(shard);
+        self.mails.give(mail, grip);
+        self.bells.ring(pass);
+    }
+
     /// Rings the bells of these passes.
-    pub(crate) fn ring_all(&self, passes: PassSet) {
+    pub(crate) fn ring_all(&self, passes: NumberSet) {
         if passes.is_empty() {
             return;
         }
@@ -106,10 +100,30 @@ impl<D: Disk + Drop> Queues<D> {
         }
     }
 
+    /// Rings the bells of these shards' assistants, but for the first shard.
+    pub(crate) fn ring_assistants(&self, mut shards: NumberSet) {
+        shards.take_first(self.shards);
+        if shards.is_empty() {
+            return;
+        }
+        for shard in 0..self.shards {
+            if shards.has(shard) {
+                self.assistants.ring(shard);
+            }
+        }
+    }
+
     /// Waits until the bell of a pass is rung.
     pub(crate) fn wait<R: Wait>(&self, rt: &R, pass: usize)
         requires pass { pass < self.now.passes }
     {
         self.bells.wait(rt, pass);
+    }
+
+    /// Waits until the bell of a shard's assistants is rung.
+    pub(crate) fn wait_to_assist<R: Wait>(&self, rt: &R, shard: usize)
+        requires shard { shard < self.now.shards }
+    {
+        self.assistants.wait(rt, shard);
     }
 }

@@ -2,7 +2,7 @@
 ghost use Rattle.std.specs.Prelude.{◌≡◌, length, IfOk};
 ghost use Rattle.keyed.specs.Grips.{count_of, key_of};
 ghost use Rattle.keyed.specs.Bells.{bell_count};
-ghost use Rattle.lanes.specs.Lanes.{AreEmptyLanes, IsNoMail};
+ghost use Rattle.lanes.specs.Lanes.{AreEmptyLanes, AreEmptyMails};
 
 use crate::lane::{Lane, OfShard};
 use crate::mail::{ForPass, Mail};
@@ -11,17 +11,23 @@ use disk::Disk;
 use keyed::{Bells, Locks};
 use std::alloc::{AllocError, Global};
 
-/// A lane for each shard, and mail and a bell for each pass of an opening.
+/// A lane and a bell for each shard, and mail and a bell for each pass of an opening.
 #[derive(Drop)]
 pub(crate) struct Queues<D: Disk> {
     pub(crate) lanes: Locks<Lane, Origin<D>, OfShard>,
     pub(crate) mails: Locks<Mail, Origin<D>, ForPass>,
     pub(crate) bells: Bells,
+    // Those of the shards, for threads that make no calls of their own.
+    pub(crate) assistants: Bells,
     pub(crate) passes: usize,
+    pub(crate) shards: usize,
     ghost same: { key_of mails ≡ key_of lanes },
     ghost numbers: { (key_of lanes).first.value.about.passes ≡ passes },
+    ghost shard_numbers: { (key_of lanes).first.value.about.shards ≡ shards },
+    ghost laned: { count_of lanes ≡ shards },
     ghost mailed: { count_of mails ≡ passes },
     ghost belled: { bell_count bells ≡ passes },
+    ghost assisted: { bell_count assistants ≡ shards },
 }
 
 // So many lanes without a call.
@@ -36,13 +42,14 @@ fn make_lanes(alloc: Global, shards: usize) -> Result<Vec<Option<Lane>>, AllocEr
     Ok(lanes)
 }
 
-// So many places for mail, with nothing in them.
+// Mail for so many passes, with nothing in it.
 fn make_mails(alloc: Global, passes: usize) -> Result<Vec<Option<Mail>>, AllocError>
-    ensures { IfOk result (λ mails. (length mails.items ≡ passes) × IsNoMail mails.items) }
+    ensures { IfOk result (λ mails. (length mails.items ≡ passes) × AreEmptyMails mails.items) }
 {
     let mut mails = Vec::with_capacity(alloc, passes)?;
     for _ in 0..passes {
-        mails.push_reserved(Some(Mail::Nothing));
+        let mail = Mail::new(alloc)?;
+        mails.push_reserved(Some(mail));
     }
     Ok(mails)
 }
@@ -59,12 +66,14 @@ impl<D: Disk + Drop> Queues<D> {
         passes: usize,
         origin: &Origin<D>,
     ) -> Result<Queues<D>, AllocError>
+        requires shards { origin.now.first.value.about.shards ≡ shards }
         requires passes { origin.now.first.value.about.passes ≡ passes }
         ensures { IfOk result (λ q. (count_of q.lanes ≡ shards) × (key_of q.lanes ≡ origin.now)) }
     {
         let lanes = make_lanes(alloc, shards)?;
         let mails = make_mails(alloc, passes)?;
         let bells = Bells::new(alloc, passes)?;
+        let assistants = Bells::new(alloc, shards)?;
         let Ok(lanes) = Locks::new(alloc, lanes, origin) else {
             return Err(AllocError);
         };
@@ -75,7 +84,9 @@ impl<D: Disk + Drop> Queues<D> {
             lanes,
             mails,
             bells,
+            assistants,
             passes,
+            shards,
         })
     }
 }
