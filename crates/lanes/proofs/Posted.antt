@@ -3,8 +3,19 @@ use Rattle.std.proofs.Common.{◌≡◌, ◌⊎◌, ℕ, zero, suc, ◌+◌, ◌
 use Rattle.std.specs.Prelude.{Option, Some, None, IfSome, slice_index_or, slice_set, vec_capacity}
 use Rattle.shard.specs.declared.group.Settled.{Settled}
 use Rattle.lanes.specs.declared.mail.Mail.{Mail}
-use Rattle.lanes.specs.Openings.{Opening}
+use Rattle.lanes.specs.declared.places.Origin.{Origin}
+use Rattle.lanes.specs.Openings.{Opening, opening_of}
 use Rattle.lanes.specs.Lanes.{AreEmptyPlaces, IsEmptyMail, IsPutIn, IsTakenFrom, IsDueTo, IsPlace, ArePlaces, IsMailFor, number_in}
+
+-- the opening that locks were made for
+abbrev pub opened_by : {D : Type 0} → Origin D → Opening D
+opened_by key = opening_of key.first.value key.logs.value.items
+
+pub due_at : {D : Type 0} (key other : Origin D) (p q : ℕ) (settled : Settled) → key ≡ other → p ≡ q → IsDueTo (opened_by other) q settled → IsDueTo (opened_by key) p settled
+due_at {D} key other p q settled same is h = subst (λ (z : Origin D × ℕ). IsDueTo (opened_by z.0) z.1 settled) (λ i. (sym same i, sym is i)) h
+
+pub place_at : {D : Type 0} (key other : Origin D) (p n : ℕ) (place came : Option Settled) → key ≡ other → place ≡ came → IsPlace (opened_by key) p n place → IsPlace (opened_by other) p n came
+place_at {D} key other p n place came same is h = subst (λ (z : Origin D × Option Settled). IsPlace (opened_by z.0) p n z.1) (λ i. (same i, is i)) h
 
 -- one empty place more
 pub empty_more : (places : List (Option Settled)) → AreEmptyPlaces places → AreEmptyPlaces (places ++ None ∷ [])

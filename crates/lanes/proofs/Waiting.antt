@@ -80,17 +80,22 @@ module _ (table : TableId) (about : About) (k : ℕ) where
     work = subst (λ w. IfSome w IsIdle) (sym work) h.work;
   }
 
-  -- a call that names no other
-  pub one_batch : (job : Job) → IsWaiting table about k job → job.ticket.before ≡ [] → IsBatch table about k job.ticket.ask.pass (job ∷ [])
-  one_batch job is alone = record { waiting = (is, tt); pass = (refl, tt); line = (alone, tt) }
-
   -- the same calls
-  pub lane_same : (lane now : Lane) → IsLane table about k lane → now.jobs.items ≡ lane.jobs.items → now.work ≡ lane.work → IsLane table about k now
+  lane_same : (lane now : Lane) → IsLane table about k lane → now.jobs.items ≡ lane.jobs.items → now.work ≡ lane.work → IsLane table about k now
   lane_same lane now h items work = record {
     waiting = subst (AreWaiting table about k) (sym items) h.waiting;
     turn = subst (λ (jobs : List Job). AreInPassTurn [] [] (tickets_of jobs)) (sym items) h.turn;
     work = subst (λ w. IfSome w IsIdle) (sym work) h.work;
   }
+
+  -- so they do where there was memory for them
+  pub lane_joined : (p : ℕ) (lane now : Lane) (batch : List Job) (ok : Bool) → IsLane table about k lane → IsBatch table about k p batch → now.jobs.items ≡ cond ok (lane.jobs.items ++ batch) lane.jobs.items → now.work ≡ lane.work → IsLane table about k now
+  lane_joined p lane now batch true h is items work = lane_more p lane now batch h is items work
+  lane_joined p lane now batch false h is items work = lane_same lane now h items work
+
+  -- a call that names no other
+  pub one_batch : (job : Job) → IsWaiting table about k job → job.ticket.before ≡ [] → IsBatch table about k job.ticket.ask.pass (job ∷ [])
+  one_batch job is alone = record { waiting = (is, tt); pass = (refl, tt); line = (alone, tt) }
 
   pub lane_empty : (lane : Lane) → IsEmptyLane lane → IsLane table about k lane
   lane_empty lane h = record {

@@ -1,6 +1,6 @@
 use Rattle.std.proofs.Common.{◌≡◌, ◌≤◌, []}
 use Rattle.std.specs.Vec.{vec_capacity}
-use Rattle.std.specs.VecDeque.{deque_len, deque_capacity}
+use Rattle.std.specs.VecDeque.{deque_len}
 use Rattle.shard.specs.Jobs.{tickets_of}
 use Rattle.shard.specs.Turns.{AreReady}
 use Rattle.lanes.specs.Lanes.{AreOpen}
@@ -13,10 +13,8 @@ invariant-loop-alloc g l = let opening = opening_in l.self in record {
   state : IsOf opening l.initial.state.book.shard l.state;
   ready : AreReady l.state.book l.work.jobs.items;
   open_calls : AreOpen opening.table opening.about (tickets_of l.work.jobs.items);
-  few : deque_len l.work.jobs ≤ 64;
-  job_room : 64 ≤ deque_capacity l.work.jobs;
   settled : l.work.settled.items ≡ [];
-  settled_room : 64 ≤ vec_capacity l.work.settled;
+  room : deque_len l.work.jobs ≤ vec_capacity l.work.settled;
 }
 
 abbrev pub decreases-loop-alloc : goal.decreases-loop-alloc
