@@ -1,6 +1,6 @@
 -- What a turn leaves: the shard of its lock, what came of its calls, and calls for the next turn.
 use Rattle.std.proofs.Common.{◌≡◌, ◌⊎◌, ℕ, suc, ◌+◌, ◌<◌, ◌≤◌, Bool, true, false, cond, ◌==◌, List, [], ◌∷◌, ◌++◌, length, length-append, inl, inr, refl, sym, ap, ◌∙◌, subst, eq-eqb, arith}
-use Rattle.std.specs.Prelude.{Some, slice_get}
+use Rattle.std.specs.Prelude.{Some, Result, Ok, Err, is_err, OnOk, slice_get}
 use Rattle.atomic_table.specs.Seated.{TableId}
 use Rattle.accept.specs.declared.history.Ask.{Ask}
 use Rattle.accept.specs.declared.call.Reply.{Reply}
@@ -29,6 +29,14 @@ use Rattle.lanes.specs.Openings.{Opening}
 use Rattle.lanes.specs.Places.{IsOf}
 
 -- Before the first turn.
+
+clash : true ≡ false → ⊥
+clash e = cc
+
+-- where there was memory
+pub had_memory : {T E P : Type 0} (r : Result T E) → is_err r ≡ false → OnOk r P → P
+had_memory (Ok x) e h = h
+had_memory (Err y) e h = absurd (clash e)
 
 module _ (table : TableId) (about : About) where
   pub waiting_open : (k : ℕ) (jobs : List Job) → AreWaiting table about k jobs → AreOpen table about (tickets_of jobs)

@@ -1,12 +1,18 @@
 use Rattle.std.proofs.Common.{rules, ◌<◌, ◌≤◌, length, refl, sym, subst, ◌∙◌, arith}
-use Rattle.std.specs.VecDeque.{deque_len}
 use Rattle.atomic_table.specs.Seated.{TableId}
 use Rattle.history.specs.declared.views.About.{About}
 use Rattle.shard.specs.Jobs.{tickets_of}
 use Rattle.lanes.specs.Lanes.{AreOpen}
 use Rattle.lanes.specs.Queues.{opening_in}
-use Rattle.lanes.proofs.Turning.{waiting_open, waiting_ready, turn_of, turn_open, turn_fewer, turn_turned}
+use Rattle.lanes.proofs.Turning.{had_memory, waiting_open, waiting_ready, turn_of, turn_open, turn_fewer, turn_turned}
 use Rattle.lanes.proofs.queues.Queues.make_all.Goals as goal
+
+pub refuse_all-requires : goal.refuse_all-requires
+refuse_all-requires g c =
+    let state = c.requires.state in
+    let book = c.args.state.now.book in
+    let jobs = c.args.work.now.jobs.items in
+    subst (λ (z : TableId × About). AreOpen z.0 z.1 (tickets_of jobs)) (λ i. (state.table i, state.about i)) (waiting_open book.table book.about book.shard jobs c.requires.work.waiting)
 
 pub loop-alloc-init : goal.loop-alloc-init
 loop-alloc-init g c =
@@ -14,14 +20,14 @@ loop-alloc-init g c =
     let work = c.requires.work in
     let book = c.args.state.now.book in
     let jobs = c.args.work.now.jobs.items in
+    let fits = had_memory c.reserve.result (sym c.is_err.ensures.value ∙ c.if-is_err.false) c.reserve.ensures.ok in
+    let len = c.len.ensures in
     record {
       state = state;
-      ready = waiting_ready book.table book.about book refl refl jobs work.waiting;
+      ready = waiting_ready book.table book.about book refl refl jobs work.waiting work.turn;
       open_calls = subst (λ (z : TableId × About). AreOpen z.0 z.1 (tickets_of jobs)) (λ i. (state.table i, state.about i)) (waiting_open book.table book.about book.shard jobs work.waiting);
-      few = work.few;
-      job_room = work.job_room;
-      settled = work.settled;
-      settled_room = work.settled_room;
+      settled = c.reserve.ensures.items ∙ work.settled;
+      room = omega arith;
     }
 
 pub send_all-requires : goal.send_all-requires
@@ -33,8 +39,7 @@ send_all-requires g c =
 
 pub loop-alloc-smaller : goal.loop-alloc-smaller
 loop-alloc-smaller g c =
-    let opening = opening_in c.args.self.now in
-    let fewer : length c.apply_group.new.jobs.items < length c.loop-alloc.work.jobs.items = turn_fewer g.D.Disk.sight g.D.Disk.follows opening c.loop-alloc.state c.apply_group.new.self
+    let fewer : length c.apply_group.new.jobs.items < length c.loop-alloc.work.jobs.items = turn_fewer g.D.Disk.sight g.D.Disk.follows (opening_in c.args.self.now) c.loop-alloc.state c.apply_group.new.self
     c.loop-alloc.work.jobs.items c.apply_group.new.jobs.items c.loop-alloc.work.settled.items c.apply_group.new.settled.items c.apply_group.result c.apply_group.ensures.turn in
     search (rules, fewer)
 
@@ -43,18 +48,14 @@ loop-alloc-preserved g c =
     let inv = c.loop-alloc.invariant in
     let opening = opening_in c.args.self.now in
     let made = c.apply_group.ensures in
-    let fewer : length c.apply_group.new.jobs.items < length c.loop-alloc.work.jobs.items = turn_fewer g.D.Disk.sight g.D.Disk.follows opening c.loop-alloc.state c.apply_group.new.self
-    c.loop-alloc.work.jobs.items c.apply_group.new.jobs.items c.loop-alloc.work.settled.items c.apply_group.new.settled.items c.apply_group.result made.turn in
-    let smaller : deque_len c.apply_group.new.jobs < deque_len c.loop-alloc.work.jobs = search (rules, fewer) in
-    let was = inv.few in
+    let room = made.room in
+    let same = c.send_all.ensures.room in
     record {
       state = turn_of g.D.Disk.sight g.D.Disk.follows opening c.loop-alloc.state c.apply_group.new.self c.loop-alloc.work.jobs.items c.apply_group.new.jobs.items c.loop-alloc.work.settled.items c.apply_group.new.settled.items
           c.apply_group.result c.args.state.now.book.shard made.turn inv.state;
       ready = made.ready;
       open_calls = turn_open g.D.Disk.sight g.D.Disk.follows opening c.loop-alloc.state c.apply_group.new.self c.loop-alloc.work.jobs.items c.apply_group.new.jobs.items c.loop-alloc.work.settled.items
           c.apply_group.new.settled.items c.apply_group.result made.turn inv.open_calls;
-      few = omega arith;
-      job_room = subst (λ n. 64 ≤ n) (sym made.capacities.0) inv.job_room;
       settled = c.send_all.ensures.sent;
-      settled_room = subst (λ n. 64 ≤ n) (sym (c.send_all.ensures.room ∙ made.capacities.1)) inv.settled_room;
+      room = omega arith;
     }

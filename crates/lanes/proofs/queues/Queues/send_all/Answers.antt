@@ -1,4 +1,4 @@
-use Rattle.std.proofs.Common.{rules, ◌<◌, inl, inr, sym, subst, ◌∙◌}
+use Rattle.std.proofs.Common.{rules, ◌<◌, inl, inr, refl, sym, subst, ◌∙◌}
 use Rattle.std.proofs.lemmas.List.{nil_from_length}
 use Rattle.lanes.specs.Lanes.{pass_in}
 use Rattle.lanes.specs.Queues.{opening_in}
@@ -15,11 +15,10 @@ send-requires-clause-pass g c =
       | then-is_empty w ↦ inl (nil_from_length front (search (rules, w.if-is_empty, c.is_empty.ensures)), w.came-is)
       | else-is_empty w ↦ inr (w.came-is ∙ w.behind_another-came.ensures)
     ] in
-    subst (λ n. n < c.args.self.now.passes) (sym (c.pass_of-pass.ensures ∙ told_pass opening front c.in-Some.last c.if-is_empty.came told))
-    (subst (λ n. pass_in c.in-Some.last < n) c.args.self.now.numbers last.pass)
+    subst (λ n. n < c.args.self.now.passes) (sym (told_pass opening front c.in-Some.last c.if-is_empty.came told)) (subst (λ n. pass_in c.in-Some.last < n) c.args.self.now.numbers last.pass)
 
-pub send-requires-clause-mail : goal.send-requires-clause-mail
-send-requires-clause-mail g c =
+pub send-requires-clause-due : goal.send-requires-clause-due
+send-requires-clause-due g c =
     let opening = opening_in c.args.self.now in
     let front = c.pop.new.self.items in
     let last = last_turned opening c.loop-last.settled.items front c.in-Some.last c.in-Some.ensures.items c.loop-last.invariant.turned in
@@ -27,7 +26,7 @@ send-requires-clause-mail g c =
       | then-is_empty w ↦ inl (nil_from_length front (search (rules, w.if-is_empty, c.is_empty.ensures)), w.came-is)
       | else-is_empty w ↦ inr (w.came-is ∙ w.behind_another-came.ensures)
     ] in
-    told_due opening front c.in-Some.last c.if-is_empty.came c.pass_of-pass.result last told c.pass_of-pass.ensures
+    told_due opening front c.in-Some.last c.if-is_empty.came (pass_in c.if-is_empty.came) last told refl
 
 pub loop-last-preserved : goal.loop-last-preserved
 loop-last-preserved g c =
