@@ -1,6 +1,6 @@
 -- What lies in the places of a pass's mail.
-use Rattle.std.proofs.Common.{◌≡◌, ◌⊎◌, ℕ, zero, suc, ◌+◌, ◌-◌, ◌<◌, ◌≤◌, List, [], ◌∷◌, ◌++◌, length, inl, inr, refl, sym, ap, ◌∙◌, subst, arith}
-use Rattle.std.specs.Prelude.{Option, Some, None, IfSome, slice_index_or, slice_set, vec_capacity}
+use Rattle.std.proofs.Common.{◌≡◌, ℕ, zero, suc, ◌+◌, ◌-◌, ◌≤◌, List, [], ◌∷◌, ◌++◌, inl, inr, refl, sym, subst, arith}
+use Rattle.std.specs.Prelude.{Option, Some, None, slice_index_or, slice_set, vec_capacity}
 use Rattle.shard.specs.declared.group.Settled.{Settled}
 use Rattle.lanes.specs.declared.mail.Mail.{Mail}
 use Rattle.lanes.specs.declared.places.Origin.{Origin}
@@ -66,8 +66,7 @@ module _ {D : Type 0} (opening : Opening D) (p : ℕ) where
   taken_places first old new number taken h (inl none) = (subst (ArePlaces opening p first) (sym none.1) h, subst (IsPlace opening p number) (sym none.0) tt)
   taken_places first old new number taken h (inr some) =
       let le = some.0 in
-      let here : first + (number - first) ≡ number = omega arith in
-      (
+      let here : first + (number - first) ≡ number = omega arith in (
         subst (ArePlaces opening p first) (sym some.3) (places_set first old (number - first) None h tt),
         subst (IsPlace opening p number) (sym some.2) (subst (λ (m : ℕ). IsPlace opening p m (slice_index_or old (number - first) None)) here (places_get first old (number - first) h)),
       )

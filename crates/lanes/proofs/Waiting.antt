@@ -1,6 +1,6 @@
 -- Lanes, and the lists that they and the mails are made of.
-use Rattle.std.proofs.Common.{◌≡◌, ◌⊎◌, ℕ, Bool, true, false, cond, eqb, eq-eqb, List, [], ◌∷◌, ◌++◌, append_assoc, inl, inr, refl, sym, ap, ◌∙◌, subst}
-use Rattle.std.specs.Prelude.{Option, Some, IfSome, ◌<◌, length, slice_get}
+use Rattle.std.proofs.Common.{◌≡◌, ℕ, Bool, true, false, cond, eqb, eq-eqb, List, [], ◌∷◌, ◌++◌, inl, inr, refl, sym, ap, ◌∙◌, subst}
+use Rattle.std.specs.Prelude.{Option, Some, IfSome}
 use Rattle.atomic_table.specs.Seated.{TableId}
 use Rattle.accept.specs.declared.history.Ask.{Ask}
 use Rattle.accept.specs.declared.history.Item.{Item}
@@ -60,7 +60,7 @@ line_turn p items front done [] of line h = tt
 line_turn p items front done (t ∷ ts) of line h = (
   subst (λ (before : List Ask). HaveStepsOr before items (of_pass t.ask.pass front)) (sym line.0) (subst (λ (q : ℕ). HaveStepsOr done items (of_pass q front)) (sym of.0) h),
   line_turn p items (front ++ t.ask ∷ []) (done ++ t.ask ∷ []) ts of.1 line.1
-  (or_last done t.ask items (of_pass p (front ++ t.ask ∷ [])) (or_more p done items front (t.ask ∷ []) h) (among_last p t.ask front of.0)),
+      (or_last done t.ask items (of_pass p (front ++ t.ask ∷ [])) (or_more p done items front (t.ask ∷ []) h) (among_last p t.ask front of.0)),
 )
 
 turn_batch : (p : ℕ) (items : List Item) (front : List Ask) (ts batch : List Announced) → AreInPassTurn items front ts → AreOfPass p batch → AreInLine [] batch → AreInPassTurn items front (ts ++ batch)

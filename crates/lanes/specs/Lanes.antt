@@ -55,6 +55,11 @@ abbrev pub number_in : Settled → ℕ
 number_in (Answered reply receipt) = receipt.step.ask.number
 number_in (Refused fault t) = t.ask.number
 
+-- what is told in its place: that there was no memory, where the call has no step
+abbrev pub with_memory : Settled → Settled
+with_memory (Answered reply receipt) = Answered reply receipt
+with_memory (Refused fault t) = Refused Memory t
+
 -- it is put at the place of its number, of places whose numbers begin with `first`, or there is none
 abbrev pub IsPutIn : ℕ → List (Option Settled) → Settled → List (Option Settled) → Type 0
 IsPutIn first old settled new = (new ≡ old) ⊎ ((first ≤ number_in settled) × (new ≡ slice_set old (number_in settled - first) (Some settled)))
@@ -64,11 +69,6 @@ abbrev pub IsTakenFrom : ℕ → List (Option Settled) → ℕ → Option Settle
 IsTakenFrom first old number taken new =
     ((taken ≡ None) × (new ≡ old))
     ⊎ ((first ≤ number) × (number - first < length old) × (taken ≡ slice_index_or old (number - first) None) × (new ≡ slice_set old (number - first) None))
-
--- the same, but that there was no memory where the call has no step
-abbrev pub with_memory : Settled → Settled
-with_memory (Answered reply receipt) = Answered reply receipt
-with_memory (Refused fault t) = Refused Memory t
 
 -- each is of pass p
 abbrev pub AreOfPass : ℕ → List Announced → Type 0

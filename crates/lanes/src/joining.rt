@@ -1,5 +1,5 @@
 //! How calls are put into lanes, and who leads at a shard.
-ghost use Rattle.std.specs.Prelude.{◌≡◌, ◌<◌, ◌≤◌, ℕ, [], Some, slice_get, vec_len, OnOk, OnErr, IfErr, IfSome};
+ghost use Rattle.std.specs.Prelude.{◌≡◌, ◌<◌, ◌≤◌, ℕ, [], Some, slice_get, vec_len, OnErr, IfErr, IfSome};
 ghost use Rattle.std.specs.declared.collections.VecDeque.{VecDeque};
 ghost use Rattle.std.specs.declared.alloc.Global.{Global};
 ghost use Rattle.keyed.specs.Grips.{count_of};

@@ -1,6 +1,5 @@
 //! How mail is put into its places and taken out, and whose bells are rung and waited for.
 ghost use Rattle.std.specs.Prelude.{◌≡◌, ◌<◌, ◌≤◌, []};
-ghost use Rattle.keyed.specs.Grips.{count_of};
 ghost use Rattle.shard.specs.Jobs.{tickets_of};
 ghost use Rattle.lanes.specs.Lanes.{IsOpen, AreOpen, IsDueTo, IsLetterFor, pass_in};
 ghost use Rattle.lanes.specs.Queues.{opening_in};

@@ -1,4 +1,4 @@
-use Rattle.std.proofs.Common.{◌≡◌, ◌+◌, ◌≤◌, sym, ap, ◌∙◌, subst}
+use Rattle.std.proofs.Common.{◌+◌, ◌≤◌, sym, ap, ◌∙◌, subst}
 use Rattle.lanes.specs.Lanes.{AreEmptyPlaces}
 use Rattle.lanes.proofs.Posted.{empty_more}
 use Rattle.lanes.proofs.mail.Mail.expect.Goals as goal

@@ -8,5 +8,5 @@ appoint-requires g c =
     let was = c.take-lane.ensures.value in
     record {
       pass = subst (λ n. c.in-Some.pass < n) c.args.self.now.numbers
-      (c.in-Some.ensures first.table first.about c.args.shard (record { waiting = was.waiting; turn = was.turn; work = c.requires.idle }));
+          (c.in-Some.ensures first.table first.about c.args.shard (record { waiting = was.waiting; turn = was.turn; work = c.requires.idle }));
     }
