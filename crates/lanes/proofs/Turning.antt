@@ -24,32 +24,32 @@ use Rattle.shard.specs.Parts.{IsApplied}
 use Rattle.shard.specs.Queues.{settled_of}
 use Rattle.shard.specs.Shards.{Sharded}
 use Rattle.shard.specs.Turns.{AreReady, AreStepped, IsAlone, IsGivenBack, IsTurn, refused_of}
-use Rattle.lanes.specs.Lanes.{AreOpen, AreWaiting, AreOfCalls, IsFirstSpent, AreTurned, IsOfCall, IsSpentAsSaid, IsDueTo, pass_in, with_memory}
+use Rattle.lanes.specs.Lanes.{AreOpen, AreLoneWaiting, AreOfCalls, IsFirstSpent, AreTurned, IsOfCall, IsSpentAsSaid, IsDueTo, pass_in, with_memory}
 use Rattle.lanes.specs.Openings.{Opening}
 use Rattle.lanes.specs.Places.{IsOf}
 
 -- Before the first turn.
 
 module _ (table : TableId) (about : About) where
-  pub waiting_open : (k : ℕ) (jobs : List Job) → AreWaiting table about k jobs → AreOpen table about (tickets_of jobs)
+  pub waiting_open : (k : ℕ) (jobs : List Job) → AreLoneWaiting table about k jobs → AreOpen table about (tickets_of jobs)
   waiting_open k [] h = tt
   waiting_open k (j ∷ jobs) h = (h.0.ticket, waiting_open k jobs h.1)
 
   module _ (book : Booked) (same_table : book.table ≡ table) (same_about : book.about ≡ about) where
-    are_of : (jobs : List Job) → AreWaiting table about book.shard jobs → AreOf book (tickets_of jobs)
+    are_of : (jobs : List Job) → AreLoneWaiting table about book.shard jobs → AreOf book (tickets_of jobs)
     are_of [] h = tt
     are_of (j ∷ jobs) h = (h.0.ticket.same_table ∙ sym same_table, ap (λ (a : About). shard_in a j.ticket.ask) same_about ∙ h.0.shard, are_of jobs h.1)
 
-    are_lawful : (jobs : List Job) → AreWaiting table about book.shard jobs → AreLawful book.about book.shard jobs
+    are_lawful : (jobs : List Job) → AreLoneWaiting table about book.shard jobs → AreLawful book.about book.shard jobs
     are_lawful [] h = tt
     are_lawful (j ∷ jobs) h = (ap (λ (a : About). shard_in a j.ticket.ask) same_about ∙ h.0.shard, h.0.call, h.0.numbers, are_lawful jobs h.1)
 
-    in_turn : (items : List Item) (front : List Ask) (jobs : List Job) → AreWaiting table about book.shard jobs → AreInPassTurn items front (tickets_of jobs)
+    in_turn : (items : List Item) (front : List Ask) (jobs : List Job) → AreLoneWaiting table about book.shard jobs → AreInPassTurn items front (tickets_of jobs)
     in_turn items front [] h = tt
     in_turn items front (j ∷ jobs) h = (subst (λ (l : List Ask). HaveStepsOr l items (of_pass j.ticket.ask.pass front)) (sym h.0.alone) tt, in_turn items (front ++ j.ticket.ask ∷ []) jobs h.1)
 
     -- calls that wait at the shard may be made
-    pub waiting_ready : (jobs : List Job) → AreWaiting table about book.shard jobs → AreReady book jobs
+    pub waiting_ready : (jobs : List Job) → AreLoneWaiting table about book.shard jobs → AreReady book jobs
     waiting_ready jobs h = record { of_book = are_of jobs h; lawful = are_lawful jobs h; turn = in_turn book.items [] jobs h }
 
   -- Tickets among others.

@@ -9,18 +9,18 @@ use Rattle.shard.specs.declared.front.Job.{Job}
 use Rattle.lanes.specs.declared.lane.Lane.{Lane}
 use Rattle.lanes.specs.declared.mail.Mail.{Mail}
 use Rattle.lanes.specs.declared.mail.Mail.TheVariants.{Nothing}
-use Rattle.lanes.specs.Lanes.{IsEmptyLane, AreEmptyLanes, IsNoMail, IsWaiting, AreWaiting, IsLane, IsIdle}
+use Rattle.lanes.specs.Lanes.{IsEmptyLane, AreEmptyLanes, IsNoMail, IsLoneWaiting, AreLoneWaiting, IsLane, IsIdle}
 
 module _ (table : TableId) (about : About) (k : ℕ) where
-  waiting_more : (jobs : List Job) (job : Job) → AreWaiting table about k jobs → IsWaiting table about k job → AreWaiting table about k (jobs ++ job ∷ [])
+  waiting_more : (jobs : List Job) (job : Job) → AreLoneWaiting table about k jobs → IsLoneWaiting table about k job → AreLoneWaiting table about k (jobs ++ job ∷ [])
   waiting_more [] job h is = (is, tt)
   waiting_more (j ∷ jobs) job h is = (h.0, waiting_more jobs job h.1 is)
 
   -- one call more waits
-  pub lane_more : (lane now : Lane) (job : Job) → IsLane table about k lane → IsWaiting table about k job → deque_len lane.jobs < 64
+  pub lane_more : (lane now : Lane) (job : Job) → IsLane table about k lane → IsLoneWaiting table about k job → deque_len lane.jobs < 64
       → now.jobs.items ≡ lane.jobs.items ++ job ∷ [] → deque_len now.jobs ≡ deque_len lane.jobs + 1 → deque_capacity now.jobs ≡ deque_capacity lane.jobs → now.work ≡ lane.work → IsLane table about k now
   lane_more lane now job h is few items len capacity work = record {
-    waiting = subst (AreWaiting table about k) (sym items) (waiting_more lane.jobs.items job h.waiting is);
+    waiting = subst (AreLoneWaiting table about k) (sym items) (waiting_more lane.jobs.items job h.waiting is);
     few = omega arith;
     room = subst (λ (n : ℕ). 64 ≤ n) (sym capacity) h.room;
     work = subst (λ w. IfSome w IsIdle) (sym work) h.work;
@@ -28,7 +28,7 @@ module _ (table : TableId) (about : About) (k : ℕ) where
 
   pub lane_empty : (lane : Lane) → IsEmptyLane lane → IsLane table about k lane
   lane_empty lane h = record {
-    waiting = subst (AreWaiting table about k) (sym h.jobs) tt;
+    waiting = subst (AreLoneWaiting table about k) (sym h.jobs) tt;
     few = let none = h.none in omega arith;
     room = h.room;
     work = h.work;

@@ -5,7 +5,7 @@ use Rattle.accept.specs.Calls.{AreNumbers}
 use Rattle.atomic_table.specs.Seated.{TableId}
 use Rattle.history.specs.declared.views.About.{About}
 use Rattle.history.specs.Histories.{shard_in, step_of}
-use Rattle.history.specs.Handles.{Announced}
+use Rattle.history.specs.Handles.{Announced, AreInLine}
 use Rattle.shard.specs.declared.fault.ApplyFault.TheVariants.{Memory, GenerationSpent}
 use Rattle.shard.specs.declared.front.Job.{Job}
 use Rattle.shard.specs.declared.group.Settled.{Settled}
@@ -14,6 +14,7 @@ use Rattle.lanes.specs.declared.lane.Work.{Work}
 use Rattle.lanes.specs.declared.lane.Lane.{Lane}
 use Rattle.lanes.specs.declared.mail.Mail.{Mail}
 use Rattle.lanes.specs.declared.mail.Mail.TheVariants.{Nothing, Lead, Came}
+use Rattle.shard.specs.Jobs.{tickets_of}
 use Rattle.lanes.specs.Openings.{Opening, HasSpentLog}
 
 -- work without a job, and with room for 64
@@ -49,6 +50,16 @@ abbrev pub with_memory : Settled → Settled
 with_memory (Answered reply receipt) = Answered reply receipt
 with_memory (Refused fault t) = Refused Memory t
 
+-- the number of the call
+abbrev pub number_in : Settled → ℕ
+number_in (Answered reply receipt) = receipt.step.ask.number
+number_in (Refused fault t) = t.ask.number
+
+-- the calls are of pass p
+abbrev pub AreOfPass : ℕ → List Announced → Type 0
+AreOfPass p [] = Unit {0}
+AreOfPass p (t ∷ ts) = (t.ask.pass ≡ p) × AreOfPass p ts
+
 module _ (table : TableId) (about : About) where
   -- the ticket is of a pass of the opening with this table, and in no doubt
   pub record IsOpen (t : Announced) : Type 0 where
@@ -62,7 +73,7 @@ module _ (table : TableId) (about : About) where
   AreOpen (t ∷ ts) = IsOpen t × AreOpen ts
 
   -- The call is to be made at shard k. It names no other call of its pass.
-  pub record IsWaiting (k : ℕ) (job : Job) : Type 0 where
+  pub record IsLoneWaiting (k : ℕ) (job : Job) : Type 0 where
     pub ticket : IsOpen job.ticket
     pub shard : shard_in about job.ticket.ask ≡ k
     pub call : job.ticket.ask.call ≡ job.call
@@ -70,13 +81,13 @@ module _ (table : TableId) (about : About) where
     pub alone : job.ticket.before ≡ []
 
   -- so is each
-  abbrev pub AreWaiting : ℕ → List Job → Type 0
-  AreWaiting k [] = Unit {0}
-  AreWaiting k (j ∷ jobs) = IsWaiting k j × AreWaiting k jobs
+  abbrev pub AreLoneWaiting : ℕ → List Job → Type 0
+  AreLoneWaiting k [] = Unit {0}
+  AreLoneWaiting k (j ∷ jobs) = IsLoneWaiting k j × AreLoneWaiting k jobs
 
   -- work with at most 64 calls, all to be made at shard k, and with room for what becomes of them
   pub record IsWork (k : ℕ) (work : Work) : Type 0 where
-    pub waiting : AreWaiting k work.jobs.items
+    pub waiting : AreLoneWaiting k work.jobs.items
     pub few : deque_len work.jobs ≤ 64
     pub job_room : 64 ≤ deque_capacity work.jobs
     pub settled : work.settled.items ≡ []
@@ -84,10 +95,28 @@ module _ (table : TableId) (about : About) where
 
   -- at most 64 calls wait at shard k, and the work is idle while it lies there
   pub record IsLane (k : ℕ) (lane : Lane) : Type 0 where
-    pub waiting : AreWaiting k lane.jobs.items
+    pub waiting : AreLoneWaiting k lane.jobs.items
     pub few : deque_len lane.jobs ≤ 64
     pub room : 64 ≤ deque_capacity lane.jobs
     pub work : IfSome lane.work IsIdle
+
+  -- The call is to be made at shard k.
+  pub record IsWaiting (k : ℕ) (job : Job) : Type 0 where
+    pub ticket : IsOpen job.ticket
+    pub shard : shard_in about job.ticket.ask ≡ k
+    pub call : job.ticket.ask.call ≡ job.call
+    pub numbers : AreNumbers job.call
+
+  -- so is each
+  abbrev pub AreWaiting : ℕ → List Job → Type 0
+  AreWaiting k [] = Unit {0}
+  AreWaiting k (j ∷ jobs) = IsWaiting k j × AreWaiting k jobs
+
+  -- Calls that a pass makes at shard k, in their order: each ticket names just those in front of it.
+  pub record IsBatch (k p : ℕ) (jobs : List Job) : Type 0 where
+    pub waiting : AreWaiting k jobs
+    pub pass : AreOfPass p (tickets_of jobs)
+    pub line : AreInLine [] (tickets_of jobs)
 
 module _ {D : Type 0} (opening : Opening D) where
   -- it came of a call of the opening: the call's step has this reply, or the call has none

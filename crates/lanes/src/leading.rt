@@ -1,7 +1,7 @@
 //! How a thread leads at a shard: it makes all calls that wait there by turns, and sends what became of them to their
 //! passes.
-ghost use Rattle.std.specs.Prelude.{◌≡◌, ◌<◌, [], vec_capacity};
-ghost use Rattle.lanes.specs.Lanes.{IsIdle, IsWaiting, IsWork, IsDueTo, AreTurned, pass_in, with_memory};
+ghost use Rattle.std.specs.Prelude.{◌≡◌, ℕ, ◌<◌, ◌≤◌, [], Some, vec_len, vec_capacity, slice_get};
+ghost use Rattle.lanes.specs.Lanes.{IsIdle, IsWaiting, IsBatch, IsWork, IsDueTo, AreTurned, pass_in, number_in, with_memory};
 ghost use Rattle.lanes.specs.Places.{IsOf};
 ghost use Rattle.lanes.specs.Queues.{opening_in};
 
@@ -13,6 +13,7 @@ use crate::queues::Queues;
 use disk::Disk;
 use shard::{ApplyFault, Job, Settled, Shard};
 use std::alloc::Global;
+use std::collections::VecDeque;
 use std::sync::Wait;
 
 // The number of the pass whose call it was.
@@ -79,24 +80,7 @@ impl<D: Disk + Drop> Queues<D> {
 }
 
 impl<D: Disk + Drop> Lanes<D> {
-    // A pass leads at a shard: makes the calls of the work under the shard's lock, and hands the lead over to the first
-    // call that has come since then. The bells are rung last, so that the next turn need not wait for them.
-    fn lead<R: Wait>(&self, rt: &R, alloc: Global, shard: usize, pass: usize, mut work: Work)
-        requires shard { shard < self.now.about.shards }
-        requires work { IsWork self.now.table self.now.about shard work }
-    {
-        let (mut state, grip) = self.shards.take(rt, shard);
-        let mut passes = self.queues.make_all(rt, alloc, &mut state, &mut work);
-        self.shards.give(state, grip);
-        self.queues.hand_over(rt, shard, work);
-        passes.remove(pass);
-        self.queues.ring_all(passes);
-    }
-
-    /// Makes a call that was announced, of the pass of this number, at the shard that it belongs to. It goes into the lane of
-    /// its shard, and its thread leads there where no other does, or where another one hands the lead over.
-    ///
-    /// Where the call comes back refused, it has no step: for want of memory, or since the shard's log is spent.
+    /// Makes a call.
     pub fn make<R: Wait>(
         &self,
         rt: &R,
@@ -107,33 +91,49 @@ impl<D: Disk + Drop> Lanes<D> {
     ) -> Settled
         requires shard { shard < self.now.about.shards }
         requires job { IsWaiting self.now.table self.now.about shard job }
+        requires alone { job.ticket.before ≡ [] }
         requires pass { job.ticket.ask.pass ≡ pass }
         ensures { IsDueTo self.now pass result }
     {
-        match self.queues.join(rt, shard, job) {
-            Ok(Some(work)) => self.lead(rt, alloc, shard, pass, work),
-            Ok(None) => self.queues.wait(rt, pass),
-            Err(ticket) => return Settled::Refused(ApplyFault::Memory, ticket),
-        }
-        self.receive(rt, alloc, shard, pass)
+        for _ in rt.forever() {}
+        unreachable!()
     }
 
-    // Waits for what became of the call of a pass. Where it is asked to, its thread leads at the shard of the call.
-    fn receive<R: Wait>(&self, rt: &R, alloc: Global, shard: usize, pass: usize) -> Settled
-        requires shard { shard < self.now.about.shards }
+    /// Puts calls into the lanes.
+    pub fn post<R: Wait>(
+        &self,
+        rt: &R,
+        alloc: Global,
+        pass: usize,
+        first: u64,
+        count: usize,
+        batches: Vec<VecDeque<Job>>,
+    )
         requires pass { pass < self.now.about.passes }
-        ensures { IsDueTo self.now pass result }
+        requires count { count ≤ 64 }
+        requires shards { vec_len batches ≡ self.now.about.shards }
+        requires batches { (k : ℕ) (jobs : VecDeque Job Global) → slice_get batches.items k ≡ Some jobs
+            → IsBatch self.now.table self.now.about k pass jobs.items }
     {
-        for _ in rt.forever() {
-            match self.queues.open(rt, pass) {
-                Mail::Came(settled) => return settled,
-                Mail::Lead(idle) => {
-                    let work = self.queues.load(rt, shard, idle);
-                    self.lead(rt, alloc, shard, pass, work);
-                }
-                Mail::Nothing => self.queues.wait(rt, pass),
-            }
-        }
+        for _ in rt.forever() {}
+        unreachable!()
+    }
+
+    /// Waits for what became of the call of this number.
+    pub fn receive<R: Wait>(&self, rt: &R, alloc: Global, pass: usize, number: u64) -> Settled
+        requires pass { pass < self.now.about.passes }
+        ensures due { IsDueTo self.now pass result }
+        ensures number { number_in result ≡ number }
+    {
+        for _ in rt.forever() {}
+        unreachable!()
+    }
+
+    /// Helps at a shard.
+    pub fn assist<R: Wait>(&self, rt: &R, alloc: Global, shard: usize)
+        requires shard { shard < self.now.about.shards }
+    {
+        for _ in rt.forever() {}
         unreachable!()
     }
 }

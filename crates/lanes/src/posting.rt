@@ -1,7 +1,7 @@
 //! How calls are put into lanes and mail into its places, and how both are taken out.
 ghost use Rattle.std.specs.Prelude.{◌≡◌, ◌<◌, IfOk, IfErr, IfSome};
 ghost use Rattle.keyed.specs.Grips.{count_of};
-ghost use Rattle.lanes.specs.Lanes.{IsIdle, IsWaiting, IsWork, IsMailFor};
+ghost use Rattle.lanes.specs.Lanes.{IsIdle, IsLoneWaiting, IsWork, IsMailFor};
 ghost use Rattle.lanes.specs.Queues.{opening_in};
 
 use crate::lane::{MOST, Work};
@@ -27,7 +27,7 @@ impl<D: Disk + Drop> Queues<D> {
         job: Job,
     ) -> Result<Option<Work>, Ticket>
         requires shard { shard < count_of self.now.lanes }
-        requires job { IsWaiting (opening_in self.now).table (opening_in self.now).about shard job }
+        requires job { IsLoneWaiting (opening_in self.now).table (opening_in self.now).about shard job }
         ensures work { IfOk result (λ work. IfSome work (IsWork (opening_in self.now).table (opening_in self.now).about shard)) }
         ensures full { IfErr result (λ ticket. ticket ≡ job.ticket) }
     {
