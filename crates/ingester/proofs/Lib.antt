@@ -1,5 +1,8 @@
+pub mod Batching
+pub mod Chaining
 pub mod Comparing
 pub mod Finding
+pub mod Gathering
 pub mod Grounding
 pub mod Lasting
 pub mod Listing

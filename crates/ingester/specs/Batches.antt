@@ -1,7 +1,7 @@
 -- Calls of a pass that are announced one after another, and whose answers are taken in together.
-use Rattle.std.specs.Prelude.{◌≡◌, ◌≢◌, ℕ, ◌+◌, ◌<◌, List, [], ◌∷◌, ◌++◌, Option, Some, None, false, Result, Ok, Err, slice_get, slice_index_or}
+use Rattle.std.specs.Prelude.{◌≡◌, ◌≢◌, ℕ, ◌+◌, ◌<◌, List, [], ◌∷◌, ◌++◌, Option, Some, None, false, length, Result, Ok, Err, slice_get, slice_index_or}
 use Rattle.std.specs.declared.alloc.Global.{Global}
-use Rattle.std_alloc.specs.declared.vec.deque.VecDeque.{VecDeque}
+use Rattle.std.specs.declared.collections.VecDeque.{VecDeque}
 use Rattle.atomic_table.specs.Seated.{TableId}
 use Rattle.accept.specs.Calls.{AreNumbers}
 use Rattle.accept.specs.declared.call.Call.{Call}
@@ -69,6 +69,7 @@ AreNumbered n (a ∷ asks) = (a.number ≡ n) × AreNumbered (n + 1) asks
 pub record AreSomeOpen (old new : Passed) (calls left : List Call) (first count : ℕ) : Type 0 where
   pub front : List Call
   pub calls_are : calls ≡ front ++ left
+  pub counted : length front ≡ count
   pub announced : AreAnnounced old front new
   pub rested : IsRested old.caller
   pub numbers : AreNumbered first new.caller.pending
