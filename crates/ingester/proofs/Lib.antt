@@ -7,6 +7,7 @@ pub mod Grounding
 pub mod Lasting
 pub mod Listing
 pub mod Making
+pub mod Receiving
 pub mod Refusing
 pub mod Returning
 pub mod Routing

@@ -21,6 +21,7 @@ use Rattle.lanes.specs.Lanes.{IsBatch}
 use Rattle.lanes.specs.Openings.{Opening, HasSpentLog}
 use Rattle.ingester.specs.declared.fault.CallFault.{CallFault}
 use Rattle.ingester.specs.Faults.{fault_of}
+use Rattle.ingester.specs.Calls.{IsPassOf, IsGiven}
 
 -- the pass with its next call announced
 abbrev pub with_next : Passed → Call → Passed
@@ -107,3 +108,17 @@ pub record IsTaken {D : Type 0} (opening : Opening D) (old new : Passed) (outcom
 abbrev pub AreTaken : {D : Type 0} → Opening D → Passed → List (Result Reply CallFault) → Passed → Type 0
 AreTaken opening old [] new = new ≡ old
 AreTaken opening old (outcome ∷ outcomes) new = (mid : Passed) × IsTaken opening old mid outcome × AreTaken opening mid outcomes new
+
+-- so many open calls, from the first on, were taken in, and this came of them
+pub record AreReceived {D : Type 0} (opening : Opening D) (old new : Passed) (before after : List (Result Reply CallFault)) (count : ℕ) : Type 0 where
+  pub came : List (Result Reply CallFault)
+  pub outcomes_are : after ≡ before ++ came
+  pub counted : length came ≡ count
+  pub taken : AreTaken opening old came new
+
+-- the first of the calls was refused
+pub record IsNextRefused {D : Type 0} (opening : Opening D) (old new : Passed) (calls left : List Call) (fault : CallFault) : Type 0 where
+  pub call : Call
+  pub calls_are : calls ≡ call ∷ left
+  pub given : IsGiven opening old call (Err fault) new
+  pub pass : IsPassOf opening new

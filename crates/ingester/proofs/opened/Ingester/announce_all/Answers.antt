@@ -18,6 +18,7 @@ loop-count-init g c =
       calls = c.in_ok-first.ensures.not;
       capacity = c.in_ok-first.ensures.capacity;
       next = ap (λ (n : ℕ). n + 1) (next.number_is ∙ sym (ap (λ (p : Passed). p.caller.last) next.pass));
+      fits = let low = c.in_ok-first.ensures.fits in omega arith;
       table = ap (λ (p : Passed). p.table) next.pass ∙ c.requires.pass.table;
       about = ap (λ (p : Passed). p.caller.about) next.pass ∙ c.requires.pass.about;
       number = subst (λ (p : Passed). p.caller.pass < c.args.self.now.about.passes) (sym next.pass) c.requires.number;
@@ -40,6 +41,7 @@ loop-count-preserved g c =
       calls = let had = inv.calls in let fewer : deque_len left + 1 ≡ deque_len c.loop-count.calls = c.in-Some.ensures.not in omega arith;
       capacity = c.in-Some.ensures.capacity ∙ inv.capacity;
       next = let last : now.caller.last ≡ was.caller.last + 1 = ap (λ (p : Passed). p.caller.last) next.pass in let had = inv.next in omega arith;
+      fits = let low = c.in-Some.ensures.fits in let is = next.number_is in let had = inv.next in omega arith;
       table = ap (λ (p : Passed). p.table) next.pass ∙ inv.table;
       about = ap (λ (p : Passed). p.caller.about) next.pass ∙ inv.about;
       number = subst (λ (p : Passed). p.caller.pass < c.args.self.now.about.passes) (sym next.pass) inv.number;

@@ -1,4 +1,4 @@
-use Rattle.std.proofs.Common.{◌≡◌, ◌+◌, ◌<◌, length}
+use Rattle.std.proofs.Common.{◌≡◌, ◌+◌, ◌^◌, ◌<◌, ◌≤◌, length}
 use Rattle.std.specs.Prelude.{All}
 use Rattle.std.specs.VecDeque.{deque_len, deque_capacity}
 use Rattle.accept.specs.Calls.{AreNumbers}
@@ -15,6 +15,7 @@ invariant-loop-count g l = record {
   calls : deque_len l.calls + l.count ≡ deque_len l.fn.calls;
   capacity : deque_capacity l.calls ≡ deque_capacity l.fn.calls;
   next : l.first + l.count ≡ l.pass.caller.last + 1;
+  fits : l.first + l.count ≤ 2 ^ 64;
   table : l.pass.table ≡ l.self.table;
   about : l.pass.caller.about ≡ l.self.about;
   number : l.pass.caller.pass < l.self.about.passes;
