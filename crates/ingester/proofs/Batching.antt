@@ -92,28 +92,28 @@ module _ (table : TableId) (about : About) where
       → was ≡ get_or batches k was → now.items ≡ was.items ++ job_of c call ∷ [] → AreBatchesOf table about c batches → AreBatchesOf table about (announce_to c (c.last + 1) call) (slice_set batches k now)
   batches_more c call batches k was now at below numbers here lt there is all j jobs e = ⊎_elim
       (λ (same : j ≡ k).
-        let mine : jobs ≡ now = sym (get_or_from_slice_get (slice_set batches k now) j jobs now e) ∙ ap (λ (n : ℕ). get_or (slice_set batches k now) n now) same ∙ get_or-set_same batches k now now lt in
-        let before : IsBatchOf table about k c was.items = all k was (slice_get-get_or batches k was lt ∙ ap Some (sym there)) in
-        subst (λ (n : ℕ). IsBatchOf table about n (announce_to c (c.last + 1) call) jobs.items) (here ∙ sym same) (batch_more c call was.items jobs.items at below numbers (subst (λ (n : ℕ). IsBatchOf table about n c was.items) (sym here) before) (ap (λ (d : VecDeque Job Global). d.items) mine ∙ is)))
+      let mine : jobs ≡ now = sym (get_or_from_slice_get (slice_set batches k now) j jobs now e) ∙ ap (λ (n : ℕ). get_or (slice_set batches k now) n now) same ∙ get_or-set_same batches k now now lt in
+      let before : IsBatchOf table about k c was.items = all k was (slice_get-get_or batches k was lt ∙ ap Some (sym there)) in
+      subst (λ (n : ℕ). IsBatchOf table about n (announce_to c (c.last + 1) call) jobs.items) (here ∙ sym same) (batch_more c call was.items jobs.items at below numbers (subst (λ (n : ℕ). IsBatchOf table about n c was.items) (sym here) before) (ap (λ (d : VecDeque Job Global). d.items) mine ∙ is)))
       (λ (ne : j ≢ k).
-        let long : length (slice_set batches k now) ≡ length batches = length-set batches k now in
-        let within : j < length (slice_set batches k now) = slice_get_within (slice_set batches k now) j jobs e in
-        let still : get_or batches j jobs ≡ jobs = sym (get_or-set_other batches k j now jobs ne) ∙ get_or_from_slice_get (slice_set batches k now) j jobs jobs e in
-        batch_same c call j jobs.items (λ (same : j ≡ shard_in about (ask_of c (c.last + 1) call)). ne (same ∙ here)) (all j jobs (slice_get-get_or batches j jobs (omega arith) ∙ ap Some still)))
+      let long : length (slice_set batches k now) ≡ length batches = length-set batches k now in
+      let within : j < length (slice_set batches k now) = slice_get_within (slice_set batches k now) j jobs e in
+      let still : get_or batches j jobs ≡ jobs = sym (get_or-set_other batches k j now jobs ne) ∙ get_or_from_slice_get (slice_set batches k now) j jobs jobs e in
+      batch_same c call j jobs.items (λ (same : j ≡ shard_in about (ask_of c (c.last + 1) call)). ne (same ∙ here)) (all j jobs (slice_get-get_or batches j jobs (omega arith) ∙ ap Some still)))
       (cases_eq j k)
 
   -- no call more
   pub batches_alike : (c : Caller) (batches : List (VecDeque Job Global)) (k : ℕ) (was now : VecDeque Job Global) → k < length batches → was ≡ get_or batches k was → now.items ≡ was.items → AreBatchesOf table about c batches → AreBatchesOf table about c (slice_set batches k now)
   batches_alike c batches k was now lt there is all j jobs e = ⊎_elim
       (λ (same : j ≡ k).
-        let mine : jobs ≡ now = sym (get_or_from_slice_get (slice_set batches k now) j jobs now e) ∙ ap (λ (n : ℕ). get_or (slice_set batches k now) n now) same ∙ get_or-set_same batches k now now lt in
-        let before : IsBatchOf table about k c was.items = all k was (slice_get-get_or batches k was lt ∙ ap Some (sym there)) in
-        subst (λ (z : ℕ × List Job). IsBatchOf table about z.0 c z.1) (λ i. (sym same i, sym (ap (λ (d : VecDeque Job Global). d.items) mine ∙ is) i)) before)
+      let mine : jobs ≡ now = sym (get_or_from_slice_get (slice_set batches k now) j jobs now e) ∙ ap (λ (n : ℕ). get_or (slice_set batches k now) n now) same ∙ get_or-set_same batches k now now lt in
+      let before : IsBatchOf table about k c was.items = all k was (slice_get-get_or batches k was lt ∙ ap Some (sym there)) in
+      subst (λ (z : ℕ × List Job). IsBatchOf table about z.0 c z.1) (λ i. (sym same i, sym (ap (λ (d : VecDeque Job Global). d.items) mine ∙ is) i)) before)
       (λ (ne : j ≢ k).
-        let long : length (slice_set batches k now) ≡ length batches = length-set batches k now in
-        let within : j < length (slice_set batches k now) = slice_get_within (slice_set batches k now) j jobs e in
-        let still : get_or batches j jobs ≡ jobs = sym (get_or-set_other batches k j now jobs ne) ∙ get_or_from_slice_get (slice_set batches k now) j jobs jobs e in
-        all j jobs (slice_get-get_or batches j jobs (omega arith) ∙ ap Some still))
+      let long : length (slice_set batches k now) ≡ length batches = length-set batches k now in
+      let within : j < length (slice_set batches k now) = slice_get_within (slice_set batches k now) j jobs e in
+      let still : get_or batches j jobs ≡ jobs = sym (get_or-set_other batches k j now jobs ne) ∙ get_or_from_slice_get (slice_set batches k now) j jobs jobs e in
+      all j jobs (slice_get-get_or batches j jobs (omega arith) ∙ ap Some still))
       (cases_eq j k)
 
   -- one call more in the batch of its shard

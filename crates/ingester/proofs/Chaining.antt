@@ -67,8 +67,7 @@ module _ {D : Type 0} (opening : Opening D) where
       let here = first_still old.caller.pending x h.first a is h.is_first in
       let s : Step = step_of h.first reply in
       let by : IsCollected (with_next old call) new h.first reply = h.by in
-      let c : Caller = collect_to old.caller s by.upto in
-      (
+      let c : Caller = collect_to old.caller s by.upto in (
         record { table = old.table; caller = c; closed = old.closed },
         record {
           first = h.first;
@@ -86,8 +85,7 @@ module _ {D : Type 0} (opening : Opening D) where
       let a : Ask = ask_of old.caller (old.caller.last + 1) call in
       let here = first_still old.caller.pending x h.first a is h.is_first in
       let by : IsWithdrawn opening (with_next old call) new h.first fault = h.by in
-      let c : Caller = withdraw_to old.caller h.first.number in
-      (
+      let c : Caller = withdraw_to old.caller h.first.number in (
         record { table = old.table; caller = c; closed = old.closed },
         record { first = h.first; is_first = here; by = record { cause = by.cause; fault_is = by.fault_is; pass = refl; spent = by.spent } },
         by.pass ∙ (λ i. record {
@@ -161,10 +159,13 @@ module _ {D : Type 0} (opening : Opening D) where
     where
       a : Ask
       a = ask_of old.caller (old.caller.last + 1) call
+
       mine : a ≡ h.first
       mine = first_only (old.caller.pending ++ a ∷ []) old.caller.pending h.first a refl is.idle h.is_first
+
       by : IsTakenBy opening (with_next old call) new (ask_of old.caller (old.caller.last + 1) call) r
       by = subst (λ (x : Ask). IsTakenBy opening (with_next old call) new x r) (sym mine) h.by
+
       pick : (r : Result Reply CallFault) → IsTakenBy opening (with_next old call) new (ask_of old.caller (old.caller.last + 1) call) r → IsDone old call r new
       pick (Ok reply) by = collected_next old new call reply is up by
       pick (Err fault) by = withdrawn_next old new call fault is up by

@@ -1,4 +1,4 @@
-use Rattle.std.proofs.Common.{◌≡◌, ◌≤◌, ℕ, []}
+use Rattle.std.proofs.Common.{◌≡◌, ℕ, []}
 use Rattle.std.specs.Prelude.{Some, slice_get, vec_len}
 use Rattle.std.specs.Vec.{vec_capacity}
 use Rattle.std.specs.declared.alloc.Global.{Global}

@@ -1,6 +1,5 @@
-use Rattle.std.proofs.Common.{rules, ◌≡◌, ◌+◌, ◌<◌, ℕ, List, ap, sym, ◌∙◌, subst, length, arith}
+use Rattle.std.proofs.Common.{rules, ◌≡◌, ◌+◌, ◌<◌, ℕ, ap, sym, ◌∙◌, subst, arith}
 use Rattle.std.specs.VecDeque.{deque_len}
-use Rattle.accept.specs.declared.history.Ask.{Ask}
 use Rattle.history.specs.Handles.{Passed}
 use Rattle.ingester.proofs.Gathering.{some_first, some_more, first_waits, more_wait, left_numbers}
 use Rattle.ingester.proofs.opened.Ingester.announce_all.Goals as goal

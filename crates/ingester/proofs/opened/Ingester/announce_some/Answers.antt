@@ -1,5 +1,4 @@
 use Rattle.std.proofs.Common.{rules, ◌≡◌, ◌∙◌, ap, sym, subst}
-use Rattle.std.specs.Prelude.{vec_len}
 use Rattle.std.proofs.lemmas.List.{with_items_is}
 use Rattle.ingester.specs.Batches.{AreBatchesOf}
 use Rattle.ingester.proofs.Batching.{batches_none}

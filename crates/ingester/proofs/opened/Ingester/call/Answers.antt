@@ -25,8 +25,13 @@ make-requires-clause-job g c =
       shard = routed c.self.inside.lanes.about c.in_ok-ticket.ticket.ask c.args.call c.self.inside.count c.shard_number-shard.result (ap (λ t. t.ask.call) ticket) shards c.shard_number-shard.ensures;
       call = ap (λ t. t.ask.call) ticket;
       numbers = c.requires.numbers;
-      alone = ap (λ t. t.before) ticket ∙ alone_before k (k.last + 1) c.args.call c.requires.pass.idle;
     }
+
+pub make-requires-clause-alone : goal.make-requires-clause-alone
+make-requires-clause-alone g c =
+    let k = c.args.pass.now.caller in
+    let ticket = c.in_ok-ticket.ensures.ticket in
+    ap (λ t. t.before) ticket ∙ alone_before k (k.last + 1) c.args.call c.requires.pass.idle
 
 pub returns-in-Refused-clause-spent : goal.returns-in-Refused-clause-spent
 returns-in-Refused-clause-spent g c = λ is.

@@ -1,4 +1,4 @@
-use Rattle.std.proofs.Common.{◌≡◌, ℕ, ap, sym, ◌∙◌, subst}
+use Rattle.std.proofs.Common.{ℕ, sym, ◌∙◌, subst}
 use Rattle.lanes.specs.Lanes.{IsBatch}
 use Rattle.lanes.specs.Openings.{Opening}
 use Rattle.ingester.proofs.opened.Ingester.make_round.Goals as goal

@@ -1,5 +1,4 @@
-use Rattle.std.proofs.Common.{rules, ◌≡◌, ◌+◌, ◌<◌, ap, sym, ◌∙◌, length, arith}
-use Rattle.std.specs.VecDeque.{deque_len, deque_capacity}
+use Rattle.std.proofs.Common.{◌∙◌, arith}
 use Rattle.ingester.proofs.Receiving.{taken_behind, receiving_more, received_more}
 use Rattle.ingester.proofs.opened.Ingester.receive_all.Goals as goal
 
