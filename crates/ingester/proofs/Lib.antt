@@ -1,9 +1,13 @@
+pub mod Batching
+pub mod Chaining
 pub mod Comparing
 pub mod Finding
+pub mod Gathering
 pub mod Grounding
 pub mod Lasting
 pub mod Listing
 pub mod Making
+pub mod Receiving
 pub mod Refusing
 pub mod Returning
 pub mod Routing

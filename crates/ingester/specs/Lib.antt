@@ -4,3 +4,4 @@ pub mod Calls
 pub mod Closings
 pub mod Findings
 pub mod Makings
+pub mod Batches

@@ -23,7 +23,7 @@ use std::alloc::Global;
 use std::sync::Wait;
 
 // The number of the shard that a call belongs to, among so many.
-fn shard_number(call: &Call, shards: u32) -> usize
+pub(crate) fn shard_number(call: &Call, shards: u32) -> usize
     requires some { 1 ≤ shards }
     requires few { shards ≤ 64 }
     ensures { result ≡ shard (key_of call.now) shards }

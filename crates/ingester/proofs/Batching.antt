@@ -1,0 +1,139 @@
+-- Jobs of a pass's open calls, in batches of their shards.
+use Rattle.std.proofs.Common.{◌≡◌, ◌≢◌, ℕ, ◌+◌, ◌<◌, List, [], ◌∷◌, ◌++◌, Bool, true, false, cond, eqb, length, refl, sym, ap, ◌∙◌, subst, ⊎_elim, append_assoc, append-nil, get_or, arith, eq-eqb, ne_eqb}
+use Rattle.std.specs.Prelude.{Option, Some, None, IfSome, MatchOption, slice_get, slice_set}
+use Rattle.std.specs.declared.alloc.Global.{Global}
+use Rattle.std.specs.declared.collections.VecDeque.{VecDeque}
+use Rattle.std.proofs.lemmas.List.{get_or-set_same, get_or-set_other, length-set}
+use Rattle.std.proofs.lemmas.Option.{slice_get-get_or, slice_get_within, get_or_from_slice_get}
+use Rattle.std.proofs.lemmas.Bool.{cases_eq}
+use Rattle.atomic_table.specs.Seated.{TableId}
+use Rattle.accept.specs.Calls.{AreNumbers}
+use Rattle.accept.specs.declared.call.Call.{Call}
+use Rattle.accept.specs.declared.history.Ask.{Ask}
+use Rattle.history.specs.declared.views.About.{About}
+use Rattle.history.specs.declared.views.Caller.{Caller}
+use Rattle.history.specs.Histories.{asks_on, shard_in}
+use Rattle.history.specs.Plays.{ask_of, before_of, announce_to}
+use Rattle.history.specs.Handles.{Announced, Passed, asks_of, AreInLine}
+use Rattle.accept.specs.Histories.{key_of}
+use Rattle.labels.specs.Shards.{shard}
+use Rattle.ingester.proofs.Routing.{routed}
+use Rattle.shard.specs.declared.front.Job.{Job}
+use Rattle.shard.specs.Jobs.{tickets_of}
+use Rattle.lanes.specs.Lanes.{IsOpen, IsWaiting, AreWaiting, AreOfPass, IsBatch}
+use Rattle.ingester.specs.Batches.{IsBatchOf, AreBatchesOf, AreNumbered, IsJoined}
+
+tickets_more : (jobs : List Job) (job : Job) → tickets_of (jobs ++ job ∷ []) ≡ tickets_of jobs ++ job.ticket ∷ []
+tickets_more [] job = refl
+tickets_more (j ∷ jobs) job = ap (λ (l : List Announced). j.ticket ∷ l) (tickets_more jobs job)
+
+asks_more : (ts : List Announced) (t : Announced) → asks_of (ts ++ t ∷ []) ≡ asks_of ts ++ t.ask ∷ []
+asks_more [] t = refl
+asks_more (u ∷ ts) t = ap (λ (l : List Ask). u.ask ∷ l) (asks_more ts t)
+
+of_pass_more : (p : ℕ) (ts : List Announced) (t : Announced) → AreOfPass p ts → t.ask.pass ≡ p → AreOfPass p (ts ++ t ∷ [])
+of_pass_more p [] t h e = (e, tt)
+of_pass_more p (u ∷ ts) t h e = (h.0, of_pass_more p ts t h.1 e)
+
+line_more : (front : List Ask) (ts : List Announced) (t : Announced) → AreInLine front ts → t.before ≡ front ++ asks_of ts → AreInLine front (ts ++ t ∷ [])
+line_more front [] t h e = (e ∙ append-nil front, tt)
+line_more front (u ∷ ts) t h e = (h.0, line_more (front ++ u.ask ∷ []) ts t h.1 (e ∙ sym (append_assoc front (u.ask ∷ []) (asks_of ts))))
+
+cond_asks : (b : Bool) (a : Ask) (xs ys : List Ask) → cond b (a ∷ (xs ++ ys)) (xs ++ ys) ≡ cond b (a ∷ xs) xs ++ ys
+cond_asks true a xs ys = refl
+cond_asks false a xs ys = refl
+
+asks_on_append : (about : About) (k : ℕ) (xs ys : List Ask) → asks_on about k (xs ++ ys) ≡ asks_on about k xs ++ asks_on about k ys
+asks_on_append about k [] ys = refl
+asks_on_append about k (a ∷ xs) ys = ap (λ (l : List Ask). cond (eqb k (shard_in about a)) (a ∷ l) l) (asks_on_append about k xs ys) ∙ cond_asks (eqb k (shard_in about a)) a (asks_on about k xs) (asks_on about k ys)
+
+asks_here : (about : About) (k : ℕ) (xs : List Ask) (a : Ask) → k ≡ shard_in about a → asks_on about k (xs ++ a ∷ []) ≡ asks_on about k xs ++ a ∷ []
+asks_here about k xs a e = asks_on_append about k xs (a ∷ []) ∙ ap (λ (b : Bool). asks_on about k xs ++ cond b (a ∷ []) []) (eq-eqb k (shard_in about a) e)
+
+asks_elsewhere : (about : About) (k : ℕ) (xs : List Ask) (a : Ask) → k ≢ shard_in about a → asks_on about k (xs ++ a ∷ []) ≡ asks_on about k xs
+asks_elsewhere about k xs a e = asks_on_append about k xs (a ∷ []) ∙ ap (λ (b : Bool). asks_on about k xs ++ cond b (a ∷ []) []) (ne_eqb k (shard_in about a) e) ∙ append-nil (asks_on about k xs)
+
+-- one open call more
+pub numbered_more : (n : ℕ) (asks : List Ask) (a : Ask) → AreNumbered n asks → a.number ≡ n + length asks → AreNumbered n (asks ++ a ∷ [])
+numbered_more n [] a h e = let is : a.number ≡ n = omega arith in (is, tt)
+numbered_more n (b ∷ asks) a h e = (h.0, numbered_more (n + 1) asks a h.1 (omega arith))
+
+module _ (table : TableId) (about : About) where
+  waiting_more : (k : ℕ) (jobs : List Job) (job : Job) → AreWaiting table about k jobs → IsWaiting table about k job → AreWaiting table about k (jobs ++ job ∷ [])
+  waiting_more k [] job h is = (is, tt)
+  waiting_more k (j ∷ jobs) job h is = (h.0, waiting_more k jobs job h.1 is)
+
+  -- the job of the next call of a pass
+  abbrev pub job_of : Caller → Call → Job
+  job_of c call = record { ticket = record { table = table; ask = ask_of c (c.last + 1) call; doubted = false; before = before_of c (c.last + 1) call }; call = call }
+
+  batch_more : (c : Caller) (call : Call) (jobs now : List Job) → c.about ≡ about → c.pass < about.passes → AreNumbers call → IsBatchOf table about (shard_in about (ask_of c (c.last + 1) call)) c jobs → now ≡ jobs ++ job_of c call ∷ []
+      → IsBatchOf table about (shard_in about (ask_of c (c.last + 1) call)) (announce_to c (c.last + 1) call) now
+  batch_more c call jobs now at below numbers h is =
+      let a : Ask = ask_of c (c.last + 1) call in
+      let k : ℕ = shard_in about a in
+      let job : Job = job_of c call in
+      let ts : List Announced = tickets_of jobs in
+      let before : job.ticket.before ≡ asks_of ts = (λ i. asks_on (at i) (shard_in (at i) a) c.pending) ∙ sym h.asks in
+      subst (IsBatchOf table about k (announce_to c (c.last + 1) call)) (sym is) (record {
+        batch = record {
+          waiting = waiting_more k jobs job h.batch.waiting (record { ticket = record { same_table = refl; pass = below; sure = refl }; shard = refl; call = refl; numbers = numbers });
+          pass = subst (AreOfPass c.pass) (sym (tickets_more jobs job)) (of_pass_more c.pass ts job.ticket h.batch.pass refl);
+          line = subst (AreInLine []) (sym (tickets_more jobs job)) (line_more [] ts job.ticket h.batch.line before);
+        };
+        asks = ap asks_of (tickets_more jobs job) ∙ asks_more ts job.ticket ∙ ap (λ (l : List Ask). l ++ a ∷ []) h.asks ∙ sym (asks_here about k c.pending a refl);
+      })
+
+  batch_same : (c : Caller) (call : Call) (k : ℕ) (jobs : List Job) → k ≢ shard_in about (ask_of c (c.last + 1) call) → IsBatchOf table about k c jobs → IsBatchOf table about k (announce_to c (c.last + 1) call) jobs
+  batch_same c call k jobs ne h = record { batch = h.batch; asks = h.asks ∙ sym (asks_elsewhere about k c.pending (ask_of c (c.last + 1) call) ne) }
+
+  -- one call more, in the batch of its shard
+  pub batches_more : (c : Caller) (call : Call) (batches : List (VecDeque Job Global)) (k : ℕ) (was now : VecDeque Job Global) → c.about ≡ about → c.pass < about.passes → AreNumbers call → shard_in about (ask_of c (c.last + 1) call) ≡ k → k < length batches
+      → was ≡ get_or batches k was → now.items ≡ was.items ++ job_of c call ∷ [] → AreBatchesOf table about c batches → AreBatchesOf table about (announce_to c (c.last + 1) call) (slice_set batches k now)
+  batches_more c call batches k was now at below numbers here lt there is all j jobs e = ⊎_elim
+      (λ (same : j ≡ k).
+      let mine : jobs ≡ now = sym (get_or_from_slice_get (slice_set batches k now) j jobs now e) ∙ ap (λ (n : ℕ). get_or (slice_set batches k now) n now) same ∙ get_or-set_same batches k now now lt in
+      let before : IsBatchOf table about k c was.items = all k was (slice_get-get_or batches k was lt ∙ ap Some (sym there)) in
+      subst (λ (n : ℕ). IsBatchOf table about n (announce_to c (c.last + 1) call) jobs.items) (here ∙ sym same) (batch_more c call was.items jobs.items at below numbers (subst (λ (n : ℕ). IsBatchOf table about n c was.items) (sym here) before) (ap (λ (d : VecDeque Job Global). d.items) mine ∙ is)))
+      (λ (ne : j ≢ k).
+      let long : length (slice_set batches k now) ≡ length batches = length-set batches k now in
+      let within : j < length (slice_set batches k now) = slice_get_within (slice_set batches k now) j jobs e in
+      let still : get_or batches j jobs ≡ jobs = sym (get_or-set_other batches k j now jobs ne) ∙ get_or_from_slice_get (slice_set batches k now) j jobs jobs e in
+      batch_same c call j jobs.items (λ (same : j ≡ shard_in about (ask_of c (c.last + 1) call)). ne (same ∙ here)) (all j jobs (slice_get-get_or batches j jobs (omega arith) ∙ ap Some still)))
+      (cases_eq j k)
+
+  -- no call more
+  pub batches_alike : (c : Caller) (batches : List (VecDeque Job Global)) (k : ℕ) (was now : VecDeque Job Global) → k < length batches → was ≡ get_or batches k was → now.items ≡ was.items → AreBatchesOf table about c batches → AreBatchesOf table about c (slice_set batches k now)
+  batches_alike c batches k was now lt there is all j jobs e = ⊎_elim
+      (λ (same : j ≡ k).
+      let mine : jobs ≡ now = sym (get_or_from_slice_get (slice_set batches k now) j jobs now e) ∙ ap (λ (n : ℕ). get_or (slice_set batches k now) n now) same ∙ get_or-set_same batches k now now lt in
+      let before : IsBatchOf table about k c was.items = all k was (slice_get-get_or batches k was lt ∙ ap Some (sym there)) in
+      subst (λ (z : ℕ × List Job). IsBatchOf table about z.0 c z.1) (λ i. (sym same i, sym (ap (λ (d : VecDeque Job Global). d.items) mine ∙ is) i)) before)
+      (λ (ne : j ≢ k).
+      let long : length (slice_set batches k now) ≡ length batches = length-set batches k now in
+      let within : j < length (slice_set batches k now) = slice_get_within (slice_set batches k now) j jobs e in
+      let still : get_or batches j jobs ≡ jobs = sym (get_or-set_other batches k j now jobs ne) ∙ get_or_from_slice_get (slice_set batches k now) j jobs jobs e in
+      all j jobs (slice_get-get_or batches j jobs (omega arith) ∙ ap Some still))
+      (cases_eq j k)
+
+  -- one call more in the batch of its shard
+  pub batches_joined : (old new : Passed) (calls left : List Call) (batches : List (VecDeque Job Global)) (k count number : ℕ) (was now : VecDeque Job Global) (first : Call) → old.caller.about ≡ about → old.caller.pass < about.passes → about.shards ≡ count → first ≡ get_or calls 0 first → k ≡ shard (key_of first) count → k < length batches
+      → was ≡ get_or batches k was → AreBatchesOf table about old.caller batches → IsJoined table old new calls left was.items now.items number → AreBatchesOf table about new.caller (slice_set batches k now)
+  batches_joined old new calls left batches k count number was now first at below shards is_first routes lt there all h =
+      let a : Ask = ask_of old.caller (old.caller.last + 1) h.call in
+      let same : h.call ≡ first = sym (is_first ∙ ap (λ (l : List Call). get_or l 0 first) h.calls_are) in
+      subst (λ (p : Passed). AreBatchesOf table about p.caller (slice_set batches k now)) (sym h.pass)
+      (batches_more old.caller h.call batches k was now at below h.numbers (routed about a first count k same shards routes) lt there h.jobs_are all)
+
+  -- that, or no call more
+  pub batches_after : (old new : Passed) (calls left : List Call) (batches : List (VecDeque Job Global)) (k count : ℕ) (was now : VecDeque Job Global) (first : Call) (r : Option ℕ) (P : Type 0) (Q : ℕ → Type 0) → old.caller.about ≡ about → old.caller.pass < about.passes → about.shards ≡ count → first ≡ get_or calls 0 first → k ≡ shard (key_of first) count → k < length batches
+      → was ≡ get_or batches k was → AreBatchesOf table about old.caller batches → IfSome r (λ number. IsJoined table old new calls left was.items now.items number) → MatchOption r ((new ≡ old) × P × (now.items ≡ was.items)) Q → AreBatchesOf table about new.caller (slice_set batches k now)
+  batches_after old new calls left batches k count was now first (Some number) P Q at below shards is_first routes lt there all h _ = batches_joined old new calls left batches k count number was now first at below shards is_first routes lt there all h
+  batches_after old new calls left batches k count was now first None P Q at below shards is_first routes lt there all _ h =
+      subst (λ (p : Passed). AreBatchesOf table about p.caller (slice_set batches k now)) (sym h.0) (batches_alike old.caller batches k was now lt there h.2 all)
+
+  -- batches without a call
+  pub batches_none : (c : Caller) (batches : List (VecDeque Job Global)) → c.pending ≡ [] → ((k : ℕ) (jobs : VecDeque Job Global) → slice_get batches k ≡ Some jobs → jobs.items ≡ []) → AreBatchesOf table about c batches
+  batches_none c batches idle none k jobs e =
+      let empty : IsBatchOf table about k c [] = record { batch = record { waiting = tt; pass = tt; line = tt }; asks = ap (λ (l : List Ask). asks_on about k l) (sym idle) } in
+      subst (IsBatchOf table about k c) (sym (none k jobs e)) empty

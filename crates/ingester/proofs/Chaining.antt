@@ -1,0 +1,195 @@
+-- Calls that a pass announces together, and whose answers it takes in one after another: as if each had been made alone.
+use Rattle.std.proofs.Common.{◌≡◌, ◌≢◌, ◌↔◌, ℕ, ◌+◌, List, [], ◌∷◌, ◌++◌, true, false, length, refl, sym, ap, ◌∙◌, subst, arith}
+use Rattle.std.specs.Prelude.{Result, Ok, Err, IfOk, IfErr}
+use Rattle.std.specs.Result.{IsErrOf}
+use Rattle.std.proofs.lemmas.Bool.{false≢true}
+use Rattle.accept.specs.declared.call.Call.{Call}
+use Rattle.accept.specs.declared.call.Reply.{Reply}
+use Rattle.accept.specs.declared.history.Ask.{Ask}
+use Rattle.accept.specs.declared.history.Item.{Item}
+use Rattle.accept.specs.declared.history.Step.{Step}
+use Rattle.history.specs.declared.views.About.{About}
+use Rattle.history.specs.declared.views.Caller.{Caller}
+use Rattle.history.specs.Histories.{IsLegalAt, IsByPasses, IsFirst, behind_first, shard_in, step_of}
+use Rattle.history.specs.Plays.{seen_at, ask_of, announce_to, withdraw_to, collect_to, Extends, IsRested}
+use Rattle.history.specs.Handles.{Passed, is_closed}
+use Rattle.shard.specs.declared.fault.ApplyFault.{ApplyFault}
+use Rattle.shard.specs.declared.fault.ApplyFault.TheVariants.{Memory, GenerationSpent}
+use Rattle.lanes.specs.Openings.{Opening, HasSpentLog}
+use Rattle.ingester.specs.declared.fault.CallFault.{CallFault}
+use Rattle.ingester.specs.declared.fault.CallFault.TheVariants as faults
+use Rattle.ingester.specs.Faults.{fault_of}
+use Rattle.ingester.specs.Calls.{IsPassOf, IsAnswered, IsRefused, IsGiven, AreGiven, next_step, shard_for, without_next}
+use Rattle.ingester.specs.Batches.{with_next, AreAnnounced, IsCollected, IsWithdrawn, IsTakenBy, IsTaken, AreTaken}
+use Rattle.ingester.proofs.Refusing.{first_only, log_spent}
+
+behind_more : (qs : List Ask) (a b : Ask) → IsFirst a qs → behind_first (qs ++ b ∷ []) ≡ behind_first qs ++ b ∷ []
+behind_more [] a b h = absurd h
+behind_more (c ∷ qs) a b h = refl
+
+first_more : (qs : List Ask) (a b : Ask) → IsFirst a qs → IsFirst a (qs ++ b ∷ [])
+first_more [] a b h = absurd h
+first_more (c ∷ qs) a b h = h
+
+first_still : (qs : List Ask) (x a b : Ask) → IsFirst x qs → IsFirst a (qs ++ b ∷ []) → IsFirst a qs
+first_still [] x a b is h = absurd is
+first_still (c ∷ qs) x a b is h = h
+
+first_alone : (qs : List Ask) (a : Ask) → qs ≡ [] → IsFirst a (qs ++ a ∷ [])
+first_alone qs a none = subst (λ (l : List Ask). IsFirst a (l ++ a ∷ [])) (sym none) refl
+
+-- one call more is announced
+pub announced_more : (old mid new : Passed) (calls : List Call) (call : Call) → AreAnnounced old calls mid → is_closed mid ≡ false → new ≡ with_next mid call → AreAnnounced old (calls ++ call ∷ []) new
+announced_more old mid new [] call a up is = (ap is_closed (sym a) ∙ up, is ∙ ap (λ (p : Passed). with_next p call) a)
+announced_more old mid new (c ∷ calls) call a up is = (a.0, announced_more (with_next old c) mid new calls call a.1 up is)
+
+refused_as : (cause : ApplyFault) (fault : CallFault) (old new : Passed) → fault ≡ fault_of cause → new ≡ without_next old → IsRefused old new fault
+refused_as Memory fault old new e is = subst (IsRefused old new) (sym e) is
+refused_as GenerationSpent fault old new e is = subst (IsRefused old new) (sym e) is
+
+not_closed : (cause : ApplyFault) (fault : CallFault) → fault ≡ fault_of cause → IsErrOf {T = Reply} {E = CallFault} (Err fault) faults.PassClosed → ⊥
+not_closed Memory fault e is = let one : Err fault ≡ Err faults.PassClosed = is in cc
+not_closed GenerationSpent fault e is = let one : Err fault ≡ Err faults.PassClosed = is in cc
+
+not_refused : (reply : Reply) (fault : CallFault) → IsErrOf {T = Reply} {E = CallFault} (Ok reply) fault → ⊥
+not_refused reply fault is = let one : Ok reply ≡ Err fault = is in cc
+
+module _ {D : Type 0} (opening : Opening D) where
+  -- one answer more is taken in
+  pub taken_more : (old mid new : Passed) (rs : List (Result Reply CallFault)) (r : Result Reply CallFault) → AreTaken opening old rs mid → IsTaken opening mid new r → AreTaken opening old (rs ++ r ∷ []) new
+  taken_more old mid new [] r a h = (new, subst (λ (p : Passed). IsTaken opening p new r) a h, refl)
+  taken_more old mid new (s ∷ rs) r a h = (a.0, a.1, taken_more a.0 mid new rs r a.2 h)
+
+  -- a call that is announced before an answer is taken in might as well be announced behind it
+  taken_before : (old new : Passed) (call : Call) (x : Ask) (r : Result Reply CallFault) → IsFirst x old.caller.pending → IsTaken opening (with_next old call) new r → (mid : Passed) × IsTaken opening old mid r × (new ≡ with_next mid call) × (is_closed mid ≡ is_closed old)
+  taken_before old new call x (Ok reply) is h =
+      let a : Ask = ask_of old.caller (old.caller.last + 1) call in
+      let here = first_still old.caller.pending x h.first a is h.is_first in
+      let s : Step = step_of h.first reply in
+      let by : IsCollected (with_next old call) new h.first reply = h.by in
+      let c : Caller = collect_to old.caller s by.upto in (
+        record { table = old.table; caller = c; closed = old.closed },
+        record {
+          first = h.first;
+          is_first = here;
+          by = record { upto = by.upto; pass = refl; seen = by.seen; extends = by.extends; legal = by.legal; by_passes = by.by_passes; others = by.others; rested = by.rested };
+        },
+        by.pass ∙ (λ i. record {
+          table = old.table;
+          caller = record { about = c.about; pass = c.pass; last = c.last + 1; seen = c.seen; made = c.made; withdrawn = c.withdrawn; pending = behind_more old.caller.pending x a is i };
+          closed = old.closed;
+        }),
+        refl,
+      )
+  taken_before old new call x (Err fault) is h =
+      let a : Ask = ask_of old.caller (old.caller.last + 1) call in
+      let here = first_still old.caller.pending x h.first a is h.is_first in
+      let by : IsWithdrawn opening (with_next old call) new h.first fault = h.by in
+      let c : Caller = withdraw_to old.caller h.first.number in (
+        record { table = old.table; caller = c; closed = old.closed },
+        record { first = h.first; is_first = here; by = record { cause = by.cause; fault_is = by.fault_is; pass = refl; spent = by.spent } },
+        by.pass ∙ (λ i. record {
+          table = old.table;
+          caller = record { about = c.about; pass = c.pass; last = c.last + 1; seen = c.seen; made = c.made; withdrawn = c.withdrawn; pending = behind_more old.caller.pending x a is i };
+          closed = old.closed;
+        }),
+        refl,
+      )
+
+  -- and so may all calls behind the first
+  taken_first : (old now new : Passed) (calls : List Call) (x : Ask) (r : Result Reply CallFault) → IsFirst x old.caller.pending → AreAnnounced old calls now → IsTaken opening now new r → (mid : Passed) × IsTaken opening old mid r × AreAnnounced mid calls new
+  taken_first old now new [] x r is a h = (new, subst (λ (p : Passed). IsTaken opening p new r) a h, refl)
+  taken_first old now new (call ∷ calls) x r is a h =
+      let more = taken_first (with_next old call) now new calls x r (first_more old.caller.pending x (ask_of old.caller (old.caller.last + 1) call) is) a.1 h in
+      let one = taken_before old more.0 call x r is more.1 in
+      (one.0, one.1, (one.3 ∙ a.0, subst (λ (p : Passed). AreAnnounced p calls new) one.2 more.2))
+
+  -- what came of the pass's only open call
+  pub record IsDone (old : Passed) (call : Call) (r : Result Reply CallFault) (new : Passed) : Type 0 where
+    pub given : IsGiven opening old call r new
+    pub pass : IsPassOf opening new
+    pub rested : IsRested old.caller → IsRested new.caller
+
+  collected_next : (old new : Passed) (call : Call) (reply : Reply) → IsPassOf opening old → is_closed old ≡ false → IsCollected (with_next old call) new (ask_of old.caller (old.caller.last + 1) call) reply → IsDone old call (Ok reply) new
+  collected_next old new call reply is up by =
+      let a : Ask = ask_of old.caller (old.caller.last + 1) call in
+      let c : Caller = announce_to old.caller (old.caller.last + 1) call in
+      let s : Step = next_step old.caller call reply in
+      let k : ℕ = shard_for old.caller call in
+      subst (IsDone old call (Ok reply)) (sym by.pass) (record {
+        given = record {
+          answered = record {
+            pass = ap (λ (u : List Item). record old { caller = collect_to c s u }) (sym by.seen);
+            extends = subst (Extends old.caller.pass (seen_at old.caller k) s) (sym by.seen) by.extends;
+            legal = subst (IsLegalAt old.caller.about k) (sym by.seen) by.legal;
+            by_passes = subst (IsByPasses old.caller.about.passes) (sym by.seen) by.by_passes;
+            others = by.others;
+          };
+          refused = tt;
+          closed = (λ (e : IsErrOf {T = Reply} {E = CallFault} (Ok reply) faults.PassClosed). absurd (not_refused reply faults.PassClosed e), λ (e : is_closed old ≡ true). absurd (false≢true (sym up ∙ e)));
+          spent = λ (e : IsErrOf {T = Reply} {E = CallFault} (Ok reply) faults.LogSpent). absurd (not_refused reply faults.LogSpent e);
+        };
+        pass = record { table = is.table; about = is.about; idle = ap (λ (l : List Ask). behind_first (l ++ a ∷ [])) is.idle };
+        rested = λ (_ : IsRested old.caller). by.rested;
+      })
+
+  withdrawn_next : (old new : Passed) (call : Call) (fault : CallFault) → IsPassOf opening old → is_closed old ≡ false → IsWithdrawn opening (with_next old call) new (ask_of old.caller (old.caller.last + 1) call) fault → IsDone old call (Err fault) new
+  withdrawn_next old new call fault is up by =
+      let a : Ask = ask_of old.caller (old.caller.last + 1) call in
+      let none : behind_first (old.caller.pending ++ a ∷ []) ≡ [] = ap (λ (l : List Ask). behind_first (l ++ a ∷ [])) is.idle in
+      let same : new ≡ without_next old = by.pass ∙ (λ i. record {
+        table = old.table;
+        caller = record { about = old.caller.about; pass = old.caller.pass; last = old.caller.last + 1; seen = old.caller.seen; made = old.caller.made; withdrawn = old.caller.withdrawn ++ (old.caller.last + 1) ∷ []; pending = none i };
+        closed = old.closed;
+      }) in
+      record {
+        given = record {
+          answered = tt;
+          refused = refused_as by.cause fault old new by.fault_is same;
+          closed = (λ (e : IsErrOf {T = Reply} {E = CallFault} (Err fault) faults.PassClosed). absurd (not_closed by.cause fault by.fault_is e), λ (e : is_closed old ≡ true). absurd (false≢true (sym up ∙ e)));
+          spent = λ (e : IsErrOf {T = Reply} {E = CallFault} (Err fault) faults.LogSpent). subst (λ (b : About). HasSpentLog opening (shard_in b a) call) (sym is.about) (by.spent (log_spent by.cause fault by.fault_is e));
+        };
+        pass = subst (IsPassOf opening) (sym same) (record { table = is.table; about = is.about; idle = refl });
+        rested = λ (r : IsRested old.caller). subst (λ (p : Passed). IsRested p.caller) (sym same) r;
+      }
+
+  -- the answer to the only open call, taken in
+  pub taken_next : (old new : Passed) (call : Call) (r : Result Reply CallFault) → IsPassOf opening old → is_closed old ≡ false → IsTaken opening (with_next old call) new r → IsDone old call r new
+  taken_next old new call r is up h = pick r by
+    where
+      a : Ask
+      a = ask_of old.caller (old.caller.last + 1) call
+
+      mine : a ≡ h.first
+      mine = first_only (old.caller.pending ++ a ∷ []) old.caller.pending h.first a refl is.idle h.is_first
+
+      by : IsTakenBy opening (with_next old call) new (ask_of old.caller (old.caller.last + 1) call) r
+      by = subst (λ (x : Ask). IsTakenBy opening (with_next old call) new x r) (sym mine) h.by
+
+      pick : (r : Result Reply CallFault) → IsTakenBy opening (with_next old call) new (ask_of old.caller (old.caller.last + 1) call) r → IsDone old call r new
+      pick (Ok reply) by = collected_next old new call reply is up by
+      pick (Err fault) by = withdrawn_next old new call fault is up by
+
+  -- what came of calls, made one after another
+  pub record AreDone (old : Passed) (calls : List Call) (rs : List (Result Reply CallFault)) (new : Passed) : Type 0 where
+    pub given : AreGiven opening old calls rs new
+    pub pass : IsPassOf opening new
+
+  -- calls that are announced together are as if made one after another
+  pub all_given : (old now new : Passed) (calls : List Call) (rs : List (Result Reply CallFault)) → IsPassOf opening old → IsRested old.caller → AreAnnounced old calls now → AreTaken opening now rs new → length rs ≡ length calls → AreDone old calls rs new
+  all_given old now new [] [] is rested a t n = record { given = t ∙ a; pass = subst (IsPassOf opening) (sym (t ∙ a)) is }
+  all_given old now new [] (r ∷ rs) is rested a t n = absurd (omega arith)
+  all_given old now new (call ∷ calls) [] is rested a t n = absurd (omega arith)
+  all_given old now new (call ∷ calls) (r ∷ rs) is rested a t n =
+      let mine : Ask = ask_of old.caller (old.caller.last + 1) call in
+      let first = taken_first (with_next old call) now t.0 calls mine r (first_alone old.caller.pending mine is.idle) a.1 t.1 in
+      let done = taken_next old first.0 call r is a.0 first.1 in
+      let rest = all_given first.0 t.0 new calls rs done.pass (done.rested rested) first.2 t.2 (omega arith) in
+      record { given = (first.0, done.given, rest.given); pass = rest.pass }
+
+  -- calls and then others
+  pub given_append : (old mid new : Passed) (cs ds : List Call) (rs ss : List (Result Reply CallFault)) → AreGiven opening old cs rs mid → AreGiven opening mid ds ss new → AreGiven opening old (cs ++ ds) (rs ++ ss) new
+  given_append old mid new [] ds [] ss g h = subst (λ (p : Passed). AreGiven opening p ds ss new) g h
+  given_append old mid new [] ds (r ∷ rs) ss g h = absurd g
+  given_append old mid new (c ∷ cs) ds [] ss g h = absurd g
+  given_append old mid new (c ∷ cs) ds (r ∷ rs) ss g h = (g.0, g.1, given_append g.0 mid new cs ds rs ss g.2 h)

@@ -1,0 +1,124 @@
+-- Calls of a pass that are announced one after another, and whose answers are taken in together.
+use Rattle.std.specs.Prelude.{◌≡◌, ◌≢◌, ℕ, ◌+◌, ◌<◌, List, [], ◌∷◌, ◌++◌, Option, Some, None, false, length, Result, Ok, Err, slice_get, slice_index_or}
+use Rattle.std.specs.declared.alloc.Global.{Global}
+use Rattle.std.specs.declared.collections.VecDeque.{VecDeque}
+use Rattle.atomic_table.specs.Seated.{TableId}
+use Rattle.accept.specs.Calls.{AreNumbers}
+use Rattle.accept.specs.declared.call.Call.{Call}
+use Rattle.accept.specs.declared.call.Reply.{Reply}
+use Rattle.accept.specs.declared.history.Ask.{Ask}
+use Rattle.accept.specs.declared.history.Item.{Item}
+use Rattle.history.specs.declared.views.About.{About}
+use Rattle.history.specs.declared.views.Caller.{Caller}
+use Rattle.history.specs.Histories.{IsLegalAt, IsByPasses, IsFirst, asks_on, shard_in, step_of}
+use Rattle.history.specs.Plays.{seen_at, ask_of, before_of, announce_to, withdraw_to, collect_to, Extends, IsRested}
+use Rattle.history.specs.Handles.{Passed, is_closed, asks_of}
+use Rattle.shard.specs.declared.fault.ApplyFault.{ApplyFault}
+use Rattle.shard.specs.declared.fault.ApplyFault.TheVariants.{GenerationSpent}
+use Rattle.shard.specs.declared.front.Job.{Job}
+use Rattle.shard.specs.Jobs.{tickets_of}
+use Rattle.lanes.specs.Lanes.{IsBatch}
+use Rattle.lanes.specs.Openings.{Opening, HasSpentLog}
+use Rattle.ingester.specs.declared.fault.CallFault.{CallFault}
+use Rattle.ingester.specs.Faults.{fault_of}
+use Rattle.ingester.specs.Calls.{IsPassOf, IsGiven}
+
+-- the pass with its next call announced
+abbrev pub with_next : Passed → Call → Passed
+with_next pass call = record pass { caller = announce_to pass.caller (pass.caller.last + 1) call }
+
+-- the calls were announced one after another
+abbrev pub AreAnnounced : Passed → List Call → Passed → Type 0
+AreAnnounced old [] new = new ≡ old
+AreAnnounced old (call ∷ calls) new = (is_closed old ≡ false) × AreAnnounced (with_next old call) calls new
+
+-- the jobs of a pass's open calls at shard k
+pub record IsBatchOf (table : TableId) (about : About) (k : ℕ) (c : Caller) (jobs : List Job) : Type 0 where
+  pub batch : IsBatch table about k c.pass jobs
+  pub asks : asks_of (tickets_of jobs) ≡ asks_on about k c.pending
+
+-- for each shard the jobs of a pass's open calls there
+abbrev pub AreBatchesOf : TableId → About → Caller → List (VecDeque Job Global) → Type 0
+AreBatchesOf table about c batches = (k : ℕ) (jobs : VecDeque Job Global) → slice_get batches k ≡ Some jobs → IsBatchOf table about k c jobs.items
+
+-- the first of the calls was announced, under this number, and its job stands behind the others of its shard
+pub record IsJoined (table : TableId) (old new : Passed) (calls left : List Call) (jobs now : List Job) (number : ℕ) : Type 0 where
+  pub call : Call
+  pub calls_are : calls ≡ call ∷ left
+  pub «open» : is_closed old ≡ false
+  pub pass : new ≡ with_next old call
+  pub rested : old.caller.pending ≡ [] → IsRested old.caller
+  pub number_is : number ≡ old.caller.last + 1
+  pub jobs_are : now ≡ jobs ++ record { ticket = record { table = table; ask = ask_of old.caller (old.caller.last + 1) call; doubted = false; before = before_of old.caller (old.caller.last + 1) call }; call = call } ∷ []
+  pub numbers : AreNumbers call
+
+-- the same, without the job
+pub record IsNextOpen (old new : Passed) (calls left : List Call) (number : ℕ) : Type 0 where
+  pub call : Call
+  pub calls_are : calls ≡ call ∷ left
+  pub «open» : is_closed old ≡ false
+  pub pass : new ≡ with_next old call
+  pub rested : old.caller.pending ≡ [] → IsRested old.caller
+  pub number_is : number ≡ old.caller.last + 1
+
+-- the open calls have the numbers from n on
+abbrev pub AreNumbered : ℕ → List Ask → Type 0
+AreNumbered n [] = Unit {0}
+AreNumbered n (a ∷ asks) = (a.number ≡ n) × AreNumbered (n + 1) asks
+
+-- some of the calls, from the first on, were announced, and these are left
+pub record AreSomeOpen (old new : Passed) (calls left : List Call) (first count : ℕ) : Type 0 where
+  pub front : List Call
+  pub calls_are : calls ≡ front ++ left
+  pub counted : length front ≡ count
+  pub announced : AreAnnounced old front new
+  pub rested : IsRested old.caller
+  pub numbers : AreNumbered first new.caller.pending
+
+-- the answer to this open call was taken in
+pub record IsCollected (old new : Passed) (first : Ask) (reply : Reply) : Type 0 where
+  pub upto : List Item
+  pub pass : new ≡ record old { caller = collect_to old.caller (step_of first reply) upto }
+  pub seen : seen_at (collect_to old.caller (step_of first reply) upto) (shard_in old.caller.about first) ≡ upto
+  pub extends : Extends old.caller.pass (seen_at old.caller (shard_in old.caller.about first)) (step_of first reply) upto
+  pub legal : IsLegalAt old.caller.about (shard_in old.caller.about first) upto
+  pub by_passes : IsByPasses old.caller.about.passes upto
+  pub others : (k : ℕ) → k ≢ shard_in old.caller.about first → seen_at (collect_to old.caller (step_of first reply) upto) k ≡ seen_at old.caller k
+  pub rested : IsRested (collect_to old.caller (step_of first reply) upto)
+
+-- this open call was taken back
+pub record IsWithdrawn {D : Type 0} (opening : Opening D) (old new : Passed) (first : Ask) (fault : CallFault) : Type 0 where
+  pub cause : ApplyFault
+  pub fault_is : fault ≡ fault_of cause
+  pub pass : new ≡ record old { caller = withdraw_to old.caller first.number }
+  pub spent : cause ≡ GenerationSpent → HasSpentLog opening (shard_in opening.about first) first.call
+
+-- this came of an open call
+abbrev pub IsTakenBy : {D : Type 0} → Opening D → Passed → Passed → Ask → Result Reply CallFault → Type 0
+IsTakenBy opening old new first (Ok reply) = IsCollected old new first reply
+IsTakenBy opening old new first (Err fault) = IsWithdrawn opening old new first fault
+
+-- this came of the first open call
+pub record IsTaken {D : Type 0} (opening : Opening D) (old new : Passed) (outcome : Result Reply CallFault) : Type 0 where
+  pub first : Ask
+  pub is_first : IsFirst first old.caller.pending
+  pub by : IsTakenBy opening old new first outcome
+
+-- this came of the open calls, from the first on
+abbrev pub AreTaken : {D : Type 0} → Opening D → Passed → List (Result Reply CallFault) → Passed → Type 0
+AreTaken opening old [] new = new ≡ old
+AreTaken opening old (outcome ∷ outcomes) new = (mid : Passed) × IsTaken opening old mid outcome × AreTaken opening mid outcomes new
+
+-- so many open calls, from the first on, were taken in, and this came of them
+pub record AreReceived {D : Type 0} (opening : Opening D) (old new : Passed) (before after : List (Result Reply CallFault)) (count : ℕ) : Type 0 where
+  pub came : List (Result Reply CallFault)
+  pub outcomes_are : after ≡ before ++ came
+  pub counted : length came ≡ count
+  pub taken : AreTaken opening old came new
+
+-- the first of the calls was refused
+pub record IsNextRefused {D : Type 0} (opening : Opening D) (old new : Passed) (calls left : List Call) (fault : CallFault) : Type 0 where
+  pub call : Call
+  pub calls_are : calls ≡ call ∷ left
+  pub given : IsGiven opening old call (Err fault) new
+  pub pass : IsPassOf opening new

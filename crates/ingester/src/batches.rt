@@ -1,0 +1,321 @@
+//! Many calls of a pass at once.
+ghost use Rattle.std.specs.Prelude.{◌≡◌, ◌+◌, ◌^◌, ◌<◌, ◌≤◌, ℕ, List, [], ◌∷◌, ◌++◌, Some, All, length, vec_len, slice_get, IfSome, IfOk, MatchOption};
+ghost use Rattle.std.specs.VecDeque.{deque_len, deque_capacity};
+ghost use Rattle.accept.specs.Calls.{AreNumbers};
+ghost use Rattle.history.specs.Plays.{IsRested};
+ghost use Rattle.history.specs.Histories.{IsFirstNumber, behind_first};
+ghost use Rattle.ingester.specs.Calls.{IsPassOf, IsGiven, AreGiven};
+ghost use Rattle.ingester.specs.Batches.{AreBatchesOf, AreNumbered, AreSomeOpen, AreTaken, IsJoined, IsNextOpen, IsTaken, AreReceived, IsNextRefused};
+
+use crate::calls::shard_number;
+use crate::fault::CallFault;
+use crate::opened::Ingester;
+use accept::{Call, Reply};
+use disk::Disk;
+use history::Pass;
+use shard::{Job, Settled};
+use std::alloc::{AllocError, Global};
+use std::collections::VecDeque;
+use std::sync::Wait;
+
+// Calls of a pass that are announced, as jobs in the batches of their shards.
+#[derive(Drop)]
+struct Round {
+    // the number of the pass
+    pass: usize,
+    batches: Vec<VecDeque<Job>>,
+    // the number of the first call
+    first: u64,
+    count: usize,
+}
+
+// So many batches without a call.
+fn empty_batches(alloc: Global, shards: usize) -> Result<Vec<VecDeque<Job>>, AllocError>
+    ensures { IfOk result (λ batches. (vec_len batches ≡ shards)
+        × ((k : ℕ) (jobs : VecDeque Job Global) → slice_get batches.items k ≡ Some jobs → jobs.items ≡ [])) }
+{
+    let mut batches = Vec::with_capacity(alloc, shards)?;
+    for _ in 0..shards {
+        batches.push_reserved(VecDeque::new(alloc));
+    }
+    Ok(batches)
+}
+
+impl<D: Disk + Drop> Ingester<D> {
+    // Announces the first of the calls, and puts it behind a batch, if both can be. Says its number.
+    fn join(
+        &self,
+        pass: &mut Pass,
+        calls: &mut VecDeque<Call>,
+        batch: &mut VecDeque<Job>,
+    ) -> Option<u64>
+        requires table { pass.old.table ≡ self.now.table }
+        requires few { length pass.old.caller.pending + deque_len calls.old ≤ 64 }
+        requires numbers { All AreNumbers calls.old.items }
+        ensures joined { IfSome result (λ number. IsJoined self.now.table
+            pass.old pass.new calls.old.items calls.new.items batch.old.items batch.new.items number) }
+        ensures fits { IfSome result (λ number. number < 2 ^ 64) }
+        ensures not { MatchOption result ((pass.new ≡ pass.old) × (calls.new ≡ calls.old)
+            × (batch.new.items ≡ batch.old.items)) (λ _. deque_len calls.new + 1 ≡ deque_len calls.old) }
+        ensures capacity { deque_capacity calls.new ≡ deque_capacity calls.old }
+    {
+        let call = calls.front()?;
+        let Ok(()) = batch.reserve(1) else {
+            return None;
+        };
+        let Ok(ticket) = self.history.announce(pass, call) else {
+            return None;
+        };
+        let Some(call) = calls.pop_front() else {
+            unreachable!()
+        };
+        let number = ticket.number();
+        batch.push_back_reserved(Job { ticket, call });
+        Some(number)
+    }
+
+    // Announces the first of the calls, and puts it behind the batch of its shard, if both can be. Says its number.
+    fn announce_next(
+        &self,
+        pass: &mut Pass,
+        calls: &mut VecDeque<Call>,
+        batches: &mut [VecDeque<Job>],
+    ) -> Option<u64>
+        requires table { pass.old.table ≡ self.now.table }
+        requires about { pass.old.caller.about ≡ self.now.about }
+        requires pass { pass.old.caller.pass < self.now.about.passes }
+        requires few { length pass.old.caller.pending + deque_len calls.old ≤ 64 }
+        requires numbers { All AreNumbers calls.old.items }
+        requires count { length batches.old ≡ self.now.about.shards }
+        requires batches { AreBatchesOf self.now.table self.now.about pass.old.caller batches.old }
+        ensures next { IfSome result (λ number. IsNextOpen
+            pass.old pass.new calls.old.items calls.new.items number) }
+        ensures fits { IfSome result (λ number. number < 2 ^ 64) }
+        ensures not { MatchOption result ((pass.new ≡ pass.old) × (calls.new ≡ calls.old))
+            (λ _. deque_len calls.new + 1 ≡ deque_len calls.old) }
+        ensures capacity { deque_capacity calls.new ≡ deque_capacity calls.old }
+        ensures batches { AreBatchesOf self.now.table self.now.about pass.new.caller batches.new }
+    {
+        let shard = shard_number(calls.front()?, self.count);
+        self.join(pass, calls, &mut batches[shard])
+    }
+
+    // Announces the calls up to the first that cannot be, and puts them behind the batches of their shards. Says the
+    // number of the first, and how many they are.
+    fn announce_all(
+        &self,
+        pass: &mut Pass,
+        calls: &mut VecDeque<Call>,
+        batches: &mut [VecDeque<Job>],
+    ) -> Option<(u64, usize)>
+        requires pass { IsPassOf self.now pass.old }
+        requires number { pass.old.caller.pass < self.now.about.passes }
+        requires few { deque_len calls.old ≤ 64 }
+        requires numbers { All AreNumbers calls.old.items }
+        requires count { length batches.old ≡ self.now.about.shards }
+        requires batches { AreBatchesOf self.now.table self.now.about pass.old.caller batches.old }
+        ensures some { IfSome result (λ they. AreSomeOpen
+            pass.old pass.new calls.old.items calls.new.items they.0 they.1) }
+        ensures batches { AreBatchesOf self.now.table self.now.about pass.new.caller batches.new }
+        ensures fits { IfSome result (λ they. they.0 + they.1 ≤ 2 ^ 64) }
+        ensures count { MatchOption result ((pass.new ≡ pass.old) × (calls.new ≡ calls.old))
+            (λ they. (0 < they.1) × (length pass.new.caller.pending ≡ they.1)
+            × (deque_len calls.new + they.1 ≡ deque_len calls.old)) }
+        ensures capacity { deque_capacity calls.new ≡ deque_capacity calls.old }
+    {
+        let first = self.announce_next(pass, calls, batches)?;
+        let mut count = 1;
+        while let Some(_) = self.announce_next(pass, calls, batches) {
+            count += 1;
+        }
+        Some((first, count))
+    }
+
+    // Announces the calls up to the first that cannot be. Says nothing where none could.
+    fn announce_some(
+        &self,
+        alloc: Global,
+        pass: &mut Pass,
+        calls: &mut VecDeque<Call>,
+    ) -> Option<Round>
+        requires pass { IsPassOf self.now pass.old }
+        requires few { deque_len calls.old ≤ 64 }
+        requires numbers { All AreNumbers calls.old.items }
+        ensures some { IfSome result (λ round. AreSomeOpen
+            pass.old pass.new calls.old.items calls.new.items round.first round.count) }
+        ensures batches { IfSome result (λ round. (vec_len round.batches ≡ self.now.about.shards)
+            × AreBatchesOf self.now.table self.now.about pass.new.caller round.batches.items) }
+        ensures own { IfSome result (λ round. (round.pass ≡ pass.old.caller.pass)
+            × (round.pass < self.now.about.passes)) }
+        ensures fits { IfSome result (λ round. round.first + round.count ≤ 2 ^ 64) }
+        ensures count { MatchOption result ((pass.new ≡ pass.old) × (calls.new ≡ calls.old))
+            (λ round. (0 < round.count) × (length pass.new.caller.pending ≡ round.count)
+            × (deque_len calls.new + round.count ≡ deque_len calls.old)) }
+        ensures capacity { deque_capacity calls.new ≡ deque_capacity calls.old }
+    {
+        let Ok(mut batches) = empty_batches(alloc, self.count as usize) else {
+            return None;
+        };
+        let own = pass.number();
+        let (first, count) = self.announce_all(pass, calls, batches.as_mut_slice())?;
+        Some(Round {
+            pass: own,
+            batches,
+            first,
+            count,
+        })
+    }
+
+    // Waits for what became of the first open call of a pass, which has this number, and takes it in.
+    fn receive_next<R: Wait>(
+        &self,
+        rt: &R,
+        alloc: Global,
+        pass: &mut Pass,
+        number: u64,
+    ) -> Result<Reply, CallFault>
+        requires table { pass.old.table ≡ self.now.table }
+        requires about { pass.old.caller.about ≡ self.now.about }
+        requires number { IsFirstNumber number pass.old.caller.pending }
+        requires rested { IsRested pass.old.caller }
+        ensures taken { IsTaken self.now pass.old pass.new result }
+    {
+        let own = pass.number();
+        match self.lanes.receive(rt, alloc, own, number) {
+            Settled::Answered(reply, receipt) => {
+                self.history.collect(pass, receipt);
+                Ok(reply)
+            }
+            Settled::Refused(fault, ticket) => {
+                self.history.withdraw(pass, ticket);
+                Err(CallFault::from(fault))
+            }
+        }
+    }
+
+    // Waits for what became of the open calls of a pass, so many from the one with this number on, and takes it in.
+    fn receive_all<R: Wait>(
+        &self,
+        rt: &R,
+        alloc: Global,
+        pass: &mut Pass,
+        first: u64,
+        count: usize,
+        outcomes: &mut VecDeque<Result<Reply, CallFault>>,
+    )
+        requires table { pass.old.table ≡ self.now.table }
+        requires about { pass.old.caller.about ≡ self.now.about }
+        requires rested { IsRested pass.old.caller }
+        requires numbers { AreNumbered first pass.old.caller.pending }
+        requires count { length pass.old.caller.pending ≡ count }
+        requires fits { first + count ≤ 2 ^ 64 }
+        requires room { deque_len outcomes.old + count ≤ deque_capacity outcomes.old }
+        ensures received { AreReceived self.now pass.old pass.new outcomes.old.items outcomes.new.items count }
+        ensures len { deque_len outcomes.new ≡ deque_len outcomes.old + count }
+        ensures capacity { deque_capacity outcomes.new ≡ deque_capacity outcomes.old }
+    {
+        for i in 0..count {
+            let came = self.receive_next(rt, alloc, pass, first + i as u64);
+            outcomes.push_back_reserved(came);
+        }
+    }
+
+    // Puts announced calls into the lanes, and waits for what became of them.
+    fn make_round<R: Wait>(
+        &self,
+        rt: &R,
+        alloc: Global,
+        pass: &mut Pass,
+        round: Round,
+        outcomes: &mut VecDeque<Result<Reply, CallFault>>,
+    )
+        requires table { pass.old.table ≡ self.now.table }
+        requires about { pass.old.caller.about ≡ self.now.about }
+        requires own { (round.pass ≡ pass.old.caller.pass) × (round.pass < self.now.about.passes) }
+        requires rested { IsRested pass.old.caller }
+        requires numbers { AreNumbered round.first pass.old.caller.pending }
+        requires count { (length pass.old.caller.pending ≡ round.count) × (round.count ≤ 64) }
+        requires fits { round.first + round.count ≤ 2 ^ 64 }
+        requires batches { (vec_len round.batches ≡ self.now.about.shards)
+            × AreBatchesOf self.now.table self.now.about pass.old.caller round.batches.items }
+        requires room { deque_len outcomes.old + round.count ≤ deque_capacity outcomes.old }
+        ensures received { AreReceived self.now
+            pass.old pass.new outcomes.old.items outcomes.new.items round.count }
+        ensures len { deque_len outcomes.new ≡ deque_len outcomes.old + round.count }
+        ensures capacity { deque_capacity outcomes.new ≡ deque_capacity outcomes.old }
+    {
+        let Round {
+            pass: own,
+            batches,
+            first,
+            count,
+        } = round;
+        self.lanes.post(rt, alloc, own, first, count, batches);
+        self.receive_all(rt, alloc, pass, first, count, outcomes);
+    }
+
+    // Refuses the first of the calls: for want of memory, or since the pass is closed.
+    fn refuse_next(&self, pass: &mut Pass, calls: &mut VecDeque<Call>) -> CallFault
+        requires pass { IsPassOf self.now pass.old }
+        requires some { 0 < deque_len calls.old }
+        ensures refused { IsNextRefused self.now pass.old pass.new calls.old.items calls.new.items result }
+        ensures len { deque_len calls.new + 1 ≡ deque_len calls.old }
+        ensures capacity { deque_capacity calls.new ≡ deque_capacity calls.old }
+    {
+        let Some(call) = calls.pop_front() else {
+            unreachable!()
+        };
+        match self.history.announce(pass, &call) {
+            Ok(ticket) => {
+                self.history.withdraw(pass, ticket);
+                CallFault::Memory
+            }
+            Err(spent) => CallFault::from(spent),
+        }
+    }
+
+    /// Makes up to 64 calls of a pass, as if by `call` one after another in their order: of each comes what would come
+    /// then. They are all on their way before the answer to any is waited for, and those to one shard are written together.
+    /// The calls are taken out of `calls`, and what came of each is put into `outcomes`, which has room for them.
+    ///
+    /// A call that is refused for want of memory, or since the log is spent, takes those with it that stand behind it at
+    /// its shard: they are refused for want of memory.
+    pub fn call_all<R: Wait>(
+        &self,
+        rt: &R,
+        alloc: Global,
+        pass: &mut Pass,
+        calls: &mut VecDeque<Call>,
+        outcomes: &mut VecDeque<Result<Reply, CallFault>>,
+    )
+        requires pass { IsPassOf self.now pass.old }
+        requires few { deque_len calls.old ≤ 64 }
+        requires numbers { All AreNumbers calls.old.items }
+        requires empty { outcomes.old.items ≡ [] }
+        requires room { deque_len calls.old ≤ deque_capacity outcomes.old }
+        ensures pass { IsPassOf self.now pass.new }
+        ensures given { AreGiven self.now pass.old calls.old.items outcomes.new.items pass.new }
+        ensures taken { calls.new.items ≡ [] }
+        ensures lens { (deque_len calls.new ≡ 0) × (deque_len outcomes.new ≡ deque_len calls.old) }
+        ensures capacities { (deque_capacity calls.new ≡ deque_capacity calls.old)
+            × (deque_capacity outcomes.new ≡ deque_capacity outcomes.old) }
+    {
+        while !calls.is_empty() {
+            match self.announce_some(alloc, pass, calls) {
+                Some(round) => self.make_round(rt, alloc, pass, round, outcomes),
+                None => {
+                    let fault = self.refuse_next(pass, calls);
+                    outcomes.push_back_reserved(Err(fault));
+                }
+            }
+        }
+    }
+
+    /// Helps at a shard: makes calls that wait there, where no other thread does. A thread that calls it again and again
+    /// helps the calls of one body to several shards to be written side by side; nothing depends on it.
+    pub fn assist<R: Wait>(&self, rt: &R, alloc: Global, shard: u32)
+        requires shard { shard < self.now.about.shards }
+    {
+        self.lanes.assist(rt, alloc, shard as usize);
+    }
+}
