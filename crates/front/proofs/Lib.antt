@@ -3,3 +3,4 @@ pub mod Gaining
 pub mod Going
 pub mod Noting
 pub mod Turning
+pub mod Windows

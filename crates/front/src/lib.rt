@@ -8,6 +8,7 @@ mod lines;
 mod replies;
 mod responding;
 mod serving;
+mod windows;
 
 pub use clock::Clock;
 pub use laws::one_step_a_call;

@@ -1,15 +1,16 @@
 -- What a call, a look and a meeting leave of what passes know.
-use Rattle.std.specs.Prelude.{◌≡◌, ◌≢◌, ℕ, ◌+◌, [], ◌∷◌, ◌++◌}
+use Rattle.std.specs.Prelude.{◌≡◌, ◌≢◌, ◌↔◌, ℕ, ◌+◌, true, List, [], ◌∷◌, ◌++◌, Result, IfOk, IfErr}
+use Rattle.std.specs.Result.{IsErrOf}
 use Rattle.accept.specs.declared.call.Call.{Call}
 use Rattle.accept.specs.declared.call.Reply.{Reply}
 use Rattle.accept.specs.declared.history.Step.{Step}
 use Rattle.history.specs.declared.views.Caller.{Caller}
 use Rattle.history.specs.Histories.{IsLegalAt, IsByPasses, shard_in, step_of}
 use Rattle.history.specs.Plays.{seen_at, ask_of, announce_to, collect_to, Extends}
-use Rattle.history.specs.Handles.{Passed}
+use Rattle.history.specs.Handles.{Passed, is_closed}
 use Rattle.ingester.specs.declared.fault.CallFault.{CallFault}
-use Rattle.ingester.specs.declared.fault.CallFault.TheVariants.{PassClosed}
-use Rattle.lanes.specs.Openings.{Opening}
+use Rattle.ingester.specs.declared.fault.CallFault.TheVariants.{PassClosed, LogSpent}
+use Rattle.lanes.specs.Openings.{Opening, HasSpentLog}
 
 -- the pass is of this opening, and waits for no answer
 pub record IsPassOf {D : Type 0} (opening : Opening D) (pass : Passed) : Type 0 where
@@ -51,3 +52,17 @@ without_next pass = record pass {
 abbrev pub IsRefused : Passed → Passed → CallFault → Type 0
 IsRefused old new PassClosed = new ≡ old
 IsRefused old new fault = new ≡ without_next old
+
+-- this came of the next call of a pass: from what the pass knew to what it knows then
+pub record IsGiven {D : Type 0} (opening : Opening D) (old : Passed) (call : Call) (outcome : Result Reply CallFault) (new : Passed) : Type 0 where
+  pub answered : IfOk outcome (λ reply. IsAnswered old new call reply)
+  pub refused : IfErr outcome (λ fault. IsRefused old new fault)
+  pub closed : IsErrOf outcome PassClosed ↔ (is_closed old ≡ true)
+  pub spent : IsErrOf outcome LogSpent → HasSpentLog opening (shard_for old.caller call) call
+
+-- this came of the calls, made one after another
+abbrev pub AreGiven : {D : Type 0} → Opening D → Passed → List Call → List (Result Reply CallFault) → Passed → Type 0
+AreGiven opening old [] [] new = new ≡ old
+AreGiven opening old [] (r ∷ rs) new = ⊥
+AreGiven opening old (call ∷ calls) [] new = ⊥
+AreGiven opening old (call ∷ calls) (r ∷ rs) new = (mid : Passed) × IsGiven opening old call r mid × AreGiven opening mid calls rs new

@@ -1,5 +1,6 @@
 //! Calls, looks and meetings.
-ghost use Rattle.std.specs.Prelude.{◌≡◌, ◌≢◌, ◌↔◌, ◌<◌, ◌≤◌, ℕ, [], true, false, length, IfOk, IfErr};
+ghost use Rattle.std.specs.Prelude.{◌≡◌, ◌≢◌, ◌↔◌, ◌<◌, ◌≤◌, ℕ, [], true, false, length, All, IfOk, IfErr};
+ghost use Rattle.std.specs.VecDeque.{deque_len, deque_capacity};
 ghost use Rattle.std.specs.Result.{IsErrOf};
 ghost use Rattle.labels.specs.Shards.{shard};
 ghost use Rattle.accept.specs.Calls.{AreNumbers};
@@ -8,7 +9,7 @@ ghost use Rattle.history.specs.Histories.{IsBeginning, IsLegalAt, IsByPasses, sh
 ghost use Rattle.history.specs.Plays.{seen_at, look_to, HasStepsOf};
 ghost use Rattle.history.specs.Handles.{is_closed, with_seen, HaveMet};
 ghost use Rattle.lanes.specs.Openings.{HasSpentLog};
-ghost use Rattle.ingester.specs.Calls.{IsPassOf, IsAnswered, IsRefused, shard_for};
+ghost use Rattle.ingester.specs.Calls.{IsPassOf, IsAnswered, IsRefused, AreGiven, shard_for};
 ghost use Rattle.shard.specs.declared.fault.ApplyFault.TheVariants as causes;
 ghost use Rattle.ingester.specs.declared.fault.CallFault.TheVariants as faults;
 
@@ -20,6 +21,7 @@ use history::Pass;
 use labels::shard_of;
 use shard::{Job, Settled};
 use std::alloc::Global;
+use std::collections::VecDeque;
 use std::sync::Wait;
 
 // The number of the shard that a call belongs to, among so many.
@@ -67,6 +69,31 @@ impl<D: Disk + Drop> Ingester<D> {
                 Err(CallFault::from(fault))
             }
         }
+    }
+
+    /// Makes calls, each as `call` makes it, one after another by what comes of them: all are on their way before the first
+    /// is answered.
+    pub fn call_all<R: Wait>(
+        &self,
+        rt: &R,
+        alloc: Global,
+        pass: &mut Pass,
+        calls: &mut VecDeque<Call>,
+        outcomes: &mut VecDeque<Result<Reply, CallFault>>,
+    )
+        requires pass { IsPassOf self.now pass.old }
+        requires few { deque_len calls.old ≤ 64 }
+        requires numbers { All AreNumbers calls.old.items }
+        requires empty { outcomes.old.items ≡ [] }
+        requires room { deque_len calls.old ≤ deque_capacity outcomes.old }
+        ensures pass { IsPassOf self.now pass.new }
+        ensures given { AreGiven self.now pass.old calls.old.items outcomes.new.items pass.new }
+        ensures taken { calls.new.items ≡ [] }
+        ensures capacities { (deque_capacity calls.new ≡ deque_capacity calls.old)
+            × (deque_capacity outcomes.new ≡ deque_capacity outcomes.old) }
+    {
+        for _ in rt.forever() {}
+        unreachable!()
     }
 
     /// Sees the history of a shard as it is, and answers its length, a failure mark included. It waits for no lock.
