@@ -13,9 +13,9 @@ use Rattle.front.specs.declared.calling.Keyed.TheVariants as keys
 use Rattle.front.specs.declared.lines.PushLines.{PushLines}
 use Rattle.front.specs.declared.responding.Halt.{Halt}
 use Rattle.front.specs.declared.responding.Halt.TheVariants.{Failed, GivenUp}
-use Rattle.front.specs.declared.windows.Mark.{Mark}
-use Rattle.front.specs.declared.windows.Mark.TheVariants.{Refused, Called}
-use Rattle.front.specs.declared.windows.Window.{Window}
+use Rattle.front.specs.declared.window.Mark.{Mark}
+use Rattle.front.specs.declared.window.Mark.TheVariants.{Refused, Called}
+use Rattle.front.specs.declared.window.Window.{Window}
 use Rattle.front.specs.Asking.{IsCallOf}
 use Rattle.front.specs.Courses.{first_failure, failure_of, StreamsGive, BodyFails, BodyStops}
 use Rattle.front.specs.Telling.{Tells}

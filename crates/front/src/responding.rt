@@ -15,7 +15,8 @@ ghost use Rattle.front.specs.declared.responding.Halt.TheVariants.{Failed, Given
 use crate::calling::{Asked, Keyed, Want, take_stream};
 use crate::lines::{PushLines, push_number};
 use crate::replies::{answer_of_came, answer_of_text};
-use crate::windows::{Window, keyed_of_all};
+use crate::taking::keyed_of_all;
+use crate::window::Window;
 use disk::Disk;
 use history::Pass;
 use ingester::Ingester;

@@ -1,7 +1,7 @@
 use Rattle.std.proofs.Common.{◌≡◌, ◌+◌, ◌≤◌, min}
 use Rattle.std.specs.VecDeque.{deque_len}
 use Rattle.front.specs.Windows.{IsFilled}
-use Rattle.front.proofs.windows.Window.fill.Given as goal
+use Rattle.front.proofs.window.Window.fill.Given as goal
 
 abbrev pub invariant-loop-turn : goal.invariant-loop-turn
 invariant-loop-turn l = record {

@@ -1,5 +1,5 @@
 -- From windows of streams to all of them.
-use Rattle.std.proofs.Common.{◌≡◌, ℕ, ◌+◌, ◌<◌, ◌≤◌, All, List, [], ◌∷◌, ◌++◌, map, length, Option, None, Some, Result, Ok, Err, refl, sym, ap, ◌∙◌, subst, inr, append_assoc, length-append, arith}
+use Rattle.std.proofs.Common.{◌≡◌, ℕ, ◌+◌, ◌<◌, ◌≤◌, All, List, [], ◌∷◌, ◌++◌, map, length, Option, None, Some, Result, Ok, Err, IfOk, refl, sym, ap, ◌∙◌, subst, inr, append_assoc, length-append, arith}
 use Rattle.std.proofs.lemmas.List.{append-nil, map-append}
 use Rattle.std.proofs.lemmas.List.Elements.{All-nil, All-cons}
 use Rattle.labels.specs.declared.fault.LabelFault.{LabelFault}
@@ -19,9 +19,9 @@ use Rattle.front.specs.declared.calling.Keyed.TheVariants as keys
 use Rattle.front.specs.declared.lines.PushLines.{PushLines}
 use Rattle.front.specs.declared.responding.Halt.{Halt}
 use Rattle.front.specs.declared.responding.Halt.TheVariants.{Failed, GivenUp}
-use Rattle.front.specs.declared.windows.Mark.{Mark}
-use Rattle.front.specs.declared.windows.Mark.TheVariants.{Refused, Called}
-use Rattle.front.specs.declared.windows.Window.{Window}
+use Rattle.front.specs.declared.window.Mark.{Mark}
+use Rattle.front.specs.declared.window.Mark.TheVariants.{Refused, Called}
+use Rattle.front.specs.declared.window.Window.{Window}
 use Rattle.front.specs.Calls.{CallGives}
 use Rattle.front.specs.Courses.{first_failure, behind_failure, failure_of, StreamsGive, BodyFails, BodyStops}
 use Rattle.front.specs.Lines.{push_status, lines_from}
@@ -35,11 +35,6 @@ calls_append [] ls = refl
 calls_append (keys.Refused fault ∷ ks) ls = calls_append ks ls
 calls_append (keys.Called call ∷ ks) ls = ap (λ l. call ∷ l) (calls_append ks ls)
 
-few_calls : (ks : List Keyed) → length (calls_of ks) ≤ length ks
-few_calls [] = omega arith
-few_calls (keys.Refused fault ∷ ks) = let below = few_calls ks in omega arith
-few_calls (keys.Called call ∷ ks) = let below = few_calls ks in omega arith
-
 -- the next stream of a push
 pub keyed_more : (tenant : List ℕ) (all : List Asked) (ks : List Keyed) (a : Asked) (k : Keyed) (more : List Asked) → ((ls : List Keyed) → AreKeyed tenant (a ∷ more) ls → AreKeyed tenant all (ks ++ ls))
     → IsKeyed tenant a k → (ls : List Keyed) → AreKeyed tenant more ls → AreKeyed tenant all ((ks ++ k ∷ []) ++ ls)
@@ -47,6 +42,17 @@ keyed_more tenant all ks a k more so_far is ls are = subst (AreKeyed tenant all)
 
 pub keyed_all : (tenant : List ℕ) (all : List Asked) (ks : List Keyed) → ((ls : List Keyed) → AreKeyed tenant [] ls → AreKeyed tenant all (ks ++ ls)) → AreKeyed tenant all ks
 keyed_all tenant all ks so_far = subst (AreKeyed tenant all) (append-nil ks) (so_far [] tt)
+
+-- one stream more in a window
+pub filled_more : (old rest left : List Keyed) (window next : Window) (k : Keyed) → IsFilled old rest window → rest ≡ k ∷ left → next.marks.items ≡ window.marks.items ++ mark_of k ∷ []
+    → next.calls.items ≡ window.calls.items ++ calls_of (k ∷ []) → next.outcomes.items ≡ window.outcomes.items → IsFilled old left next
+filled_more old rest left window next k filled is marks calls outcomes = record {
+  taken = filled.taken ++ k ∷ [];
+  split = filled.split ∙ ap (λ l. filled.taken ++ l) is ∙ sym (append_assoc filled.taken (k ∷ []) left);
+  marks = marks ∙ ap (λ l. l ++ mark_of k ∷ []) filled.marks ∙ sym (map-append mark_of filled.taken (k ∷ []));
+  calls = calls ∙ ap (λ l. l ++ calls_of (k ∷ [])) filled.calls ∙ sym (calls_append filled.taken (k ∷ []));
+  outcomes = outcomes ∙ filled.outcomes;
+}
 
 -- the streams of the first, and those of the others
 keyed_split : (tenant : List ℕ) (asked : List Asked) (ks ls : List Keyed) → AreKeyed tenant asked (ks ++ ls)
@@ -155,6 +161,11 @@ module _ {D : Type 0} (opening : Opening D) (tenant : List ℕ) (h h' : Passed) 
         whole = whole;
         few = omega (arith, same, few, ap length is, length-append first (last ∷ behind));
       }
+
+  pub window_count : (stream : ℕ) (lines new : PushLines) (result : Result ℕ Halt) (left before : ℕ) → WindowIsNoted stream (merged window.marks.items outcomes) lines result new → length window.marks.items + left ≡ before
+      → IfOk result (λ next. next + left ≡ stream + before)
+  window_count stream lines new (Ok next) left before (whole, count, tells) len = let same = merged_length window.marks.items outcomes is_due in omega (arith, count, same, len)
+  window_count stream lines new (Err halt) left before noted len = tt
 
 module _ {H : Type 0} (gives : H → Call → Result Reply CallFault → H → Type 0) (tenant : List ℕ) where
   pub streams_append : (h m h' : H) (done : List Asked) (cs : List Came) (more : List Asked) (ds : List Came) → StreamsGive gives tenant h done cs m → StreamsGive gives tenant m more ds h'

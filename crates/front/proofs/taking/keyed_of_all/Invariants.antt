@@ -4,7 +4,7 @@ use Rattle.std.specs.Vec.Iter.{into_iter_items}
 use Rattle.front.specs.declared.calling.Keyed.{Keyed}
 use Rattle.front.specs.Asking.{IsLawful, asked_push}
 use Rattle.front.specs.Windows.{AreKeyed}
-use Rattle.front.proofs.windows.keyed_of_all.Given as goal
+use Rattle.front.proofs.taking.keyed_of_all.Given as goal
 
 abbrev pub invariant-loop-pairs : goal.invariant-loop-pairs
 invariant-loop-pairs l = record {

@@ -1,6 +1,6 @@
-//! A window: streams of a push whose calls are made at once.
+//! How the streams of a push are taken window by window.
 ghost use Rattle.std.specs.Prelude.{◌≡◌, ◌+◌, ◌-◌, ◌<◌, ◌≤◌, ◌^◌, ◌∷◌, [], ◌++◌, ℕ, List, All, map, min, length, IfOk, IfErr};
-ghost use Rattle.std.specs.VecDeque.{deque_len, deque_capacity};
+ghost use Rattle.std.specs.VecDeque.{deque_len};
 ghost use Rattle.ingester.specs.Calls.{IsPassOf};
 ghost use Rattle.front.specs.Asking.{IsLawful, asked_push};
 ghost use Rattle.front.specs.Calls.{CallGives};
@@ -9,11 +9,12 @@ ghost use Rattle.front.specs.Windows.{AreKeyed, AreOfStreams, AreDue, IsEmpty, I
 use crate::calling::{Asked, Came, Keyed, Want, failure_of, keyed_of};
 use crate::lines::PushLines;
 use crate::responding::Halt;
-use accept::{Call, Reply};
+use crate::window::{Mark, Window};
+use accept::Reply;
 use disk::Disk;
 use history::Pass;
 use ingester::{CallFault, Ingester};
-use labels::{LabelFault, Tenant};
+use labels::Tenant;
 use pushjson::RawBatch;
 use requests::Failure;
 use std::alloc::{AllocError, Global};
@@ -22,28 +23,6 @@ use std::sync::Wait;
 
 /// How many streams a window holds at most.
 const MOST: usize = 64;
-
-/// What is known of a stream of a window.
-#[derive(Clone, Copy, Debug)]
-pub(crate) enum Mark {
-    /// Its labels are refused.
-    Refused(LabelFault),
-    /// Its call is the next one.
-    Called,
-}
-
-/// The next streams of a push, by their marks, with their calls, or what came of these.
-#[derive(Drop)]
-pub(crate) struct Window {
-    size: usize,
-    marks: VecDeque<Mark>,
-    pub(crate) calls: VecDeque<Call>,
-    pub(crate) outcomes: VecDeque<Result<Reply, CallFault>>,
-    ghost few: { size ≤ 64 },
-    ghost marks_fit: { size ≤ deque_capacity marks },
-    ghost calls_fit: { size ≤ deque_capacity calls },
-    ghost outcomes_fit: { size ≤ deque_capacity outcomes },
-}
 
 impl Window {
     /// An empty window for a push of so many streams.
@@ -128,7 +107,7 @@ impl Window {
     {
         let mut place = stream;
         while let Some(came) = self.next_came() {
-            note_came(lines, place, &came)?;
+            note_came(lines, place, came)?;
             place += 1;
         }
         Ok(place)
@@ -173,13 +152,14 @@ fn came_of(outcome: Result<Reply, CallFault>) -> Came
 }
 
 // Takes what came of a stream into the lines, unless it failed.
-fn note_came(lines: &mut PushLines, stream: usize, came: &Came) -> Result<(), Halt>
-    ensures { CameIsNoted stream came.now lines.old result lines.new }
+fn note_came(lines: &mut PushLines, stream: usize, came: Came) -> Result<(), Halt>
+    ensures { CameIsNoted stream came lines.old result lines.new }
 {
-    match came {
-        Came::Failed(fault) => Err(Halt::Failed(failure_of(*fault))),
-        Came::Refused(_) | Came::Replied(_) => Ok(lines.note(stream, came)?),
+    if let Came::Failed(fault) = came {
+        return Err(Halt::Failed(failure_of(fault)));
     }
+    lines.note(stream, &came)?;
+    Ok(())
 }
 
 /// Reads the labels of all streams of a push.

@@ -1,6 +1,6 @@
 use Rattle.std.proofs.Common.{◌≡◌, ◌+◌, [], length}
 use Rattle.front.specs.Windows.{AreDue, WindowProgress, merged}
-use Rattle.front.proofs.windows.Window.note.Given as goal
+use Rattle.front.proofs.window.Window.note.Given as goal
 
 abbrev pub invariant-loop-came : goal.invariant-loop-came
 invariant-loop-came l = record {
