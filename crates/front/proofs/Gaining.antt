@@ -17,8 +17,8 @@ use Rattle.front.specs.declared.calling.Came.{Came}
 use Rattle.front.specs.declared.calling.Came.TheVariants.{Refused, Replied, Failed}
 use Rattle.front.specs.Calls.{CallGives}
 use Rattle.front.specs.Courses.{Course, Unread, Whole, Broken, StreamsGive, BodyBreaks, BodyGives, BodyIsLeft}
-use Rattle.front.specs.Serving.{Exchange, ConnectionGives, VerdictGives, VerdictIsLeft, IsExchange}
-use Rattle.front.specs.Laws.{AreSteps, AreStepsOf, AreFirstStepsOf, AreStepsBy, AreFirstStepsBy, AreTheirSteps, Gains, MakesTheirCalls, MakesItsCalls, MakesItsFirstCalls}
+use Rattle.front.specs.Serving.{Exchange, VerdictGives, VerdictIsLeft}
+use Rattle.front.specs.Laws.{AreSteps, AreStepsOf, AreFirstStepsOf, AreStepsBy, AreFirstStepsBy, Gains, MakesTheirCalls, MakesItsCalls, MakesItsFirstCalls}
 
 none : (h h' : Passed) → h' ≡ h → Gains h [] h'
 none h h' same = ap (λ p. p.caller.made) same ∙ sym (append-nil h.caller.made)

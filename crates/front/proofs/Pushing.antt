@@ -1,5 +1,5 @@
 -- From windows of streams to all of them.
-use Rattle.std.proofs.Common.{◌≡◌, ℕ, ◌+◌, ◌<◌, ◌≤◌, All, List, [], ◌∷◌, ◌++◌, map, length, Option, None, Some, Result, Ok, Err, IfOk, refl, sym, ap, ◌∙◌, subst, inr, append_assoc, length-append, arith}
+use Rattle.std.proofs.Common.{◌≡◌, ℕ, ◌+◌, ◌<◌, ◌≤◌, All, List, [], ◌∷◌, ◌++◌, map, length, None, Some, Result, Ok, Err, IfOk, refl, sym, ap, ◌∙◌, subst, inr, append_assoc, length-append, arith}
 use Rattle.std.proofs.lemmas.List.{append-nil, map-append}
 use Rattle.std.proofs.lemmas.List.Elements.{All-nil, All-cons}
 use Rattle.labels.specs.declared.fault.LabelFault.{LabelFault}
@@ -23,12 +23,12 @@ use Rattle.front.specs.declared.window.Mark.{Mark}
 use Rattle.front.specs.declared.window.Mark.TheVariants.{Refused, Called}
 use Rattle.front.specs.declared.window.Window.{Window}
 use Rattle.front.specs.Calls.{CallGives}
-use Rattle.front.specs.Courses.{first_failure, behind_failure, failure_of, StreamsGive, BodyFails, BodyStops}
+use Rattle.front.specs.Courses.{first_failure, behind_failure, StreamsGive}
 use Rattle.front.specs.Lines.{push_status, lines_from}
 use Rattle.front.specs.Parts.{BodyIsAnswered}
 use Rattle.front.specs.Showing.{Shows}
 use Rattle.front.specs.Telling.{Tells}
-use Rattle.front.specs.Windows.{IsKeyed, AreKeyed, mark_of, calls_of, came_of, merged, AreDue, IsFilled, TellsMore, WindowIsNoted, WindowProgress, NextComes, CameIsNoted, StreamsAreTaken, WindowIsTaken}
+use Rattle.front.specs.Windows.{IsKeyed, AreKeyed, mark_of, calls_of, came_of, merged, AreDue, IsFilled, WindowIsNoted, WindowProgress, NextComes, CameIsNoted, StreamsAreTaken, WindowIsTaken}
 
 pub calls_append : (ks ls : List Keyed) → calls_of (ks ++ ls) ≡ calls_of ks ++ calls_of ls
 calls_append [] ls = refl

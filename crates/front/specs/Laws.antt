@@ -3,7 +3,6 @@ use Rattle.std.specs.Prelude.{◌≡◌, ℕ, List, [], ◌∷◌, ◌++◌, Res
 use Rattle.accept.specs.declared.history.Step.{Step}
 use Rattle.history.specs.Handles.{Passed}
 use Rattle.pushjson.specs.declared.fault.PushFault.{PushFault}
-use Rattle.requests.specs.declared.route.Route.{Route}
 use Rattle.requests.specs.declared.verdict.Verdict.{Verdict}
 use Rattle.requests.specs.declared.verdict.Verdict.TheVariants.{Fixed, Call, NoMemory}
 use Rattle.front.specs.declared.calling.Asked.{Asked}

@@ -3,7 +3,7 @@ use Rattle.std.specs.VecDeque.{deque_len}
 use Rattle.ingester.specs.Calls.{IsPassOf}
 use Rattle.front.specs.declared.calling.Asked.{Asked}
 use Rattle.front.specs.Calls.{CallGives}
-use Rattle.front.specs.Windows.{AreKeyed, AreOfStreams, IsEmpty, StreamsAreTaken}
+use Rattle.front.specs.Windows.{AreKeyed, IsEmpty, StreamsAreTaken}
 use Rattle.front.proofs.responding.take_windows.Given as goal
 
 abbrev pub invariant-loop-alloc : goal.invariant-loop-alloc

@@ -2,7 +2,6 @@ use Rattle.std.proofs.Common.{◌≡◌, ◌∷◌, [], ◌++◌, List, map, len
 use Rattle.std.proofs.lemmas.List.Elements.{All-rest}
 use Rattle.std.proofs.lemmas.Grind.{common_steps}
 use Rattle.std.specs.Vec.Iter.{into_iter_items}
-use Rattle.front.specs.declared.calling.Asked.{Asked}
 use Rattle.front.specs.declared.calling.Keyed.{Keyed}
 use Rattle.front.specs.Asking.{IsLawful, asked_push}
 use Rattle.front.specs.Windows.{AreKeyed}
@@ -18,7 +17,7 @@ loop-pairs-preserved c =
     let more = keyed_more tenant all c.loop-pairs.all.items (asked_push c.args.now c.in-Some.field-0) c.in_ok-keyed.keyed (map (asked_push c.args.now) (into_iter_items c.next.new.self)) before c.in_ok-keyed.ensures.ok in
     record {
       lawful = All-rest (λ b. IsLawful (asked_push c.args.now b).want) c.in-Some.field-0 _ _ step c.loop-pairs.invariant.lawful;
-      keyed = λ ks are. subst (λ l. AreKeyed tenant all (l ++ ks)) (sym c.push_back_reserved.ensures.items) (more ks are);
+      keyed = λ ks are. subst (λ l. AreKeyed tenant all (l ++ ks)) (sym {A = List Keyed} c.push_back_reserved.ensures.items) (more ks are);
       fits = omega (arith, c.loop-pairs.invariant.fits, ap length step, c.push_back_reserved.ensures.len, c.push_back_reserved.ensures.capacity);
     }
 

@@ -1,6 +1,6 @@
-use Rattle.std.proofs.Common.{◌∙◌, subst, arith}
+use Rattle.std.proofs.Common.{◌∙◌, arith}
 use Rattle.std.proofs.lemmas.Result.{err_from_is_err_and}
-use Rattle.front.specs.Windows.{NextComes, merged}
+use Rattle.front.specs.Windows.{merged}
 use Rattle.front.proofs.Pushing.{noted_more, noted_halt}
 use Rattle.front.proofs.window.Window.note.Goals as goal
 
