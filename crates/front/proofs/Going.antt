@@ -70,11 +70,7 @@ module _ {H : Type 0} (gives : H → Call → Result Reply CallFault → H → T
     inr (record { done = asked ∷ []; more = []; fault = fault; split = refl; each = (h', (call, is, given), refl); fails = refl; cause = cause; few = omega arith }),
   )
 
-  -- there was no memory before it
-  pub lacks : (failure : Failure) → failure ≡ OutOfMemory → StreamEnds gives tenant h asked (Err failure) h
-  lacks failure is = ([], inl (refl, is, refl))
-
-  -- nor for its answer
+  -- there was no memory for its answer
   pub leaves : (h' : H) (came : Came) → StreamEnds gives tenant h asked (Ok came) h' → StreamIsAnswered gives tenant h asked (Err GivenUp) h'
   leaves h' came (comes, whole) = record {
     done = asked ∷ [];

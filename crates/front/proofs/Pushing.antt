@@ -2,7 +2,6 @@
 use Rattle.std.proofs.Common.{◌≡◌, ℕ, ◌+◌, ◌<◌, ◌≤◌, All, List, [], ◌∷◌, ◌++◌, map, length, None, Some, Result, Ok, Err, IfOk, refl, sym, ap, ◌∙◌, subst, inr, append_assoc, length-append, arith}
 use Rattle.std.proofs.lemmas.List.{append-nil, map-append}
 use Rattle.std.proofs.lemmas.List.Elements.{All-nil, All-cons}
-use Rattle.labels.specs.declared.fault.LabelFault.{LabelFault}
 use Rattle.accept.specs.Calls.{AreNumbers}
 use Rattle.accept.specs.declared.call.Call.{Call}
 use Rattle.accept.specs.declared.call.Reply.{Reply}
@@ -282,24 +281,3 @@ module _ (all : List Came) (first : ℕ) (start : PushLines) where
     noted_all comes =
         let is : all ≡ p.noted = p.split ∙ ap (λ l. p.noted ++ merged l window.outcomes.items) comes.0 ∙ append-nil p.noted in
         (ap first_failure is ∙ p.whole, p.count ∙ ap (λ l. first + length l) (sym is), λ before tells count. subst (λ l. Tells (before ++ l) old) (sym is) (p.tells before tells count))
-
--- the next stream of a window
-pub next_none : (marks : List Mark) (outcomes : List (Result Reply CallFault)) → AreDue marks outcomes → marks ≡ [] → outcomes ≡ []
-next_none [] outcomes due none = due
-next_none (m ∷ marks) outcomes due none = absurd (cc)
-
-pub next_refused : (marks rest : List Mark) (outcomes : List (Result Reply CallFault)) (fault : LabelFault) → marks ≡ Refused fault ∷ rest → AreDue marks outcomes
-    → (merged marks outcomes ≡ cames.Refused fault ∷ merged rest outcomes) × AreDue rest outcomes
-next_refused marks rest outcomes fault is due = (ap (λ l. merged l outcomes) is, subst (λ l. AreDue l outcomes) is due)
-
-some_due : (outcomes : List (Result Reply CallFault)) (rest : List Mark) → AreDue (Called ∷ rest) outcomes → 0 < length outcomes
-some_due [] rest due = absurd due
-some_due (r ∷ rs) rest due = omega arith
-
-pub called_due : (marks rest : List Mark) (outcomes : List (Result Reply CallFault)) → marks ≡ Called ∷ rest → AreDue marks outcomes → 0 < length outcomes
-called_due marks rest outcomes is due = some_due outcomes rest (subst (λ l. AreDue l outcomes) is due)
-
-pub next_called : (marks rest : List Mark) (outcomes left : List (Result Reply CallFault)) (outcome : Result Reply CallFault) → marks ≡ Called ∷ rest → outcomes ≡ outcome ∷ left → AreDue marks outcomes
-    → (merged marks outcomes ≡ came_of outcome ∷ merged rest left) × AreDue rest left
-next_called marks rest outcomes left outcome is are due =
-    (ap (λ l. merged l outcomes) is ∙ ap (λ l. merged (Called ∷ rest) l) are, subst (λ l. AreDue (Called ∷ rest) l) are (subst (λ l. AreDue l outcomes) is due))

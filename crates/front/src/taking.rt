@@ -95,7 +95,8 @@ impl Window {
         }
     }
 
-    // Takes what came of the streams into the lines, the first of which has this place in the body. The place behind them.
+    // Takes what came of the streams into the lines, the first of which has this place in the body. The place
+    // behind the last.
     fn note(&mut self, stream: usize, lines: &mut PushLines) -> Result<usize, Halt>
         requires due { AreDue self.old.marks.items self.old.outcomes.items }
         requires called { self.old.calls.items ≡ [] }
