@@ -14,11 +14,11 @@ use Rattle.requests.specs.declared.verdict.Verdict.{Verdict}
 use Rattle.requests.specs.declared.verdict.Verdict.TheVariants.{Fixed, Call, NoMemory}
 use Rattle.front.specs.declared.calling.Asked.{Asked}
 use Rattle.front.specs.declared.calling.Came.{Came}
-use Rattle.front.specs.declared.calling.Came.TheVariants.{Refused, Replied}
+use Rattle.front.specs.declared.calling.Came.TheVariants.{Refused, Replied, Failed}
 use Rattle.front.specs.Calls.{CallGives}
-use Rattle.front.specs.Courses.{Course, Unread, Whole, Broken, StreamsGive, StreamFails, BodyGives, BodyIsLeft}
-use Rattle.front.specs.Serving.{Exchange, ConnectionGives, VerdictGives, VerdictIsLeft, IsExchange}
-use Rattle.front.specs.Laws.{AreSteps, AreStepsOf, AreFirstStepsOf, AreStepsBy, AreFirstStepsBy, AreTheirSteps, Gains, MakesTheirCalls, MakesItsCalls, MakesItsFirstCalls}
+use Rattle.front.specs.Courses.{Course, Unread, Whole, Broken, StreamsGive, BodyBreaks, BodyGives, BodyIsLeft}
+use Rattle.front.specs.Serving.{Exchange, VerdictGives, VerdictIsLeft}
+use Rattle.front.specs.Laws.{AreSteps, AreStepsOf, AreFirstStepsOf, AreStepsBy, AreFirstStepsBy, Gains, MakesTheirCalls, MakesItsCalls, MakesItsFirstCalls}
 
 none : (h h' : Passed) → h' ≡ h → Gains h [] h'
 none h h' same = ap (λ p. p.caller.made) same ∙ sym (append-nil h.caller.made)
@@ -44,20 +44,27 @@ each tenant h h' (a ∷ more) [] never = absurd never
 each tenant h h' (a ∷ more) (Refused fault ∷ cs) (mid, (why, same), others) =
     let (steps, gains, are) = each tenant mid h' more cs others in
     (steps, both h mid h' [] steps (none h mid same) gains, are)
+each tenant h h' (a ∷ more) (Failed fault ∷ cs) (mid, (call, is, given), others) =
+    let (steps, gains, are) = each tenant mid h' more cs others in
+    (steps, both h mid h' [] steps (kept h mid call fault given) gains, are)
 each tenant h h' (a ∷ more) (Replied reply ∷ cs) (mid, (call, is, given), others) =
     let (steps, gains, are) = each tenant mid h' more cs others in
     (next_step h.caller call reply ∷ steps, both h mid h' (next_step h.caller call reply ∷ []) steps (one h mid call reply given) gains, (is, refl, are))
 
-fails : (tenant : List ℕ) (h h' : Passed) (a : Asked) (failure : Failure) → StreamFails CallGives tenant h a failure h' → Gains h [] h'
-fails tenant h h' a failure (inl (memory, same)) = none h h' same
-fails tenant h h' a failure (inr (call, fault, is, given, cause)) = kept h h' call fault given
+breaks : (tenant : List ℕ) (h h' : Passed) (all : List Asked) (cames : List Came) (failure : Failure) → BodyBreaks CallGives tenant h all cames failure h'
+    → (steps : List Step) × Gains h steps h' × AreStepsOf tenant (Ok all) (Broken cames failure) steps
+breaks tenant h h' all cames failure (inl (none_came, memory, same)) =
+    ([], none h h' same, ([], all, refl, subst (λ l. AreSteps tenant [] l []) (sym none_came) refl))
+breaks tenant h h' all cames failure (inr ends) =
+    let (steps, gains, are) = each tenant h h' ends.done cames ends.each in
+    (steps, gains, (ends.done, ends.more, ap (λ l. Ok l) ends.split, are))
 
 goes : (tenant : List ℕ) (h h' : Passed) (asked : Result (List Asked) PushFault) (course : Course) → BodyGives CallGives tenant h asked course h' → (steps : List Step) × Gains h steps h' × AreStepsOf tenant asked course steps
 goes tenant h h' asked (Unread fault) (why, same) = ([], none h h' same, refl)
-goes tenant h h' asked (Whole cames) (all, is, went) = let (steps, gains, are) = each tenant h h' all cames went in (steps, gains, (all, is, are))
+goes tenant h h' asked (Whole cames) (all, is, went, whole) = let (steps, gains, are) = each tenant h h' all cames went in (steps, gains, (all, is, are))
 goes tenant h h' asked (Broken cames failure) (all, is, ends) =
-    let (steps, gains, are) = each tenant h ends.mid ends.done cames ends.each in
-    (steps, subst (λ l. Gains h l h') (append-nil steps) (both h ends.mid h' steps [] gains (fails tenant ends.mid h' ends.asked failure ends.fails)), (ends.done, ends.asked ∷ ends.more, is ∙ ap (λ l. Ok l) ends.split, are))
+    let (steps, gains, (done, more, split, are)) = breaks tenant h h' all cames failure ends in
+    (steps, gains, (done, more, is ∙ split, are))
 
 handled : (now : ℕ) (body : List ℕ) (h h' : Passed) (verdict : Verdict) (course : Course) → VerdictGives CallGives now body verdict h course h' → (steps : List Step) × Gains h steps h' × AreStepsBy now body verdict course steps
 handled now body h h' (Fixed answer) course (what, same) = ([], none h h' same, refl)
@@ -67,9 +74,9 @@ handled now body h h' NoMemory course (what, same) = ([], none h h' same, refl)
 
 gives_up : (tenant : List ℕ) (h h' : Passed) (asked : Result (List Asked) PushFault) → BodyIsLeft CallGives tenant h asked h' → (steps : List Step) × Gains h steps h' × AreFirstStepsOf tenant asked steps
 gives_up tenant h h' (Err fault) (told, same) = ([], none h h' same, refl)
-gives_up tenant h h' (Ok all) (cames, last, stops) =
-    let (steps, gains, are) = each tenant h h' stops.done (cames ++ last ∷ []) stops.each in
-    (steps, gains, (stops.done, stops.more, cames ++ last ∷ [], stops.split, are))
+gives_up tenant h h' (Ok all) stops =
+    let (steps, gains, are) = each tenant h h' stops.done (stops.cames ++ stops.last ∷ stops.behind) stops.each in
+    (steps, gains, (stops.done, stops.more, stops.cames ++ stops.last ∷ stops.behind, stops.split, are))
 
 abandoned : (now : ℕ) (body : List ℕ) (h h' : Passed) (verdict : Verdict) → VerdictIsLeft CallGives now body verdict h h' → (steps : List Step) × Gains h steps h' × AreFirstStepsBy now body verdict steps
 abandoned now body h h' (Fixed answer) never = absurd never

@@ -2,4 +2,5 @@ pub mod Bodies
 pub mod Gaining
 pub mod Going
 pub mod Noting
+pub mod Pushing
 pub mod Turning

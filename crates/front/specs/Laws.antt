@@ -3,12 +3,11 @@ use Rattle.std.specs.Prelude.{◌≡◌, ℕ, List, [], ◌∷◌, ◌++◌, Res
 use Rattle.accept.specs.declared.history.Step.{Step}
 use Rattle.history.specs.Handles.{Passed}
 use Rattle.pushjson.specs.declared.fault.PushFault.{PushFault}
-use Rattle.requests.specs.declared.route.Route.{Route}
 use Rattle.requests.specs.declared.verdict.Verdict.{Verdict}
 use Rattle.requests.specs.declared.verdict.Verdict.TheVariants.{Fixed, Call, NoMemory}
 use Rattle.front.specs.declared.calling.Asked.{Asked}
 use Rattle.front.specs.declared.calling.Came.{Came}
-use Rattle.front.specs.declared.calling.Came.TheVariants.{Refused, Replied}
+use Rattle.front.specs.declared.calling.Came.TheVariants.{Refused, Replied, Failed}
 use Rattle.front.specs.Asking.{AsksFor, IsCallOf}
 use Rattle.front.specs.Calls.{CallGives}
 use Rattle.front.specs.Courses.{Course, Unread, Whole, Broken}
@@ -20,10 +19,11 @@ AreSteps tenant [] [] steps = steps ≡ []
 AreSteps tenant [] (c ∷ cs) steps = ⊥
 AreSteps tenant (a ∷ more) [] steps = ⊥
 AreSteps tenant (a ∷ more) (Refused fault ∷ cs) steps = AreSteps tenant more cs steps
+AreSteps tenant (a ∷ more) (Failed fault ∷ cs) steps = AreSteps tenant more cs steps
 AreSteps tenant (a ∷ more) (Replied reply ∷ cs) [] = ⊥
 AreSteps tenant (a ∷ more) (Replied reply ∷ cs) (s ∷ steps) = IsCallOf tenant a s.ask.call × (s.reply ≡ reply) × AreSteps tenant more cs steps
 
--- the steps of what was asked for, up to a failure
+-- the steps of what was asked for; where calls failed, those of a beginning of it
 abbrev pub AreStepsOf : List ℕ → Result (List Asked) PushFault → Course → List Step → Type 0
 AreStepsOf tenant asked (Unread fault) steps = steps ≡ []
 AreStepsOf tenant asked (Whole cames) steps = (all : List Asked) × (asked ≡ Ok all) × AreSteps tenant all cames steps
@@ -60,7 +60,7 @@ Gains old steps new = new.caller.made ≡ old.caller.made ++ steps
 abbrev pub MakesTheirCalls : {C : Type 0} → (C → ℕ → C → Type 0) → List ℕ → Passed → C → List Exchange → List ℕ → Passed → C → Type 0
 MakesTheirCalls ticks bytes h c es rest h' c' = ConnectionGives CallGives ticks bytes h c es rest h' c' → (steps : List Step) × Gains h steps h' × AreTheirSteps es steps
 
--- and so of one request, of which a failure may have ended the calls
+-- and so of one request, of whose streams a beginning may have been called, where a call failed
 abbrev pub MakesItsCalls : {C : Type 0} → (C → ℕ → C → Type 0) → List ℕ → Passed → C → Exchange → List ℕ → Passed → C → Type 0
 MakesItsCalls ticks bytes h c e rest h' c' =
     IsExchange CallGives ticks bytes h c e rest h' c' → (steps : List Step) × Gains h steps h' × AreStepsBy e.now e.request.body e.verdict e.course steps

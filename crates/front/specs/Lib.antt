@@ -10,3 +10,4 @@ pub mod Serving
 pub mod Showing
 pub mod Telling
 pub mod Turns
+pub mod Windows

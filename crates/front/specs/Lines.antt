@@ -10,7 +10,7 @@ use Rattle.accept.specs.declared.call.Reply.TheVariants as replies
 use Rattle.requests.specs.declared.status.Status.{Status}
 use Rattle.requests.specs.declared.status.Status.TheVariants as statuses
 use Rattle.front.specs.declared.calling.Came.{Came}
-use Rattle.front.specs.declared.calling.Came.TheVariants.{Refused, Replied}
+use Rattle.front.specs.declared.calling.Came.TheVariants.{Refused, Replied, Failed}
 
 abbrev pub newline : List ℕ
 newline = 10 ∷ []
@@ -61,10 +61,11 @@ reply_lines i replies.NoStream = []
 reply_lines i replies.NoRoom = stream_line i (codes "no room")
 reply_lines i replies.Unavailable = stream_line i (codes "unavailable")
 
--- the lines of what came of the stream at place i
+-- the lines of what came of the stream at place i; no answer tells of a call that failed
 abbrev pub came_lines : ℕ → Came → List ℕ
 came_lines i (Refused fault) = stream_line i (label_words fault)
 came_lines i (Replied reply) = reply_lines i reply
+came_lines i (Failed fault) = []
 
 -- the lines of what came of the streams from place i on
 abbrev pub lines_from : ℕ → List Came → List ℕ
@@ -83,6 +84,7 @@ reply_has_no_room replies.Unavailable = false
 abbrev pub has_no_room : Came → Bool
 has_no_room (Refused fault) = false
 has_no_room (Replied reply) = reply_has_no_room reply
+has_no_room (Failed fault) = false
 
 abbrev pub reply_is_unavailable : Reply → Bool
 reply_is_unavailable (replies.Verdict os) = false
@@ -96,6 +98,7 @@ reply_is_unavailable replies.Unavailable = true
 abbrev pub is_unavailable : Came → Bool
 is_unavailable (Refused fault) = false
 is_unavailable (Replied reply) = reply_is_unavailable reply
+is_unavailable (Failed fault) = false
 
 -- unavailable goes before no room, no room before another refusal
 abbrev pub worst_status : Bool → Bool → List ℕ → Status

@@ -9,7 +9,7 @@ use Rattle.accept.specs.declared.call.Reply.TheVariants as replies
 use Rattle.requests.specs.declared.status.Status.{Status}
 use Rattle.requests.specs.declared.status.Status.TheVariants as statuses
 use Rattle.front.specs.declared.calling.Came.{Came}
-use Rattle.front.specs.declared.calling.Came.TheVariants.{Refused, Replied}
+use Rattle.front.specs.declared.calling.Came.TheVariants.{Refused, Replied, Failed}
 use Rattle.front.specs.Lines.{push_status, lines_from}
 
 -- a time and a line
@@ -46,7 +46,9 @@ reply_text replies.Unavailable = lines_from 0 (Replied replies.Unavailable ∷ [
 abbrev pub one_status : Came → Status
 one_status (Refused fault) = push_status (Refused fault ∷ [])
 one_status (Replied reply) = reply_status reply
+one_status (Failed fault) = push_status (Failed fault ∷ [])
 
 abbrev pub one_text : Came → List ℕ
 one_text (Refused fault) = lines_from 0 (Refused fault ∷ [])
 one_text (Replied reply) = reply_text reply
+one_text (Failed fault) = lines_from 0 (Failed fault ∷ [])

@@ -6,6 +6,7 @@ ghost use Rattle.ingester.specs.Calls.{IsPassOf};
 ghost use Rattle.front.specs.Asking.{IsLawful, call_on};
 ghost use Rattle.front.specs.Calls.{CallGives};
 ghost use Rattle.front.specs.Courses.{failure_of, StreamEnds};
+ghost use Rattle.front.specs.Windows.{IsKeyed};
 
 use accept::{Call, EntryList, Reply};
 use disk::Disk;
@@ -51,6 +52,17 @@ pub(crate) enum Came {
     Refused(LabelFault),
     /// The reply to its call.
     Replied(Reply),
+    /// Its call has no step.
+    Failed(CallFault),
+}
+
+/// What is made of a stream before any call.
+#[derive(Debug, Drop)]
+pub(crate) enum Keyed {
+    /// Its labels are refused.
+    Refused(LabelFault),
+    /// Its call.
+    Called(Call),
 }
 
 fn key_of(alloc: Global, tenant: &Tenant, pairs: LabelPairs) -> Result<StreamKey, LabelFault>
@@ -63,7 +75,7 @@ fn key_of(alloc: Global, tenant: &Tenant, pairs: LabelPairs) -> Result<StreamKey
     Ok(StreamKey { tenant, labels })
 }
 
-fn failure_of(fault: CallFault) -> Failure
+pub(crate) fn failure_of(fault: CallFault) -> Failure
     ensures { result ≡ failure_of fault }
 {
     match fault {
@@ -73,11 +85,29 @@ fn failure_of(fault: CallFault) -> Failure
     }
 }
 
+/// Reads the labels of a stream.
+///
+/// # Errors
+///
+/// Want of memory.
+pub(crate) fn keyed_of(alloc: Global, tenant: &Tenant, asked: Asked) -> Result<Keyed, Failure>
+    requires { IsLawful asked.want }
+    ensures ok { IfOk result (λ keyed. IsKeyed tenant.now asked keyed) }
+    ensures cause { IfErr result (λ e. e ≡ Failure.OutOfMemory) }
+{
+    let Asked { pairs, want } = asked;
+    match key_of(alloc, tenant, pairs) {
+        Ok(key) => Ok(Keyed::Called(want.call(key))),
+        Err(LabelFault::Memory) => Err(Failure::OutOfMemory),
+        Err(fault) => Ok(Keyed::Refused(fault)),
+    }
+}
+
 /// Makes the call of a stream, unless its labels are refused.
 ///
 /// # Errors
 ///
-/// Why the calls of the request end here.
+/// Why the request ends here.
 pub(crate) fn take_stream<D: Disk + Drop, R: Wait>(
     rt: &R,
     alloc: Global,
@@ -91,13 +121,11 @@ pub(crate) fn take_stream<D: Disk + Drop, R: Wait>(
     ensures pass { IsPassOf ingester.now pass.new }
     ensures goes { StreamEnds CallGives tenant.now pass.old asked result pass.new }
 {
-    let Asked { pairs, want } = asked;
-    let key = match key_of(alloc, tenant, pairs) {
-        Ok(key) => key,
-        Err(LabelFault::Memory) => return Err(Failure::OutOfMemory),
-        Err(fault) => return Ok(Came::Refused(fault)),
+    let call = match keyed_of(alloc, tenant, asked)? {
+        Keyed::Called(call) => call,
+        Keyed::Refused(fault) => return Ok(Came::Refused(fault)),
     };
-    match ingester.call(rt, alloc, pass, want.call(key)) {
+    match ingester.call(rt, alloc, pass, call) {
         Ok(reply) => Ok(Came::Replied(reply)),
         Err(fault) => Err(failure_of(fault)),
     }

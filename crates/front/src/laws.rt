@@ -7,7 +7,8 @@ use crate::clock::Clock;
 
 /// The law of steps: what a pass has made once requests were served is what it had made, and then a step
 /// for each of their calls that got a reply, in their order, with the reply that the answer was made of; of
-/// a request that was given up for want of memory a step for each of its first streams that got one.
+/// a request in which a call failed, or that was given up for want of memory, a step for each of its first
+/// streams that got one.
 pub fn one_step_a_call<C: Clock>()
     ensures each { (bytes : List ℕ) (h : Passed) (c : C) (e : Exchange) (rest : List ℕ) (h' : Passed) (c' : C)
         → MakesItsCalls C.ticks bytes h c e rest h' c' }

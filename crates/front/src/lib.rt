@@ -8,6 +8,8 @@ mod lines;
 mod replies;
 mod responding;
 mod serving;
+mod taking;
+mod window;
 
 pub use clock::Clock;
 pub use laws::one_step_a_call;

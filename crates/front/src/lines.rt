@@ -198,6 +198,7 @@ impl PushLines {
                 push_stream_line(&mut self.text, stream, label_words(*fault))
             }
             Came::Replied(reply) => self.note_reply(stream, reply),
+            Came::Failed(_) => Ok(()),
         }
     }
 

@@ -1,7 +1,8 @@
 //! The answers to reads and trims.
-ghost use Rattle.std.specs.Prelude.{◌≡◌, ◌∷◌, [], IfOk, IfErr, map};
+ghost use Rattle.std.specs.Prelude.{◌≡◌, ◌∷◌, [], None, IfOk, IfErr, map};
 ghost use Rattle.serde_json.specs.View.{view};
 ghost use Rattle.serde_json.specs.Written.{compact_text};
+ghost use Rattle.front.specs.Courses.{first_failure};
 ghost use Rattle.front.specs.Lines.{push_status, lines_from};
 ghost use Rattle.front.specs.Replies.{entry_tree, read_tree, trimmed_text, reply_status, reply_text, one_status, one_text};
 ghost use Rattle.front.specs.Showing.{Shows};
@@ -26,14 +27,16 @@ pub fn answer_of_read(alloc: Global, reply: &Reply) -> Result<Answer, ServeFault
     Ok(answer_of_reply(alloc, reply)?)
 }
 
-/// The answer to a read or a trim of whose stream this came. Entries are moved into it.
+/// The answer to a read or a trim of whose stream this came, which did not fail. Entries are moved into it.
 pub(crate) fn answer_of_came(alloc: Global, came: Came) -> Result<Answer, AllocError>
+    requires { first_failure (came ∷ []) ≡ None }
     ensures { IfOk result (λ answer. Shows (one_status came) (one_text came) answer) }
 {
     match came {
         Came::Refused(fault) => answer_of_refusal(alloc, fault),
         Came::Replied(Reply::Entries(entries)) => answer_of_entries(alloc, entries),
         Came::Replied(reply) => answer_of_reply(alloc, &reply),
+        Came::Failed(_) => unreachable!(),
     }
 }
 

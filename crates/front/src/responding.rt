@@ -1,18 +1,22 @@
 //! The answer to a request behind its head: its body, its calls in body order, status and body of its answer.
-ghost use Rattle.std.specs.Prelude.{◌≡◌, ◌<◌, ◌≤◌, ◌^◌, All, IfOk, map, sum_by, length};
+ghost use Rattle.std.specs.Prelude.{◌≡◌, ◌<◌, ◌≤◌, ◌^◌, ℕ, List, All, IfOk, map, min, sum_by, length};
+ghost use Rattle.std.specs.VecDeque.{deque_len};
 ghost use Rattle.accept.specs.OneStream.{AreTimes};
 ghost use Rattle.ingester.specs.Calls.{IsPassOf};
 ghost use Rattle.requests.specs.Answers.{failure_body};
 ghost use Rattle.front.specs.Asking.{IsLawful, asked_push};
 ghost use Rattle.front.specs.Calls.{CallGives};
-ghost use Rattle.front.specs.Parts.{BodyIsRefused, StreamIsAnswered, BodyIsAnswered, StreamIsNoted};
+ghost use Rattle.front.specs.Parts.{BodyIsRefused, StreamIsAnswered, BodyIsAnswered};
 ghost use Rattle.front.specs.Responses.{RequestIsAnswered, RequestEnds, bad_time_text};
 ghost use Rattle.front.specs.Showing.{Shows};
+ghost use Rattle.front.specs.Windows.{AreKeyed, AreOfStreams, IsEmpty};
 ghost use Rattle.front.specs.declared.responding.Halt.TheVariants.{Failed, GivenUp};
 
-use crate::calling::{Asked, Want, take_stream};
+use crate::calling::{Asked, Keyed, Want, take_stream};
 use crate::lines::{PushLines, push_number};
 use crate::replies::{answer_of_came, answer_of_text};
+use crate::taking::keyed_of_all;
+use crate::window::Window;
 use disk::Disk;
 use history::Pass;
 use ingester::Ingester;
@@ -20,6 +24,7 @@ use labels::Tenant;
 use pushjson::{PushFault, RawBatch, read_push, read_query, read_trim};
 use requests::{Answer, Failure, Route, ServeFault, Status};
 use std::alloc::{AllocError, Global};
+use std::collections::VecDeque;
 use std::sync::Wait;
 
 /// Why a request has no answer of its own.
@@ -79,28 +84,32 @@ fn refuse(alloc: Global, fault: PushFault) -> Result<Answer, Halt>
     Ok(answer?)
 }
 
-/// Makes the call of the next stream of a push, and takes in what came of it.
-fn take_next<D: Disk + Drop, R: Wait>(
+/// Makes the calls of the streams of a push in windows, in body order.
+fn take_windows<D: Disk + Drop, R: Wait>(
     rt: &R,
     alloc: Global,
     ingester: &Ingester<D>,
     pass: &mut Pass,
-    tenant: &Tenant,
-    asked: Asked,
-    stream: usize,
-    lines: &mut PushLines,
-) -> Result<(), Halt>
+    mut keyed: VecDeque<Keyed>,
+    mut window: Window,
+) -> Result<Answer, Halt>
     requires pass { IsPassOf ingester.now pass.old }
-    requires lawful { IsLawful asked.want }
+    requires keyed { AreOfStreams keyed.items }
+    requires empty { IsEmpty window }
+    requires room { window.size ≡ min 64 (deque_len keyed) }
     ensures pass { IsPassOf ingester.now pass.new }
-    ensures goes { StreamIsNoted CallGives tenant.now pass.old asked stream lines.old result pass.new lines.new }
+    ensures goes { (tenant : List ℕ) (all : List Asked) → AreKeyed tenant all keyed.items
+        → BodyIsAnswered CallGives tenant pass.old all result pass.new }
 {
-    let came = take_stream(rt, alloc, ingester, pass, tenant, asked)?;
-    lines.note(stream, &came)?;
-    Ok(())
+    let mut lines = PushLines::new(alloc);
+    let mut stream = 0;
+    while !keyed.is_empty() {
+        stream = window.take(rt, alloc, ingester, pass, &mut keyed, stream, &mut lines)?;
+    }
+    Ok(lines.into_answer())
 }
 
-/// Makes the call of each stream of a push, in body order.
+/// Reads the labels of all streams of a push, and then makes their calls.
 fn push_streams<D: Disk + Drop, R: Wait>(
     rt: &R,
     alloc: Global,
@@ -115,15 +124,11 @@ fn push_streams<D: Disk + Drop, R: Wait>(
     ensures pass { IsPassOf ingester.now pass.new }
     ensures goes { BodyIsAnswered CallGives tenant.now pass.old (map (asked_push now) batches.items) result pass.new }
 {
-    let mut lines = PushLines::new(alloc);
-    let mut stream = 0;
-    for RawBatch { pairs, entries } in batches {
-        let want = Want::Push { now, entries };
-        let asked = Asked { pairs, want };
-        take_next(rt, alloc, ingester, pass, tenant, asked, stream, &mut lines)?;
-        stream += 1;
-    }
-    Ok(lines.into_answer())
+    let keyed = keyed_of_all(alloc, tenant, now, batches)?;
+    let Ok(window) = Window::new(alloc, keyed.len()) else {
+        return Err(Halt::Failed(Failure::OutOfMemory));
+    };
+    take_windows(rt, alloc, ingester, pass, keyed, window)
 }
 
 /// Makes the call of the one stream of a read or a trim.
@@ -248,8 +253,10 @@ fn failure_body(failure: Failure) -> &'static [u8]
 }
 
 /// Makes the calls that a request asks for, in the order of its body, and gives status and body of its
-/// answer. A refused stream does not stop the rest of a push. `now` is the clock in nanoseconds, below
-/// 2^63. Behind an answer of status 500 no further call was made; calls made before stand.
+/// answer. The labels of all streams of a push are read first, and then their calls are made in windows of up
+/// to 64 streams. A refused stream does not stop the rest of a push. `now` is the clock in nanoseconds, below
+/// 2^63. Behind an answer of status 500 no call is made behind the window in which one failed; calls that were
+/// made stand.
 ///
 /// # Errors
 ///
