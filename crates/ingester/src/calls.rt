@@ -112,8 +112,8 @@ impl<D: Disk + Drop> Ingester<D> {
         self.lanes.stream_count(rt, shard as usize)
     }
 
-    /// How many bytes the segment in use of a shard has, once no call is on it, 0 where there is none. For people: nothing
-    /// is claimed of it.
+    /// How many bytes the segment in use of a shard has, once no call is on it, 0 where there is none. For people:
+    /// nothing is claimed of it.
     pub fn segment_size<R: Wait>(&self, rt: &R, shard: u32) -> u64
         requires shard { shard < self.now.about.shards }
     {

@@ -23,8 +23,8 @@ pub fn time_since<R: Clock>(rt: &R, since: Option<Instant>) -> Duration {
     }
 }
 
-/// Says of each shard that was just opened how many streams it has, and how many bytes of its log they were replayed from:
-/// those of the segment in use, without what may stand behind it in its slot. Then how long all shards took.
+/// Says of each shard that was just opened how many streams it has, and how many bytes they were replayed from: those
+/// of the segment in use, without what may stand behind it in its slot. Then how long all shards took.
 pub fn say_replayed<D: Disk + Drop, R: Wait>(
     rt: &R,
     ingester: &Ingester<D>,

@@ -8,8 +8,8 @@ use std::io::{Stderr, Write};
 const LONG: usize = 100_000_000;
 
 /// A slot that writes a line where a device call on it fails once it was written to. From then on its shard answers
-/// nothing and makes no call on its slots, so that there is one such line for each shard. Where a terminal is given, there
-/// is also one before a read of more than 100,000,000 bytes: the log reads a slot by one call, when it is opened.
+/// nothing and makes no call on its slots, so that there is one such line for each shard. Where a terminal is given,
+/// there is also one before a read of more than 100,000,000 bytes: the log reads a slot by one call, when it is opened.
 #[derive(Drop)]
 pub struct Watched<D: Disk> {
     inner: D,

@@ -83,8 +83,8 @@ impl<D: Disk + Drop> Lanes<D> {
         count
     }
 
-    /// How many bytes the segment in use of a shard has, once no call is on it, 0 where there is none. For people: nothing
-    /// is claimed of it.
+    /// How many bytes the segment in use of a shard has, once no call is on it, 0 where there is none. For people:
+    /// nothing is claimed of it.
     pub fn segment_size<R: Wait>(&self, rt: &R, shard: usize) -> u64
         requires shard { shard < self.now.about.shards }
     {
