@@ -15,22 +15,19 @@ pub fn terminal_in(errors: Option<Stderr>) -> Option<Stderr> {
     }
 }
 
-/// How long ago it was `since`, by the clock that doesn't go back. Zero where the system has no such clock.
-pub fn time_since<R: Clock>(rt: &R, since: Option<Instant>) -> Duration {
-    match since {
-        Some(since) => since.elapsed(rt).unwrap_or(Duration::ZERO),
-        None => Duration::ZERO,
-    }
-}
-
 /// Says of each shard that was just opened how many streams it has, and how many bytes they were replayed from: those
-/// of the segment in use, without what may stand behind it in its slot. Then how long all shards took.
-pub fn say_replayed<D: Disk + Drop, R: Wait>(
+/// of the segment in use, without what may stand behind it in its slot. Then how long it took since the start, 0 where
+/// the system has no clock that doesn't go back.
+pub fn say_replayed<D: Disk + Drop, R: Clock + Wait>(
     rt: &R,
     ingester: &Ingester<D>,
-    took: Duration,
+    start: Option<Instant>,
     mut terminal: Stderr,
 ) {
+    let took = match start {
+        Some(start) => start.elapsed(rt).unwrap_or(Duration::ZERO),
+        None => Duration::ZERO,
+    };
     let shards = ingester.shards();
     for shard in 0..shards {
         let streams = ingester.stream_count(rt, shard);

@@ -4,7 +4,7 @@ ghost use Rattle.words.specs.Words.{GiveServer, GivesCapacity};
 
 use crate::clock::SystemClock;
 use crate::opening::open_shards;
-use crate::replayed::{say_replayed, terminal_in, time_since};
+use crate::replayed::{say_replayed, terminal_in};
 use crate::serving::serve_listener;
 use crate::setting::capacity_by;
 use crate::slots::open_slots;
@@ -78,7 +78,7 @@ where
     let start = Instant::now(rt).ok();
     let (ingester, passes) = open_shards(alloc, slots, words.workers, capacity)?;
     if let Some(terminal) = terminal_in(marks) {
-        say_replayed(rt, &ingester, time_since(rt, start), terminal);
+        say_replayed(rt, &ingester, start, terminal);
     }
     let address = SocketAddr::new(IpAddr::V4(Ipv4Addr::LOCALHOST), words.port);
     let listener = TcpListener::bind(rt, address).map_err(|_| Stopped::Listen)?;

@@ -43,13 +43,6 @@ on. See to the disk, then start the server again as README says under \"After a 
     let _ = errors.write_all(&line);
 }
 
-// Says that so many bytes of a shard's slot are read.
-fn say_reading(errors: Option<Stderr>, shard: u32, bytes: usize) {
-    if let Some(mut terminal) = terminal_in(errors) {
-        let _ = writeln!(terminal, "shard {shard:02}: reading {bytes} bytes");
-    }
-}
-
 impl<D: Disk> Disk for Watched<D> {
     ghost follows = { λ w. D.follows w.inner };
 
@@ -62,8 +55,11 @@ impl<D: Disk> Disk for Watched<D> {
     ghost seen_may_stay = { λ w follows. D.seen_may_stay w.inner follows };
 
     fn read(&mut self, at: u64, buf: &mut [u8]) -> Result<usize, DeviceFault> {
-        if buf.len() > LONG {
-            say_reading(self.errors, self.shard, buf.len());
+        if buf.len() > LONG
+            && let Some(mut terminal) = terminal_in(self.errors)
+        {
+            let (shard, bytes) = (self.shard, buf.len());
+            let _ = writeln!(terminal, "shard {shard:02}: reading {bytes} bytes");
         }
         self.inner.read(at, buf)
     }
