@@ -69,6 +69,13 @@ impl<D: Disk + Drop> Ingester<D> {
         }
     }
 
+    /// How many shards there are.
+    pub fn shards(&self) -> u32
+        ensures { result ≡ self.now.about.shards }
+    {
+        self.count
+    }
+
     /// Sees the history of a shard as it is, and answers its length, a failure mark included. It waits for no lock.
     pub fn look(&self, pass: &mut Pass, shard: u32) -> u64
         requires pass { IsPassOf self.now pass.old }
@@ -96,5 +103,20 @@ impl<D: Disk + Drop> Ingester<D> {
         ensures met { HaveMet one.old.caller two.old.caller self.now.about.shards one.new.caller.seen two.new.caller.seen }
     {
         self.history.meet(one, two);
+    }
+
+    /// How many streams a shard has, once no call is on it. For people: nothing is claimed of it.
+    pub fn stream_count<R: Wait>(&self, rt: &R, shard: u32) -> usize
+        requires shard { shard < self.now.about.shards }
+    {
+        self.lanes.stream_count(rt, shard as usize)
+    }
+
+    /// How many bytes the segment in use of a shard has, once no call is on it, 0 where there is none. For people:
+    /// nothing is claimed of it.
+    pub fn segment_size<R: Wait>(&self, rt: &R, shard: u32) -> u64
+        requires shard { shard < self.now.about.shards }
+    {
+        self.lanes.segment_size(rt, shard as usize)
     }
 }

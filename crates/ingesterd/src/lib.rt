@@ -6,6 +6,7 @@ mod clock;
 mod ctl;
 mod ingest1;
 mod opening;
+mod replayed;
 mod server;
 mod serving;
 mod setting;

@@ -4,6 +4,7 @@ ghost use Rattle.words.specs.Words.{GiveServer, GivesCapacity};
 
 use crate::clock::SystemClock;
 use crate::opening::open_shards;
+use crate::replayed::{say_replayed, terminal_in};
 use crate::serving::serve_listener;
 use crate::setting::capacity_by;
 use crate::slots::open_slots;
@@ -15,6 +16,7 @@ use std::net::{IpAddr, Ipv4Addr, Net, SocketAddr, TcpListener, TcpStream};
 use std::rt::Clock;
 use std::sync::Wait;
 use std::thread::Threads;
+use std::time::Instant;
 use words::{ServerWords, server_in};
 
 /// Runs `ingesterd DIR PORT SHARDS WORKERS [CONNECTIONS]`, and gives its exit status. `setting` is what the environment
@@ -25,6 +27,7 @@ use words::{ServerWords, server_in};
 /// with status 0, as it does where no worker is left; else it goes on. A connection that fails costs no more than itself
 /// (`serve_listener`). Status 1: a fault while running. 2: wrong words, or a wrong setting. 3: a refused opening.
 /// A fault stands on one line of `errors`, and a shard that stops answering has one in `marks`, where they are given.
+/// Where `marks` are a terminal, what was replayed is said there before `ready` is: a line for each shard, one for all.
 pub fn run_server<R, W: Write, E: Write>(
     rt: &R,
     alloc: Global,
@@ -72,7 +75,11 @@ where
     requires { capacity ≤ 2 ^ 30 }
 {
     let slots = open_slots(rt, alloc, words.folder, words.shards, marks)?;
+    let start = Instant::now(rt).ok();
     let (ingester, passes) = open_shards(alloc, slots, words.workers, capacity)?;
+    if let Some(terminal) = terminal_in(marks) {
+        say_replayed(rt, &ingester, start, terminal);
+    }
     let address = SocketAddr::new(IpAddr::V4(Ipv4Addr::LOCALHOST), words.port);
     let listener = TcpListener::bind(rt, address).map_err(|_| Stopped::Listen)?;
     let port = listener.local_addr().map_err(|_| Stopped::Listen)?.port();

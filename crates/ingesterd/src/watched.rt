@@ -1,10 +1,15 @@
-//! Slots that say where their shard stops answering.
+//! Slots that say where their shard stops answering, and where they are long to read.
 
+use crate::replayed::terminal_in;
 use disk::{DeviceFault, Disk};
 use std::io::{Stderr, Write};
 
+/// Of a slot that is longer than so many bytes it is said that it is read.
+const LONG: usize = 100_000_000;
+
 /// A slot that writes a line where a device call on it fails once it was written to. From then on its shard answers
-/// nothing and makes no call on its slots, so that there is one such line for each shard.
+/// nothing and makes no call on its slots, so that there is one such line for each shard. Where a terminal is given,
+/// there is also one before a read of more than 100,000,000 bytes: the log reads a slot by one call, when it is opened.
 #[derive(Drop)]
 pub struct Watched<D: Disk> {
     inner: D,
@@ -50,6 +55,12 @@ impl<D: Disk> Disk for Watched<D> {
     ghost seen_may_stay = { λ w follows. D.seen_may_stay w.inner follows };
 
     fn read(&mut self, at: u64, buf: &mut [u8]) -> Result<usize, DeviceFault> {
+        if buf.len() > LONG
+            && let Some(mut terminal) = terminal_in(self.errors)
+        {
+            let (shard, bytes) = (self.shard, buf.len());
+            let _ = writeln!(terminal, "shard {shard:02}: reading {bytes} bytes");
+        }
         self.inner.read(at, buf)
     }
 

@@ -72,4 +72,25 @@ impl<D: Disk + Drop> Lanes<D> {
     {
         self.shards.take_out(rt, shard)
     }
+
+    /// How many streams a shard has, once no call is on it. For people: nothing is claimed of it.
+    pub fn stream_count<R: Wait>(&self, rt: &R, shard: usize) -> usize
+        requires shard { shard < self.now.about.shards }
+    {
+        let (state, grip) = self.shards.take(rt, shard);
+        let count = state.stream_count();
+        self.shards.give(state, grip);
+        count
+    }
+
+    /// How many bytes the segment in use of a shard has, once no call is on it, 0 where there is none. For people:
+    /// nothing is claimed of it.
+    pub fn segment_size<R: Wait>(&self, rt: &R, shard: usize) -> u64
+        requires shard { shard < self.now.about.shards }
+    {
+        let (state, grip) = self.shards.take(rt, shard);
+        let size = state.segment_size();
+        self.shards.give(state, grip);
+        size
+    }
 }

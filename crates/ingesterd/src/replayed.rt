@@ -1,0 +1,46 @@
+//! What the server says at its start to people at a terminal.
+
+use disk::Disk;
+use ingester::Ingester;
+use std::io::{IsTerminal, Stderr, Write};
+use std::rt::Clock;
+use std::sync::Wait;
+use std::time::{Duration, Instant};
+
+/// Standard error, where it is given and is a terminal.
+pub fn terminal_in(errors: Option<Stderr>) -> Option<Stderr> {
+    match errors {
+        Some(errors) if errors.is_terminal() => Some(errors),
+        _ => None,
+    }
+}
+
+/// Says of each shard that was just opened how many streams it has, and how many bytes they were replayed from: those
+/// of the segment in use, without what may stand behind it in its slot. Then how long it took since the start, 0 where
+/// the system has no clock that doesn't go back.
+pub fn say_replayed<D: Disk + Drop, R: Clock + Wait>(
+    rt: &R,
+    ingester: &Ingester<D>,
+    start: Option<Instant>,
+    mut terminal: Stderr,
+) {
+    let took = match start {
+        Some(start) => start.elapsed(rt).unwrap_or(Duration::ZERO),
+        None => Duration::ZERO,
+    };
+    let shards = ingester.shards();
+    for shard in 0..shards {
+        let streams = ingester.stream_count(rt, shard);
+        let bytes = ingester.segment_size(rt, shard);
+        let _ = writeln!(
+            terminal,
+            "shard {shard:02}: {streams} streams, {bytes} bytes"
+        );
+    }
+    let _ = writeln!(
+        terminal,
+        "{shards} shards replayed in {}.{:03} s",
+        took.as_secs(),
+        took.subsec_millis()
+    );
+}
