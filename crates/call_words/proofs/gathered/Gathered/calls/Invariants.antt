@@ -3,4 +3,4 @@ use Rattle.accept.specs.Calls.{AreNumbers}
 use Rattle.call_words.proofs.gathered.Gathered.calls.Given as goal
 
 abbrev pub invariant-loop-line : goal.invariant-loop-line
-invariant-loop-line g l = All AreNumbers l.calls.items
+invariant-loop-line l = All AreNumbers l.calls.items
