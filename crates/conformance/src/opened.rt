@@ -1,14 +1,13 @@
 //! Shards over empty slots in memory, and the one pass that calls them.
-ghost use Rattle.std.specs.Prelude.{◌≡◌, ◌≤◌, ◌^◌, ℕ, Some, slice_get, IfOk, vec_len};
+ghost use Rattle.std.specs.Prelude.{◌≡◌};
 ghost use Rattle.std.specs.Coded.{codes};
 ghost use Rattle.accept.specs.contracts.image.Image as image;
-ghost use Rattle.history.specs.Handles.{Passed};
 ghost use Rattle.ingester.specs.Calls.{IsPassOf};
 
 use crate::plan::{Plan, Visit};
 use crate::visits::{Came, Ticking};
 use accept::Limits;
-use anyhow::{Result, anyhow, bail};
+use anyhow::{Result, bail};
 use disk::MemDisk;
 use front::serve;
 use history::Pass;
@@ -35,7 +34,7 @@ pub struct Opened {
 
 /// An empty slot, whose calls fail from this one on, or none at 0.
 fn slot(alloc: Global, room: u64, stops: u64) -> Result<MemDisk, AllocError> {
-    let mut disk = MemDisk::new(alloc, room, CALLS, 2 * room)?;
+    let mut disk = MemDisk::new(alloc, room, CALLS, room.saturating_mul(2))?;
     if stops > 0 {
         disk.stop_at(stops);
     }
@@ -65,16 +64,19 @@ impl Opened {
         }
         let count = slots.len() as u32;
         let capacity = plan.capacity.min(1 << 30);
-        let opened = Ingester::open(alloc, slots, 1, Limits::PROFILE, capacity);
-        let (ingester, mut passes) = opened.map_err(|refusal| anyhow!("{}", refusal.0))?;
-        let Some(pass) = passes.pop() else {
-            bail!("there is no pass");
-        };
-        Ok(Opened {
-            ingester,
-            pass,
-            count,
-        })
+        match Ingester::open(alloc, slots, 1, Limits::PROFILE, capacity) {
+            Ok((ingester, mut passes)) => {
+                let Some(pass) = passes.pop() else {
+                    bail!("there is no pass");
+                };
+                Ok(Opened {
+                    ingester,
+                    pass,
+                    count,
+                })
+            }
+            Err(refusal) => Err(refusal.0.into()),
+        }
     }
 
     /// How many steps all shards have.
@@ -87,12 +89,26 @@ impl Opened {
     }
 
     /// Serves a connection whose bytes come in this manner.
-    pub fn run_visit<R: Wait>(&mut self, rt: &R, alloc: Global, visit: &Visit, manner: Manner) -> Came {
+    pub fn run_visit<R: Wait>(
+        &mut self,
+        rt: &R,
+        alloc: Global,
+        visit: &Visit,
+        manner: Manner,
+    ) -> Came {
         let mut clock = Ticking::of(visit);
         let mut source = visit.connection.source(manner);
         let mut sink = Sink::new(alloc, manner);
         let (ingester, pass) = (&self.ingester, &mut self.pass);
-        let end = serve(rt, alloc, ingester, pass, &mut clock, &mut source, &mut sink);
+        let end = serve(
+            rt,
+            alloc,
+            ingester,
+            pass,
+            &mut clock,
+            &mut source,
+            &mut sink,
+        );
         let steps = self.steps();
         Came { sink, end, steps }
     }

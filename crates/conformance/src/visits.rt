@@ -1,4 +1,5 @@
 //! What one run of a connection comes to.
+ghost use Rattle.std.specs.Prelude.{◌≡◌};
 
 use crate::plan::Visit;
 use anyhow::Result;
