@@ -87,11 +87,20 @@ impl Opened {
         }
     }
 
-    /// Makes the calls as a group, and says what became of them. Gives back what makes calls.
-    pub fn group(self, alloc: Global, calls: &Gathered, said: &mut String) -> Result<Opened> {
+    /// Makes the calls together, a shard alone as a group, and says what became of them. Gives back what makes calls.
+    pub fn group<R: Wait>(
+        self,
+        rt: &R,
+        alloc: Global,
+        calls: &Gathered,
+        said: &mut String,
+    ) -> Result<Opened> {
         match self {
             Opened::Alone(shard) => Ok(Opened::Alone(say_group(alloc, shard, calls, said)?)),
-            Opened::Together(_) => bail!("a group is made of a shard alone"),
+            Opened::Together(mut together) => {
+                together.call_all(rt, alloc, calls)?.end(said)?;
+                Ok(Opened::Together(together))
+            }
         }
     }
 

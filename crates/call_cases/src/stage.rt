@@ -51,7 +51,7 @@ impl Stage {
             "push" | "read" | "trim" | "each" => self.take_call(rt, line, said),
             "with" => self.gathered.add(self.alloc, rest),
             "with*" => self.gathered.add_each(self.alloc, rest),
-            "group" => self.group(said),
+            "group" => self.group(rt, said),
             "look" => self.look(rest, said),
             "turn" => self.turn(),
             "store" => self.make_change(End::Store, rest, said),
@@ -173,13 +173,13 @@ impl Stage {
         opened.call_each(rt, alloc, call)?.end(said)
     }
 
-    /// `group`: the calls that were gathered, as a group.
-    fn group(&mut self, said: &mut String) -> Result<()> {
+    /// `group`: the calls that were gathered, together.
+    fn group<R: Wait>(&mut self, rt: &R, said: &mut String) -> Result<()> {
         let calls = self.take_gathered();
         let Some(opened) = self.opened.take() else {
             bail!("nothing is open");
         };
-        self.opened = Some(opened.group(self.alloc, &calls, said)?);
+        self.opened = Some(opened.group(rt, self.alloc, &calls, said)?);
         Ok(())
     }
 

@@ -6,14 +6,15 @@ ghost use Rattle.accept.specs.contracts.image.Image as image;
 ghost use Rattle.history.specs.Handles.{Passed};
 ghost use Rattle.ingester.specs.Calls.{IsPassOf};
 
-use accept::Call;
+use accept::{Call, Reply};
 use anyhow::{Result, bail};
 use call_slots::{Left, Pair};
-use call_words::{Settings, write_reply};
+use call_words::{Counted, Gathered, Settings, write_reply};
 use disk::MemDisk;
 use history::Pass;
-use ingester::{Closed, Ingester, OpenFault};
+use ingester::{CallFault, Closed, Ingester, OpenFault};
 use std::alloc::Global;
+use std::collections::VecDeque;
 use std::fmt::Write;
 use std::mem;
 use std::sync::Wait;
@@ -29,6 +30,25 @@ pub struct Together {
     ghost of_others: { (p : ℕ) (other : Passed) → slice_get others.items p ≡ Some other
         → IsPassOf ingester other } by { Prim.hlevel (codes, image.the_row.coded) },
     ghost shards: { ingester.about.shards ≡ count },
+}
+
+/// Appends the answer to a call, or why it was refused.
+fn write_outcome(outcome: &Result<Reply, CallFault>, into: &mut String) -> Result<()> {
+    match outcome {
+        Ok(reply) => write_reply(reply, into),
+        Err(fault) => Ok(write!(into, "{fault}")?),
+    }
+}
+
+/// What came of calls, in their order.
+fn answers_of(alloc: Global, outcomes: VecDeque<Result<Reply, CallFault>>) -> Result<Counted> {
+    let mut answers = Counted::new(alloc);
+    for outcome in outcomes.iter() {
+        let mut answer = String::new(alloc);
+        write_outcome(outcome, &mut answer)?;
+        answers.add(answer)?;
+    }
+    Ok(answers)
 }
 
 fn slots_of(alloc: Global, pairs: Vec<Pair>) -> Result<Vec<[MemDisk; 2]>> {
@@ -93,10 +113,18 @@ impl Together {
     ) -> Result<()>
         requires numbers { AreNumbers call }
     {
-        match self.ingester.call(rt, alloc, &mut self.pass, call) {
-            Ok(reply) => write_reply(&reply, into),
-            Err(fault) => Ok(write!(into, "{fault}")?),
+        write_outcome(&self.ingester.call(rt, alloc, &mut self.pass, call), into)
+    }
+
+    /// Makes calls of the pass together, at most 64: what came of each, in their order.
+    pub fn call_all<R: Wait>(&mut self, rt: &R, alloc: Global, calls: &Gathered) -> Result<Counted> {
+        let mut calls = calls.calls(alloc)?;
+        if calls.len() > 64 {
+            bail!("a pass makes at most 64 calls together");
         }
+        let mut outcomes = VecDeque::with_capacity(alloc, calls.len())?;
+        self.ingester.call_all(rt, alloc, &mut self.pass, &mut calls, &mut outcomes);
+        answers_of(alloc, outcomes)
     }
 
     /// How many passes there are.

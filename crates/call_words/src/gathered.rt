@@ -1,3 +1,6 @@
+ghost use Rattle.std.specs.Prelude.{All, IfOk};
+ghost use Rattle.accept.specs.Calls.{AreNumbers};
+
 use crate::calls::{call_of, number_of};
 use accept::Call;
 use anyhow::Result;
@@ -56,8 +59,10 @@ impl Gathered {
     /// The calls.
     ///
     /// # Errors
-    /// A line that is no call, or want of memory.
-    pub fn calls(&self, alloc: Global) -> Result<VecDeque<Call>> {
+    /// A line that is no call, a number that no call may have, or want of memory.
+    pub fn calls(&self, alloc: Global) -> Result<VecDeque<Call>>
+        ensures { IfOk result (λ calls. All AreNumbers calls.items) }
+    {
         let mut calls = VecDeque::new(alloc);
         for line in self.lines.iter() {
             calls.push_back(call_of(alloc, line.as_str())?)?;

@@ -2,7 +2,7 @@
 //! that comes out otherwise.
 #![tactic(auto)]
 
-mod opening;
+mod opened;
 mod plan;
 mod replies;
 mod serving;

@@ -4,9 +4,6 @@ use std::alloc::Global;
 use std::mem;
 use wire::{Connection, Each};
 
-/// The most bytes that a segment may have.
-const MAX_CAPACITY: u64 = 1 << 30;
-
 /// The bytes that a segment has where a row says nothing.
 const WIDE: u64 = 1 << 21;
 
@@ -46,13 +43,15 @@ impl Visit {
     }
 }
 
-/// What a row asks for: one shard over empty slots, and connections to it.
+/// What a row asks for: shards over empty slots, and connections to them.
 #[derive(Drop)]
 pub struct Plan {
     alloc: Global,
-    /// How many bytes a segment may have, at most 2^30.
+    /// How many bytes a segment may have; more than 2^30 are 2^30.
     pub capacity: u64,
-    /// The device call of slot 1 from which on all fail, or 0.
+    /// How many shards there are.
+    pub shards: u32,
+    /// The device call of slot 1 of the first shard from which on all fail, or 0.
     pub stops: u64,
     /// The connections before the last one.
     pub visits: Vec<Visit>,
@@ -69,6 +68,7 @@ impl Plan {
         let mut plan = Plan {
             alloc,
             capacity: WIDE,
+            shards: 1,
             stops: 0,
             visits: Vec::new(alloc),
             last: Visit::new(alloc, TIME),
@@ -82,7 +82,8 @@ impl Plan {
 
     fn take_line(&mut self, line: &str) -> Result<()> {
         match word_of(line) {
-            ("capacity", bytes) => self.capacity = bytes.parse::<u64>()?.min(MAX_CAPACITY),
+            ("capacity", bytes) => self.capacity = bytes.parse::<u64>()?,
+            ("shards", count) => self.shards = count.parse::<u32>()?,
             ("stops", call) => self.stops = call.parse::<u64>()?,
             ("next", time) => self.begin_next(time.parse::<u64>()?)?,
             _ => self.last.take_line(line)?,

@@ -1,23 +1,28 @@
-//! One run of a connection.
+//! What one run of a connection comes to.
 ghost use Rattle.std.specs.Prelude.{◌≡◌};
-ghost use Rattle.ingester.specs.Calls.{IsPassOf};
 
 use crate::plan::Visit;
 use anyhow::Result;
-use disk::MemDisk;
-use front::{Clock, ServeFault, Served, serve};
-use history::Pass;
-use ingester::Ingester;
+use front::{Clock, ServeFault, Served};
 use std::alloc::Global;
 use std::fmt::Write;
-use std::sync::Wait;
-use wire::{Manner, Sink};
+use wire::Sink;
 
 /// A clock that goes on by the same each time that it is asked.
 #[derive(Drop)]
-struct Ticking {
+pub struct Ticking {
     time: u64,
     tick: u64,
+}
+
+impl Ticking {
+    /// The clock of a connection.
+    pub fn of(visit: &Visit) -> Ticking {
+        Ticking {
+            time: visit.time,
+            tick: visit.tick,
+        }
+    }
 }
 
 impl Clock for Ticking {
@@ -35,54 +40,13 @@ impl Clock for Ticking {
 pub struct Came {
     /// What was written.
     pub sink: Sink,
-    end: Result<Served, ServeFault>,
-    /// How many steps the shard has.
+    pub end: Result<Served, ServeFault>,
+    /// How many steps all shards have.
     pub steps: u64,
 }
 
-/// How many steps the shard has.
-pub fn steps(ingester: &Ingester<MemDisk>, pass: &mut Pass) -> u64
-    requires pass { IsPassOf ingester.now pass.old }
-    requires shards { ingester.now.about.shards ≡ 1 }
-    ensures { IsPassOf ingester.now pass.new }
-{
-    ingester.look(pass, 0)
-}
-
-/// Serves a connection whose bytes come in this manner.
-pub fn run_visit<R: Wait>(
-    rt: &R,
-    alloc: Global,
-    ingester: &Ingester<MemDisk>,
-    pass: &mut Pass,
-    visit: &Visit,
-    manner: Manner,
-) -> Came
-    requires pass { IsPassOf ingester.now pass.old }
-    requires shards { ingester.now.about.shards ≡ 1 }
-    ensures { IsPassOf ingester.now pass.new }
-{
-    let mut clock = Ticking {
-        time: visit.time,
-        tick: visit.tick,
-    };
-    let mut source = visit.connection.source(manner);
-    let mut sink = Sink::new(alloc, manner);
-    let end = serve(
-        rt,
-        alloc,
-        ingester,
-        pass,
-        &mut clock,
-        &mut source,
-        &mut sink,
-    );
-    let steps = steps(ingester, pass);
-    Came { sink, end, steps }
-}
-
 impl Came {
-    /// Says what was written, how the connection ended, and how many steps the shard has.
+    /// Says what was written, how the connection ended, and how many steps all shards have.
     ///
     /// # Errors
     /// Want of memory.
@@ -94,8 +58,8 @@ impl Came {
         Ok(())
     }
 
-    /// How much of the whole text was written, how the connection ended, and how many steps the shard has gained since
-    /// it had so many.
+    /// How much of the whole text was written, how the connection ended, and how many steps the shards have gained since
+    /// they had so many.
     ///
     /// # Errors
     /// Want of memory.

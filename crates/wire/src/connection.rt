@@ -41,8 +41,8 @@ impl Connection {
         Source::new(self.bytes.as_slice(), manner)
     }
 
-    /// Takes a line: `in TEXT`, `in* COUNT TEXT`, `body TEXT`, `body* COUNT TEXT`, `post PATH TEXT`, `step N`, `fails`,
-    /// `room N`, `takes N`, `stalls` or `interrupts`.
+    /// Takes a line: `in TEXT`, `in* COUNT TEXT`, `body TEXT`, `body* COUNT TEXT`, `body# FROM TO TEXT`,
+    /// `post PATH TEXT`, `step N`, `fails`, `room N`, `takes N`, `stalls` or `interrupts`.
     ///
     /// # Errors
     /// Another word, a text that [`unescape`] refuses, or one where a number must be; want of memory.
@@ -53,6 +53,7 @@ impl Connection {
             "in*" => push_many(self.alloc, rest, &mut self.bytes)?,
             "body" => unescape(rest, &mut self.body)?,
             "body*" => push_many(self.alloc, rest, &mut self.body)?,
+            "body#" => push_numbered(rest, &mut self.body)?,
             "post" => self.post(rest)?,
             "step" => self.manner.step = rest.parse::<usize>()?.max(1),
             "fails" => self.manner.fails = true,
@@ -87,6 +88,21 @@ fn push_many(alloc: Global, line: &str, into: &mut Vec<u8>) -> Result<()> {
     unescape(text, &mut piece)?;
     for _ in 0..count.parse::<usize>()? {
         into.extend_from_slice(&piece)?;
+    }
+    Ok(())
+}
+
+/// Appends a text once for each number from the first to the second, which stands in place of each `#`.
+fn push_numbered(line: &str, into: &mut Vec<u8>) -> Result<()> {
+    let (from, line) = word_of(line);
+    let (to, text) = word_of(line);
+    for number in from.parse::<u64>()?..=to.parse::<u64>()? {
+        for (index, part) in text.split('#').enumerate() {
+            if index > 0 {
+                write!(into, "{number}")?;
+            }
+            unescape(part, into)?;
+        }
     }
     Ok(())
 }

@@ -1,0 +1,115 @@
+//! Shards over empty slots in memory, and the one pass that calls them.
+ghost use Rattle.std.specs.Prelude.{◌≡◌};
+ghost use Rattle.std.specs.Coded.{codes};
+ghost use Rattle.accept.specs.contracts.image.Image as image;
+ghost use Rattle.ingester.specs.Calls.{IsPassOf};
+
+use crate::plan::{Plan, Visit};
+use crate::visits::{Came, Ticking};
+use accept::Limits;
+use anyhow::{Result, bail};
+use disk::MemDisk;
+use front::serve;
+use history::Pass;
+use ingester::Ingester;
+use std::alloc::{AllocError, Global};
+use std::sync::Wait;
+use wire::{Manner, Sink};
+
+/// The bytes that the slots of a shard have room for together, and twice so many in their records.
+const ROOM: u64 = 1 << 22;
+
+/// The writes and syncs that a slot has room for.
+const CALLS: u64 = 1_000;
+
+/// An ingester and its one pass.
+#[derive(Drop)]
+pub struct Opened {
+    ingester: Ingester<MemDisk>,
+    pass: Pass,
+    count: u32,
+    ghost of_pass: { IsPassOf ingester pass } by { Prim.hlevel (codes, image.the_row.coded) },
+    ghost shards: { ingester.about.shards ≡ count },
+}
+
+/// An empty slot, whose calls fail from this one on, or none at 0.
+fn slot(alloc: Global, room: u64, stops: u64) -> Result<MemDisk, AllocError> {
+    let mut disk = MemDisk::new(alloc, room, CALLS, room.saturating_mul(2))?;
+    if stops > 0 {
+        disk.stop_at(stops);
+    }
+    Ok(disk)
+}
+
+/// Empty slots of so many shards. Slot 1 of the first fails from this device call on, or never at 0.
+fn slots_of(alloc: Global, shards: u32, stops: u64) -> Result<Vec<[MemDisk; 2]>> {
+    let room = ROOM / 2 / u64::from(shards.max(1));
+    let mut slots = Vec::new(alloc);
+    for shard in 0..shards {
+        let stops = if shard == 0 { stops } else { 0 };
+        slots.push([slot(alloc, room, 0)?, slot(alloc, room, stops)?])?;
+    }
+    Ok(slots)
+}
+
+impl Opened {
+    /// What a plan says of shards, slots and capacity.
+    ///
+    /// # Errors
+    /// Other than 1 to 64 shards; want of memory.
+    pub fn open(alloc: Global, plan: &Plan) -> Result<Opened> {
+        let slots = slots_of(alloc, plan.shards, plan.stops)?;
+        if slots.is_empty() || slots.len() > 64 {
+            bail!("there are 1 to 64 shards");
+        }
+        let count = slots.len() as u32;
+        let capacity = plan.capacity.min(1 << 30);
+        match Ingester::open(alloc, slots, 1, Limits::PROFILE, capacity) {
+            Ok((ingester, mut passes)) => {
+                let Some(pass) = passes.pop() else {
+                    bail!("there is no pass");
+                };
+                Ok(Opened {
+                    ingester,
+                    pass,
+                    count,
+                })
+            }
+            Err(refusal) => Err(refusal.0.into()),
+        }
+    }
+
+    /// How many steps all shards have.
+    pub fn steps(&mut self) -> u64 {
+        let mut steps: u64 = 0;
+        for shard in 0..self.count {
+            steps = steps.saturating_add(self.ingester.look(&mut self.pass, shard));
+        }
+        steps
+    }
+
+    /// Serves a connection whose bytes come in this manner.
+    pub fn run_visit<R: Wait>(
+        &mut self,
+        rt: &R,
+        alloc: Global,
+        visit: &Visit,
+        manner: Manner,
+    ) -> Came {
+        let mut clock = Ticking::of(visit);
+        let mut source = visit.connection.source(manner);
+        let mut sink = Sink::new(alloc, manner);
+        let (ingester, pass) = (&self.ingester, &mut self.pass);
+        let end = serve(
+            rt,
+            alloc,
+            ingester,
+            pass,
+            &mut clock,
+            &mut source,
+            &mut sink,
+        );
+        let steps = self.steps();
+        Came { sink, end, steps }
+    }
+}
