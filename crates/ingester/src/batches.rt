@@ -318,4 +318,9 @@ impl<D: Disk + Drop> Ingester<D> {
     {
         self.lanes.assist(rt, alloc, shard as usize);
     }
+
+    /// Rings the bells of all assistants: each that waits, or waits next, goes on.
+    pub fn wake_assistants(&self) {
+        self.lanes.wake_assistants();
+    }
 }

@@ -1,6 +1,7 @@
 //! The calls behind the programs: each over its words, readers and writers, so that tests can run them.
 #![tactic(auto)]
 
+mod assisting;
 mod body;
 mod clock;
 mod ctl;

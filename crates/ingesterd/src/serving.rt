@@ -3,6 +3,7 @@ ghost use Rattle.std.specs.Prelude.{◌≡◌, ℕ, Some, slice_get};
 ghost use Rattle.history.specs.Handles.{Passed};
 ghost use Rattle.ingester.specs.Calls.{IsPassOf};
 
+use crate::assisting::{end_assistants, start_assistants};
 use crate::stopped::Stopped;
 use crossbeam_channel::{Receiver, Sender, bounded};
 use disk::Disk;
@@ -151,14 +152,8 @@ where
     Ok(())
 }
 
-/// Serves the connections that come to a listener, so many at most: one thread accepts them, and for each pass a worker,
-/// with a clock of its own, serves one after another.
-///
-/// It ends when so many connections have come and each has ended; or, where no worker is left, since a pass is closed when
-/// its numbers are used up, with the next connection that comes; or at once, with an error, where there is no memory or a
-/// thread cannot be started. A connection that fails, or does nothing for 60 seconds, is closed, and its worker takes the
-/// next; what it was answered stands. A connection that could not be accepted is not counted, and costs 10 milliseconds.
-pub fn serve_listener<D, C, R>(
+// Serves connections by workers, and hands those that come to them.
+fn serve_by_workers<D, C, R>(
     rt: &R,
     alloc: Global,
     ingester: &Ingester<D>,
@@ -183,6 +178,47 @@ where
             start_all(scope, rt, alloc, ingester, passes, clocks, receiver)?;
             accept(rt, listener, connections, sender);
             Ok(())
+        },
+    )
+}
+
+/// Serves the connections that come to a listener, so many at most: one thread accepts them, and for each pass a worker,
+/// with a clock of its own, serves one after another. At each shard a further thread helps them.
+///
+/// It ends when so many connections have come and each has ended; or, where no worker is left, since a pass is closed when
+/// its numbers are used up, with the next connection that comes; or at once, with an error, where there is no memory or a
+/// thread cannot be started. A connection that fails, or does nothing for 60 seconds, is closed, and its worker takes the
+/// next; what it was answered stands. A connection that could not be accepted is not counted, and costs 10 milliseconds.
+pub fn serve_listener<D, C, R>(
+    rt: &R,
+    alloc: Global,
+    ingester: &Ingester<D>,
+    passes: Vec<Pass>,
+    clocks: Vec<C>,
+    listener: &TcpListener,
+    connections: u64,
+) -> Result<(), Stopped>
+where
+    D: Disk + Drop + Send,
+    C: Clock + Drop + Send,
+    R: Threads + Wait + rt::Clock + Sync,
+    requires passes { (i : ℕ) (pass : Passed) → slice_get passes.items i ≡ Some pass → IsPassOf ingester.now pass }
+{
+    let (running, ended) = bounded(alloc, 1)?;
+    thread::scope(
+        thread::scope_env(),
+        rt,
+        |scope| -> Result<(), Stopped>
+            requires { (i : ℕ) (pass : Passed) → slice_get passes.items i ≡ Some pass → IsPassOf ingester.now pass }
+        {
+            let served = match start_assistants(scope, rt, alloc, ingester, ended) {
+                Ok(()) => serve_by_workers(
+                    rt, alloc, ingester, passes, clocks, listener, connections,
+                ),
+                Err(stopped) => Err(stopped),
+            };
+            end_assistants(ingester, running);
+            served
         },
     )
 }

@@ -97,6 +97,13 @@ impl<D: Disk + Drop> Lanes<D> {
         self.queues.ring_all(passes);
     }
 
+    /// Rings the bells of all assistants: each that waits, or waits next, goes on.
+    pub fn wake_assistants(&self) {
+        for shard in 0..self.queues.shards {
+            self.queues.assistants.ring(shard);
+        }
+    }
+
     // Leads at a shard in the thread of a pass, which needs no bell for its own calls.
     fn lead_for<R: Wait>(&self, rt: &R, alloc: Global, shard: usize, pass: usize)
         requires shard { shard < self.now.about.shards }

@@ -1,0 +1,13 @@
+use denote.Param.{param}
+use denote.Param.Send.{IsSend, sendable}
+use denote.Ref.{NamedLft}
+use Rattle.ingesterd.proofs.Sent.{assistant_send}
+use Rattle.ingesterd.specs.contracts.assisting.Assistant as assistant
+use Rattle.ingesterd.proofs.assisting.start.Goals as goal
+
+-- (with the assistant's row left to be found, `search` compares what an ingester unfolds to)
+pub spawn-requires-send-F : goal.spawn-requires-send-F
+spawn-requires-send-F g c κs within =
+    let moves : (κ : NamedLft) → IsSend (assistant.the_row κ (param 1 g.row.D) (param 2 g.row.R) g.D.Disk)
+    = λ κ. assistant_send κ (param 1 g.row.D) (param 2 g.row.R) g.D.Disk c.type_bounds.send-D c.type_bounds.sync-R
+    in search (moves, sendable) depth 20
