@@ -20,7 +20,7 @@ use Rattle.labels.specs.Shards.{shard}
 use Rattle.ingester.proofs.Routing.{routed}
 use Rattle.shard.specs.declared.front.Job.{Job}
 use Rattle.shard.specs.Jobs.{tickets_of}
-use Rattle.lanes.specs.Lanes.{IsOpen, IsWaiting, AreWaiting, AreOfPass, IsBatch}
+use Rattle.lanes.specs.Lanes.{IsWaiting, AreWaiting, AreOfPass}
 use Rattle.ingester.specs.Batches.{IsBatchOf, AreBatchesOf, AreNumbered, IsJoined}
 
 tickets_more : (jobs : List Job) (job : Job) → tickets_of (jobs ++ job ∷ []) ≡ tickets_of jobs ++ job.ticket ∷ []

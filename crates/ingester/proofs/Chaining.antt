@@ -1,6 +1,6 @@
 -- Calls that a pass announces together, and whose answers it takes in one after another: as if each had been made alone.
-use Rattle.std.proofs.Common.{◌≡◌, ◌≢◌, ◌↔◌, ℕ, ◌+◌, List, [], ◌∷◌, ◌++◌, true, false, length, refl, sym, ap, ◌∙◌, subst, arith}
-use Rattle.std.specs.Prelude.{Result, Ok, Err, IfOk, IfErr}
+use Rattle.std.proofs.Common.{◌≡◌, ℕ, ◌+◌, List, [], ◌∷◌, ◌++◌, true, false, length, refl, sym, ap, ◌∙◌, subst, arith}
+use Rattle.std.specs.Prelude.{Result, Ok, Err}
 use Rattle.std.specs.Result.{IsErrOf}
 use Rattle.std.proofs.lemmas.Bool.{false≢true}
 use Rattle.accept.specs.declared.call.Call.{Call}
@@ -19,7 +19,7 @@ use Rattle.lanes.specs.Openings.{Opening, HasSpentLog}
 use Rattle.ingester.specs.declared.fault.CallFault.{CallFault}
 use Rattle.ingester.specs.declared.fault.CallFault.TheVariants as faults
 use Rattle.ingester.specs.Faults.{fault_of}
-use Rattle.ingester.specs.Calls.{IsPassOf, IsAnswered, IsRefused, IsGiven, AreGiven, next_step, shard_for, without_next}
+use Rattle.ingester.specs.Calls.{IsPassOf, IsRefused, IsGiven, AreGiven, next_step, shard_for, without_next}
 use Rattle.ingester.specs.Batches.{with_next, AreAnnounced, IsCollected, IsWithdrawn, IsTakenBy, IsTaken, AreTaken}
 use Rattle.ingester.proofs.Refusing.{first_only, log_spent}
 

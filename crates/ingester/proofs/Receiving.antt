@@ -6,7 +6,6 @@ use Rattle.accept.specs.Calls.{AreNumbers}
 use Rattle.accept.specs.declared.call.Call.{Call}
 use Rattle.accept.specs.declared.call.Reply.{Reply}
 use Rattle.accept.specs.declared.history.Ask.{Ask}
-use Rattle.history.specs.declared.views.Caller.{Caller}
 use Rattle.history.specs.Histories.{IsFirstNumber, behind_first}
 use Rattle.history.specs.Plays.{IsRested}
 use Rattle.history.specs.Handles.{Passed}

@@ -2,6 +2,7 @@
 //! opened, and what closing hands out.
 #![tactic(auto)]
 
+mod announcing;
 mod batches;
 mod calls;
 mod closing;

@@ -4,7 +4,7 @@ use Rattle.std.specs.Vec.{vec_capacity}
 use Rattle.std.specs.declared.alloc.Global.{Global}
 use Rattle.std.specs.declared.collections.VecDeque.{VecDeque}
 use Rattle.shard.specs.declared.front.Job.{Job}
-use Rattle.ingester.proofs.batches.empty_batches.Given as goal
+use Rattle.ingester.proofs.announcing.empty_batches.Given as goal
 
 abbrev pub invariant-loop : goal.invariant-loop
 invariant-loop l = record {
