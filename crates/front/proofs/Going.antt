@@ -1,5 +1,5 @@
 -- From how the calls of a request went to its answer.
-use Rattle.std.proofs.Common.{◌≡◌, ℕ, ◌+◌, ◌<◌, ◌≤◌, ◌^◌, All, sum_by, List, [], ◌∷◌, map, length, Some, Result, Ok, Err, refl, sym, ap, ap₂, ◌∙◌, inl, inr, arith}
+use Rattle.std.proofs.Common.{◌≡◌, ℕ, ◌+◌, ◌<◌, ◌≤◌, ◌^◌, All, sum_by, List, [], ◌∷◌, map, length, Some, Result, Ok, Err, refl, sym, ap, ap₂, ◌∙◌, inr, arith}
 use Rattle.accept.specs.declared.call.Call.{Call}
 use Rattle.accept.specs.declared.call.Reply.{Reply}
 use Rattle.ingester.specs.declared.fault.CallFault.{CallFault}

@@ -27,7 +27,7 @@ use Rattle.front.specs.Lines.{push_status, lines_from}
 use Rattle.front.specs.Parts.{BodyIsAnswered}
 use Rattle.front.specs.Showing.{Shows}
 use Rattle.front.specs.Telling.{Tells}
-use Rattle.front.specs.Windows.{IsKeyed, AreKeyed, mark_of, calls_of, came_of, merged, AreDue, IsFilled, WindowIsNoted, WindowProgress, NextComes, CameIsNoted, StreamsAreTaken, WindowIsTaken}
+use Rattle.front.specs.Windows.{IsKeyed, AreKeyed, mark_of, calls_of, merged, AreDue, IsFilled, WindowIsNoted, WindowProgress, NextComes, CameIsNoted, StreamsAreTaken, WindowIsTaken}
 
 pub calls_append : (ks ls : List Keyed) → calls_of (ks ++ ls) ≡ calls_of ks ++ calls_of ls
 calls_append [] ls = refl
