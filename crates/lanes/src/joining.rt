@@ -49,7 +49,8 @@ impl<D: Disk + Drop> Queues<D> {
         jobs: &mut VecDeque<Job>,
     ) -> Result<bool, AllocError>
         requires shard { shard < count_of self.now.lanes }
-        requires batch { (p : ℕ) × IsBatch (opening_in self.now).table (opening_in self.now).about shard p jobs.old.items }
+        requires batch { (p : ℕ)
+            × IsBatch (opening_in self.now).table (opening_in self.now).about shard p jobs.old.items }
         ensures { OnErr result (jobs.new.items ≡ jobs.old.items) }
     {
         let (mut lane, grip) = self.lanes.take(rt, shard);

@@ -12,7 +12,8 @@ use std::alloc::Global;
 use std::marker::Model;
 use std::sync::Wait;
 
-/// The shards of an opening, each under a lock of its own, and where calls wait for them. Contracts see what was opened.
+/// The shards of an opening, each under a lock of its own, and where calls wait for them. Contracts see what was
+/// opened.
 #[derive(Drop)]
 pub struct Lanes<D: Disk> {
     pub(crate) shards: Locks<Shard<D>, Origin<D>, OfOpening>,

@@ -15,8 +15,8 @@ use shard::{ApplyFault, Settled, Shard};
 use std::alloc::Global;
 use std::sync::Wait;
 
-// What is told a call that came back behind another one of its pass: that there was no memory. Of the other one alone it
-// is known that it needs another generation.
+// What is told a call that came back behind another one of its pass: that there was no memory. Of the other one alone
+// it is known that it needs another generation.
 fn behind_another(settled: Settled) -> Settled
     ensures { result ≡ with_memory settled }
 {
@@ -44,8 +44,8 @@ impl<D: Disk + Drop> Queues<D> {
         }
     }
 
-    // Makes all calls of the work by turns at their shard, and sends what became of them to their passes. Says whose bells
-    // are to be rung. Without memory for what becomes of them, none is made.
+    // Makes all calls of the work by turns at their shard, and sends what became of them to their passes. Says whose
+    // bells are to be rung. Without memory for what becomes of them, none is made.
     fn make_all<R: Wait>(
         &self,
         rt: &R,
@@ -72,9 +72,9 @@ impl<D: Disk + Drop> Queues<D> {
 }
 
 impl<D: Disk + Drop> Lanes<D> {
-    /// Leads at a shard, where some calls wait and no other thread leads: makes them under the shard's lock, and hands the
-    /// lead over to the pass of the first call that has come since then. It says whose bells are to be rung, so that the
-    /// next turn need not wait for them.
+    /// Leads at a shard, where some calls wait and no other thread leads: makes them under the shard's lock, and hands
+    /// the lead over to the pass of the first call that has come since then. It says whose bells are to be rung, so
+    /// that the next turn need not wait for them.
     pub(crate) fn lead<R: Wait>(&self, rt: &R, alloc: Global, shard: usize) -> NumberSet
         requires shard { shard < self.now.about.shards }
     {

@@ -1,5 +1,5 @@
-//! The lanes of an opening's shards: a call waits in the lane of its shard until one of the threads that wait there makes all
-//! calls of the lane.
+//! The lanes of an opening's shards: a call waits in the lane of its shard until one of the threads that wait there
+//! makes all calls of the lane.
 #![tactic(auto)]
 
 mod joining;

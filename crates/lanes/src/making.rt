@@ -13,9 +13,9 @@ use std::collections::VecDeque;
 use std::sync::Wait;
 
 impl<D: Disk + Drop> Lanes<D> {
-    /// Makes a call that was announced and is the only open one of its pass, the pass of this number, at the shard that it
-    /// belongs to. It goes into the lane of its shard, and its thread leads there where no other does, or where another one
-    /// hands the lead over.
+    /// Makes a call that was announced and is the only open one of its pass, the pass of this number, at the shard that
+    /// it belongs to. It goes into the lane of its shard, and its thread leads there where no other does, or where
+    /// another one hands the lead over.
     ///
     /// Where the call comes back refused, it has no step: for want of memory, or since the shard's log is spent.
     pub fn make<R: Wait>(
@@ -42,9 +42,9 @@ impl<D: Disk + Drop> Lanes<D> {
         self.receive(rt, alloc, pass, number)
     }
 
-    /// Puts calls of a pass, which were announced one after another under the numbers from `first` on, into the lanes of
-    /// their shards: `batches` has those of each shard, in their order. All are in their lanes before the thread waits for
-    /// any. Then it leads at those shards where no other thread does.
+    /// Puts calls of a pass, which were announced one after another under the numbers from `first` on, into the lanes
+    /// of their shards: `batches` has those of each shard, in their order. All are in their lanes before the thread
+    /// waits for any. Then it leads at those shards where no other thread does.
     pub fn post<R: Wait>(
         &self,
         rt: &R,
@@ -86,9 +86,9 @@ impl<D: Disk + Drop> Lanes<D> {
         unreachable!()
     }
 
-    /// Waits until the bell of a shard's assistants is rung, and leads there where no other thread does. A thread that does
-    /// nothing else calls it again and again: so that the calls of one body to several shards are written side by side.
-    /// Nothing depends on such threads.
+    /// Waits until the bell of a shard's assistants is rung, and leads there where no other thread does. A thread that
+    /// does nothing else calls it again and again: so that the calls of one body to several shards are written side by
+    /// side. Nothing depends on such threads.
     pub fn assist<R: Wait>(&self, rt: &R, alloc: Global, shard: usize)
         requires shard { shard < self.now.about.shards }
     {

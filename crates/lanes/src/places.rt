@@ -10,7 +10,8 @@ use wal::Wal;
 /// What was opened: the book of the first shard, and the shards' logs. It has no bytes.
 #[derive(Drop)]
 pub struct Origin<D: Disk> {
-    /// The first shard's book, before any step. It says what the opening is: of which table, how many shards and passes.
+    /// The first shard's book, before any step. It says what the opening is: of which table, how many shards and
+    /// passes.
     pub first: Snapshot<Book>,
     /// The log of each shard, in the order of their numbers, as it was opened.
     pub logs: Snapshot<Vec<Wal<D>>>,

@@ -14,8 +14,8 @@ use std::collections::VecDeque;
 use std::sync::Wait;
 
 impl<D: Disk + Drop> Queues<D> {
-    /// Makes room for what becomes of so many calls of a pass, whose numbers begin with `first`. What came for earlier ones
-    /// is dropped.
+    /// Makes room for what becomes of so many calls of a pass, whose numbers begin with `first`. What came for earlier
+    /// ones is dropped.
     pub(crate) fn expect<R: Wait>(&self, rt: &R, pass: usize, first: u64, count: usize)
         requires pass { pass < self.now.passes }
         requires count { count ≤ 64 }
@@ -58,8 +58,8 @@ impl<D: Disk + Drop> Queues<D> {
         }
     }
 
-    /// Opens the mail of a pass that waits for the call of this number. Where the pass is to lead, it is told so first, since
-    /// others wait for that.
+    /// Opens the mail of a pass that waits for the call of this number. Where the pass is to lead, it is told so first,
+    /// since others wait for that.
     pub(crate) fn open<R: Wait>(&self, rt: &R, pass: usize, number: u64) -> Letter
         requires pass { pass < self.now.passes }
         ensures { IsLetterFor (opening_in self.now) pass number result }
