@@ -117,13 +117,19 @@ impl Together {
     }
 
     /// Makes calls of the pass together, at most 64: what came of each, in their order.
-    pub fn call_all<R: Wait>(&mut self, rt: &R, alloc: Global, calls: &Gathered) -> Result<Counted> {
+    pub fn call_all<R: Wait>(
+        &mut self,
+        rt: &R,
+        alloc: Global,
+        calls: &Gathered,
+    ) -> Result<Counted> {
         let mut calls = calls.calls(alloc)?;
         if calls.len() > 64 {
             bail!("a pass makes at most 64 calls together");
         }
         let mut outcomes = VecDeque::with_capacity(alloc, calls.len())?;
-        self.ingester.call_all(rt, alloc, &mut self.pass, &mut calls, &mut outcomes);
+        self.ingester
+            .call_all(rt, alloc, &mut self.pass, &mut calls, &mut outcomes);
         answers_of(alloc, outcomes)
     }
 

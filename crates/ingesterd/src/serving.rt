@@ -213,7 +213,13 @@ where
         {
             let served = match start_assistants(scope, rt, alloc, ingester, ended) {
                 Ok(()) => serve_by_workers(
-                    rt, alloc, ingester, passes, clocks, listener, connections,
+                    rt,
+                    alloc,
+                    ingester,
+                    passes,
+                    clocks,
+                    listener,
+                    connections,
                 ),
                 Err(stopped) => Err(stopped),
             };
