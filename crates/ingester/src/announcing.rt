@@ -1,5 +1,5 @@
 //! How calls of a pass are announced together, as far as can be.
-ghost use Rattle.std.specs.Prelude.{◌≡◌, ◌+◌, ◌^◌, ◌<◌, ◌≤◌, ℕ, [], Some, All, length, vec_len, slice_get, IfSome, IfOk, MatchOption};
+ghost use Rattle.std.specs.Prelude.{◌≡◌, ◌+◌, ◌^◌, ◌<◌, ◌≤◌, ℕ, [], None, Some, true, All, length, vec_len, slice_get, IfSome, IfOk, MatchOption};
 ghost use Rattle.std.specs.VecDeque.{deque_len, deque_capacity};
 ghost use Rattle.accept.specs.Calls.{AreNumbers};
 ghost use Rattle.ingester.specs.Calls.{IsPassOf};
@@ -127,12 +127,14 @@ impl<D: Disk + Drop> Ingester<D> {
         Some((first, count))
     }
 
-    // Announces the calls up to the first that cannot be. Says nothing where none could.
+    // Announces the calls up to the first that cannot be. Says nothing where none could, or where a call before them was
+    // refused.
     pub(crate) fn announce_some(
         &self,
         alloc: Global,
         pass: &mut Pass,
         calls: &mut VecDeque<Call>,
+        was_refused: bool,
     ) -> Option<Round>
         requires pass { IsPassOf self.now pass.old }
         requires few { deque_len calls.old ≤ 64 }
@@ -147,8 +149,12 @@ impl<D: Disk + Drop> Ingester<D> {
         ensures count { MatchOption result ((pass.new ≡ pass.old) × (calls.new ≡ calls.old))
             (λ round. (0 < round.count) × (length pass.new.caller.pending ≡ round.count)
             × (deque_len calls.new + round.count ≡ deque_len calls.old)) }
+        ensures none_behind { was_refused ≡ true → result ≡ None }
         ensures capacity { deque_capacity calls.new ≡ deque_capacity calls.old }
     {
+        if was_refused {
+            return None;
+        }
         let Ok(mut batches) = empty_batches(alloc, self.count as usize) else {
             return None;
         };

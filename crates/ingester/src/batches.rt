@@ -133,7 +133,7 @@ impl<D: Disk + Drop> Ingester<D> {
     /// them.
     ///
     /// A call that is refused for want of memory, or since the log is spent, takes those with it that stand behind it
-    /// at its shard: they are refused for want of memory.
+    /// at its shard: they are refused for want of memory. One that could not even be announced takes all behind it.
     pub fn call_all<R: Wait>(
         &self,
         rt: &R,
@@ -154,10 +154,12 @@ impl<D: Disk + Drop> Ingester<D> {
         ensures capacities { (deque_capacity calls.new ≡ deque_capacity calls.old)
             × (deque_capacity outcomes.new ≡ deque_capacity outcomes.old) }
     {
+        let mut was_refused = false;
         while !calls.is_empty() {
-            match self.announce_some(alloc, pass, calls) {
+            match self.announce_some(alloc, pass, calls, was_refused) {
                 Some(round) => self.make_round(rt, alloc, pass, round, outcomes),
                 None => {
+                    was_refused = true;
                     let fault = self.refuse_next(pass, calls);
                     outcomes.push_back_reserved(Err(fault));
                 }
