@@ -5,9 +5,9 @@ ghost use Rattle.words.specs.Words.{GiveCall, GivesCapacity};
 use crate::body::{read_body, write_answer};
 use crate::opening::open_for_one;
 use crate::setting::capacity_by;
-use crate::slots::open_slots;
 use crate::stopped::Stopped;
 use front::{Answer, Status, answer};
+use slots::open_slots;
 use std::alloc::Global;
 use std::fs::{File, Files};
 use std::io::{Read, Write};
@@ -92,5 +92,8 @@ fn call_folder<R: Files<File = File> + Wait, I: Read>(
     let body = read_body(alloc, input)?;
     let slots = open_slots(rt, alloc, folder, shards, None)?;
     let (ingester, mut pass) = open_for_one(alloc, slots, capacity)?;
-    answer(rt, alloc, &ingester, &mut pass, now, route, &tenant, &body).map_err(|_| Stopped::Memory)
+    match answer(rt, alloc, &ingester, &mut pass, now, route, &tenant, &body) {
+        Ok(answer) => Ok(answer),
+        Err(_) => Err(Stopped::Memory),
+    }
 }

@@ -1,28 +1,27 @@
 //! What stops a program.
 ghost use Rattle.std.specs.Prelude.{◌≢◌, ◌≤◌};
 
-use crate::slots::SlotsFault;
 use ingester::{CallFault, OpenFault};
+use slots::SlotsFault;
 use std::alloc::AllocError;
 use thiserror::Error;
+use workers::WorkersFault;
 
 /// What stops a program, as its line of standard error says.
 #[derive(Debug, Drop, Error)]
 pub enum Stopped {
     #[error("cannot read body")]
     Body,
-    #[error("cannot open {0}")]
-    File(String),
+    #[error(transparent)]
+    Slots(#[from] SlotsFault),
     #[error("{0}")]
     Opening(OpenFault),
     #[error("cannot listen")]
     Listen,
-    #[error("thread not started")]
-    Thread,
-    #[error("pass closed")]
-    PassClosed,
-    #[error("log spent")]
-    LogSpent,
+    #[error(transparent)]
+    Serving(#[from] WorkersFault),
+    #[error(transparent)]
+    Call(#[from] CallFault),
     #[error("out of memory")]
     Memory,
     #[error("cannot write")]
@@ -45,24 +44,5 @@ impl Stopped {
 impl From<AllocError> for Stopped {
     fn from(_refused: AllocError) -> Stopped {
         Stopped::Memory
-    }
-}
-
-impl From<SlotsFault> for Stopped {
-    fn from(fault: SlotsFault) -> Stopped {
-        match fault {
-            SlotsFault::Path(path) => Stopped::File(path),
-            SlotsFault::Memory => Stopped::Memory,
-        }
-    }
-}
-
-impl From<CallFault> for Stopped {
-    fn from(fault: CallFault) -> Stopped {
-        match fault {
-            CallFault::Memory => Stopped::Memory,
-            CallFault::PassClosed => Stopped::PassClosed,
-            CallFault::LogSpent => Stopped::LogSpent,
-        }
     }
 }
