@@ -11,9 +11,7 @@ mod replayed;
 mod server;
 mod serving;
 mod setting;
-mod slots;
 mod stopped;
-mod watched;
 
 pub use clock::SystemClock;
 pub use ctl::run_ctl;

@@ -2,18 +2,10 @@
 
 use disk::Disk;
 use ingester::Ingester;
-use std::io::{IsTerminal, Stderr, Write};
+use std::io::{Stderr, Write};
 use std::rt::Clock;
 use std::sync::Wait;
 use std::time::{Duration, Instant};
-
-/// Standard error, where it is given and is a terminal.
-pub fn terminal_in(errors: Option<Stderr>) -> Option<Stderr> {
-    match errors {
-        Some(errors) if errors.is_terminal() => Some(errors),
-        _ => None,
-    }
-}
 
 /// Says of each shard that was just opened how many streams it has, and how many bytes they were replayed from: those
 /// of the segment in use, without what may stand behind it in its slot. Then how long it took since the start, 0 where

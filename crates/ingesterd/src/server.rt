@@ -4,11 +4,11 @@ ghost use Rattle.words.specs.Words.{GiveServer, GivesCapacity};
 
 use crate::clock::SystemClock;
 use crate::opening::open_shards;
-use crate::replayed::{say_replayed, terminal_in};
+use crate::replayed::say_replayed;
 use crate::serving::serve_listener;
 use crate::setting::capacity_by;
-use crate::slots::open_slots;
 use crate::stopped::Stopped;
+use slots::{open_slots, terminal_in};
 use std::alloc::Global;
 use std::fs::{File, Files};
 use std::io::{Stderr, Write};

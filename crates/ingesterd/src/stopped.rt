@@ -1,8 +1,8 @@
 //! What stops a program.
 ghost use Rattle.std.specs.Prelude.{◌≢◌, ◌≤◌};
 
-use crate::slots::SlotsFault;
 use ingester::{CallFault, OpenFault};
+use slots::SlotsFault;
 use std::alloc::AllocError;
 use thiserror::Error;
 
@@ -11,8 +11,8 @@ use thiserror::Error;
 pub enum Stopped {
     #[error("cannot read body")]
     Body,
-    #[error("cannot open {0}")]
-    File(String),
+    #[error(transparent)]
+    Slots(#[from] SlotsFault),
     #[error("{0}")]
     Opening(OpenFault),
     #[error("cannot listen")]
@@ -45,15 +45,6 @@ impl Stopped {
 impl From<AllocError> for Stopped {
     fn from(_refused: AllocError) -> Stopped {
         Stopped::Memory
-    }
-}
-
-impl From<SlotsFault> for Stopped {
-    fn from(fault: SlotsFault) -> Stopped {
-        match fault {
-            SlotsFault::Path(path) => Stopped::File(path),
-            SlotsFault::Memory => Stopped::Memory,
-        }
     }
 }
 

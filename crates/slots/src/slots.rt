@@ -7,13 +7,16 @@ use std::alloc::{AllocError, Global};
 use std::fs::{self, File, Files};
 use std::io::{self, Stderr};
 use std::path::Path;
+use thiserror::Error;
 
 /// Why the files of slots are not opened.
-#[derive(Debug, Drop)]
+#[derive(Debug, Drop, Error)]
 pub enum SlotsFault {
     /// The file or folder at this path.
+    #[error("cannot open {0}")]
     Path(String),
     /// The allocator gave no memory.
+    #[error("out of memory")]
     Memory,
 }
 

@@ -1,5 +1,5 @@
 use Rattle.disk.specs.Calls.{from_nothing}
-use Rattle.ingesterd.proofs.slots.open_slot.Given as goal
+use Rattle.slots.proofs.slots.open_slot.Given as goal
 
 abbrev pub ghost-new : goal.ghost-new
 ghost-new g a = from_nothing

@@ -1,6 +1,6 @@
 //! Slots that say where their shard stops answering, and where they are long to read.
 
-use crate::replayed::terminal_in;
+use crate::terminal::terminal_in;
 use disk::{DeviceFault, Disk};
 use std::io::{Stderr, Write};
 
