@@ -35,7 +35,8 @@ pub fn announce<D: Disk + Drop>(
 {
     let mut announced = Vec::new(alloc);
     for (shard, pair) in slots.into_iter().enumerate() {
-        if announced.push(pair_of(pair, shard, side, terminal)).is_err() {
+        let pair = pair_of(pair, shard, side, terminal);
+        if announced.push(pair).is_err() {
             return Err(AllocError);
         }
     }

@@ -3,12 +3,13 @@ ghost use Rattle.std.specs.Prelude.{◌≡◌, ◌↔◌, ◌≤◌, ◌^◌, op
 ghost use Rattle.words.specs.Words.{GivesCapacity};
 ghost use Rattle.splitting.specs.Words.{GiveSplit};
 
-use crate::announced::{Side, announce};
+use crate::announced::{Announced, Side, announce};
 use crate::asked::split_in;
 use crate::found::{has_slots, shards_in};
 use crate::said::SplitWords;
 use crate::stopped::Stopped;
-use slots::{open_slots, terminal_in};
+use disk::FileDisk;
+use slots::{Watched, open_slots, terminal_in};
 use split::{Slots, split};
 use std::alloc::Global;
 use std::fs::{File, Files};
@@ -67,7 +68,9 @@ fn split_and_print<R: Files<File = File>, W: Write>(
     let old_shards = split_folder(rt, alloc, words, capacity, marks)?;
     let new_shards = words.shards;
     let written = writeln!(output, "split {old_shards} to {new_shards}");
-    written.and_then(|()| output.flush()).map_err(|_| Stopped::Output)
+    written
+        .and_then(|()| output.flush())
+        .map_err(|_| Stopped::Output)
 }
 
 // Splits what stands in the old folder, and gives its number of shards.
@@ -95,7 +98,20 @@ fn split_folder<R: Files<File = File>>(
     let new = open_slots(rt, alloc, new_folder, shards, None)?;
     let new = announce(alloc, new, Side::New, terminal)?;
     match split(alloc, old, new, capacity) {
-        Ok(Slots { old: _old, new: _new }) => Ok(old_shards),
-        Err((fault, Slots { old: _old, new: _new })) => Err(Stopped::Split(fault)),
+        Ok(slots) => {
+            close(slots);
+            Ok(old_shards)
+        }
+        Err((fault, slots)) => {
+            close(slots);
+            Err(Stopped::Split(fault))
+        }
     }
+}
+
+fn close(slots: Slots<Announced<Watched<FileDisk>>>) {
+    let Slots {
+        old: _old,
+        new: _new,
+    } = slots;
 }
