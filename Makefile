@@ -32,12 +32,12 @@ roll-time:
 
 # the Debian package of the programs, in deploy/out
 deb:
-	@RT='$(RT)' tests/build server ingestctl ingest1 walcat
+	@RT='$(RT)' tests/build server ingestctl ingest1 walcat walsplit
 	@deploy/deb
 
 # the package installed into a fresh folder, used there, and removed (as root)
 deb-check:
-	@RT='$(RT)' tests/build server ingestctl ingest1 walcat
+	@RT='$(RT)' tests/build server ingestctl ingest1 walcat walsplit
 	@tests/deb_check "$$(deploy/deb)"
 
 # deploy/nginx.conf in nginx before two servers: slow clients, a killed server, sizes, lies

@@ -2,7 +2,9 @@
 
 use crate::repeats::Repeats;
 use crate::running::{Launch, Limits, Program, run};
-use crate::wording::{say_call, say_capacity, say_clock, say_place, say_server, words_in};
+use crate::wording::{
+    say_call, say_capacity, say_clock, say_place, say_server, say_split, words_in,
+};
 use anyhow::{Result, anyhow, bail};
 use disk::LockedFile;
 use rows::{Row, read_hex, unescape, word_of};
@@ -97,8 +99,10 @@ impl Case {
         R: Clock + Threads + Wait + Sync + AllocGlobal,
     {
         match word {
-            "place" | "clock" | "server" | "call" => self.take_words(word, rest, said),
-            "walcat" | "ingest1" | "ingestctl" | "ingesterd" => self.take_run(rt, word, rest, said),
+            "place" | "clock" | "server" | "call" | "split" => self.take_words(word, rest, said),
+            "walcat" | "ingest1" | "ingestctl" | "ingesterd" | "walsplit" => {
+                self.take_run(rt, word, rest, said)
+            }
             "each" => self.take_each(rt, rest, said),
             "capacity" => self.take_setting(rest, said),
             "folder" | "file" | "from" | "look" | "lock" | "free" | "listen" => {
@@ -116,6 +120,7 @@ impl Case {
             "clock" => say_clock(&words, said),
             "server" => say_server(&words, said),
             "call" => say_call(self.alloc, &words, said),
+            "split" => say_split(&words, said),
             _ => bail!("no such word"),
         }
     }

@@ -4,6 +4,7 @@ use crate::ended::Ended;
 use crate::pipes::{Sink, Source};
 use ingesterd::{run_ctl, run_ingest1, run_server};
 use listing::run_walcat;
+use splitting::run_walsplit;
 use std::alloc::Global;
 use std::fs::{File, Files};
 use std::io::ErrorKind;
@@ -19,6 +20,7 @@ pub enum Program {
     Ingest1,
     Ingestctl,
     Ingesterd,
+    Walsplit,
 }
 
 impl Program {
@@ -29,6 +31,7 @@ impl Program {
             "ingest1" => Some(Program::Ingest1),
             "ingestctl" => Some(Program::Ingestctl),
             "ingesterd" => Some(Program::Ingesterd),
+            "walsplit" => Some(Program::Walsplit),
             _ => None,
         }
     }
@@ -87,6 +90,9 @@ where
             &mut errors,
         ),
         Program::Ingesterd => run_server(rt, alloc, words, setting, &mut output, &mut errors, None),
+        Program::Walsplit => {
+            run_walsplit(rt, alloc, words, setting, &mut output, &mut errors, None)
+        }
     };
     Ended {
         status,

@@ -4,6 +4,7 @@ use anyhow::Result;
 use listing::are_walcat_words;
 use requests::Route;
 use rows::text_of;
+use splitting::split_in;
 use std::alloc::Global;
 use std::fmt::Write;
 use words::{call_in, capacity_in, clock_in, place_in, server_in};
@@ -82,6 +83,18 @@ pub fn say_call(alloc: Global, words: &[String], said: &mut String) -> Result<()
     let tenant = call.tenant?;
     let tenant = tenant.as_str();
     writeln!(said, "tenant {tenant} now {now}")?;
+    Ok(())
+}
+
+/// Says the split that the words of `walsplit` name.
+pub fn say_split(words: &[String], said: &mut String) -> Result<()> {
+    match split_in(words) {
+        Some(split) => {
+            let (old, new, shards) = (split.old_folder, split.new_folder, split.shards);
+            writeln!(said, "folder {old} to {new} shards {shards}")?;
+        }
+        None => said.push_str("no split\n")?,
+    }
     Ok(())
 }
 

@@ -1,0 +1,9 @@
+//! The streams of shards under another number of shards: read from the slots of the old shards, and written into
+//! empty slots of new ones.
+#![tactic(auto)]
+
+mod fault;
+mod splitting;
+
+pub use fault::SplitFault;
+pub use splitting::{Slots, split};

@@ -1,0 +1,53 @@
+//! Shards of one number made into shards of another.
+ghost use Rattle.std.specs.Prelude.{◌≡◌, ◌<◌, ◌≤◌, ◌^◌, IfOk, IfErr, vec_len};
+ghost use Rattle.split.specs.Splits.{back, EachPair, IsBefore, IsAtRest, AreSplit, IsCause};
+
+use crate::fault::SplitFault;
+use disk::Disk;
+use std::alloc::Global;
+
+/// Pairs of slots, one a shard in their order, slot 0 first.
+pub struct Slots<D> {
+    /// Those of the old shards.
+    pub old: Vec<[D; 2]>,
+    /// Those of the new shards.
+    pub new: Vec<[D; 2]>,
+}
+
+/// Splits the streams that the slots of old shards hold among new shards: each goes to the shard of its key among the
+/// new number. There are 1 to 64 old shards, and 1 to 64 new ones. A segment may have `cap` bytes, at most 2^30.
+///
+/// The old slots are synced and read, shard 0 first, and never written. The new slots have to be empty. Once the
+/// streams of each new shard are known to have room, generation 1 is started in slot 1 of each, shard 0 first, also
+/// where it has no stream. All maps are in memory at once. All slots come back.
+///
+/// # Errors
+///
+/// `Old`: the first old shard whose slots are refused. `NotEmpty`: the first slot of a new shard that holds something.
+/// `NoRoom`: the first new shard whose streams need more room than `cap`. Up to there nothing was written. `Device`: a
+/// device of a new shard failed. `Memory`: want of memory, but for the opening of an old shard. After any fault what
+/// the new slots hold is to be given up.
+pub fn split<D: Disk>(
+    alloc: Global,
+    old: Vec<[D; 2]>,
+    new: Vec<[D; 2]>,
+    cap: u64,
+) -> Result<Slots<D>, (SplitFault, Slots<D>)>
+    requires old { (0 < vec_len old) × (vec_len old ≤ 64) }
+    requires new { (0 < vec_len new) × (vec_len new ≤ 64) }
+    requires cap { cap ≤ 2 ^ 30 }
+    ensures lengths { (vec_len (back result).old ≡ vec_len old) × (vec_len (back result).new ≡ vec_len new) }
+    ensures before { EachPair (IsBefore D.sight D.follows) old.items (back result).old.items
+        × EachPair (IsBefore D.sight D.follows) new.items (back result).new.items }
+    // Of the old slots a crash at each moment leaves only what it could have left at the start.
+    ensures rests { EachPair (IsAtRest D.sight D.follows) old.items (back result).old.items }
+    ensures split { IfOk result (λ it.
+        AreSplit D.sight D.follows cap old.items it.old.items new.items it.new.items) }
+    ensures cause { IfErr result (λ e.
+        IsCause D.sight D.follows e.0 cap old.items e.1.old.items new.items e.1.new.items) }
+{
+    // (not made yet)
+    let _ = alloc;
+    let _ = cap;
+    Err((SplitFault::Memory, Slots { old, new }))
+}

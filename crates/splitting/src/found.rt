@@ -1,0 +1,79 @@
+//! Which slots stand in a folder.
+ghost use Rattle.std.specs.Prelude.{◌≤◌, IfOk};
+
+use crate::stopped::Stopped;
+use slots::SlotsFault;
+use std::alloc::Global;
+use std::fs::{self, Files};
+
+/// The greatest number of shards.
+const MAX_SHARDS: u32 = 64;
+
+/// The number of shards of which a folder has slots: those of shard 0, and so on without a gap.
+///
+/// # Errors
+///
+/// `NoShards`: there are none, or more than 64. `Missing`: a shard has no slot 1, or one behind the last has a slot, the
+/// first that is missing by this. `Slots`: whether a file is there can't be told, or want of memory.
+pub fn shards_in<R: Files>(rt: &R, alloc: Global, folder: &str) -> Result<u32, Stopped>
+    ensures { IfOk result (λ shards. (1 ≤ shards) × (shards ≤ 64)) }
+{
+    if folder.is_empty() {
+        return Err(Stopped::Slots(SlotsFault::Path(String::new(alloc))));
+    }
+    let shards = first_slots(rt, alloc, folder)?;
+    if shards < 1 || shards > MAX_SHARDS {
+        return Err(Stopped::NoShards);
+    }
+    for shard in 0..shards {
+        if !has_slot(rt, alloc, folder, shard, 1)? {
+            return Err(Stopped::Missing { shard, slot: 1 });
+        }
+    }
+    if has_slots(rt, alloc, folder, shards)? {
+        return Err(Stopped::Missing {
+            shard: shards,
+            slot: 0,
+        });
+    }
+    Ok(shards)
+}
+
+/// Whether a folder has a slot of this shard or of one behind it, up to shard 64.
+pub fn has_slots<R: Files>(
+    rt: &R,
+    alloc: Global,
+    folder: &str,
+    from: u32,
+) -> Result<bool, Stopped> {
+    for shard in from..=MAX_SHARDS {
+        if has_slot(rt, alloc, folder, shard, 0)? || has_slot(rt, alloc, folder, shard, 1)? {
+            return Ok(true);
+        }
+    }
+    Ok(false)
+}
+
+// How many slots 0 there are without a gap, 65 where there are more.
+fn first_slots<R: Files>(rt: &R, alloc: Global, folder: &str) -> Result<u32, Stopped> {
+    for shard in 0..=MAX_SHARDS {
+        if !has_slot(rt, alloc, folder, shard, 0)? {
+            return Ok(shard);
+        }
+    }
+    Ok(MAX_SHARDS + 1)
+}
+
+fn has_slot<R: Files>(
+    rt: &R,
+    alloc: Global,
+    folder: &str,
+    shard: u32,
+    slot: u32,
+) -> Result<bool, Stopped> {
+    let path = format!(in alloc; "{folder}/shard-{shard:02}-{slot}.wal")?;
+    match fs::exists(rt, path.as_str()) {
+        Ok(is_there) => Ok(is_there),
+        Err(_) => Err(Stopped::Slots(SlotsFault::Path(path))),
+    }
+}

@@ -1,0 +1,117 @@
+//! The program `walsplit`: the slots of a folder under another number of shards.
+ghost use Rattle.std.specs.Prelude.{◌≡◌, ◌↔◌, ◌≤◌, ◌^◌, option_map};
+ghost use Rattle.words.specs.Words.{GivesCapacity};
+ghost use Rattle.splitting.specs.Words.{GiveSplit};
+
+use crate::announced::{Announced, Side, announce};
+use crate::asked::split_in;
+use crate::found::{has_slots, shards_in};
+use crate::said::SplitWords;
+use crate::stopped::Stopped;
+use disk::FileDisk;
+use slots::{Watched, open_slots, terminal_in};
+use split::{Slots, split};
+use std::alloc::Global;
+use std::fs::{File, Files};
+use std::io::{Stderr, Write};
+use words::capacity_in;
+
+/// Runs `walsplit OLD NEW COUNT`, and gives its exit status. `setting` is what the environment says of a slot's capacity.
+///
+/// The streams of the slots of OLD, which no server may have open meanwhile, are written into slots of COUNT shards in
+/// NEW, each to the shard of its key among COUNT, and `split <m> to <n>` is written: m is the number of shards of which
+/// OLD has slots. No slot of OLD is written. NEW is made where it is missing; one that has slots is refused, and so is
+/// OLD, by whatever path. Status 0: the split is on the disk. 1: no shards, a missing slot, a NEW with slots, no room in a
+/// new shard, or a fault while running. 2: wrong words, or a wrong setting. 3: what the old slots hold is refused. After
+/// a status other than 0 what stands in NEW is to be given up. A fault stands on one line of `errors`. Where `marks` are
+/// a terminal, it is said there which shard is read or written.
+pub fn run_walsplit<R: Files<File = File>, W: Write, E: Write>(
+    rt: &R,
+    alloc: Global,
+    words: &[String],
+    setting: Option<&str>,
+    output: &mut W,
+    errors: &mut E,
+    marks: Option<Stderr>,
+) -> u8
+    ensures status { result ≤ 3 }
+    ensures usage { (result ≡ 2) ↔ (¬ (GiveSplit words.now × GivesCapacity (option_map (λ s. s.now) setting.entry))) }
+{
+    let Some(words) = split_in(words) else {
+        let _ = writeln!(errors, "usage: walsplit OLD NEW COUNT");
+        return 2;
+    };
+    let Some(capacity) = capacity_in(setting) else {
+        let _ = writeln!(
+            errors,
+            "NEEDLEAZURE_CAPACITY is not a number of bytes from 4096 to 1073741824"
+        );
+        return 2;
+    };
+    if let Err(stopped) = split_and_print(rt, alloc, words, capacity, output, marks) {
+        let _ = writeln!(errors, "{stopped}");
+        return stopped.status();
+    }
+    0
+}
+
+fn split_and_print<R: Files<File = File>, W: Write>(
+    rt: &R,
+    alloc: Global,
+    words: SplitWords<'_>,
+    capacity: u64,
+    output: &mut W,
+    marks: Option<Stderr>,
+) -> Result<(), Stopped>
+    requires { capacity ≤ 2 ^ 30 }
+{
+    let old_shards = split_folder(rt, alloc, words, capacity, marks)?;
+    let new_shards = words.shards;
+    let written = writeln!(output, "split {old_shards} to {new_shards}");
+    written
+        .and_then(|()| output.flush())
+        .map_err(|_| Stopped::Output)
+}
+
+// Splits what stands in the old folder, and gives its number of shards.
+fn split_folder<R: Files<File = File>>(
+    rt: &R,
+    alloc: Global,
+    words: SplitWords<'_>,
+    capacity: u64,
+    marks: Option<Stderr>,
+) -> Result<u32, Stopped>
+    requires { capacity ≤ 2 ^ 30 }
+{
+    let SplitWords {
+        old_folder,
+        new_folder,
+        shards,
+    } = words;
+    let old_shards = shards_in(rt, alloc, old_folder)?;
+    if has_slots(rt, alloc, new_folder, 0)? {
+        return Err(Stopped::HasSlots(new_folder.to_string(alloc)?));
+    }
+    let terminal = terminal_in(marks);
+    let old = open_slots(rt, alloc, old_folder, old_shards, None)?;
+    let old = announce(alloc, old, Side::Old, terminal)?;
+    let new = open_slots(rt, alloc, new_folder, shards, None)?;
+    let new = announce(alloc, new, Side::New, terminal)?;
+    match split(alloc, old, new, capacity) {
+        Ok(slots) => {
+            close(slots);
+            Ok(old_shards)
+        }
+        Err((fault, slots)) => {
+            close(slots);
+            Err(Stopped::Split(fault))
+        }
+    }
+}
+
+fn close(slots: Slots<Announced<Watched<FileDisk>>>) {
+    let Slots {
+        old: _old,
+        new: _new,
+    } = slots;
+}
