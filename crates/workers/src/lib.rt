@@ -1,5 +1,5 @@
-//! The threads of a server: one accepts the connections that come to a listener, workers with a pass each serve them, and
-//! one at each shard helps these.
+//! The threads of a server: one accepts the connections that come to a listener, workers with a pass each serve them,
+//! and one at each shard helps these.
 #![tactic(auto)]
 
 mod assisting;
