@@ -25,7 +25,10 @@ pub fn read_body<I: Read>(alloc: Global, input: &mut I) -> Result<Vec<u8>, Stopp
 
 /// Writes all of these bytes.
 pub fn write_bytes<W: Write>(output: &mut W, bytes: &[u8]) -> Result<(), Stopped> {
-    output.write_all(bytes).map_err(|_| Stopped::Output)
+    match output.write_all(bytes) {
+        Ok(()) => Ok(()),
+        Err(_) => Err(Stopped::Output),
+    }
 }
 
 /// Writes an answer's status, a newline and its body.

@@ -92,5 +92,8 @@ fn call_folder<R: Files<File = File> + Wait, I: Read>(
     let body = read_body(alloc, input)?;
     let slots = open_slots(rt, alloc, folder, shards, None)?;
     let (ingester, mut pass) = open_for_one(alloc, slots, capacity)?;
-    answer(rt, alloc, &ingester, &mut pass, now, route, &tenant, &body).map_err(|_| Stopped::Memory)
+    match answer(rt, alloc, &ingester, &mut pass, now, route, &tenant, &body) {
+        Ok(answer) => Ok(answer),
+        Err(_) => Err(Stopped::Memory),
+    }
 }

@@ -10,7 +10,7 @@ use accept::Call;
 use disk::{Disk, MemDisk};
 use front::{Route, Status, answer, answer_of_read};
 use history::Pass;
-use ingester::{CallFault, Ingester};
+use ingester::Ingester;
 use labels::{LabelFault, LabelSet, StreamKey, Tenant};
 use pushjson::{PushFault, RawBatch, read_push};
 use std::alloc::Global;
@@ -69,9 +69,11 @@ fn push_and_read<R: Wait, I: Read, W: Write>(
     requires { now < 2 ^ 63 }
 {
     let body = read_body(alloc, input)?;
-    let tenant = Tenant::new(alloc, TENANT).map_err(|_| Stopped::Memory)?;
+    let Ok(tenant) = Tenant::new(alloc, TENANT) else {
+        return Err(Stopped::Memory);
+    };
     let (ingester, mut pass) = open_for_one(alloc, empty_slots(alloc)?, CAPACITY)?;
-    let pushed = answer(
+    let Ok(pushed) = answer(
         rt,
         alloc,
         &ingester,
@@ -80,8 +82,9 @@ fn push_and_read<R: Wait, I: Read, W: Write>(
         Route::Push,
         &tenant,
         &body,
-    )
-    .map_err(|_| Stopped::Memory)?;
+    ) else {
+        return Err(Stopped::Memory);
+    };
     write_answer(alloc, output, &pushed)?;
     if pushed.status == Status::InternalServerError {
         return Ok(());
@@ -139,14 +142,18 @@ fn read_stream<D: Disk + Drop, R: Wait, W: Write>(
         Err(LabelFault::Memory) => return Err(Stopped::Memory),
         Err(_) => return Ok(()),
     };
-    let tenant = Tenant::new(alloc, TENANT).map_err(|_| Stopped::Memory)?;
+    let Ok(tenant) = Tenant::new(alloc, TENANT) else {
+        return Err(Stopped::Memory);
+    };
     let call = Call::Read {
         key: StreamKey { tenant, labels },
         from: 0,
         to: END_OF_TIME,
     };
-    let reply = ingester.call(rt, alloc, pass, call).map_err(Stopped::from)?;
-    let read = answer_of_read(alloc, &reply).map_err(|_| Stopped::Memory)?;
+    let reply = ingester.call(rt, alloc, pass, call)?;
+    let Ok(read) = answer_of_read(alloc, &reply) else {
+        return Err(Stopped::Memory);
+    };
     write_bytes(output, read.body.as_slice())?;
     write_bytes(output, b"\n")
 }

@@ -1,7 +1,6 @@
 //! The calls behind the programs: each over its words, readers and writers, so that tests can run them.
 #![tactic(auto)]
 
-mod assisting;
 mod body;
 mod clock;
 mod ctl;
@@ -9,7 +8,6 @@ mod ingest1;
 mod opening;
 mod replayed;
 mod server;
-mod serving;
 mod setting;
 mod stopped;
 
@@ -17,6 +15,4 @@ pub use clock::SystemClock;
 pub use ctl::run_ctl;
 pub use ingest1::run_ingest1;
 pub use server::run_server;
-pub use serving::serve_listener;
-pub use stopped::Stopped;
 pub use words::{setting_of, words_of};

@@ -1,13 +1,17 @@
 //! The program `ingesterd`: the server.
-ghost use Rattle.std.specs.Prelude.{◌≡◌, ◌↔◌, ◌≤◌, ◌^◌, option_map};
+ghost use Rattle.std.specs.Prelude.{◌≡◌, ◌↔◌, ◌≤◌, ◌^◌, ℕ, Some, slice_get, option_map};
+ghost use Rattle.history.specs.Handles.{Passed};
+ghost use Rattle.ingester.specs.Calls.{IsPassOf};
 ghost use Rattle.words.specs.Words.{GiveServer, GivesCapacity};
 
 use crate::clock::SystemClock;
 use crate::opening::open_shards;
 use crate::replayed::say_replayed;
-use crate::serving::serve_listener;
 use crate::setting::capacity_by;
 use crate::stopped::Stopped;
+use disk::Disk;
+use history::Pass;
+use ingester::Ingester;
 use slots::{open_slots, terminal_in};
 use std::alloc::Global;
 use std::fs::{File, Files};
@@ -18,6 +22,7 @@ use std::sync::Wait;
 use std::thread::Threads;
 use std::time::Instant;
 use words::{ServerWords, server_in};
+use workers::serve_listener;
 
 /// Runs `ingesterd DIR PORT SHARDS WORKERS [CONNECTIONS]`, and gives its exit status. `setting` is what the environment
 /// says of a slot's capacity.
@@ -60,7 +65,7 @@ where
     0
 }
 
-// Opens the folder and the port, and serves.
+// Opens the folder, and serves.
 fn serve_folder<R, W: Write>(
     rt: &R,
     alloc: Global,
@@ -80,17 +85,41 @@ where
     if let Some(terminal) = terminal_in(marks) {
         say_replayed(rt, &ingester, start, terminal);
     }
+    serve_port(rt, alloc, words, &ingester, passes, output)
+}
+
+// Opens the port, says which it is, and serves.
+fn serve_port<D, R, W: Write>(
+    rt: &R,
+    alloc: Global,
+    words: ServerWords<'_>,
+    ingester: &Ingester<D>,
+    passes: Vec<Pass>,
+    output: &mut W,
+) -> Result<(), Stopped>
+where
+    D: Disk + Drop + Send,
+    R: Net<Listener = TcpListener, Stream = TcpStream> + Clock + Threads + Wait + Sync,
+    requires passes { (i : ℕ) (pass : Passed) → slice_get passes.items i ≡ Some pass → IsPassOf ingester.now pass }
+{
     let address = SocketAddr::new(IpAddr::V4(Ipv4Addr::LOCALHOST), words.port);
-    let listener = TcpListener::bind(rt, address).map_err(|_| Stopped::Listen)?;
-    let port = listener.local_addr().map_err(|_| Stopped::Listen)?.port();
+    let Ok(listener) = TcpListener::bind(rt, address) else {
+        return Err(Stopped::Listen);
+    };
+    let Ok(bound) = listener.local_addr() else {
+        return Err(Stopped::Listen);
+    };
     let mut clocks = Vec::with_capacity(alloc, passes.len())?;
     for _ in 0..passes.len() {
         if clocks.push(SystemClock::new(rt)).is_err() {
             return Err(Stopped::Memory);
         }
     }
-    writeln!(output, "ready {port}").map_err(|_| Stopped::Output)?;
-    output.flush().map_err(|_| Stopped::Output)?;
+    let port = bound.port();
+    if writeln!(output, "ready {port}").is_err() || output.flush().is_err() {
+        return Err(Stopped::Output);
+    }
     let connections = words.connections.unwrap_or(u64::MAX);
-    serve_listener(rt, alloc, &ingester, passes, clocks, &listener, connections)
+    serve_listener(rt, alloc, ingester, passes, clocks, &listener, connections)?;
+    Ok(())
 }

@@ -5,6 +5,7 @@ use ingester::{CallFault, OpenFault};
 use slots::SlotsFault;
 use std::alloc::AllocError;
 use thiserror::Error;
+use workers::WorkersFault;
 
 /// What stops a program, as its line of standard error says.
 #[derive(Debug, Drop, Error)]
@@ -17,12 +18,10 @@ pub enum Stopped {
     Opening(OpenFault),
     #[error("cannot listen")]
     Listen,
-    #[error("thread not started")]
-    Thread,
-    #[error("pass closed")]
-    PassClosed,
-    #[error("log spent")]
-    LogSpent,
+    #[error(transparent)]
+    Serving(#[from] WorkersFault),
+    #[error(transparent)]
+    Call(#[from] CallFault),
     #[error("out of memory")]
     Memory,
     #[error("cannot write")]
@@ -45,15 +44,5 @@ impl Stopped {
 impl From<AllocError> for Stopped {
     fn from(_refused: AllocError) -> Stopped {
         Stopped::Memory
-    }
-}
-
-impl From<CallFault> for Stopped {
-    fn from(fault: CallFault) -> Stopped {
-        match fault {
-            CallFault::Memory => Stopped::Memory,
-            CallFault::PassClosed => Stopped::PassClosed,
-            CallFault::LogSpent => Stopped::LogSpent,
-        }
     }
 }

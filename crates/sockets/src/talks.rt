@@ -5,7 +5,7 @@ ghost use Rattle.ingester.specs.Calls.{IsPassOf};
 use accept::Limits;
 use disk::{Gate, GateDisk, MemDisk};
 use ingester::Ingester;
-use ingesterd::{Stopped, SystemClock, run_ctl, run_server, serve_listener};
+use ingesterd::{SystemClock, run_ctl, run_server};
 use std::alloc::Global;
 use std::fs::{self, File, Files};
 use std::io::{self, ErrorKind, Write};
@@ -15,6 +15,7 @@ use std::sync::Wait;
 use std::test::Fail;
 use std::thread::{self, Threads, join};
 use std::time::Duration;
+use workers::{WorkersFault, serve_listener};
 
 /// How many bytes a segment may have.
 const CAPACITY: u64 = 4_096;
@@ -233,7 +234,7 @@ where
     let (told, served) = join(
         rt,
         move || answers_of(client).ok(),
-        move || -> Result<(), Stopped>
+        move || -> Result<(), WorkersFault>
             requires { (i : ℕ) (pass : Passed) → slice_get passes.items i ≡ Some pass → IsPassOf ingester.now pass }
         { serve_listener(rt, alloc, ingester, passes, clocks, listener, connections) },
     );

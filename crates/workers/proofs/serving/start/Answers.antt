@@ -1,9 +1,9 @@
 use denote.Param.{param}
 use denote.Param.Send.{IsSend, sendable}
 use denote.Ref.{NamedLft}
-use Rattle.ingesterd.proofs.Sent.{worker_send}
-use Rattle.ingesterd.specs.contracts.serving.Worker as worker
-use Rattle.ingesterd.proofs.serving.start.Goals as goal
+use Rattle.workers.proofs.Sent.{worker_send}
+use Rattle.workers.specs.contracts.serving.Worker as worker
+use Rattle.workers.proofs.serving.start.Goals as goal
 
 -- (with the worker's row left to be found, `search` compares what an ingester unfolds to)
 pub spawn-requires-send-F : goal.spawn-requires-send-F

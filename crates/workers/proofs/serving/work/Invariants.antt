@@ -1,6 +1,5 @@
-use Rattle.std.proofs.Common.{◌≡◌}
 use Rattle.ingester.specs.Calls.{IsPassOf}
-use Rattle.ingesterd.proofs.serving.work.Given as goal
+use Rattle.workers.proofs.serving.work.Given as goal
 
 abbrev pub invariant-loop-stream : goal.invariant-loop-stream
 invariant-loop-stream g l =

@@ -2,7 +2,7 @@ use Rattle.std.proofs.Common.{◌≡◌, ℕ, vec_len}
 use Rattle.std.specs.Prelude.{Some, slice_get}
 use Rattle.history.specs.Handles.{Passed}
 use Rattle.ingester.specs.Calls.{IsPassOf}
-use Rattle.ingesterd.proofs.serving.start_all.Given as goal
+use Rattle.workers.proofs.serving.start_all.Given as goal
 
 abbrev pub invariant-loop-pass : goal.invariant-loop-pass
 invariant-loop-pass g l = (p : ℕ) (pass : Passed) → slice_get l.passes.items p ≡ Some pass → IsPassOf l.ingester pass

@@ -1,6 +1,6 @@
 use Rattle.ingester.specs.Calls.{IsPassOf}
 use Rattle.ingester.proofs.Listing.{each_front}
-use Rattle.ingesterd.proofs.serving.start_all.Goals as goal
+use Rattle.workers.proofs.serving.start_all.Goals as goal
 
 pub start-requires-clause-pass : goal.start-requires-clause-pass
 start-requires-clause-pass g c κs within = (each_front (IsPassOf c.args.ingester.now) _ c.pop.new.self.items c.in-Some.pass c.in-Some.ensures.items c.loop-pass.invariant).1

@@ -1,9 +1,9 @@
 use denote.Param.{param}
 use denote.Param.Send.{IsSend, sendable}
 use denote.Ref.{NamedLft}
-use Rattle.ingesterd.proofs.Sent.{assistant_send}
-use Rattle.ingesterd.specs.contracts.assisting.Assistant as assistant
-use Rattle.ingesterd.proofs.assisting.start.Goals as goal
+use Rattle.workers.proofs.Sent.{assistant_send}
+use Rattle.workers.specs.contracts.assisting.Assistant as assistant
+use Rattle.workers.proofs.assisting.start.Goals as goal
 
 -- (with the assistant's row left to be found, `search` compares what an ingester unfolds to)
 pub spawn-requires-send-F : goal.spawn-requires-send-F

@@ -4,14 +4,14 @@ use denote.Param.Send.{IsSend, IsSync, AllSend, recorded_send, struct_send, send
 use denote.Ref.{NamedLft}
 use denote.Struct.Declared as declared
 use denote.Struct.Struct.{Struct}
-use Rattle.std.proofs.Crossing.{crosses, send, sync, frees}
+use Rattle.std.proofs.Crossing.{send, sync, frees}
 use Rattle.std.proofs.net.tcp.TcpStream.TheSendSync as stream
 use Rattle.crossbeam_channel.proofs.channel.Receiver.TheSendSync as receiver
 use Rattle.disk.specs.declared.device.Disk as disk
 use Rattle.history.proofs.handles.Pass.TheSendSync as pass
 use Rattle.ingester.proofs.Sent.{ingester_sync}
-use Rattle.ingesterd.specs.contracts.assisting.Assistant as assistant
-use Rattle.ingesterd.specs.contracts.serving.Worker as worker
+use Rattle.workers.specs.contracts.assisting.Assistant as assistant
+use Rattle.workers.specs.contracts.serving.Worker as worker
 
 fields_send : (κ : NamedLft) (D C R : RattleType) (g : disk.Ghosts D.Denot) → IsSend D → IsSend C → IsSync R → AllSend (declared.fields (worker.the_type κ D C R g))
 fields_send κ D C R g s c r = let i = ingester_sync D g s in

@@ -4,7 +4,7 @@ ghost use Rattle.history.specs.Handles.{Passed};
 ghost use Rattle.ingester.specs.Calls.{IsPassOf};
 
 use crate::assisting::{end_assistants, start_assistants};
-use crate::stopped::Stopped;
+use crate::fault::WorkersFault;
 use crossbeam_channel::{Receiver, Sender, bounded};
 use disk::Disk;
 use front::{Clock, serve};
@@ -102,7 +102,7 @@ fn accept<R: Wait + rt::Clock>(
 fn start<'s, E, D, C, R>(
     scope: &'s Scope<'s, E>,
     worker: Worker<'s, D, C, R>,
-) -> Result<(), Stopped>
+) -> Result<(), WorkersFault>
 where
     D: Disk + Drop + Send + 's,
     C: Clock + Drop + Send + 's,
@@ -114,7 +114,7 @@ where
     { work(worker) };
     match scope.spawn(run) {
         Ok(_handle) => Ok(()),
-        Err(_) => Err(Stopped::Thread),
+        Err(_) => Err(WorkersFault::Thread),
     }
 }
 
@@ -127,7 +127,7 @@ fn start_all<'s, E, D, C, R>(
     mut passes: Vec<Pass>,
     mut clocks: Vec<C>,
     streams: Receiver<TcpStream>,
-) -> Result<(), Stopped>
+) -> Result<(), WorkersFault>
 where
     D: Disk + Drop + Send + 's,
     C: Clock + Drop + Send + 's,
@@ -161,7 +161,7 @@ fn serve_by_workers<D, C, R>(
     clocks: Vec<C>,
     listener: &TcpListener,
     connections: u64,
-) -> Result<(), Stopped>
+) -> Result<(), WorkersFault>
 where
     D: Disk + Drop + Send,
     C: Clock + Drop + Send,
@@ -172,7 +172,7 @@ where
     thread::scope(
         thread::scope_env(),
         rt,
-        |scope| -> Result<(), Stopped>
+        |scope| -> Result<(), WorkersFault>
             requires { (i : ℕ) (pass : Passed) → slice_get passes.items i ≡ Some pass → IsPassOf ingester.now pass }
         {
             start_all(scope, rt, alloc, ingester, passes, clocks, receiver)?;
@@ -197,7 +197,7 @@ pub fn serve_listener<D, C, R>(
     clocks: Vec<C>,
     listener: &TcpListener,
     connections: u64,
-) -> Result<(), Stopped>
+) -> Result<(), WorkersFault>
 where
     D: Disk + Drop + Send,
     C: Clock + Drop + Send,
@@ -208,7 +208,7 @@ where
     thread::scope(
         thread::scope_env(),
         rt,
-        |scope| -> Result<(), Stopped>
+        |scope| -> Result<(), WorkersFault>
             requires { (i : ℕ) (pass : Passed) → slice_get passes.items i ≡ Some pass → IsPassOf ingester.now pass }
         {
             let served = match start_assistants(scope, rt, alloc, ingester, ended) {
@@ -221,7 +221,7 @@ where
                     listener,
                     connections,
                 ),
-                Err(stopped) => Err(stopped),
+                Err(fault) => Err(fault),
             };
             end_assistants(ingester, running);
             served

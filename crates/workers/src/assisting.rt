@@ -2,7 +2,7 @@
 //! side.
 ghost use Rattle.std.specs.Prelude.{◌<◌};
 
-use crate::stopped::Stopped;
+use crate::fault::WorkersFault;
 use crossbeam_channel::{Receiver, Sender};
 use disk::Disk;
 use ingester::Ingester;
@@ -46,7 +46,7 @@ fn assist<D: Disk + Drop, R: Wait>(assistant: Assistant<D, R>)
 fn start<'s, E, D, R>(
     scope: &'s Scope<'s, E>,
     assistant: Assistant<'s, D, R>,
-) -> Result<(), Stopped>
+) -> Result<(), WorkersFault>
 where
     D: Disk + Drop + Send + 's,
     R: Threads + Wait + Sync,
@@ -57,7 +57,7 @@ where
     { assist(assistant) };
     match scope.spawn(run) {
         Ok(_handle) => Ok(()),
-        Err(_) => Err(Stopped::Thread),
+        Err(_) => Err(WorkersFault::Thread),
     }
 }
 
@@ -68,7 +68,7 @@ pub fn start_assistants<'s, E, D, R>(
     alloc: Global,
     ingester: &'s Ingester<D>,
     ended: Receiver<()>,
-) -> Result<(), Stopped>
+) -> Result<(), WorkersFault>
 where
     D: Disk + Drop + Send + 's,
     R: Threads + Wait + Sync,
