@@ -48,12 +48,13 @@ IsFirstFull slot slots =
 
 module _ {D : Type 0} (sight : D → Sight) (follows : D → Type 0) where
   -- what follows the model now did when it was given
-  abbrev pub IsBefore : ℕ → List D → List D → Type 0
-  IsBefore s given back = AllFollow follows back → AllFollow follows given
+  abbrev pub IsBefore : List D → List D → Type 0
+  IsBefore given back = AllFollow follows back → AllFollow follows given
 
   -- nothing was written: at each moment a crash leaves only what it could have left at the start
-  abbrev pub IsAtRest : ℕ → List D → List D → Type 0
-  IsAtRest s given back = AllFollow follows back → PairRests (slots_of sight given) (slots_of sight back)
+  pub record IsAtRest (given back : List D) : Type 0 where
+    pub before : IsBefore given back
+    pub rests : AllFollow follows back → PairRests (slots_of sight given) (slots_of sight back)
 
   -- an old shard's slots held these streams, and no crash takes them
   pub record IsRead (owner : Owner) (given back : List D) (m : Streams) : Type 0 where
@@ -82,12 +83,15 @@ module _ {D : Type 0} (sight : D → Sight) (follows : D → Type 0) where
     pub division : Division (length new) old old_back
     pub started : EachPair (λ s given back. IsStarted (owner_of s (length new)) cap given back (division.news s)) new new_back
 
-  -- This old shard is the first whose slots are refused, as the log says it. No new slot was touched.
+  -- why the slots of an old shard are refused, as the log says it
+  pub record IsRefusal (owner : Owner) (given back : List D) (fault : OpenFault) : Type 0 where
+    pub why : IsOfDeviceOrMemory fault ⊎ (AllFollow follows back → IsOpenFault owner (slots_of sight given).first.seen (slots_of sight given).second.seen fault)
+    pub counted : CountsCause fault (slots_of sight given) (slots_of sight back)
+
+  -- This old shard is the first whose slots are refused. No new slot was touched.
   pub record IsOldRefused (s : ℕ) (fault : OpenFault) (old old_back new new_back : List (List D)) : Type 0 where
     pub within : s < length old
-    pub why : IsOfDeviceOrMemory fault
-        ⊎ (AllFollow follows (pair_at old_back s) → IsOpenFault (owner_of s (length old)) (slots_of sight (pair_at old s)).first.seen (slots_of sight (pair_at old s)).second.seen fault)
-    pub counted : CountsCause fault (slots_of sight (pair_at old s)) (slots_of sight (pair_at old_back s))
+    pub refused : IsRefusal (owner_of s (length old)) (pair_at old s) (pair_at old_back s) fault
     pub before : (i : ℕ) → i < s → (m : Streams) × IsRead (owner_of i (length old)) (pair_at old i) (pair_at old_back i) m
     pub untouched : new_back ≡ new
 
@@ -96,7 +100,7 @@ module _ {D : Type 0} (sight : D → Sight) (follows : D → Type 0) where
     pub within : s < length new
     pub full : AllFollow follows (pair_at new_back s) → IsFirstFull slot (slots_of sight (pair_at new s))
     pub before : (i : ℕ) → i < s → AllFollow follows (pair_at new_back i) → IsEmptyPair (slots_of sight (pair_at new i))
-    pub rests : AllFollow follows (pair_at new_back s) → EachPair IsAtRest new new_back
+    pub rests : AllFollow follows (pair_at new_back s) → EachPair (λ _. IsAtRest) new new_back
 
   -- This new shard is the first whose streams need more room than there is, and nothing was written.
   pub record HasNoRoom (cap s : ℕ) (old old_back new new_back : List (List D)) : Type 0 where
@@ -104,7 +108,7 @@ module _ {D : Type 0} (sight : D → Sight) (follows : D → Type 0) where
     pub within : s < length new
     pub full : cap < room (division.news s)
     pub before : (i : ℕ) → i < s → room (division.news i) ≤ cap
-    pub rests : EachPair IsAtRest new new_back
+    pub rests : EachPair (λ _. IsAtRest) new new_back
 
   -- why shards are not split
   abbrev pub IsCause : SplitFault → ℕ → List (List D) → List (List D) → List (List D) → List (List D) → Type 0

@@ -2,8 +2,13 @@
 //! empty slots of new ones.
 #![tactic(auto)]
 
+mod dealing;
 mod fault;
+mod moving;
+mod reading;
 mod splitting;
+mod starting;
+mod testing;
 
 pub use fault::SplitFault;
 pub use splitting::{Slots, split};

@@ -1,8 +1,12 @@
 //! Shards of one number made into shards of another.
-ghost use Rattle.std.specs.Prelude.{◌≡◌, ◌<◌, ◌≤◌, ◌^◌, IfOk, IfErr, vec_len};
+ghost use Rattle.std.specs.Prelude.{◌≡◌, ◌<◌, ◌≤◌, ◌^◌, IfOk, IfErr, OnOk, vec_len};
 ghost use Rattle.split.specs.Splits.{back, EachPair, IsBefore, IsAtRest, AreSplit, IsCause};
 
+use crate::dealing::{deal_all, test_rooms};
 use crate::fault::SplitFault;
+use crate::reading::read_all;
+use crate::starting::start_all;
+use crate::testing::test_all;
 use disk::Disk;
 use std::alloc::Global;
 
@@ -37,17 +41,45 @@ pub fn split<D: Disk>(
     requires new { (0 < vec_len new) × (vec_len new ≤ 64) }
     requires cap { cap ≤ 2 ^ 30 }
     ensures lengths { (vec_len (back result).old ≡ vec_len old) × (vec_len (back result).new ≡ vec_len new) }
-    ensures before { EachPair (IsBefore D.sight D.follows) old.items (back result).old.items
-        × EachPair (IsBefore D.sight D.follows) new.items (back result).new.items }
     // Of the old slots a crash at each moment leaves only what it could have left at the start.
-    ensures rests { EachPair (IsAtRest D.sight D.follows) old.items (back result).old.items }
+    ensures old_rests { EachPair (λ _. IsAtRest D.sight D.follows) old.items (back result).old.items }
+    ensures new_before { EachPair (λ _. IsBefore D.sight D.follows) new.items (back result).new.items }
     ensures split { IfOk result (λ it.
         AreSplit D.sight D.follows cap old.items it.old.items new.items it.new.items) }
     ensures cause { IfErr result (λ e.
         IsCause D.sight D.follows e.0 cap old.items e.1.old.items new.items e.1.new.items) }
 {
-    // (not made yet)
-    let _ = alloc;
-    let _ = cap;
-    Err((SplitFault::Memory, Slots { old, new }))
+    let mut old = old;
+    let mut new = new;
+    let made = split_over(alloc, &mut old, &mut new, cap);
+    let slots = Slots { old, new };
+    match made {
+        Ok(()) => Ok(slots),
+        Err(fault) => Err((fault, slots)),
+    }
+}
+
+fn split_over<D: Disk>(
+    alloc: Global,
+    old: &mut Vec<[D; 2]>,
+    new: &mut Vec<[D; 2]>,
+    cap: u64,
+) -> Result<(), SplitFault>
+    requires old { (0 < vec_len old.old) × (vec_len old.old ≤ 64) }
+    requires new { (0 < vec_len new.old) × (vec_len new.old ≤ 64) }
+    requires cap { cap ≤ 2 ^ 30 }
+    ensures lengths { (vec_len old.new ≡ vec_len old.old) × (vec_len new.new ≡ vec_len new.old) }
+    ensures old_rests { EachPair (λ _. IsAtRest D.sight D.follows) old.old.items old.new.items }
+    ensures new_before { EachPair (λ _. IsBefore D.sight D.follows) new.old.items new.new.items }
+    ensures split { OnOk result
+        (AreSplit D.sight D.follows cap old.old.items old.new.items new.old.items new.new.items) }
+    ensures cause { IfErr result (λ fault.
+        IsCause D.sight D.follows fault cap old.old.items old.new.items new.old.items new.new.items) }
+{
+    let count = new.len() as u32;
+    let olds = read_all(alloc, old, cap)?;
+    test_all(new)?;
+    let news = deal_all(alloc, olds, count)?;
+    test_rooms(&news, cap)?;
+    start_all(alloc, new, &news, cap)
 }

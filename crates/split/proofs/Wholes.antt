@@ -1,0 +1,86 @@
+-- What the stages of a split come to.
+use Rattle.std.proofs.Common.{◌≡◌, ℕ, ◌<◌, List, length, sym, ◌∙◌, subst, arith}
+use Rattle.std.specs.Prelude.{Result, Ok, Err, OnOk, IfErr}
+use Rattle.accept.specs.Rooms.{Streams}
+use Rattle.disk.specs.Sight.{Sight}
+use Rattle.segment.specs.Segments.{owner_of}
+use Rattle.wal.specs.Opening.{slots_of, AllFollow}
+use Rattle.split.specs.declared.fault.SplitFault.{SplitFault}
+use Rattle.split.specs.declared.fault.SplitFault.TheVariants.{NoRoom}
+use Rattle.split.specs.Maps.{map_at, IsSplit, AreFit, AreWithin, IsFirstAbove}
+use Rattle.split.specs.Splits.{pair_at, EachPair, IsEmptyPair, IsBefore, IsAtRest, IsRead, Division, AreSplit, IsCause}
+use Rattle.split.specs.Stages.{IsTested, IsBegun, IsStartFault, found_more, broken, short}
+use Rattle.split.proofs.Dealt.{apart_by_fit}
+use Rattle.split.proofs.Logs.{none_failed, failed_then}
+
+module _ {D : Type 0} (sight : D → Sight) (follows : D → Type 0) where
+  -- the maps of old shards that were read, and of new ones
+  abbrev AreDivided : ℕ → ℕ → List Streams → List Streams → List (List D) → List (List D) → Type 0
+  AreDivided n m olds news old old_back =
+      EachPair (λ s given back. IsRead sight follows (owner_of s n) given back (map_at olds s)) old old_back × AreFit n olds × IsSplit n m (map_at olds) (map_at news)
+
+  abbrev divided : (m : ℕ) (olds news : List Streams) (old old_back : List (List D)) → AreDivided (length old) m olds news old old_back → Division sight follows m old old_back
+  divided m olds news old old_back are = record { olds = map_at olds; news = map_at news; read = are.0; apart = apart_by_fit (length old) olds are.1; split = are.2 }
+
+  pub rested_before : (new mid : List (List D)) → EachPair (λ _. IsAtRest sight follows) new mid → EachPair (λ _. IsBefore sight follows) new mid
+  rested_before new mid rests s lt = (rests s lt).before
+
+  pub begun_before : (new mid back : List (List D)) → length mid ≡ length new → EachPair (λ _. IsAtRest sight follows) new mid → EachPair (λ _. IsBefore sight follows) mid back → EachPair (λ _. IsBefore sight follows) new back
+  begun_before new mid back len rests before s lt all = (rests s lt).before (before s (omega (arith, lt, len)) all)
+
+  pub no_room : (n cap s : ℕ) (olds news : List Streams) (old old_back new mid : List (List D)) → n ≡ length old → length news ≡ length new → AreDivided n (length new) olds news old old_back → EachPair (λ _. IsAtRest sight follows) new mid → IsFirstAbove cap s news
+      → IsCause sight follows (NoRoom s) cap old old_back new mid
+  no_room n cap s olds news old old_back new mid long len are rests above = record {
+    division = divided (length new) olds news old old_back (subst (λ (k : ℕ). AreDivided k (length new) olds news old old_back) long are);
+    within = omega (arith, above.within, len);
+    full = above.full;
+    before = above.before;
+    rests = rests;
+  }
+
+  pub finished : (n m cap : ℕ) (olds news : List Streams) (old old_back new mid back : List (List D)) → n ≡ length old → m ≡ length new → length mid ≡ length new → AreDivided n m olds news old old_back → AreWithin cap m news
+      → EachPair (λ _. IsTested sight follows) new mid → EachPair (λ s given made. IsBegun sight follows (owner_of s m) given made (map_at news s)) mid back → AreSplit sight follows cap old old_back new back
+  finished n m cap olds news old old_back new mid back long many len are small tested begun = record {
+    division = divided (length new) olds news old old_back (subst (λ (k : ℕ). AreDivided k (length new) olds news old old_back) long (subst (λ (k : ℕ). AreDivided n k olds news old old_back) many are));
+    started = λ s lt.
+        let test = tested s lt in
+        let start = subst (λ (k : ℕ). IsBegun sight follows (owner_of s k) (pair_at mid s) (pair_at back s) (map_at news s)) many (begun s (omega (arith, lt, len))) in
+        record {
+          empty = λ all. test.empty (start.before all);
+          keeps = start.keeps;
+          first = start.first;
+          small = small s (omega (arith, lt, many));
+          not_failed = none_failed (slots_of sight (pair_at new s)) (slots_of sight (pair_at mid s)) (slots_of sight (pair_at back s)) test.not_failed start.not_failed;
+        };
+  }
+
+  pub finished_if_ok : (r : Result (Unit {0}) SplitFault) (n m cap : ℕ) (olds news : List Streams) (old old_back new mid back : List (List D)) → n ≡ length old → m ≡ length new → length mid ≡ length new → AreDivided n m olds news old old_back → AreWithin cap m news
+      → EachPair (λ _. IsTested sight follows) new mid → OnOk r (EachPair (λ s given made. IsBegun sight follows (owner_of s m) given made (map_at news s)) mid back) → OnOk r (AreSplit sight follows cap old old_back new back)
+  finished_if_ok (Ok x) n m cap olds news old old_back new mid back long many len are small tested begun = finished n m cap olds news old old_back new mid back long many len are small tested begun
+  finished_if_ok (Err e) n m cap olds news old old_back new mid back long many len are small tested begun = tt
+
+  still_empty : (given back : List D) → IsTested sight follows given back → AllFollow follows back → IsEmptyPair (slots_of sight back)
+  still_empty given back test all =
+      let rested = test.rests.rests all in
+      let none = test.empty all in
+      (rested.first.same ∙ none.0, rested.second.same ∙ none.1)
+
+  start_cause : (s cap : ℕ) (fault : SplitFault) (old old_back new mid back : List (List D)) → s < length new → length mid ≡ length new → EachPair (λ _. IsTested sight follows) new mid → EachPair (λ _. IsBefore sight follows) mid back
+      → IsStartFault sight follows s (pair_at mid s) (pair_at back s) fault → IsCause sight follows fault cap old old_back new back
+  start_cause s cap fault old old_back new mid back lt len tested before (found_more slot is not) =
+      let never : AllFollow follows (pair_at back s) → ⊥ = λ all. not all (still_empty (pair_at new s) (pair_at mid s) (tested s lt) (before s (omega (arith, lt, len)) all)) in
+      subst (λ (e : SplitFault). IsCause sight follows e cap old old_back new back) (sym is) (record {
+        within = lt;
+        full = λ all. absurd (never all);
+        before = λ i under all. (tested i (omega (arith, under, lt))).empty (before i (omega (arith, under, lt, len)) all);
+        rests = λ all. absurd (never all);
+      })
+  start_cause s cap fault old old_back new mid back lt len tested before (broken is failed) =
+      subst (λ (e : SplitFault). IsCause sight follows e cap old old_back new back) (sym is)
+      (lt, failed_then (slots_of sight (pair_at new s)) (slots_of sight (pair_at mid s)) (slots_of sight (pair_at back s)) (tested s lt).not_failed failed)
+  start_cause s cap fault old old_back new mid back lt len tested before (short is) = subst (λ (e : SplitFault). IsCause sight follows e cap old old_back new back) (sym is) tt
+
+  pub cause_if_err : (r : Result (Unit {0}) SplitFault) (m cap : ℕ) (old old_back new mid back : List (List D)) → m ≡ length new → length mid ≡ length new → EachPair (λ _. IsTested sight follows) new mid → EachPair (λ _. IsBefore sight follows) mid back
+      → IfErr r (λ fault. (s : ℕ) × (s < m) × IsStartFault sight follows s (pair_at mid s) (pair_at back s) fault) → IfErr r (λ fault. IsCause sight follows fault cap old old_back new back)
+  cause_if_err (Ok x) m cap old old_back new mid back many len tested before h = tt
+  cause_if_err (Err e) m cap old old_back new mid back many len tested before h = start_cause h.0 cap e old old_back new mid back (omega (arith, h.1, many)) len tested before h.2

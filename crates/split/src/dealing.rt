@@ -1,0 +1,80 @@
+//! Streams dealt to the shards of their keys.
+ghost use Rattle.std.specs.Prelude.{◌≡◌, ◌≤◌, ◌<◌, ◌+◌, ◌^◌, ℕ, IfOk, OnOk, IfErr, length, replicate, vec_len};
+ghost use Rattle.std.specs.FinMap as finite;
+ghost use Rattle.accept.specs.Rooms.{room};
+ghost use Rattle.split.specs.Maps.{map_at, IsSplit, dealt, AreFit, AreWithin, IsFirstAbove};
+
+use crate::fault::SplitFault;
+use accept::Image;
+use labels::shard_of;
+use segment::state_size;
+use std::alloc::{AllocError, Global};
+
+/// So many maps without a stream.
+fn empty_maps(alloc: Global, count: u32) -> Result<Vec<Image>, AllocError>
+    ensures items { IfOk result (λ maps. maps.items ≡ replicate count finite.empty) }
+    ensures len { IfOk result (λ maps. vec_len maps ≡ count) }
+{
+    let mut maps = Vec::with_capacity(alloc, count as usize)?;
+    for _ in 0..count {
+        maps.push_reserved(Image::new(alloc));
+    }
+    Ok(maps)
+}
+
+/// Moves each stream of a map to the map of its key's shard.
+fn deal(old: Image, news: &mut Vec<Image>, count: u32) -> Result<(), AllocError>
+    requires count { (1 ≤ count) × (count ≤ 64) }
+    requires len { vec_len news.old ≡ count }
+    ensures len { vec_len news.new ≡ count }
+    ensures dealt { OnOk result (news.new.items ≡ dealt count news.old.items old) }
+{
+    for (key, stream) in old {
+        let shard = shard_of(&key, count) as usize;
+        news[shard].insert(key, stream)?;
+    }
+    Ok(())
+}
+
+/// The streams of old shards, moved to the maps of so many new ones. No entry is copied.
+pub(crate) fn deal_all(
+    alloc: Global,
+    olds: Vec<Image>,
+    count: u32,
+) -> Result<Vec<Image>, AllocError>
+    requires olds { (0 < vec_len olds) × (vec_len olds ≤ 64) }
+    requires count { (1 ≤ count) × (count ≤ 64) }
+    requires fit { AreFit (vec_len olds) olds.items }
+    requires small { AreWithin (2 ^ 31 + 27) (vec_len olds) olds.items }
+    ensures len { IfOk result (λ news. vec_len news ≡ count) }
+    ensures split { IfOk result (λ news. IsSplit (vec_len olds) count (map_at olds.items) (map_at news.items)) }
+    ensures fit { IfOk result (λ news. AreFit count news.items) }
+    ensures small { IfOk result (λ news. AreWithin (2 ^ 40) count news.items) }
+{
+    let mut news = empty_maps(alloc, count)?;
+    for old in olds {
+        deal(old, &mut news, count)?;
+    }
+    Ok(news)
+}
+
+/// Whether each map has room.
+///
+/// # Errors
+///
+/// `NoRoom`: the first that needs more.
+pub(crate) fn test_rooms(news: &[Image], cap: u64) -> Result<(), SplitFault>
+    requires few { length news.now ≤ 64 }
+    requires small { AreWithin (2 ^ 40) (length news.now) news.now }
+    ensures ok { OnOk result (AreWithin cap (length news.now) news.now) }
+    ensures full { IfErr result (λ fault. (s : ℕ) × (fault ≡ SplitFault.NoRoom s) × IsFirstAbove cap s news.now) }
+{
+    for shard in 0..news.len() {
+        if state_size(&news[shard]) > cap {
+            return Err(SplitFault::NoRoom {
+                shard: shard as u32,
+            });
+        }
+    }
+    Ok(())
+}
