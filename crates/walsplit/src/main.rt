@@ -13,14 +13,6 @@ fn main(rt: HostRuntime) -> ExitCode {
     let (alloc, setting) = (rt.alloc(), setting.as_deref());
     let (mut output, mut errors) = (rt.stdout(), rt.stderr());
     let marks = Some(rt.stderr());
-    let status = run_walsplit(
-        &rt,
-        alloc,
-        &words,
-        setting,
-        &mut output,
-        &mut errors,
-        marks,
-    );
+    let status = run_walsplit(&rt, alloc, &words, setting, &mut output, &mut errors, marks);
     ExitCode::from(status)
 }
