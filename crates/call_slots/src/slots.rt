@@ -1,3 +1,7 @@
+ghost use Rattle.std.specs.Prelude.{◌≡◌, ◌<◌, ℕ, [], ◌∷◌, IfOk, OnOk, IsErr};
+ghost use Rattle.disk.specs.MemDisk.{WillFail, calls_of};
+ghost use Rattle.call_slots.specs.Slots.{IsPlanned, IsWritten, bytes_in};
+
 use anyhow::{Result, bail};
 use disk::{Disk, MemDisk};
 use std::alloc::Global;
@@ -25,7 +29,10 @@ impl Pair {
     ///
     /// # Errors
     /// Want of memory, or more bytes than a slot takes.
-    pub fn of_bytes(alloc: Global, first: &[u8], second: &[u8]) -> Result<Pair> {
+    pub fn of_bytes(alloc: Global, first: &[u8], second: &[u8]) -> Result<Pair>
+        ensures first { IfOk result (λ pair. bytes_in pair.first ≡ first.now) }
+        ensures second { IfOk result (λ pair. bytes_in pair.second ≡ second.now) }
+    {
         Ok(Pair {
             first: slot_of(alloc, first)?,
             second: slot_of(alloc, second)?,
@@ -33,13 +40,17 @@ impl Pair {
     }
 
     /// Slot 0, and slot 1.
-    pub fn of_slots(slots: [MemDisk; 2]) -> Pair {
+    pub fn of_slots(slots: [MemDisk; 2]) -> Pair
+        ensures { slots ≡ result.first ∷ result.second ∷ [] }
+    {
         let [first, second] = slots;
         Pair { first, second }
     }
 
     /// Slot 0, and slot 1.
-    pub fn into_slots(self) -> [MemDisk; 2] {
+    pub fn into_slots(self) -> [MemDisk; 2]
+        ensures { result ≡ self.first ∷ self.second ∷ [] }
+    {
         let Pair { first, second } = self;
         [first, second]
     }
@@ -48,7 +59,10 @@ impl Pair {
     ///
     /// # Errors
     /// A read that fails, or want of memory.
-    pub fn copy(&mut self, alloc: Global) -> Result<Pair> {
+    pub fn copy(&mut self, alloc: Global) -> Result<Pair>
+        ensures first { IfOk result (λ pair. bytes_in pair.first ≡ bytes_in self.old.first) }
+        ensures second { IfOk result (λ pair. bytes_in pair.second ≡ bytes_in self.old.second) }
+    {
         let first = bytes_of(alloc, &mut self.first)?;
         let second = bytes_of(alloc, &mut self.second)?;
         Pair::of_bytes(alloc, &first, &second)
@@ -58,7 +72,13 @@ impl Pair {
     ///
     /// # Errors
     /// No such slot, want of memory, or more bytes than a slot takes.
-    pub fn replace(&mut self, alloc: Global, slot: u64, bytes: &[u8]) -> Result<()> {
+    pub fn replace(&mut self, alloc: Global, slot: u64, bytes: &[u8]) -> Result<()>
+        ensures zero { slot ≡ 0 → (self.new.second ≡ self.old.second)
+            × OnOk result (bytes_in self.new.first ≡ bytes.now) }
+        ensures one { slot ≡ 1 → (self.new.first ≡ self.old.first)
+            × OnOk result (bytes_in self.new.second ≡ bytes.now) }
+        ensures other { 1 < slot → IsErr result × (self.new ≡ self.old) }
+    {
         match slot {
             0 => self.first = slot_of(alloc, bytes)?,
             1 => self.second = slot_of(alloc, bytes)?,
@@ -71,7 +91,13 @@ impl Pair {
     ///
     /// # Errors
     /// No such slot, or one that doesn't work.
-    pub fn write(&mut self, slot: u64, at: u64, bytes: &[u8]) -> Result<()> {
+    pub fn write(&mut self, slot: u64, at: u64, bytes: &[u8]) -> Result<()>
+        ensures zero { slot ≡ 0 → (self.new.second ≡ self.old.second)
+            × OnOk result (IsWritten at bytes.now self.old.first self.new.first) }
+        ensures one { slot ≡ 1 → (self.new.first ≡ self.old.first)
+            × OnOk result (IsWritten at bytes.now self.old.second self.new.second) }
+        ensures other { 1 < slot → IsErr result × (self.new ≡ self.old) }
+    {
         match slot {
             0 => write_through(&mut self.first, at, bytes),
             1 => write_through(&mut self.second, at, bytes),
@@ -83,7 +109,11 @@ impl Pair {
     ///
     /// # Errors
     /// No such slot.
-    pub fn plan(&mut self, slot: u64, way: Way, call: u64) -> Result<()> {
+    pub fn plan(&mut self, slot: u64, way: Way, call: u64) -> Result<()>
+        ensures zero { slot ≡ 0 → (self.new.second ≡ self.old.second) × IsPlanned way call self.new.first }
+        ensures one { slot ≡ 1 → (self.new.first ≡ self.old.first) × IsPlanned way call self.new.second }
+        ensures other { 1 < slot → IsErr result × (self.new ≡ self.old) }
+    {
         match slot {
             0 => plan(&mut self.first, way, call),
             1 => plan(&mut self.second, way, call),
@@ -93,7 +123,9 @@ impl Pair {
     }
 
     /// Lets both slots work.
-    pub fn mend(&mut self) {
+    pub fn mend(&mut self)
+        ensures { (k : ℕ) → 0 < k → (¬ WillFail self.new.first k) × (¬ WillFail self.new.second k) }
+    {
         self.first.fail_at(0);
         self.second.fail_at(0);
     }
@@ -102,7 +134,11 @@ impl Pair {
     ///
     /// # Errors
     /// No such slot, one that doesn't work, or want of memory.
-    pub fn bytes(&mut self, alloc: Global, slot: u64) -> Result<Vec<u8>> {
+    pub fn bytes(&mut self, alloc: Global, slot: u64) -> Result<Vec<u8>>
+        ensures zero { slot ≡ 0 → IfOk result (λ bytes. bytes.items ≡ bytes_in self.old.first) }
+        ensures one { slot ≡ 1 → IfOk result (λ bytes. bytes.items ≡ bytes_in self.old.second) }
+        ensures other { 1 < slot → IsErr result }
+    {
         match slot {
             0 => bytes_of(alloc, &mut self.first),
             1 => bytes_of(alloc, &mut self.second),
@@ -111,12 +147,16 @@ impl Pair {
     }
 
     /// How many writes and syncs were ever made on slot 0 and on slot 1.
-    pub fn calls(&self) -> (u64, u64) {
+    pub fn calls(&self) -> (u64, u64)
+        ensures { result ≡ (calls_of self.now.first, calls_of self.now.second) }
+    {
         (self.first.calls(), self.second.calls())
     }
 }
 
-fn slot_of(alloc: Global, bytes: &[u8]) -> Result<MemDisk> {
+fn slot_of(alloc: Global, bytes: &[u8]) -> Result<MemDisk>
+    ensures { IfOk result (λ slot. bytes_in slot ≡ bytes.now) }
+{
     let mut slot = MemDisk::new(alloc, 8_192, 64, 16_384)?;
     if !bytes.is_empty() {
         write_through(&mut slot, 0, bytes)?;
@@ -124,20 +164,26 @@ fn slot_of(alloc: Global, bytes: &[u8]) -> Result<MemDisk> {
     Ok(slot)
 }
 
-fn write_through(slot: &mut MemDisk, at: u64, bytes: &[u8]) -> Result<()> {
+fn write_through(slot: &mut MemDisk, at: u64, bytes: &[u8]) -> Result<()>
+    ensures { OnOk result (IsWritten at bytes.now slot.old slot.new) }
+{
     slot.write_at(at, bytes)?;
     slot.sync()?;
     Ok(())
 }
 
-fn plan(slot: &mut MemDisk, way: Way, call: u64) {
+fn plan(slot: &mut MemDisk, way: Way, call: u64)
+    ensures { IsPlanned way call slot.new }
+{
     match way {
         Way::Stops if call > 0 => slot.stop_at(call),
         Way::Fails | Way::Stops => slot.fail_at(call),
     }
 }
 
-fn bytes_of(alloc: Global, slot: &mut MemDisk) -> Result<Vec<u8>> {
+fn bytes_of(alloc: Global, slot: &mut MemDisk) -> Result<Vec<u8>>
+    ensures { IfOk result (λ bytes. bytes.items ≡ bytes_in slot.old) }
+{
     let size = slot.len()? as usize;
     let mut bytes = vec![in alloc; 0; size]?;
     let len = slot.read(0, &mut bytes)?;

@@ -1,4 +1,4 @@
-ghost use Rattle.std.specs.Prelude.{All, IfOk};
+ghost use Rattle.std.specs.Prelude.{◌≡◌, All, IfOk, length, vec_len};
 ghost use Rattle.accept.specs.Calls.{AreNumbers};
 
 use crate::calls::{call_of, number_of};
@@ -61,7 +61,8 @@ impl Gathered {
     /// # Errors
     /// A line that is no call, a number that no call may have, or want of memory.
     pub fn calls(&self, alloc: Global) -> Result<VecDeque<Call>>
-        ensures { IfOk result (λ calls. All AreNumbers calls.items) }
+        ensures numbers { IfOk result (λ calls. All AreNumbers calls.items) }
+        ensures each { IfOk result (λ calls. length calls.items ≡ vec_len self.now.lines) }
     {
         let mut calls = VecDeque::new(alloc);
         for line in self.lines.iter() {

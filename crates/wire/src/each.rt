@@ -1,3 +1,6 @@
+ghost use Rattle.std.specs.Prelude.{◌≡◌, ◌≢◌, max, true};
+ghost use Rattle.rows.specs.Tallies.{one_more};
+
 use crate::manner::Manner;
 use anyhow::{Result, bail};
 
@@ -30,7 +33,10 @@ impl Each {
     }
 
     /// The first place.
-    pub fn first(self) -> usize {
+    pub fn first(self) -> usize
+        ensures step { self ≡ Each.Step → result ≡ 1 }
+        ensures other { self ≢ Each.Step → result ≡ 0 }
+    {
         match self {
             Each::Cut | Each::Fails | Each::Room => 0,
             Each::Step => 1,
@@ -38,7 +44,10 @@ impl Each {
     }
 
     /// The place behind the last one, where so many bytes come and so many are written.
-    pub fn end(self, bytes: usize, written: usize) -> usize {
+    pub fn end(self, bytes: usize, written: usize) -> usize
+        ensures room { self ≡ Each.Room → result ≡ one_more written }
+        ensures other { self ≢ Each.Room → result ≡ one_more bytes }
+    {
         match self {
             Each::Cut | Each::Fails | Each::Step => bytes.saturating_add(1),
             Each::Room => written.saturating_add(1),
@@ -46,7 +55,12 @@ impl Each {
     }
 
     /// The manner of the run at this place.
-    pub fn manner(self, manner: Manner, place: usize) -> Manner {
+    pub fn manner(self, manner: Manner, place: usize) -> Manner
+        ensures cut { self ≡ Each.Cut → result ≡ record manner { length = place } }
+        ensures fails { self ≡ Each.Fails → result ≡ record manner { length = place; fails = true } }
+        ensures room { self ≡ Each.Room → result ≡ record manner { room = place } }
+        ensures step { self ≡ Each.Step → result ≡ record manner { step = max place 1 } }
+    {
         match self {
             Each::Cut => Manner {
                 length: place,
