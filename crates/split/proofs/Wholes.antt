@@ -1,17 +1,24 @@
 -- What the stages of a split come to.
-use Rattle.std.proofs.Common.{◌≡◌, ℕ, ◌<◌, List, length, sym, ◌∙◌, subst, arith}
+use Rattle.std.proofs.Common.{◌≡◌, ℕ, ◌<◌, List, length, set, refl, sym, ◌∙◌, subst, arith}
 use Rattle.std.specs.Prelude.{Result, Ok, Err, OnOk, IfErr}
 use Rattle.accept.specs.Rooms.{Streams}
 use Rattle.disk.specs.Sight.{Sight}
 use Rattle.segment.specs.Segments.{owner_of}
 use Rattle.wal.specs.Opening.{slots_of, AllFollow}
 use Rattle.split.specs.declared.fault.SplitFault.{SplitFault}
-use Rattle.split.specs.declared.fault.SplitFault.TheVariants.{NoRoom}
+use Rattle.split.specs.declared.fault.SplitFault.TheVariants.{NotEmpty, NoRoom, Device, Memory}
 use Rattle.split.specs.Maps.{map_at, IsSplit, AreFit, AreWithin, IsFirstAbove}
-use Rattle.split.specs.Splits.{pair_at, EachPair, IsEmptyPair, IsBefore, IsAtRest, IsRead, Division, AreSplit, IsCause}
-use Rattle.split.specs.Stages.{IsTested, IsBegun, IsStartFault, found_more, broken, short}
+use Rattle.split.specs.Splits.{pair_at, EachPair, IsEmptyPair, HasNotFailed, IsBefore, IsAtRest, IsRead, Division, AreSplit, IsCause}
+use Rattle.split.specs.Stages.{AreDone, IsTested, IsBegun, IsStartFault, found_more, broken, short}
 use Rattle.split.proofs.Dealt.{apart_by_fit}
+use Rattle.split.proofs.Pairs.{stopped}
 use Rattle.split.proofs.Logs.{none_failed, failed_then}
+
+apart_full : (s slot : ℕ) → NotEmpty s slot ≡ Memory → ⊥
+apart_full s slot e = cc
+
+apart_broken : (s : ℕ) → Device s ≡ Memory → ⊥
+apart_broken s e = cc
 
 module _ {D : Type 0} (sight : D → Sight) (follows : D → Type 0) where
   -- the maps of old shards that were read, and of new ones
@@ -65,9 +72,9 @@ module _ {D : Type 0} (sight : D → Sight) (follows : D → Type 0) where
       let none = test.empty all in
       (rested.first.same ∙ none.0, rested.second.same ∙ none.1)
 
-  start_cause : (s cap : ℕ) (fault : SplitFault) (old old_back new mid back : List (List D)) → s < length new → length mid ≡ length new → EachPair (λ _. IsTested sight follows) new mid → EachPair (λ _. IsBefore sight follows) mid back
-      → IsStartFault sight follows s (pair_at mid s) (pair_at back s) fault → IsCause sight follows fault cap old old_back new back
-  start_cause s cap fault old old_back new mid back lt len tested before (found_more slot is not) =
+  start_cause : (s cap : ℕ) (fault : SplitFault) (old old_back new mid back : List (List D)) → s < length new → length mid ≡ length new → EachPair (λ _. HasNotFailed sight follows) old old_back → EachPair (λ _. IsTested sight follows) new mid → EachPair (λ _. IsBefore sight follows) mid back
+      → IsStartFault sight follows s (pair_at mid s) (pair_at back s) fault → (fault ≡ Memory → EachPair (λ _. HasNotFailed sight follows) mid back) → IsCause sight follows fault cap old old_back new back
+  start_cause s cap fault old old_back new mid back lt len old_well tested before (found_more slot is not) well =
       let never : AllFollow follows (pair_at back s) → ⊥ = λ all. not all (still_empty (pair_at new s) (pair_at mid s) (tested s lt) (before s (omega (arith, lt, len)) all)) in
       subst (λ (e : SplitFault). IsCause sight follows e cap old old_back new back) (sym is) (record {
         within = lt;
@@ -75,12 +82,23 @@ module _ {D : Type 0} (sight : D → Sight) (follows : D → Type 0) where
         before = λ i under all. (tested i (omega (arith, under, lt))).empty (before i (omega (arith, under, lt, len)) all);
         rests = λ all. absurd (never all);
       })
-  start_cause s cap fault old old_back new mid back lt len tested before (broken is failed) =
+  start_cause s cap fault old old_back new mid back lt len old_well tested before (broken is failed) well =
       subst (λ (e : SplitFault). IsCause sight follows e cap old old_back new back) (sym is)
       (lt, failed_then (slots_of sight (pair_at new s)) (slots_of sight (pair_at mid s)) (slots_of sight (pair_at back s)) (tested s lt).not_failed failed)
-  start_cause s cap fault old old_back new mid back lt len tested before (short is) = subst (λ (e : SplitFault). IsCause sight follows e cap old old_back new back) (sym is) tt
+  start_cause s cap fault old old_back new mid back lt len old_well tested before (short is never) well = subst (λ (e : SplitFault). IsCause sight follows e cap old old_back new back) (sym is) (old_well, λ i under. none_failed (slots_of sight (pair_at new i)) (slots_of sight (pair_at mid i)) (slots_of sight (pair_at back i)) (tested i under).not_failed (well is i (omega (arith, under, len))))
 
-  pub cause_if_err : (r : Result (Unit {0}) SplitFault) (m cap : ℕ) (old old_back new mid back : List (List D)) → m ≡ length new → length mid ≡ length new → EachPair (λ _. IsTested sight follows) new mid → EachPair (λ _. IsBefore sight follows) mid back
-      → IfErr r (λ fault. (s : ℕ) × (s < m) × IsStartFault sight follows s (pair_at mid s) (pair_at back s) fault) → IfErr r (λ fault. IsCause sight follows fault cap old old_back new back)
-  cause_if_err (Ok x) m cap old old_back new mid back many len tested before h = tt
-  cause_if_err (Err e) m cap old old_back new mid back many len tested before h = start_cause h.0 cap e old old_back new mid back (omega (arith, h.1, many)) len tested before h.2
+  pub cause_if_err : (r : Result (Unit {0}) SplitFault) (m cap : ℕ) (old old_back new mid back : List (List D)) → m ≡ length new → length mid ≡ length new → EachPair (λ _. HasNotFailed sight follows) old old_back → EachPair (λ _. IsTested sight follows) new mid → EachPair (λ _. IsBefore sight follows) mid back
+      → IfErr r (λ fault. (s : ℕ) × (s < m) × IsStartFault sight follows s (pair_at mid s) (pair_at back s) fault) → IfErr r (λ fault. fault ≡ Memory → EachPair (λ _. HasNotFailed sight follows) mid back) → IfErr r (λ fault. IsCause sight follows fault cap old old_back new back)
+  cause_if_err (Ok x) m cap old old_back new mid back many len old_well tested before h well = tt
+  cause_if_err (Err e) m cap old old_back new mid back many len old_well tested before h well = start_cause h.0 cap e old old_back new mid back (omega (arith, h.1, many)) len old_well tested before h.2 well
+
+  -- want of memory, and nothing else
+  unfailed : (n : ℕ) (given back : List D) (fault : SplitFault) → IsStartFault sight follows n given back fault → fault ≡ Memory → HasNotFailed sight follows given back
+  unfailed n given back fault (found_more slot is not) short_is = absurd (apart_full n slot (sym is ∙ short_is))
+  unfailed n given back fault (broken is failed) short_is = absurd (apart_broken n (sym is ∙ short_is))
+  unfailed n given back fault (short is never) short_is = never
+
+  pub starts_stop : (n m : ℕ) (news : List Streams) (fault : SplitFault) (xs ys zs : List (List D)) → AreDone (λ s given made. IsBegun sight follows (owner_of s m) given made (map_at news s)) n xs ys → zs ≡ set ys n (pair_at zs n)
+      → IsStartFault sight follows n (pair_at ys n) (pair_at zs n) fault → fault ≡ Memory → EachPair (λ _. HasNotFailed sight follows) xs zs
+  starts_stop n m news fault xs ys zs so_far there why is =
+      stopped (λ s given made. IsBegun sight follows (owner_of s m) given made (map_at news s)) (λ _. HasNotFailed sight follows) n xs ys zs (pair_at zs n) so_far there (λ s given made begun. begun.not_failed) (unfailed n (pair_at ys n) (pair_at zs n) fault why is) (λ s given. (refl, refl))

@@ -51,6 +51,10 @@ module _ {D : Type 0} (sight : D → Sight) (follows : D → Type 0) where
   abbrev pub IsBefore : List D → List D → Type 0
   IsBefore given back = AllFollow follows back → AllFollow follows given
 
+  -- no device has failed
+  abbrev pub HasNotFailed : List D → List D → Type 0
+  HasNotFailed given back = HasNoFailure (slots_of sight given) (slots_of sight back)
+
   -- nothing was written: at each moment a crash leaves only what it could have left at the start
   pub record IsAtRest (given back : List D) : Type 0 where
     pub before : IsBefore given back
@@ -60,7 +64,7 @@ module _ {D : Type 0} (sight : D → Sight) (follows : D → Type 0) where
   pub record IsRead (owner : Owner) (given back : List D) (m : Streams) : Type 0 where
     pub recovers : AllFollow follows back → Recovers owner (slots_of sight given).first.seen (slots_of sight given).second.seen m
     pub keeps : AllFollow follows back → Keeps owner (slots_of sight back) m
-    pub not_failed : HasNoFailure (slots_of sight given) (slots_of sight back)
+    pub not_failed : HasNotFailed given back
 
   -- a new shard's slots were empty, and slot 1 has generation 1 with these streams, which no crash takes
   pub record IsStarted (owner : Owner) (cap : ℕ) (given back : List D) (m : Streams) : Type 0 where
@@ -68,7 +72,7 @@ module _ {D : Type 0} (sight : D → Sight) (follows : D → Type 0) where
     pub keeps : AllFollow follows back → Keeps owner (slots_of sight back) m
     pub first : AllFollow follows back → (a b : List ℕ) → (slots_of sight back).first.may_leave a → (slots_of sight back).second.may_leave b → IsFirst owner a b m
     pub small : room m ≤ cap
-    pub not_failed : HasNoFailure (slots_of sight given) (slots_of sight back)
+    pub not_failed : HasNotFailed given back
 
   -- the streams that the old slots hold, shard by shard, and those of m new shards
   pub record Division (m : ℕ) (givens backs : List (List D)) : Type 0 where
@@ -116,4 +120,4 @@ module _ {D : Type 0} (sight : D → Sight) (follows : D → Type 0) where
   IsCause (NotEmpty s slot) cap old old_back new new_back = IsNotEmpty s slot new new_back
   IsCause (NoRoom s) cap old old_back new new_back = HasNoRoom cap s old old_back new new_back
   IsCause (Device s) cap old old_back new new_back = (s < length new) × HasFailed (slots_of sight (pair_at new s)) (slots_of sight (pair_at new_back s))
-  IsCause Memory cap old old_back new new_back = Unit {0}
+  IsCause Memory cap old old_back new new_back = EachPair (λ _. HasNotFailed) old old_back × EachPair (λ _. HasNotFailed) new new_back

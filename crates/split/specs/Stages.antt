@@ -48,10 +48,10 @@ module _ {D : Type 0} (sight : D → Sight) (follows : D → Type 0) where
   pub data IsStartFault (s : ℕ) (given back : List D) (fault : SplitFault) : Type 0 where
     found_more : (slot : ℕ) → fault ≡ NotEmpty s slot → (AllFollow follows back → IsEmptyPair (slots_of sight given) → ⊥) → IsStartFault s given back fault
     broken : fault ≡ Device s → HasFailed (slots_of sight given) (slots_of sight back) → IsStartFault s given back fault
-    short : fault ≡ Memory → IsStartFault s given back fault
+    short : fault ≡ Memory → HasNoFailure (slots_of sight given) (slots_of sight back) → IsStartFault s given back fault
 
 -- why a log has no first generation of these streams
 pub data IsBeginFault {D : Type 0} (sight : D → Sight) (old new : Wal D) (fault : SplitFault) : Type 0 where
   in_use : (slot : ℕ) → fault ≡ NotEmpty old.shard slot → 0 < old.generation → IsBeginFault sight old new fault
   unwritten : fault ≡ Device old.shard → HasFailed (slots sight old) (slots sight new) → IsBeginFault sight old new fault
-  no_memory : fault ≡ Memory → IsBeginFault sight old new fault
+  no_memory : fault ≡ Memory → HasNoFailure (slots sight old) (slots sight new) → IsBeginFault sight old new fault

@@ -4,6 +4,7 @@
 
 mod dealing;
 mod fault;
+mod laws;
 mod moving;
 mod reading;
 mod splitting;
@@ -11,4 +12,5 @@ mod starting;
 mod testing;
 
 pub use fault::SplitFault;
+pub use laws::split_keeps_streams;
 pub use splitting::{Slots, split};

@@ -11,6 +11,7 @@ use disk::Disk;
 use std::alloc::Global;
 
 /// Pairs of slots, one a shard in their order, slot 0 first.
+#[derive(Drop)]
 pub struct Slots<D> {
     /// Those of the old shards.
     pub old: Vec<[D; 2]>,

@@ -12,7 +12,8 @@ fn test_slot<D: Disk>(disk: &mut D, shard: u32, slot: u32) -> Result<(), SplitFa
     ensures rested { IsRested D.follows D.sight disk.old disk.new }
     ensures empty { OnOk result (D.follows disk.new → (D.sight disk.old).seen ≡ []) }
     ensures not_failed { OnOk result ((D.sight disk.new).failures ≡ (D.sight disk.old).failures) }
-    ensures fault { IfErr result (λ e. ((e ≡ SplitFault.NotEmpty shard slot) × (D.follows disk.new → (D.sight disk.old).seen ≢ []))
+    ensures fault { IfErr result (λ e.
+        ((e ≡ SplitFault.NotEmpty shard slot) × (D.follows disk.new → (D.sight disk.old).seen ≢ []))
         ⊎ ((e ≡ SplitFault.Device shard) × ((D.sight disk.new).failures ≢ (D.sight disk.old).failures))) }
 {
     match disk.len() {

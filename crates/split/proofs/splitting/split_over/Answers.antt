@@ -7,7 +7,7 @@ use Rattle.split.specs.declared.fault.SplitFault.{SplitFault}
 use Rattle.split.specs.Maps.{map_at, IsSplit, AreWithin, IsFirstAbove}
 use Rattle.split.specs.Splits.{EachPair, IsCause}
 use Rattle.split.specs.Stages.{IsBegun}
-use Rattle.split.proofs.Wholes.{no_room, finished_if_ok}
+use Rattle.split.proofs.Wholes.{no_room, finished_if_ok, cause_if_err}
 use Rattle.split.proofs.splitting.split_over.Goals as goal
 
 -- the same maps under numbers that are equal
@@ -42,3 +42,15 @@ returns-clause-split g c =
     let begun = subst (λ (l : List Streams). OnOk c.start_all.result (EachPair (λ s given made. IsBegun g.D.Disk.sight g.D.Disk.follows (owner_of s m) given made (map_at l s)) mid.items c.start_all.new.new.items)) c.deref-2.ensures.value c.start_all.ensures.begun in
     finished_if_ok g.D.Disk.sight g.D.Disk.follows c.start_all.result (vec_len c.args.old.now) m c.args.cap olds news c.args.old.now.items c.read_all.new.old.items new.items mid.items c.start_all.new.new.items c.args.old.now.ok.0
     (c.test_all.ensures.len ∙ new.ok.0) (sym mid.ok.0 ∙ (c.test_all.ensures.len ∙ new.ok.0)) (c.in_ok-olds.ensures.read, c.in_ok-olds.ensures.fit, split) small c.in_ok-test_all.ensures.tested begun
+
+pub returns-in_err-news-clause-cause : goal.returns-in_err-news-clause-cause
+returns-in_err-news-clause-cause g c =
+    let p = err_from_is_err_and c.from_residual-in_err-news.result c.from_residual-in_err-news.ensures.1 in
+    rw (p.1, p.2) ((λ s lt. (c.in_ok-olds.ensures.read s lt).not_failed), (λ s lt. (c.in_ok-test_all.ensures.tested s lt).not_failed))
+
+pub returns-clause-cause : goal.returns-clause-cause
+returns-clause-cause g c =
+    let new = c.args.new.now in
+    let mid = c.test_all.new.new in
+    cause_if_err g.D.Disk.sight g.D.Disk.follows c.start_all.result (vec_len mid) c.args.cap c.args.old.now.items c.read_all.new.old.items new.items mid.items c.start_all.new.new.items
+    (c.test_all.ensures.len ∙ new.ok.0) (sym mid.ok.0 ∙ (c.test_all.ensures.len ∙ new.ok.0)) (λ s lt. (c.in_ok-olds.ensures.read s lt).not_failed) c.in_ok-test_all.ensures.tested c.start_all.ensures.before c.start_all.ensures.fault c.start_all.ensures.not_failed
