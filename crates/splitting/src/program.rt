@@ -3,14 +3,13 @@ ghost use Rattle.std.specs.Prelude.{◌≡◌, ◌↔◌, ◌≤◌, ◌^◌, op
 ghost use Rattle.words.specs.Words.{GivesCapacity};
 ghost use Rattle.splitting.specs.Words.{GiveSplit};
 
-use crate::announced::{Announced, Side, announce};
+use crate::announced::{Side, announce};
 use crate::asked::split_in;
 use crate::found::{has_slots, shards_in};
 use crate::said::SplitWords;
 use crate::stopped::Stopped;
-use disk::FileDisk;
-use slots::{Watched, open_slots, terminal_in};
-use split::{Slots, split};
+use slots::{open_slots, terminal_in};
+use split::split;
 use std::alloc::Global;
 use std::fs::{File, Files};
 use std::io::{Stderr, Write};
@@ -98,20 +97,7 @@ fn split_folder<R: Files<File = File>>(
     let new = open_slots(rt, alloc, new_folder, shards, None)?;
     let new = announce(alloc, new, Side::New, terminal)?;
     match split(alloc, old, new, capacity) {
-        Ok(slots) => {
-            close(slots);
-            Ok(old_shards)
-        }
-        Err((fault, slots)) => {
-            close(slots);
-            Err(Stopped::Split(fault))
-        }
+        Ok(_slots) => Ok(old_shards),
+        Err((fault, _slots)) => Err(Stopped::Split(fault)),
     }
-}
-
-fn close(slots: Slots<Announced<Watched<FileDisk>>>) {
-    let Slots {
-        old: _old,
-        new: _new,
-    } = slots;
 }
