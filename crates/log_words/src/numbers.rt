@@ -1,4 +1,5 @@
-ghost use Rattle.std.specs.Prelude.{IfOk};
+ghost use Rattle.std.specs.Prelude.{◌≡◌, IfOk};
+ghost use Rattle.std.specs.Str.Parse.{digits_value, without_leading_plus};
 ghost use Rattle.segment.specs.Segments.{IsOwner, owner_of};
 
 use anyhow::{Context, Result, bail};
@@ -8,7 +9,9 @@ use rows::word_of;
 ///
 /// # Errors
 /// A word that is none.
-pub fn number_of(word: &str) -> Result<u64> {
+pub fn number_of(word: &str) -> Result<u64>
+    ensures { IfOk result (λ n. n ≡ digits_value 10 (without_leading_plus word.now)) }
+{
     word.parse::<u64>()
         .context(format_args!("no number: {word}"))
 }

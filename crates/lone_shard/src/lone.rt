@@ -1,5 +1,7 @@
 ghost use Rattle.std.specs.Prelude.{◌≡◌, []};
 ghost use Rattle.accept.specs.Calls.{AreNumbers};
+ghost use Rattle.accept.specs.Histories.{is_marked};
+ghost use Rattle.wal.specs.Opening.{disks};
 
 use accept::{Call, Limits, Reply};
 use anyhow::{Result, bail};
@@ -81,12 +83,16 @@ impl<D: Disk + Drop> LoneShard<D> {
     }
 
     /// Whether the history has a failure mark.
-    pub fn is_marked(&self) -> bool {
+    pub fn is_marked(&self) -> bool
+        ensures { result ≡ is_marked self.now.shard.book.items }
+    {
         self.shard.is_marked()
     }
 
     /// Slot 0 and slot 1, as the calls left them.
-    pub fn into_slots(self) -> [D; 2] {
+    pub fn into_slots(self) -> [D; 2]
+        ensures { result ≡ disks self.shard.log }
+    {
         let LoneShard {
             history: _,
             shard,

@@ -1,5 +1,7 @@
 //! Calls of the pass on their way: announced, made by turns, and taken in.
 
+ghost use Rattle.std.specs.Prelude.{◌≡◌, ◌≤◌, ◌+◌, ◌↔◌, IsTrue, IsOk, IsErr, IfOk, OnOk, OnErr};
+
 use crate::lone::LoneShard;
 use accept::{Call, Reply};
 use anyhow::{Result, bail};
@@ -40,7 +42,9 @@ impl<D: Disk + Drop> Round<D> {
     ///
     /// # Errors
     /// Want of memory. The shard is lost then.
-    pub fn of(alloc: Global, lone: LoneShard<D>) -> Result<Round<D>> {
+    pub fn of(alloc: Global, lone: LoneShard<D>) -> Result<Round<D>>
+        ensures { IfOk result (λ round. round ≡ 0) }
+    {
         let jobs = VecDeque::with_capacity(alloc, MOST)?;
         let settled = VecDeque::new(alloc);
         let LoneShard {
@@ -58,7 +62,9 @@ impl<D: Disk + Drop> Round<D> {
     }
 
     /// Whether no call is a job.
-    pub fn is_empty(&self) -> bool {
+    pub fn is_empty(&self) -> bool
+        ensures { IsTrue result ↔ (self.now ≡ 0) }
+    {
         self.jobs.is_empty()
     }
 
@@ -66,7 +72,11 @@ impl<D: Disk + Drop> Round<D> {
     ///
     /// # Errors
     /// 64 calls are jobs, one that is settled was not taken in, a number that no call may have, or a closed pass.
-    pub fn announce(&mut self, call: Call) -> Result<()> {
+    pub fn announce(&mut self, call: Call) -> Result<()>
+        ensures ok { OnOk result (self.new ≡ self.old + 1) }
+        ensures err { OnErr result (self.new ≡ self.old) }
+        ensures full { 64 ≤ self.old → IsErr result }
+    {
         let jobs = self.jobs.len();
         if jobs >= MOST || jobs >= self.jobs.capacity() {
             bail!("too many calls are open");
@@ -108,7 +118,9 @@ impl<D: Disk + Drop> Round<D> {
     }
 
     /// Takes the first settled call in: its reply, or why it has no step.
-    pub fn take_in(&mut self) -> Option<Result<Reply, ApplyFault>> {
+    pub fn take_in(&mut self) -> Option<Result<Reply, ApplyFault>>
+        ensures { self.new ≡ self.old }
+    {
         let Some(settled) = self.settled.pop_front() else {
             return None;
         };
@@ -128,7 +140,9 @@ impl<D: Disk + Drop> Round<D> {
     ///
     /// # Errors
     /// A call is open. The shard is lost then.
-    pub fn end(self) -> Result<LoneShard<D>> {
+    pub fn end(self) -> Result<LoneShard<D>>
+        ensures { IsOk result → self ≡ 0 }
+    {
         if !self.jobs.is_empty() || !self.settled.is_empty() {
             bail!("a call is open");
         }

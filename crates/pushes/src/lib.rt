@@ -1,6 +1,9 @@
 //! The pushes that `bench_calls` and `bench_groups` time, and what is answered to them.
 #![tactic(auto)]
 
+ghost use Rattle.std.specs.Prelude.{◌↔◌, IsTrue};
+ghost use Rattle.pushes.specs.Replies.{IsStored};
+
 use accept::{Call, Entry, EntryList, Line, Outcome, Reply};
 use anyhow::Result;
 use labels::{LabelSet, StreamKey, Tenant};
@@ -52,7 +55,9 @@ pub fn pushes_of(alloc: Global, stream: u64, before: u64, pushes: u64) -> Result
 }
 
 /// Whether all lines of a push were stored.
-pub fn is_stored(reply: &Reply) -> bool {
+pub fn is_stored(reply: &Reply) -> bool
+    ensures { IsTrue result ↔ IsStored reply.now }
+{
     match reply {
         Reply::Verdict(outcomes) => outcomes
             .as_slice()
