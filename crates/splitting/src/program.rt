@@ -22,7 +22,7 @@ use words::capacity_in;
 /// OLD has slots. No slot of OLD is written. NEW is made where it is missing; one that has slots is refused, and so is
 /// OLD, by whatever path. Status 0: the split is on the disk. 1: no shards, a missing slot, a NEW with slots, no room in a
 /// new shard, or a fault while running. 2: wrong words, or a wrong setting. 3: what the old slots hold is refused. After
-/// a status other than 0 what stands in NEW is to be given up. A fault stands on one line of `errors`. Where `marks` are
+/// a status other than 0 the slots that it made in NEW are to be given up. A fault stands on one line of `errors`. Where `marks` are
 /// a terminal, it is said there which shard is read or written.
 pub fn run_walsplit<R: Files<File = File>, W: Write, E: Write>(
     rt: &R,
