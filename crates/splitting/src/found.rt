@@ -13,8 +13,8 @@ const MAX_SHARDS: u32 = 64;
 ///
 /// # Errors
 ///
-/// `NoShards`: there are none, or more than 64. `Missing`: a shard has no slot 1, or one behind the last has a slot, the
-/// first that is missing by this. `Slots`: whether a file is there can't be told, or want of memory.
+/// `NoShards`: there are none, or more than 64. `Missing`: a shard has no slot 1, or one behind the last has a slot,
+/// the first that is missing by this. `Slots`: whether a file is there can't be told, or want of memory.
 pub fn shards_in<R: Files>(rt: &R, alloc: Global, folder: &str) -> Result<u32, Stopped>
     ensures { IfOk result (λ shards. (1 ≤ shards) × (shards ≤ 64)) }
 {

@@ -15,15 +15,16 @@ use std::fs::{File, Files};
 use std::io::{Stderr, Write};
 use words::capacity_in;
 
-/// Runs `walsplit OLD NEW COUNT`, and gives its exit status. `setting` is what the environment says of a slot's capacity.
+/// Runs `walsplit OLD NEW COUNT`, and gives its exit status. `setting` is what the environment says of a slot's
+/// capacity.
 ///
 /// The streams of the slots of OLD, which no server may have open meanwhile, are written into slots of COUNT shards in
 /// NEW, each to the shard of its key among COUNT, and `split <m> to <n>` is written: m is the number of shards of which
 /// OLD has slots. No slot of OLD is written. NEW is made where it is missing; one that has slots is refused, and so is
-/// OLD, by whatever path. Status 0: the split is on the disk. 1: no shards, a missing slot, a NEW with slots, no room in a
-/// new shard, or a fault while running. 2: wrong words, or a wrong setting. 3: what the old slots hold is refused. After
-/// a status other than 0 the slots that it made in NEW are to be given up. A fault stands on one line of `errors`. Where `marks` are
-/// a terminal, it is said there which shard is read or written.
+/// OLD, by whatever path. Status 0: the split is on the disk. 1: no shards, a missing slot, a NEW with slots, no room
+/// in a new shard, or a fault while running. 2: wrong words, or a wrong setting. 3: what the old slots hold is refused.
+/// After a status other than 0 the slots that it made in NEW are to be given up. A fault stands on one line of
+/// `errors`. Where `marks` are a terminal, it is said there which shard is read or written.
 pub fn run_walsplit<R: Files<File = File>, W: Write, E: Write>(
     rt: &R,
     alloc: Global,
