@@ -71,7 +71,7 @@ edits:
 # hostile use: bytes cut and changed anywhere, memory refused at each request, files and clients that fail. Each says how many
 # cases it had and how many differ from what the definitions ask for
 faults:
-	@RT='$(RT)' tests/build bench ingest1 call_cases quiet_calls ingestctl server walcat
+	@RT='$(RT)' tests/build bench ingest1 call_cases quiet_calls ingestctl server walcat walsplit
 	@failed=0; for it in judge_rows mutations 'each_allocation_fails bench ingest1 call_cases quiet_calls ingestctl server' hostile_files hostile_clients; do \
 		tests/$$it || failed=1; done; exit $$failed
 
