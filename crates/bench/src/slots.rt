@@ -11,25 +11,25 @@ use std::time::{Duration, Instant};
 const RUNS: u32 = 5;
 
 /// How many blocks of 1,000 lines of 200 bytes make a segment of 64 MiB.
-const BLOCKS: u64 = 316;
+const BLOCKS: u64 = 315;
 
 /// An open header of generation 1 and of the only shard, and a first block of no states.
 const FRONT: [u8; 26] = [
-    1, b'L', b'W', b'L', b'1', 1, 0, 0, 0, 0, 0, 0, 0, 0, 0, 0, 0, 1, 0, 0, 0, 1, 0, 0, 0, 0,
+    1, b'L', b'W', b'L', b'2', 1, 0, 0, 0, 0, 0, 0, 0, 0, 0, 0, 0, 1, 0, 0, 0, 1, 0, 0, 0, 0,
 ];
 
-/// An open gate, the payload's length of 212,019 bytes, and an append of the key t, {a="1"} of 1,000 entries.
+/// An open gate, the payload's length of 213,019 bytes, and an append of the key t, {a="1"} of 1,000 entries.
 const APPEND: [u8; 24] = [
-    1, 0x33, 0x3c, 0x03, 0, 1, 1, 0, b't', 7, 0, 0, 0, b'{', b'a', b'=', b'"', b'1', b'"', b'}',
+    1, 0x1b, 0x40, 0x03, 0, 1, 1, 0, b't', 7, 0, 0, 0, b'{', b'a', b'=', b'"', b'1', b'"', b'}',
     0xe8, 0x03, 0, 0,
 ];
 
 /// The entries of a block.
 const ENTRIES: u64 = 1_000;
 
-/// A line of 200 bytes behind its length.
+/// A line of 200 bytes behind its length, and behind it the number of its pairs of metadata.
 const LINE: &[u8] =
-    b"\xc8\0\0\0level=info ts=2023-11-14T22:13:20Z caller=handler.go:112 method=POST path=/api/v1/orders status=201 duration=12ms bytes=482 trace=4bf92f3577b34da6a3ce929d0e0e4736 user=4711 region=eu-west-1 node=a-17 ";
+    b"\xc8\0\0\0level=info ts=2023-11-14T22:13:20Z caller=handler.go:112 method=POST path=/api/v1/orders status=201 duration=12ms bytes=482 trace=4bf92f3577b34da6a3ce929d0e0e4736 user=4711 region=eu-west-1 node=a-17 \0";
 
 /// A segment of so many blocks.
 fn segment_of(alloc: Global, blocks: u64) -> Result<Vec<u8>> {
@@ -95,7 +95,7 @@ pub fn check_slot<R: Print + AllocGlobal>(rt: &R) -> Result<()> {
 }
 
 fn check_records<R: Print + AllocGlobal>(rt: &R, slot: &[u8]) -> Result<()> {
-    let Some((_generation, records, end)) = read_records(rt.alloc(), slot, 0, 1)? else {
+    let Some((_header, records, end)) = read_records(rt.alloc(), slot, 0, 1)? else {
         bail!("closed");
     };
     let count = records.len();
@@ -103,9 +103,9 @@ fn check_records<R: Print + AllocGlobal>(rt: &R, slot: &[u8]) -> Result<()> {
 }
 
 fn check_segment<R: Print + AllocGlobal>(rt: &R, slot: &[u8]) -> Result<()> {
-    let Some((generation, image, end)) = read_segment(rt.alloc(), slot, 0, 1)? else {
+    let Some((header, image, end)) = read_segment(rt.alloc(), slot, 0, 1)? else {
         bail!("closed");
     };
-    let streams = image.iter().count();
+    let (generation, streams) = (header.generation, image.iter().count());
     Ok(rt.println(format_args!("segment {generation} streams {streams} end {end}"))?)
 }

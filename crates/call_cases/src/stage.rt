@@ -275,10 +275,24 @@ fn calls_of(alloc: Global, pairs: &[Pair]) -> Result<Vec<(u64, u64)>> {
     Ok(calls)
 }
 
+/// The bytes of pieces with a bar between them: each a text, or `COUNT*TEXT` for the text so many times.
 fn bytes_of(alloc: Global, text: &str) -> Result<Vec<u8>> {
     let mut bytes = Vec::new(alloc);
-    unescape(text, &mut bytes)?;
+    for piece in text.split('|') {
+        add_piece(piece, &mut bytes)?;
+    }
     Ok(bytes)
+}
+
+fn add_piece(piece: &str, bytes: &mut Vec<u8>) -> Result<()> {
+    let (count, text) = piece.split_once('*').unwrap_or(("", piece));
+    let Ok(count) = count.parse::<u64>() else {
+        return unescape(piece, bytes);
+    };
+    for _ in 0..count {
+        unescape(text, bytes)?;
+    }
+    Ok(())
 }
 
 fn values_of(alloc: Global, text: &str) -> Result<Vec<u8>> {

@@ -5,8 +5,8 @@ use std::alloc::Global;
 use std::fmt::Write;
 use wal::{OpenFault, Wal};
 
-/// The most bytes of a segment whose length is said.
-const MEASURED: u64 = 16_384;
+/// The capacity of a segment, in bytes, where slots are opened only to be looked at.
+const CAPACITY: u64 = 16_384;
 
 /// What is left of a shard.
 #[derive(Drop)]
@@ -65,7 +65,8 @@ impl Left {
     }
 }
 
-/// Appends ` segment GENERATION LENGTH` of the segment in use, ` no segment`, or why there is none to be used.
+/// Appends ` segment GENERATION LENGTH` of the segment in use, where it is of version 1 also that, ` no segment`, or why
+/// there is none to be used.
 fn write_segment(
     alloc: Global,
     pair: &mut Pair,
@@ -75,9 +76,21 @@ fn write_segment(
 ) -> Result<()> {
     match segment_in(alloc, pair, shard, count)? {
         Ok((0, _)) => Ok(into.push_str(" no segment")?),
-        Ok((generation, length)) => Ok(write!(into, " segment {generation} {length}")?),
+        Ok((generation, length)) => {
+            write!(into, " segment {generation} {length}")?;
+            write_version(alloc, pair, generation, into)
+        }
         Err(fault) => Ok(write!(into, " {fault}")?),
     }
+}
+
+/// Appends ` of version 1` where the segment of this generation is.
+fn write_version(alloc: Global, pair: &mut Pair, generation: u64, into: &mut String) -> Result<()> {
+    let slot = pair.bytes(alloc, generation % 2)?;
+    if slot.get(4) == Some(&b'1') {
+        into.push_str(" of version 1")?;
+    }
+    Ok(())
 }
 
 /// The generation of the segment in use, 0 where there is none, and its length.
@@ -91,19 +104,8 @@ fn segment_in(
         bail!("there are 1 to 64 shards");
     }
     let slots = pair.copy(alloc)?.into_slots();
-    match Wal::open(alloc, slots, shard, count, MEASURED) {
-        Ok((log, _image)) => Ok(Ok((log.generation(), length_in(&log)))),
+    match Wal::open(alloc, slots, shard, count, CAPACITY) {
+        Ok((log, _image)) => Ok(Ok((log.generation(), log.end().saturating_add(1)))),
         Err(refusal) => Ok(Err(refusal.0)),
     }
-}
-
-/// The length of the segment in use, by what fits behind it.
-fn length_in(log: &Wal<MemDisk>) -> u64 {
-    let mut free: u64 = 0;
-    for frame in 1..=MEASURED {
-        if log.fits(frame) {
-            free = frame;
-        }
-    }
-    MEASURED.saturating_sub(free)
 }

@@ -4,14 +4,24 @@ use rows::{read_hex, write_hex};
 use std::alloc::Global;
 
 /// The example: a segment of generation 1 of the only shard, whose one stream has the entry 10 x. Its closing gate
-/// stands at 79.
-const SEGMENT: [u8; 80] = *b"\x01LWL1\x01\0\0\0\0\0\0\0\0\0\0\0\x01\0\0\0\x01\x35\0\0\0\
+/// stands at 81.
+const SEGMENT: [u8; 82] = *b"\x01LWL2\x01\0\0\0\0\0\0\0\0\0\0\0\x01\0\0\0\x01\x37\0\0\0\
+\x03\x01\0t\x07\0\0\0{a=\"1\"}\x0a\0\0\0\0\0\0\0\
+\x0a\0\0\0\0\0\0\0\x01\0\0\0x\0\x01\0\0\0\
+\x0a\0\0\0\0\0\0\0\x01\0\0\0x\0\0";
+
+/// What an append of the entry 11 y puts behind that gate: a block without its own gate, and a closed gate.
+const FRAME: [u8; 38] = *b"\x21\0\0\0\x01\x01\0t\x07\0\0\0{a=\"1\"}\x01\0\0\0\
+\x0b\0\0\0\0\0\0\0\x01\0\0\0y\0\0";
+
+/// The example in version 1 of the layout, where an entry ends with its line. Its closing gate stands at 79.
+const SEGMENT_OF_1: [u8; 80] = *b"\x01LWL1\x01\0\0\0\0\0\0\0\0\0\0\0\x01\0\0\0\x01\x35\0\0\0\
 \x03\x01\0t\x07\0\0\0{a=\"1\"}\x0a\0\0\0\0\0\0\0\
 \x0a\0\0\0\0\0\0\0\x01\0\0\0x\x01\0\0\0\
 \x0a\0\0\0\0\0\0\0\x01\0\0\0x\0";
 
-/// What an append of the entry 11 y puts behind that gate: a block without its own gate, and a closed gate.
-const FRAME: [u8; 37] = *b"\x20\0\0\0\x01\x01\0t\x07\0\0\0{a=\"1\"}\x01\0\0\0\
+/// What an append of the entry 11 y put behind that gate.
+const FRAME_OF_1: [u8; 37] = *b"\x20\0\0\0\x01\x01\0t\x07\0\0\0{a=\"1\"}\x01\0\0\0\
 \x0b\0\0\0\0\0\0\0\x01\0\0\0y\0";
 
 /// How many bytes of a slot stand on one line.
@@ -19,8 +29,9 @@ const LINE: usize = 32;
 
 /// The bytes that words stand for, each taken in behind those before.
 ///
-/// Pairs of digits are bytes; `segment` and `frame` those of the example; `-` none; `COUNT*HEX` the same so often.
-/// `cut:COUNT` keeps the first of what stands so far, `from:COUNT` drops them, and `at:PLACE=HEX` writes over bytes.
+/// Pairs of digits are bytes; `segment` and `frame` those of the example, `segment_of_1` and `frame_of_1` those of the
+/// same in version 1; `-` none; `COUNT*HEX` the same so often. `cut:COUNT` keeps the first of what stands so far,
+/// `from:COUNT` drops them, and `at:PLACE=HEX` writes over bytes.
 ///
 /// # Errors
 /// Another word, a place that isn't there, or want of memory.
@@ -37,6 +48,8 @@ fn take_word(alloc: Global, mut bytes: Vec<u8>, word: &str) -> Result<Vec<u8>> {
         "" | "-" => {}
         "segment" => bytes.extend_from_slice(&SEGMENT)?,
         "frame" => bytes.extend_from_slice(&FRAME)?,
+        "segment_of_1" => bytes.extend_from_slice(&SEGMENT_OF_1)?,
+        "frame_of_1" => bytes.extend_from_slice(&FRAME_OF_1)?,
         _ => match word.split_once(':') {
             Some((change, rest)) => return change_bytes(alloc, bytes, change, rest),
             None => append_often(alloc, &mut bytes, word)?,

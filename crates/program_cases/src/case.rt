@@ -22,7 +22,15 @@ const FOLDER: &str = "row";
 
 /// The example of the log: a segment of generation 1 of the only shard, of a state with the entry 10 x of `{a="1"}`
 /// for the tenant `t`, and an append of 11 y.
-const EXAMPLE: [u8; 117] = *b"\x01LWL1\x01\0\0\0\0\0\0\0\0\0\0\0\x01\0\0\0\x01\x35\0\0\0\
+const EXAMPLE: [u8; 120] = *b"\x01LWL2\x01\0\0\0\0\0\0\0\0\0\0\0\x01\0\0\0\x01\x37\0\0\0\
+\x03\x01\0t\x07\0\0\0{a=\"1\"}\x0a\0\0\0\0\0\0\0\
+\x0a\0\0\0\0\0\0\0\x01\0\0\0x\0\x01\0\0\0\
+\x0a\0\0\0\0\0\0\0\x01\0\0\0x\0\x01\x21\0\0\0\
+\x01\x01\0t\x07\0\0\0{a=\"1\"}\x01\0\0\0\
+\x0b\0\0\0\0\0\0\0\x01\0\0\0y\0\0";
+
+/// The same in version 1 of the layout, where an entry ends with its line.
+const EXAMPLE_OF_1: [u8; 117] = *b"\x01LWL1\x01\0\0\0\0\0\0\0\0\0\0\0\x01\0\0\0\x01\x35\0\0\0\
 \x03\x01\0t\x07\0\0\0{a=\"1\"}\x0a\0\0\0\0\0\0\0\
 \x0a\0\0\0\0\0\0\0\x01\0\0\0x\x01\0\0\0\
 \x0a\0\0\0\0\0\0\0\x01\0\0\0x\x01\x20\0\0\0\
@@ -143,6 +151,7 @@ impl Case {
             }
             "hex" => read_hex(rest, &mut self.input)?,
             "example" => self.input.extend_from_slice(&EXAMPLE)?,
+            "example_of_1" => self.input.extend_from_slice(&EXAMPLE_OF_1)?,
             "byte" => self.set_byte(rest)?,
             "cut" => self.input.truncate(number_of(rest)?.0),
             "next" => {

@@ -13,13 +13,13 @@ const CALLS: u64 = 64;
 
 /// What stands behind byte 0 of a segment that holds no streams, of generation 1 and of generation 2.
 const SEGMENTS: [&[u8]; 2] = [
-    b"LWL1\x01\0\0\0\0\0\0\0\0\0\0\0\x01\0\0\0\x01\0\0\0\0\0",
-    b"LWL1\x02\0\0\0\0\0\0\0\0\0\0\0\x01\0\0\0\x01\0\0\0\0\0",
+    b"LWL2\x01\0\0\0\0\0\0\0\0\0\0\0\x01\0\0\0\x01\0\0\0\0\0",
+    b"LWL2\x02\0\0\0\0\0\0\0\0\0\0\0\x01\0\0\0\x01\0\0\0\0\0",
 ];
 
 /// The frame of a block that appends an entry to a stream, with a closed gate behind it.
 const FRAME: &[u8] =
-    b"\x20\0\0\0\x01\x01\0t\x07\0\0\0{a=\"1\"}\x01\0\0\0\x05\0\0\0\0\0\0\0\x01\0\0\0x\0";
+    b"\x21\0\0\0\x01\x01\0t\x07\0\0\0{a=\"1\"}\x01\0\0\0\x05\0\0\0\0\0\0\0\x01\0\0\0x\0\0";
 
 /// How many blocks are appended.
 const APPENDS: u32 = 5;

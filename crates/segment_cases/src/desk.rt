@@ -2,6 +2,7 @@ use crate::given::{append_of, key_of, state_of, trim_of};
 use crate::reading::{say_front, say_header, say_records, say_segment};
 use crate::runs::{say_cuts, say_each};
 use crate::trimming::trimmed;
+use crate::version_one::put_block_of_1;
 use crate::writing::{put_parts, put_records, put_states, put_streams};
 use anyhow::{Context, Result, bail};
 use labels::StreamKey;
@@ -105,6 +106,7 @@ impl Desk {
     ) -> Result<()> {
         match word {
             "block" => put_records(records, &mut self.slot),
+            "block_of_1" => put_block_of_1(self.alloc, records, &mut self.slot),
             "parts" => put_parts(records, &mut self.slot, said),
             "states" => put_states(records, number_of(rest)?, &mut self.slot),
             "head" => put_head(rest, &mut self.slot),

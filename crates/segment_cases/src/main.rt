@@ -8,8 +8,10 @@ mod judge;
 mod layout;
 mod reading;
 mod runs;
+mod shown;
 mod sizes;
 mod trimming;
+mod version_one;
 mod writing;
 
 use anyhow::{Context, Result};

@@ -1,4 +1,5 @@
 //! What is read of a slot.
+use crate::shown::Shown;
 use accept::EntryList;
 use anyhow::Result;
 use log_words::{owner_of, write_entry, write_image, write_key, write_stream};
@@ -7,23 +8,23 @@ use segment_reader::{Ending, Front, read_front, read_records, read_segment};
 use std::alloc::Global;
 use std::fmt::Write;
 
-/// The generation in the header.
+/// The header.
 pub fn say_header(slot: &[u8], words: &str, said: &mut String) -> Result<()> {
     let (shard, count) = owner_of(words)?;
     match read_header(slot, shard, count) {
-        Ok(Some(generation)) => writeln!(said, "generation {generation}")?,
+        Ok(Some(header)) => writeln!(said, "{}", Shown(header))?,
         Ok(None) => writeln!(said, "closed")?,
         Err(fault) => writeln!(said, "{fault}")?,
     }
     Ok(())
 }
 
-/// The generation, the closing gate, and what each stream has.
+/// The header, the closing gate, and what each stream has.
 pub fn say_segment(alloc: Global, slot: &[u8], words: &str, said: &mut String) -> Result<()> {
     let (shard, count) = owner_of(words)?;
     match read_segment(alloc, slot, shard, count) {
-        Ok(Some((generation, image, end))) => {
-            writeln!(said, "generation {generation} end {end}")?;
+        Ok(Some((header, image, end))) => {
+            writeln!(said, "{} end {end}", Shown(header))?;
             write_image(&image, said)?;
         }
         Ok(None) => writeln!(said, "closed")?,
@@ -32,12 +33,12 @@ pub fn say_segment(alloc: Global, slot: &[u8], words: &str, said: &mut String) -
     Ok(())
 }
 
-/// The generation, the closing gate, and the records.
+/// The header, the closing gate, and the records.
 pub fn say_records(alloc: Global, slot: &[u8], words: &str, said: &mut String) -> Result<()> {
     let (shard, count) = owner_of(words)?;
     match read_records(alloc, slot, shard, count) {
-        Ok(Some((generation, records, end))) => {
-            writeln!(said, "generation {generation} end {end}")?;
+        Ok(Some((header, records, end))) => {
+            writeln!(said, "{} end {end}", Shown(header))?;
             say_each_record(&records, said)?;
         }
         Ok(None) => writeln!(said, "closed")?,
@@ -46,7 +47,7 @@ pub fn say_records(alloc: Global, slot: &[u8], words: &str, said: &mut String) -
     Ok(())
 }
 
-/// The generation, how the blocks end, and the records up to there.
+/// The header, how the blocks end, and the records up to there.
 pub fn say_front(alloc: Global, slot: &[u8], words: &str, said: &mut String) -> Result<()> {
     let (shard, count) = owner_of(words)?;
     match read_front(alloc, slot, shard, count) {
@@ -58,10 +59,10 @@ pub fn say_front(alloc: Global, slot: &[u8], words: &str, said: &mut String) -> 
 }
 
 fn say_front_of(front: &Front, said: &mut String) -> Result<()> {
-    let generation = front.generation;
+    let header = Shown(front.header);
     match front.ending {
-        Ending::Closed(end) => writeln!(said, "generation {generation} end {end}")?,
-        Ending::DamagedAt(at) => writeln!(said, "generation {generation} damaged at {at}")?,
+        Ending::Closed(end) => writeln!(said, "{header} end {end}")?,
+        Ending::DamagedAt(at) => writeln!(said, "{header} damaged at {at}")?,
     }
     say_each_record(&front.records, said)
 }

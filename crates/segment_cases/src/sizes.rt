@@ -2,6 +2,7 @@
 ghost use Rattle.std.specs.Prelude.{◌≡◌, ◌<◌, ◌^◌, ◌+◌, length, IsTrue, IfSome};
 ghost use Rattle.std.specs.List.{flat_map};
 ghost use Rattle.accept.specs.Rooms.{room};
+ghost use Rattle.segment.specs.Versions.{latest};
 ghost use Rattle.segment.specs.Spelling as spelling;
 ghost use Rattle.segment.specs.Spelling.{record_text, payload};
 ghost use Rattle.segment.specs.Segments.{states_of};
@@ -26,13 +27,13 @@ fn key_size(key: &StreamKey) -> Option<usize>
 
 #[tactic(auto, using(segment::proofs::Lengths::lengths))]
 fn entry_size(entry: &Entry) -> Option<usize>
-    ensures { IfSome result (λ n. n ≡ length (spelling.entry entry.now)) }
+    ensures { IfSome result (λ n. n ≡ length (spelling.entry latest entry.now)) }
 {
-    entry.line.as_str().len().checked_add(12)
+    entry.line.as_str().len().checked_add(13)
 }
 
 fn entries_size(entries: &[Entry]) -> Option<usize>
-    ensures { IfSome result (λ n. n ≡ length (spelling.entries entries.now)) }
+    ensures { IfSome result (λ n. n ≡ length (spelling.entries latest entries.now)) }
 {
     let mut size: usize = 4;
     for entry in entries {
@@ -43,7 +44,7 @@ fn entries_size(entries: &[Entry]) -> Option<usize>
 
 fn state_size(key: &StreamKey, last: &Entry, entries: &[Entry]) -> Option<usize>
     ensures { IfSome result (λ n. n ≡ 9 + length (spelling.key key.now)
-        + length (spelling.entry last.now) + length (spelling.entries entries.now)) }
+        + length (spelling.entry latest last.now) + length (spelling.entries latest entries.now)) }
 {
     key_size(key)?
         .checked_add(entry_size(last)?)?
@@ -53,7 +54,7 @@ fn state_size(key: &StreamKey, last: &Entry, entries: &[Entry]) -> Option<usize>
 
 #[tactic(auto, using(segment::proofs::Lengths::lengths))]
 fn record_size(one: &Record) -> Option<usize>
-    ensures { IfSome result (λ n. n ≡ length (record_text one.now)) }
+    ensures { IfSome result (λ n. n ≡ length (record_text latest one.now)) }
 {
     match one {
         Record::Append { key, entries } => key_size(key)?
@@ -71,13 +72,13 @@ fn record_size(one: &Record) -> Option<usize>
 
 /// Whether a record is small.
 pub fn is_small(one: &Record) -> bool
-    ensures { IsTrue result → length (record_text one.now) < 2 ^ 30 }
+    ensures { IsTrue result → length (record_text latest one.now) < 2 ^ 30 }
 {
     matches!(record_size(one), Some(size) if size < MANY)
 }
 
 fn payload_size(records: &[Record]) -> Option<usize>
-    ensures { IfSome result (λ n. n ≡ length (payload records.now)) }
+    ensures { IfSome result (λ n. n ≡ length (payload latest records.now)) }
 {
     let mut size: usize = 0;
     for one in records {
@@ -88,13 +89,13 @@ fn payload_size(records: &[Record]) -> Option<usize>
 
 /// Whether records are small all together.
 pub fn are_small(records: &[Record]) -> bool
-    ensures { IsTrue result → length (payload records.now) < 2 ^ 30 }
+    ensures { IsTrue result → length (payload latest records.now) < 2 ^ 30 }
 {
     matches!(payload_size(records), Some(size) if size < MANY)
 }
 
 fn states_size(image: &Image) -> Option<usize>
-    ensures { IfSome result (λ n. n ≡ length (payload (states_of image.now))) }
+    ensures { IfSome result (λ n. n ≡ length (payload latest (states_of image.now))) }
 {
     let mut size: usize = 0;
     for (key, stream) in image.iter() {

@@ -58,13 +58,13 @@ asks = push ∷ read ∷ again ∷ []
 no_base : finite.get (finite.empty {X = StreamImage} {R = key_cmp}) k ≡ None
 no_base = finite.get-empty key_cmp k
 
-room_of_one : room (finite.insert finite.empty k one) ≡ 80
+room_of_one : room (finite.insert finite.empty k one) ≡ 82
 room_of_one =
     let put_in = room-insert finite.empty k one in
     let none : finite.get (finite.empty {X = StreamImage} {R = key_cmp}) k ≡ None = no_base in
     done (room (finite.insert finite.empty k one)) (room finite.empty) _ put_in room-empty (ap (room_at k) none)
   where
-    done : (n e r : ℕ) → n + r ≡ e + 53 → e ≡ 27 → r ≡ 0 → n ≡ 80
+    done : (n e r : ℕ) → n + r ≡ e + 55 → e ≡ 27 → r ≡ 0 → n ≡ 82
     done n e r p q z = omega arith
 
 abbrev pick : Bool → Ask → List Ask → List Ask
@@ -74,9 +74,9 @@ module _ (table : TableId) where
   abbrev empty : Booked
   empty = record { table = table; about = opened 4096; shard = 0; items = [] }
 
-  -- with room for 79 bytes: one too few
+  -- with room for 81 bytes: one too few
   abbrev short : Booked
-  short = record { table = table; about = opened 79; shard = 0; items = [] }
+  short = record { table = table; about = opened 81; shard = 0; items = [] }
 
   answer_to_push : answer_in empty push.call ≡ Verdict (Stored ∷ [])
   answer_to_push = ap (λ s. Verdict (outcomes limits s [] 20 (x ∷ []))) no_base
@@ -95,8 +95,8 @@ module _ (table : TableId) where
   no_room_for_push : reply_in short push.call ≡ NoRoom
   unfolding reply_of
   no_room_for_push =
-      (λ i. cond (changes (answer_to_push i) && nat_lt 79 (room (after_push i))) NoRoom (answer_to_push i))
-      ∙ ap (λ n. cond (nat_lt 79 n) NoRoom (Verdict (Stored ∷ []))) room_of_one
+      (λ i. cond (changes (answer_to_push i) && nat_lt 81 (room (after_push i))) NoRoom (answer_to_push i))
+      ∙ ap (λ n. cond (nat_lt 81 n) NoRoom (Verdict (Stored ∷ []))) room_of_one
 
   abbrev once : Booked
   once = longer empty (Answered (step_of push (Verdict (Stored ∷ []))))

@@ -7,6 +7,7 @@ use Rattle.accept.specs.declared.history.Item.TheVariants.{Answered, Failed}
 use Rattle.accept.specs.Rooms.{Streams, room}
 use Rattle.accept.specs.Histories.{answer, after, meaning, changes, is_marked}
 use Rattle.segment.specs.declared.record.Record.{Record}
+use Rattle.segment.specs.Versions.{latest}
 use Rattle.segment.specs.Spelling.{frame}
 use Rattle.wal.specs.declared.log.Wal.{Wal}
 use Rattle.wal.specs.Recovery.{Recovers}
@@ -40,7 +41,7 @@ IsQuiet book call = (reply_in book call ≡ Unavailable) ⊎ ((reply_in book cal
 -- how many bytes a change takes as a block with its closing gate
 abbrev pub block_length : Option Record → ℕ
 block_length None = 0
-block_length (Some record_of_change) = length (frame (record_of_change ∷ [])) + 1
+block_length (Some record_of_change) = length (frame latest (record_of_change ∷ [])) + 1
 
 -- the call's change, as a block, fits behind the segment in use
 abbrev pub FitsBehind : {D : Type 0} → Wal D → Booked → Call → Type 0

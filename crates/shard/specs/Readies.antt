@@ -8,6 +8,7 @@ use Rattle.accept.specs.declared.call.Reply.TheVariants.{NoRoom}
 use Rattle.accept.specs.Rooms.{Streams, room}
 use Rattle.accept.specs.Histories.{changes, key_of, set_stream}
 use Rattle.accept.specs.Calls.{answer_from, stream_after}
+use Rattle.segment.specs.Versions.{latest_header}
 use Rattle.wal.specs.declared.log.Wal.{Wal}
 use Rattle.wal.specs.Recovery.{Leads, IsSegmentBehind}
 use Rattle.wal.specs.Logs.{owner, FitsInUse}
@@ -34,7 +35,7 @@ HasPlace log Next n = (1 + n ≤ log.cap) × (log.generation < 2 ^ 63 - 1)
 -- the bytes, written at this place, lead from these streams to those
 abbrev pub LeadsAt : {D : Type 0} → Wal D → Target → List ℕ → Streams → Streams → Type 0
 LeadsAt log Behind written m n = Leads (owner log) written m n
-LeadsAt log Next written m n = IsSegmentBehind (owner log) written (log.generation + 1) (length written) n
+LeadsAt log Next written m n = IsSegmentBehind (owner log) written (latest_header (log.generation + 1)) (length written) n
 
 -- a block of so many bytes goes behind the segment in use where it fits, and nowhere else
 abbrev pub IsPlaced : {D : Type 0} → Wal D → ℕ → Target → Type 0

@@ -3,6 +3,7 @@ use Rattle.std.specs.Prelude.{◌≡◌, ◌⊎◌, ◌≤◌, ◌<◌, ℕ, Lis
 use Rattle.accept.specs.Rooms.{Streams, room}
 use Rattle.disk.specs.Sight.{Sight}
 use Rattle.segment.specs.declared.owner.Owner.{Owner}
+use Rattle.segment.specs.Versions.{latest_header}
 use Rattle.segment.specs.Segments.{owner_of}
 use Rattle.wal.specs.declared.fault.OpenFault.{OpenFault}
 use Rattle.wal.specs.Slots.{IsClosed}
@@ -31,10 +32,10 @@ EachPair P givens backs = (s : ℕ) → s < length givens → P s (pair_at given
 abbrev pub Keeps : Owner → Pair → Streams → Type 0
 Keeps owner slots m = (a b : List ℕ) → slots.first.may_leave a → slots.second.may_leave b → Recovers owner a b m
 
--- slot 1 holds generation 1 with these streams, and slot 0 is closed
+-- slot 1 holds generation 1 of the latest version with these streams, and slot 0 is closed
 pub record IsFirst (owner : Owner) (a b : List ℕ) (m : Streams) : Type 0 where
   pub end : ℕ
-  pub stands : Stands owner b 1 end m
+  pub stands : Stands owner b (latest_header 1) end m
   pub closed : IsClosed a
 
 -- neither slot holds a byte
