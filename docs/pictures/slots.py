@@ -13,7 +13,7 @@ STEPS = [
     ("sync", [*SEGMENT, ("0", CLOSED), ("block", None), ("0", CLOSED)], LAST, "the old streams"),
     ("write the gate", [*SEGMENT, ("1", TORN), ("block", None), ("0", CLOSED)], LAST, "the old streams or the new"),
     ("sync; then the answer", [*SEGMENT, ("1", OPEN), ("block", None), ("0", CLOSED)], LAST, "the new streams"),
-    ("A roll, where the block doesn't fit", None, None, None),
+    ("A roll, where the block doesn't fit, or the segment is of version 1", None, None, None),
     ("at first", [*SEGMENT, ("0", CLOSED)], LAST, "the old streams: of two open slots\nthe greater generation is read"),
     ("close the other slot, sync", [*SEGMENT, ("0", CLOSED)], [("0", CLOSED), ("generation g-1", OLD)], "the old streams"),
     ("write all streams after the change\nand a closed gate", [*SEGMENT, ("0", CLOSED)],
