@@ -21,4 +21,6 @@ abbrev pub same_pairs : List Label → List Label → Bool
 same_pairs = pointwise same_pair
 
 pub same_pairs-equiv : IsEquivalence same_pairs
-same_pairs-equiv = lists_equiv (and_equiv (on_equiv (λ (p : Label). p.0) nat_list_eq_equiv) (on_equiv (λ (p : Label). p.1) nat_list_eq_equiv))
+same_pairs-equiv =
+    lists_equiv (and_equiv (on_equiv (λ (p : Label). p.0) nat_list_eq_equiv)
+        (on_equiv (λ (p : Label). p.1) nat_list_eq_equiv))
