@@ -1,5 +1,9 @@
 -- Sorted pairs, whose names rise or repeat.
-use Rattle.std.proofs.Common.{◌≡◌, ℕ, ◌+◌, ◌<◌, true, false, List, [], ◌∷◌, length, get_or, map, refl, ◌∙◌, String, string_bytes, Result, Ok, Err, IfOk, Vec, vec_len}
+use Rattle.std.specs.Cmp.Lexicographic.{pointwise}
+use Rattle.std.specs.Cmp.Derive.Mapped.{pointwise-map}
+use Rattle.labels.specs.Metas.{same_pair, same_pairs}
+use Rattle.labels.specs.declared.meta.MetaFault.TheVariants.{Memory, NameTwice}
+use Rattle.std.proofs.Common.{Bool, ◌⊎◌, inr, sym, subst, ◌≡◌, ℕ, ◌+◌, ◌<◌, true, false, List, [], ◌∷◌, length, get_or, map, refl, ◌∙◌, String, string_bytes, Result, Ok, Err, IfOk, Vec, vec_len}
 use Rattle.std.specs.Result.{MatchResult}
 use Rattle.std.specs.declared.alloc.Global.{Global}
 use Rattle.std.specs.List.{AllAdjacentBelow, AllZip}
@@ -40,3 +44,16 @@ pub copies_are : {E : Type 0} (N : E → Type 0) (r : Result (Vec (String Global
     → MatchResult r (λ w. AllZip IsCopy xs w.items × (vec_len w ≡ n)) N → IfOk r (λ w. map label_of w.items ≡ map label_of xs)
 copies_are N (Ok w) xs n h = same_copies xs w.items h.0
 copies_are N (Err e) xs n h = tt
+
+pub fault_when_stuck : (xs ys es : List (String Global × String Global)) → IsPermutation xs ys → IsSorted pair_cmp ys → es ≡ ys → IsStuck es
+    → (NameTwice ≡ Memory) ⊎ ((NameTwice ≡ NameTwice) × (repeats_name (map label_of xs) ≡ true))
+fault_when_stuck xs ys es m s f stuck = inr (refl, repeats_when_stuck xs ys es m s f stuck)
+
+pub pairs_when_sorted : (xs ys : List (String Global × String Global)) (meta : List Label) → IsPermutation xs ys → meta ≡ map label_of ys → IsPermutation (map label_of xs) meta
+pairs_when_sorted xs ys meta m e =
+    let P : List Label → Type 0 = λ v. IsPermutation (map label_of xs) v in
+    subst P (sym e) (IsPermutation-map label_of xs ys m)
+
+pub same_when_equal : (a b : List Label) (xs ys : List (String Global × String Global)) (r : Bool) → map label_of xs ≡ a → map label_of ys ≡ b
+    → r ≡ pointwise (λ x y. same_pair (label_of x) (label_of y)) xs ys → r ≡ same_pairs a b
+same_when_equal a b xs ys r f g e = e ∙ sym (pointwise-map label_of same_pair xs ys) ∙ (λ i. same_pairs (f i) (g i))

@@ -23,4 +23,4 @@ same_pairs = pointwise same_pair
 pub same_pairs-equiv : IsEquivalence same_pairs
 same_pairs-equiv =
     lists_equiv (and_equiv (on_equiv (λ (p : Label). p.0) nat_list_eq_equiv)
-        (on_equiv (λ (p : Label). p.1) nat_list_eq_equiv))
+    (on_equiv (λ (p : Label). p.1) nat_list_eq_equiv))

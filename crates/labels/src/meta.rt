@@ -81,6 +81,7 @@ impl Meta {
 
     /// The metadata of these pairs, in whatever order they are given. From Loki's documentation: structured metadata
     /// are names with values that stand beside a line; that no name stands twice is this project's profile.
+    #[tactic(auto, using(crate::proofs::Metas::rise_when_below, crate::proofs::Metas::pairs_when_sorted))]
     pub fn new(alloc: Global, mut pairs: Vec<(String, String)>) -> Result<Meta, MetaFault>
         ensures pairs { IfOk result (IsPermutation (map label_of pairs.items)) }
         ensures rise { IfOk result NamesRise }
@@ -125,6 +126,7 @@ impl PartialEq for Meta {
 
     ghost laws = { order.partial_equiv_from_equiv same_pairs-equiv };
 
+    #[tactic(auto, using(crate::proofs::Metas::same_when_equal))]
     fn eq(&self, other: &Meta) -> bool {
         self.as_slice() == other.as_slice()
     }
