@@ -39,4 +39,4 @@ file_only_now f c follows left = just_now f.calls.noted.start.state (acts_in f.c
 pub file_seen_may_stay : (f : FileDisk) → FileFollows f → (file_sight f).may_leave (file_sight f).seen
 file_seen_may_stay f follows =
     always_sound f.calls.noted.start.state (start_sound f.calls.noted.start f.calls.noted.calls follows)
-        (acts_in f.calls.noted)
+    (acts_in f.calls.noted)

@@ -8,9 +8,13 @@ use Rattle.disk.specs.State.{Act, Write, Break, Sync, State, nothing, over, wrot
 pub now_counts : (start : State) (acts : List Act) (failures t : ℕ) (c : List ℕ) → t ≤ length acts
     → IsImage (state_after start acts) c
     → (sight_of start acts failures).left_since t c
-now_counts start acts failures t c le image =
-    (length acts, le, omega arith, subst (λ (xs : List Act). IsImage (state_after start xs) c)
-        (sym (take_all (length acts) acts (omega arith))) image)
+now_counts start acts failures t c le image = (
+  length acts,
+  le,
+  omega arith,
+  subst (λ (xs : List Act). IsImage (state_after start xs) c)
+      (sym (take_all (length acts) acts (omega arith))) image,
+)
 
 pub just_now : (start : State) (acts : List Act) (failures : ℕ) (c : List ℕ)
     → (sight_of start acts failures).left_since (length acts) c

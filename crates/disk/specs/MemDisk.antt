@@ -42,7 +42,7 @@ WillFail m k = IsAsked m.plan k
 abbrev pub HasRoom : MemDisk → ℕ → ℕ → ℕ → Type 0
 HasRoom m room calls written =
     (room ≤ vec_capacity m.bytes) × (vec_len m.steps + calls ≤ vec_capacity m.steps)
-        × (vec_len m.written + written ≤ vec_capacity m.written)
+    × (vec_len m.written + written ≤ vec_capacity m.written)
 
 -- what is left of the room after so many recorded calls and written bytes
 abbrev pub KeepsRoom : ℕ → ℕ → MemDisk → MemDisk → Type 0

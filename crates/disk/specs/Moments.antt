@@ -22,10 +22,10 @@ goes_on {old} {mid} {new} P so_far time now = record {
   later = omega (arith, so_far.later, time.later);
   each =
       λ c left. elim (time.nothing_else old.moment c so_far.later left)
-          [ inl before ↦ so_far.each c before | inr later ↦ now c later ];
+      [ inl before ↦ so_far.each c before | inr later ↦ now c later ];
   before =
       λ t c le left. elim (time.nothing_else t c (omega (arith, so_far.later)) left)
-          [ inl before ↦ so_far.before t c le before | inr later ↦ inr (now c later) ];
+      [ inl before ↦ so_far.before t c le before | inr later ↦ inr (now c later) ];
 }
 
 -- one run of calls after another
@@ -35,10 +35,10 @@ in_turn {old} {mid} {new} P first second = record {
   later = omega (arith, first.later, second.later);
   each =
       λ c left. elim (second.before old.moment c first.later left)
-          [ inl before ↦ first.each c before | inr later ↦ later ];
+      [ inl before ↦ first.each c before | inr later ↦ later ];
   before =
       λ t c le left. elim (second.before t c (omega (arith, first.later)) left)
-          [ inl before ↦ first.before t c le before | inr later ↦ inr later ];
+      [ inl before ↦ first.before t c le before | inr later ↦ inr later ];
 }
 
 -- a property that follows

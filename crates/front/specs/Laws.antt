@@ -56,7 +56,7 @@ abbrev pub AreTheirSteps : List Exchange → List Step → Type 0
 AreTheirSteps [] steps = steps ≡ []
 AreTheirSteps (e ∷ es) steps =
     (first : List Step) × (others : List Step) × (steps ≡ first ++ others)
-        × AreStepsBy e.now e.request.body e.verdict e.course first × AreTheirSteps es others
+    × AreStepsBy e.now e.request.body e.verdict e.course first × AreTheirSteps es others
 
 -- the pass made just these steps more
 abbrev pub Gains : Passed → List Step → Passed → Type 0
@@ -73,10 +73,10 @@ abbrev pub MakesItsCalls : {C : Type 0} → (C → ℕ → C → Type 0) → Lis
     → Type 0
 MakesItsCalls ticks bytes h c e rest h' c' =
     IsExchange CallGives ticks bytes h c e rest h' c' → (steps : List Step) × Gains h steps h'
-        × AreStepsBy e.now e.request.body e.verdict e.course steps
+    × AreStepsBy e.now e.request.body e.verdict e.course steps
 
 -- and so of a request that was given up for want of memory: the calls of a beginning of its streams
 abbrev pub MakesItsFirstCalls : {C : Type 0} → (C → ℕ → C → Type 0) → List ℕ → Passed → C → Passed → C → Type 0
 MakesItsFirstCalls ticks bytes h c h' c' =
     (left : IsAbandoned CallGives ticks bytes h c h' c') → (steps : List Step) × Gains h steps h'
-        × AreFirstStepsBy left.now left.request.body left.verdict steps
+    × AreFirstStepsBy left.now left.request.body left.verdict steps

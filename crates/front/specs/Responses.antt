@@ -92,7 +92,7 @@ module _ {H : Type 0} (gives : H → Call → Result Reply CallFault → H → T
       × Shows (status_for route course) (text_for route course) answer
   RequestIsAnswered h (Err faults.Memory) h' =
       ((course : Course) × RequestGives gives route now tenant body h course h' × IsSome (failure_in course))
-          ⊎ RequestIsLeft gives route now tenant body h h'
+      ⊎ RequestIsLeft gives route now tenant body h h'
   RequestIsAnswered h (Err faults.Read) h' = ⊥
   RequestIsAnswered h (Err faults.Write) h' = ⊥
   RequestIsAnswered h (Err faults.CutShort) h' = ⊥
@@ -101,7 +101,7 @@ module _ {H : Type 0} (gives : H → Call → Result Reply CallFault → H → T
   abbrev pub RequestEnds : H → Result Answer Halt → H → Type 0
   RequestEnds h (Ok answer) h' =
       (course : Course) × RequestGives gives route now tenant body h course h' × (failure_in course ≡ None)
-          × Shows (status_for route course) (text_for route course) answer
+      × Shows (status_for route course) (text_for route course) answer
   RequestEnds h (Err (Failed failure)) h' = (course : Course) × RequestGives gives route now tenant body h course h'
       × (failure_in course ≡ Some failure)
   RequestEnds h (Err GivenUp) h' = RequestIsLeft gives route now tenant body h h'

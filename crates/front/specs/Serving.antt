@@ -104,7 +104,7 @@ module _ {H C : Type 0} (gives : H → Asking → Result Reply CallFault → H �
   ConnectionGives bytes h c [] rest h' c' = (rest ≡ bytes) × (h' ≡ h) × (c' ≡ c)
   ConnectionGives bytes h c (e ∷ es) rest h' c' =
       (mid : List ℕ) × (hm : H) × (cm : C) × IsExchange bytes h c e mid hm cm × (closes e ≡ false)
-          × ConnectionGives mid hm cm es rest h' c'
+      × ConnectionGives mid hm cm es rest h' c'
 
   -- the bytes begin with what is refused, and nothing else happened
   abbrev pub IsTurnedAway : List ℕ → H → C → List ℕ → H → C → Type 0
@@ -115,19 +115,19 @@ module _ {H C : Type 0} (gives : H → Asking → Result Reply CallFault → H �
   abbrev pub IsNextResponse : List ℕ → H → C → List ℕ → H → C → Type 0
   IsNextResponse bytes h c text h' c' =
       ((e : Exchange) × (rest : List ℕ) × IsExchange bytes h c e rest h' c' × (text ≡ response e))
-          ⊎ IsTurnedAway bytes h c text h' c'
+      ⊎ IsTurnedAway bytes h c text h' c'
 
   -- there was no memory for the response, which is not of status 500
   abbrev pub IsUnanswered : List ℕ → H → C → H → C → Type 0
   IsUnanswered bytes h c h' c' =
       ((e : Exchange) × (rest : List ℕ) × IsExchange bytes h c e rest h' c' × (failure_at e.verdict e.course ≡ None))
-          ⊎ ((text : List ℕ) × IsTurnedAway bytes h c text h' c')
+      ⊎ ((text : List ℕ) × IsTurnedAway bytes h c text h' c')
 
   -- and it closes
   abbrev pub IsLastResponse : List ℕ → H → C → List ℕ → H → C → Type 0
   IsLastResponse bytes h c text h' c' =
       ((e : Exchange) × (rest : List ℕ) × IsExchange bytes h c e rest h' c' × (closes e ≡ true) × (text ≡ response e))
-          ⊎ IsTurnedAway bytes h c text h' c'
+      ⊎ IsTurnedAway bytes h c text h' c'
 
   -- nothing happened behind the last response
   abbrev pub IsIdle : H → C → List ℕ → H → C → Type 0
@@ -144,7 +144,7 @@ module _ {H C : Type 0} (gives : H → Asking → Result Reply CallFault → H �
       × IsNextResponse rest h c all h' c' × (text ≡ take n all)
   ConnectionEnds rest left h c text h' c' (Err faults.Memory) =
       (text ≡ []) × ((((rest ≡ []) ⊎ IsCut rest) × IsIdle h c text h' c') ⊎ IsUnanswered rest h c h' c'
-          ⊎ IsAbandoned rest h c h' c')
+      ⊎ IsAbandoned rest h c h' c')
 
   -- from the bytes read to the text written
   pub record ConnectionIsAnswered (bytes : List ℕ) (left : Option (List ℕ)) (h : H) (c : C) (text : List ℕ) (h' : H)

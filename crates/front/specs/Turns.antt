@@ -21,13 +21,13 @@ module _ {H : Type 0} (gives : H → Asking → Result Reply CallFault → H →
   abbrev pub ResponseGives : Verdict → Bool → H → List ℕ → H → Result Bool ServeFault → Type 0
   ResponseGives verdict close h text h' (Ok ends) =
       (course : Course) × VerdictGives gives now body verdict h course h' × (text ≡ response_text verdict close course)
-          × (ends ≡ ends_behind verdict close course)
+      × (ends ≡ ends_behind verdict close course)
   ResponseGives verdict close h text h' (Err faults.Write) =
       (course : Course) × VerdictGives gives now body verdict h course h'
-          × ((n : ℕ) × (text ≡ take n (response_text verdict close course)))
+      × ((n : ℕ) × (text ≡ take n (response_text verdict close course)))
   ResponseGives verdict close h text h' (Err faults.Memory) =
       (text ≡ []) × (((course : Course) × VerdictGives gives now body verdict h course h'
-          × (failure_at verdict course ≡ None)) ⊎ VerdictIsLeft gives now body verdict h h')
+      × (failure_at verdict course ≡ None)) ⊎ VerdictIsLeft gives now body verdict h h')
   ResponseGives verdict close h text h' (Err faults.Read) = ⊥
   ResponseGives verdict close h text h' (Err faults.CutShort) = ⊥
 

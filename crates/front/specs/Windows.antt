@@ -81,7 +81,7 @@ abbrev pub NextComes : Window → Option Came → Window → Type 0
 NextComes old None new = (old.marks.items ≡ []) × IsEmpty new
 NextComes old (Some came) new =
     (merged old.marks.items old.outcomes.items ≡ came ∷ merged new.marks.items new.outcomes.items)
-        × AreDue new.marks.items new.outcomes.items
+    × AreDue new.marks.items new.outcomes.items
     × (length old.marks.items ≡ length new.marks.items + 1)
 
 -- this came of a stream, and it was taken into the lines
@@ -105,7 +105,7 @@ WindowIsNoted stream cames old (Err (Failed failure)) new = (fault : CallFault) 
     × (failure ≡ failure_of fault)
 WindowIsNoted stream cames old (Err GivenUp) new =
     (first : List Came) × (last : Came) × (behind : List Came) × (cames ≡ first ++ last ∷ behind)
-        × (first_failure (first ++ last ∷ []) ≡ None)
+    × (first_failure (first ++ last ∷ []) ≡ None)
 
 -- of these streams the others are left, and none of them failed
 pub record WindowProgress (all : List Came) (first : ℕ) (start : PushLines) (window : Window) (stream : ℕ)

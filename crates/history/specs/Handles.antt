@@ -67,8 +67,13 @@ is_closed pass = pass.closed || (pass.caller.last + 1 == bound)
 -- what stands where a seat has none
 abbrev pub no_about : About
 no_about =
-    record { shards = 0; passes = 0; limits = record { line = 0; half_age = 0; max_old = 0; max_ahead = 0 };
-        capacity = 0; bases = [] }
+    record {
+      shards = 0;
+      passes = 0;
+      limits = record { line = 0; half_age = 0; max_old = 0; max_ahead = 0 };
+      capacity = 0;
+      bases = [];
+    }
 
 abbrev pub no_ask : Ask
 no_ask = record { pass = 0; number = 0; call = Read (record { tenant = []; labels = [] }) 0 0 }
@@ -110,8 +115,12 @@ caller_in role = newcomer no_about 0
 -- what contracts see of a ticket
 abbrev pub announced : Seat Unit View → Announced
 announced s =
-    record { table = s.table_id; ask = ask_in s.me.0.hand; doubted = doubt_in s.me.0.hand;
-        before = before_in s.me.0.hand }
+    record {
+      table = s.table_id;
+      ask = ask_in s.me.0.hand;
+      doubted = doubt_in s.me.0.hand;
+      before = before_in s.me.0.hand;
+    }
 
 -- the seat has an open call in hand, with this number, of this pass
 abbrev pub IsTicket : Seat Unit View → ℕ → ℕ → Type 0
@@ -122,8 +131,12 @@ IsTicket s n p =
 -- what contracts see of a receipt
 abbrev pub received : Seat Unit View → Received
 received s =
-    record { table = s.table_id; step = step_in s.me.0.hand; upto = upto_in s.me.0.hand;
-        moment = moment_in s.me.0.hand }
+    record {
+      table = s.table_id;
+      step = step_in s.me.0.hand;
+      upto = upto_in s.me.0.hand;
+      moment = moment_in s.me.0.hand;
+    }
 
 -- the seat has a call with its step in hand, with this number, of this pass
 abbrev pub IsReceipt : Seat Unit View → ℕ → ℕ → Type 0
@@ -141,7 +154,7 @@ abbrev pub IsBook : TableId → ℕ → Seat Unit View → Type 0
 IsBook table shard s =
     let shelf = shelf_in s.me.0.role in
     (s.table_id ≡ table) × (shelf.shard ≡ shard) × (shard < shelf.about.shards)
-        × (table.words ≡ shelf.about.shards + shelf.about.passes)
+    × (table.words ≡ shelf.about.shards + shelf.about.passes)
     × (s.me ≡ (alone (Keeps shelf) Nothing, [])) × (shelf.doubt ≡ [])
 
 -- what contracts see of a pass
@@ -154,9 +167,9 @@ abbrev pub IsPass : Seat Unit View → ℕ → ℕ → ℕ → ℕ → Type 0
 IsPass s shards word last calls =
     let c = caller_in s.me.0.role in
     (s.me ≡ (alone (Calls c) Nothing, [])) × (c.last ≡ last) × (c.about.shards ≡ shards) × (shards + c.pass ≡ word)
-        × (shards + c.about.passes ≡ s.table_id.words)
+    × (shards + c.about.passes ≡ s.table_id.words)
     × (c.pass < c.about.passes) × (last < bound) × (0 < shards) × (length c.seen ≡ shards) × (length c.pending ≡ calls)
-        × (calls ≤ 64)
+    × (calls ≤ 64)
 
 -- the history with the next call of a pass answered `Unavailable`
 abbrev pub refused_by : List Item → Caller → Call → List Item
@@ -167,7 +180,7 @@ abbrev pub tickets_of : TableId → Caller → List Call → List Announced
 tickets_of table c [] = []
 tickets_of table c (call ∷ calls) =
     record { table = table; ask = ask_of c (c.last + 1) call; doubted = false; before = before_of c (c.last + 1) call }
-        ∷ tickets_of table (announce_to c (c.last + 1) call) calls
+    ∷ tickets_of table (announce_to c (c.last + 1) call) calls
 
 -- those of these tickets that are shard k's
 abbrev pub tickets_on : About → ℕ → List Announced → List Announced
@@ -227,8 +240,15 @@ with_doubt shelf doubt = record { about = shelf.about; shard = shelf.shard; item
 
 abbrev pub with_seen : Caller → List (List Item) → Caller
 with_seen c seen =
-    record { about = c.about; pass = c.pass; last = c.last; seen = seen; made = c.made; withdrawn = c.withdrawn;
-        pending = c.pending }
+    record {
+      about = c.about;
+      pass = c.pass;
+      last = c.last;
+      seen = seen;
+      made = c.made;
+      withdrawn = c.withdrawn;
+      pending = c.pending;
+    }
 
 -- two passes in one seat
 abbrev pub pair_of : Caller → Caller → View

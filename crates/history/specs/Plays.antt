@@ -138,7 +138,7 @@ IsRested c = (k : ℕ) → steps_by c.pass (seen_at c k) ≡ steps_on c.about k 
 abbrev pub Announces : Call → ℕ → Role → View → Type 0
 Announces call n (Calls c) w =
     (w ≡ alone (Calls (announce_to c n call)) (Open (ask_of c n call) false (before_of c n call)))
-        × (c.pending ≡ [] → IsRested c)
+    × (c.pending ≡ [] → IsRested c)
 Announces call n role w = Unit {0}
 
 -- a pass announces the call, under the number that it stores
@@ -191,8 +191,8 @@ abbrev pub Collects : Role → Token → View → Type 0
 Collects (Calls c) (Done s upto at) w =
     let k : ℕ = shard_in c.about s.ask in
     (w ≡ alone (Calls (collect_to c s upto)) Nothing) × IsLegalAt c.about k upto × Extends c.pass (seen_at c k) s upto
-        × (k < length c.seen) × IsFirst s.ask c.pending × IsRested (collect_to c s upto)
-        × IsByPasses c.about.passes upto
+    × (k < length c.seen) × IsFirst s.ask c.pending × IsRested (collect_to c s upto)
+    × IsByPasses c.about.passes upto
 Collects role hand w = Unit {0}
 
 -- a pass takes an answer in
@@ -228,8 +228,8 @@ pub record HasStepsOf (c : Caller) (k : ℕ) (items : List Item) : Type 0 where
 abbrev pub Looks : ℕ → ℕ → Role → View → Type 0
 Looks k found (Calls c) w =
     (new : List Item) × (w ≡ alone (Calls (look_to c k new)) Nothing) × IsBeginning (seen_at c k) new
-        × IsLegalAt c.about k new × (length new ≡ found) × HasStepsOf c k new × (k < length c.seen)
-        × IsByPasses c.about.passes new
+    × IsLegalAt c.about k new × (length new ≡ found) × HasStepsOf c k new × (k < length c.seen)
+    × IsByPasses c.about.passes new
 Looks k found role w = Unit {0}
 
 -- a pass sees the history of a shard
@@ -244,8 +244,11 @@ IsMeeting c d k new = IsBeginning (seen_at c k) new × IsBeginning (seen_at d k)
 
 abbrev pub Meets : ℕ → Role → Role → View → Type 0
 Meets k (Calls c) (Calls d) w =
-    (new : List Item) × (w ≡ record { role = Calls (look_to c k new); guest = Calls (look_to d k new);
-        hand = Nothing }) × IsMeeting c d k new × (k < length c.seen) × (k < length d.seen)
+    (new : List Item) × (w ≡ record {
+      role = Calls (look_to c k new);
+      guest = Calls (look_to d k new);
+      hand = Nothing;
+    }) × IsMeeting c d k new × (k < length c.seen) × (k < length d.seen)
 Meets k role guest w = Unit {0}
 
 -- two passes see one history of a shard

@@ -29,14 +29,26 @@ opener about a b = alone (Opener about a b) Nothing
 -- an opening of which only the sizes are known
 abbrev pub unnamed : Sizes → About
 unnamed sizes =
-    record { shards = sizes.shards; passes = sizes.passes;
-        limits = record { line = 0; half_age = 0; max_old = 0; max_ahead = 0 }; capacity = 0; bases = [] }
+    record {
+      shards = sizes.shards;
+      passes = sizes.passes;
+      limits = record { line = 0; half_age = 0; max_old = 0; max_ahead = 0 };
+      capacity = 0;
+      bases = [];
+    }
 
 -- a pass that has seen and made nothing
 abbrev pub newcomer : About → ℕ → Caller
 newcomer about p =
-    record { about = about; pass = p; last = 0; seen = replicate about.shards []; made = []; withdrawn = [];
-        pending = [] }
+    record {
+      about = about;
+      pass = p;
+      last = 0;
+      seen = replicate about.shards [];
+      made = [];
+      withdrawn = [];
+      pending = [];
+    }
 
 -- the shards' histories, what each pass knows, and its calls on their way, by their numbers
 pub record Contents : Type 0 where
@@ -84,7 +96,7 @@ TokenOk about items p pending n (Open a f e) = (a.number ≡ n) × (a.pass ≡ p
     × HaveNumbersBelow n (steps_by p (items (shard_in about a)))
 TokenOk about items p pending n (Done s upto at) =
     (s.ask.number ≡ n) × (s.ask.pass ≡ p) × IsAmong s.ask pending × IsBeginning upto (items (shard_in about s.ask))
-        × ((before : List Item) × (upto ≡ before ++ Answered s ∷ []))
+    × ((before : List Item) × (upto ≡ before ++ Answered s ∷ []))
 
 -- of two calls without a step on one shard, the later one names the earlier one
 abbrev pub IsOrdered : About → (ℕ → Token) → Type 0

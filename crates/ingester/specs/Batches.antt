@@ -51,9 +51,15 @@ pub record IsJoined (table : TableId) (old new : Passed) (calls left : List Call
   pub pass : new ≡ with_next old call
   pub rested : old.caller.pending ≡ [] → IsRested old.caller
   pub number_is : number ≡ old.caller.last + 1
-  pub jobs_are : now ≡ jobs ++ record { ticket = record { table = table;
-      ask = ask_of old.caller (old.caller.last + 1) call; doubted = false;
-      before = before_of old.caller (old.caller.last + 1) call }; call = call } ∷ []
+  pub jobs_are : now ≡ jobs ++ record {
+    ticket = record {
+      table = table;
+      ask = ask_of old.caller (old.caller.last + 1) call;
+      doubted = false;
+      before = before_of old.caller (old.caller.last + 1) call;
+    };
+    call = call;
+  } ∷ []
   pub numbers : AreNumbers call
 
 -- the same, without the job

@@ -29,8 +29,10 @@ shard_for c call = shard_in c.about (ask_of c (c.last + 1) call)
 -- The call is answered. Of its shard the pass has seen what it had seen, items of others, and the call's step. Nothing
 -- else has changed.
 pub record IsAnswered (old new : Passed) (call : Call) (reply : Reply) : Type 0 where
-  pub pass : new ≡ record old { caller = collect_to (announce_to old.caller (old.caller.last + 1) call)
-      (next_step old.caller call reply) (seen_at new.caller (shard_for old.caller call)) }
+  pub pass : new ≡ record old {
+    caller = collect_to (announce_to old.caller (old.caller.last + 1) call)
+        (next_step old.caller call reply) (seen_at new.caller (shard_for old.caller call));
+  }
   pub extends : Extends old.caller.pass (seen_at old.caller (shard_for old.caller call))
       (next_step old.caller call reply) (seen_at new.caller (shard_for old.caller call))
   pub legal : IsLegalAt old.caller.about (shard_for old.caller call) (seen_at new.caller (shard_for old.caller call))

@@ -66,7 +66,7 @@ module _ {D : Type 0} (sight : D → Sight) (follows : D → Type 0) where
   AreGood count k [] [] = Unit {0}
   AreGood count k (given ∷ all) (back ∷ backs) =
       (IsReturned given back × ((m : Streams) × (AllFollow follows back
-          → Recovers (owner_of k count) (slots_of sight given).first.seen (slots_of sight given).second.seen m)))
+      → Recovers (owner_of k count) (slots_of sight given).first.seen (slots_of sight given).second.seen m)))
       × AreGood count (k + 1) all backs
   AreGood count k all backs = ⊥
 

@@ -73,7 +73,7 @@ fn open_next<D: Disk + Drop>(
     requires capacity { capacity ≤ 2 ^ 30 }
     ensures ok { OnOk result (IsNextOpened D.sight D.follows
         (owner_of shard count) capacity slots.old.items slots.new.items logs.old.items logs.new.items images.old.items
-            images.new.items) }
+        images.new.items) }
     ensures err { IfErr result (λ fault.
         IsNextRefused D.sight D.follows (owner_of shard count) fault slots.old.items slots.new.items
         × (logs.new ≡ logs.old)) }

@@ -27,7 +27,7 @@ module _ {T K : Type 0} where
     abbrev pub tries : Step (Option T) → Me (Option T) (Hold K) → ℕ → Me (Option T) (Hold K) → Type 0
     tries s m n w =
         MatchBool (n == 0) ((y : T) × (w ≡ (holding m.0.key s.word, (s.word, Some y) ∷ m.1))
-            × fits m.0.key s.word y) (w ≡ m)
+        × fits m.0.key s.word y) (w ≡ m)
 
     pub record Locked (key : K) (s : State (Option T) (Hold K)) : Type 0 where
       pub holder : ℕ → ℕ

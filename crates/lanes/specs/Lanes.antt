@@ -72,7 +72,7 @@ abbrev pub IsTakenFrom : ℕ → List (Option Settled) → ℕ → Option Settle
 IsTakenFrom first old number taken new =
     ((taken ≡ None) × (new ≡ old))
     ⊎ ((first ≤ number) × (number - first < length old) × (taken ≡ slice_index_or old (number - first) None)
-        × (new ≡ slice_set old (number - first) None))
+    × (new ≡ slice_set old (number - first) None))
 
 -- each is of pass p
 abbrev pub AreOfPass : ℕ → List Announced → Type 0

@@ -68,7 +68,7 @@ abbrev pub answer_text : Status → Content → Option Method → Bool → List 
 answer_text status content allow closes body =
     if code_of status == 204 then status_line status ++ last_lines closes
     else status_line status ++ type_line content ++ length_line (length body) ++ allow_line allow ++ last_lines closes
-        ++ body
+    ++ body
 
 abbrev pub status_of : FixedAnswer → Status
 status_of BadRequest = statuses.BadRequest

@@ -77,7 +77,7 @@ pub record IsMessage (buffer : List ℕ) (r : Request) (m : Message) : Type 0 wh
 abbrev pub IsNext : List ℕ → Option (List ℕ) → Result Next ServeFault → Type 0
 IsNext buffer left (Ok (Is.Whole m)) =
     (r : Request) × ReadsMessage buffer r (drop m.end buffer) × IsMessage buffer r m
-        × (length (drop m.end buffer) ≤ 16384)
+    × (length (drop m.end buffer) ≤ 16384)
 IsNext buffer left (Ok (Is.Refused why)) = IsRefused buffer why
 IsNext buffer left (Ok Is.Ended) = (buffer ≡ []) × IsAtEnd left
 IsNext buffer left (Err Fault.CutShort) = IsCut buffer × IsAtEnd left

@@ -38,7 +38,7 @@ abbrev pub changing_of : Booked → List Ask → List Ask
 changing_of book [] = []
 changing_of book (a ∷ asks) =
     if changes (reply_in book a.call) then a ∷ changing_of (with_step book a) asks
-        else changing_of (with_step book a) asks
+    else changing_of (with_step book a) asks
 
 -- each of the calls has a step in these items, or is one of those in front
 abbrev pub HaveStepsOr : List Ask → List Item → List Ask → Type 0

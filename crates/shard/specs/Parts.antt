@@ -47,8 +47,12 @@ pub record IsApplied {D : Type 0} (sight : D → Sight) (follows : D → Type 0)
   pub before : Follow follows new.log → Follow follows old.log
   pub any_moment : Follow follows new.log
       → PairLeavesOnly (slots sight old.log) (slots sight new.log) (MayLeave old.book ticket.ask.call)
-  pub receipt_is : receipt ≡ record { table = ticket.table; step = step_of ticket.ask reply; upto = new.book.items;
-      moment = moments (slots sight new.log) }
+  pub receipt_is : receipt ≡ record {
+    table = ticket.table;
+    step = step_of ticket.ask reply;
+    upto = new.book.items;
+    moment = moments (slots sight new.log);
+  }
   pub since : Follow follows new.log
       → LeavesSince (moments (slots sight new.log)) (slots sight new.log) (IsAllowed new.book (doubt_of new.book.items))
   pub appended : FitsBehind old.log old.book ticket.ask.call → new.log.generation ≡ old.log.generation

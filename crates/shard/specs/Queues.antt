@@ -56,7 +56,7 @@ settled_of book [] moment = []
 settled_of book (t ∷ ts) moment =
     let r = reply_in book t.ask.call in
     settled.Answered r (receipt_at (with_step book t.ask).items t r moment)
-        ∷ settled_of (with_step book t.ask) ts moment
+    ∷ settled_of (with_step book t.ask) ts moment
 
 -- The waiting calls may be added to the book: each with its reply, in its turn, and all of them are kept.
 pub record IsReady {D : Type 0} (sight : D → Sight) (follows : D → Type 0) (log : Wal D) (book : Booked)

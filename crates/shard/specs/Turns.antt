@@ -28,9 +28,9 @@ AreStepped sight old new tickets was now =
     let moment : ℕ × ℕ = moments (slots sight new.log) in
     let marked : Booked = marked_by old.book (asks_of tickets) in
     (HasNoFailure (slots sight old.log) (slots sight new.log) × (new.book ≡ with_steps old.book (asks_of tickets))
-        × (now ≡ was ++ settled_of old.book tickets moment))
+    × (now ≡ was ++ settled_of old.book tickets moment))
     ⊎ (HasFailed (slots sight old.log) (slots sight new.log) × (new.book ≡ with_steps marked (asks_of tickets))
-        × (now ≡ was ++ settled_of marked tickets moment))
+    × (now ≡ was ++ settled_of marked tickets moment))
 
 -- The calls of these tickets have their steps, and what was settled then stands behind what was settled before.
 pub record AreApplied {D : Type 0} (sight : D → Sight) (follows : D → Type 0) (old new : Sharded D)
