@@ -190,8 +190,8 @@ fn start_all<'s, 'a, E, R: Threads + Wait + Sync>(
     Ok(())
 }
 
-/// Lets a thread for each pass make its pushes: how many were stored, and how long that took, from when all were ready to
-/// when all were done.
+/// Lets a thread for each pass make its pushes: how many were stored, and how long that took, from when all were ready
+/// to when all were done.
 fn push_in_threads<R: Clock + Threads + Wait + Sync>(
     rt: &R,
     alloc: Global,

@@ -1,5 +1,5 @@
-//! `bench_calls time` prints how many calls a second a shard and an ingester answer, and how fast a connection is served;
-//! `bench_calls check` makes a few calls of each.
+//! `bench_calls time` prints how many calls a second a shard and an ingester answer, and how fast a connection is
+//! served; `bench_calls check` makes a few calls of each.
 #![tactic(auto)]
 
 mod ingester_calls;

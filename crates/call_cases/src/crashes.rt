@@ -164,7 +164,8 @@ impl Trial<'_> {
         })
     }
 
-    /// What becomes of the call where a slot does not work at its first call, at its second, and so on, until it is answered.
+    /// What becomes of the call where a slot does not work at its first call, at its second, and so on, until it is
+    /// answered.
     fn attempt_each(&self, pair: &mut Pair, slot: u64, way: Way) -> Result<Counted> {
         let mut all = Counted::new(self.alloc);
         for call in 1..CALLS {

@@ -29,8 +29,8 @@ impl Left {
         }
     }
 
-    /// The state of this shard of so many: its number of steps, the segment in use, how many writes and syncs were made on
-    /// both slots since the counts `before`, how long the slots are, and whether the history has a failure mark.
+    /// The state of this shard of so many: its number of steps, the segment in use, how many writes and syncs were made
+    /// on both slots since the counts `before`, how long the slots are, and whether the history has a failure mark.
     ///
     /// # Errors
     /// Slots that don't work, no such shard, or want of memory.
@@ -65,8 +65,8 @@ impl Left {
     }
 }
 
-/// Appends ` segment GENERATION LENGTH` of the segment in use, where it is of version 1 also that, ` no segment`, or why
-/// there is none to be used.
+/// Appends ` segment GENERATION LENGTH` of the segment in use, where it is of version 1 also that, ` no segment`, or
+/// why there is none to be used.
 fn write_segment(
     alloc: Global,
     pair: &mut Pair,

@@ -58,8 +58,8 @@ impl Came {
         Ok(())
     }
 
-    /// How much of the whole text was written, how the connection ended, and how many steps the shards have gained since
-    /// they had so many.
+    /// How much of the whole text was written, how the connection ended, and how many steps the shards have gained
+    /// since they had so many.
     ///
     /// # Errors
     /// Want of memory.

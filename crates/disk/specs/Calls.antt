@@ -73,7 +73,8 @@ IsAnswer file Refused = Unit {0}
 -- Each call answered what the model gives, from the state at the start on. The last call is first.
 abbrev pub AreAnswers : Start → List Call → Type 0
 AreAnswers start [] = IsImage start.state start.state.now
-AreAnswers start (call ∷ calls) = AreAnswers start calls × IsAnswer (state_after start.state (acts_of start.left calls)).now call
+AreAnswers start (call ∷ calls) = AreAnswers start calls
+    × IsAnswer (state_after start.state (acts_of start.left calls)).now call
 
 -- the state at the start is one that there can be
 pub start_sound : (start : Start) (calls : List Call) → AreAnswers start calls → IsImage start.state start.state.now

@@ -41,11 +41,13 @@ WillFail m k = IsAsked m.plan k
 -- it can grow to a length, record so many more calls and so many more written bytes, and takes no memory for it
 abbrev pub HasRoom : MemDisk → ℕ → ℕ → ℕ → Type 0
 HasRoom m room calls written =
-    (room ≤ vec_capacity m.bytes) × (vec_len m.steps + calls ≤ vec_capacity m.steps) × (vec_len m.written + written ≤ vec_capacity m.written)
+    (room ≤ vec_capacity m.bytes) × (vec_len m.steps + calls ≤ vec_capacity m.steps)
+    × (vec_len m.written + written ≤ vec_capacity m.written)
 
 -- what is left of the room after so many recorded calls and written bytes
 abbrev pub KeepsRoom : ℕ → ℕ → MemDisk → MemDisk → Type 0
-KeepsRoom calls written old new = (room more_calls more_written : ℕ) → HasRoom old room (calls + more_calls) (written + more_written)
+KeepsRoom calls written old new = (room more_calls more_written : ℕ)
+    → HasRoom old room (calls + more_calls) (written + more_written)
     → HasRoom new room more_calls more_written
 
 -- one trait call was made of those that were counted from the old disk on
@@ -66,10 +68,12 @@ pub record SameOthers (old new : MemDisk) : Type 0 where
 abbrev pub IsSameDisk : MemDisk → MemDisk → Type 0
 IsSameDisk old new = new ≡ record old { plan = new.plan }
 
-pub memory_counts_now : (m : MemDisk) (t : ℕ) (c : List ℕ) → t ≤ (memory_sight m).moment → (memory_sight m).may_leave c → (memory_sight m).left_since t c
+pub memory_counts_now : (m : MemDisk) (t : ℕ) (c : List ℕ) → t ≤ (memory_sight m).moment → (memory_sight m).may_leave c
+    → (memory_sight m).left_since t c
 memory_counts_now m t c le image = now_counts nothing (recorded m) m.failures t c le image
 
-pub memory_only_now : (m : MemDisk) (c : List ℕ) → (memory_sight m).left_since (memory_sight m).moment c → (memory_sight m).may_leave c
+pub memory_only_now : (m : MemDisk) (c : List ℕ) → (memory_sight m).left_since (memory_sight m).moment c
+    → (memory_sight m).may_leave c
 memory_only_now m c left = just_now nothing (recorded m) m.failures c left
 
 pub memory_seen_may_stay : (m : MemDisk) → (memory_sight m).may_leave (memory_sight m).seen

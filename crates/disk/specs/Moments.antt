@@ -11,27 +11,39 @@ pub record LeavesOnly (old new : Sight) (P : List ℕ → Type 0) : Type 0 where
   pub before : (t : ℕ) (c : List ℕ) → t ≤ old.moment → new.left_since t c → old.left_since t c ⊎ P c
 
 -- before any call
-pub started : (old : Sight) (P : List ℕ → Type 0) → ((c : List ℕ) → old.left_since old.moment c → P c) → LeavesOnly old old P
+pub started : (old : Sight) (P : List ℕ → Type 0) → ((c : List ℕ) → old.left_since old.moment c → P c)
+    → LeavesOnly old old P
 started old P each = record { later = omega arith; each = each; before = λ t c le left. inl left }
 
 -- one more call
-pub goes_on : {old mid new : Sight} (P : List ℕ → Type 0) → LeavesOnly old mid P → Elapses mid new → ((c : List ℕ) → new.may_leave c → P c) → LeavesOnly old new P
+pub goes_on : {old mid new : Sight} (P : List ℕ → Type 0) → LeavesOnly old mid P → Elapses mid new
+    → ((c : List ℕ) → new.may_leave c → P c) → LeavesOnly old new P
 goes_on {old} {mid} {new} P so_far time now = record {
   later = omega (arith, so_far.later, time.later);
-  each = λ c left. elim (time.nothing_else old.moment c so_far.later left) [ inl before ↦ so_far.each c before | inr later ↦ now c later ];
-  before = λ t c le left. elim (time.nothing_else t c (omega (arith, so_far.later)) left) [ inl before ↦ so_far.before t c le before | inr later ↦ inr (now c later) ];
+  each =
+      λ c left. elim (time.nothing_else old.moment c so_far.later left)
+      [ inl before ↦ so_far.each c before | inr later ↦ now c later ];
+  before =
+      λ t c le left. elim (time.nothing_else t c (omega (arith, so_far.later)) left)
+      [ inl before ↦ so_far.before t c le before | inr later ↦ inr (now c later) ];
 }
 
 -- one run of calls after another
-pub in_turn : {old mid new : Sight} (P : List ℕ → Type 0) → LeavesOnly old mid P → LeavesOnly mid new P → LeavesOnly old new P
+pub in_turn : {old mid new : Sight} (P : List ℕ → Type 0) → LeavesOnly old mid P → LeavesOnly mid new P
+    → LeavesOnly old new P
 in_turn {old} {mid} {new} P first second = record {
   later = omega (arith, first.later, second.later);
-  each = λ c left. elim (second.before old.moment c first.later left) [ inl before ↦ first.each c before | inr later ↦ later ];
-  before = λ t c le left. elim (second.before t c (omega (arith, first.later)) left) [ inl before ↦ first.before t c le before | inr later ↦ inr later ];
+  each =
+      λ c left. elim (second.before old.moment c first.later left)
+      [ inl before ↦ first.each c before | inr later ↦ later ];
+  before =
+      λ t c le left. elim (second.before t c (omega (arith, first.later)) left)
+      [ inl before ↦ first.before t c le before | inr later ↦ inr later ];
 }
 
 -- a property that follows
-pub weaker : {old new : Sight} (P Q : List ℕ → Type 0) → ((c : List ℕ) → P c → Q c) → LeavesOnly old new P → LeavesOnly old new Q
+pub weaker : {old new : Sight} (P Q : List ℕ → Type 0) → ((c : List ℕ) → P c → Q c) → LeavesOnly old new P
+    → LeavesOnly old new Q
 weaker P Q follows run = record {
   later = run.later;
   each = λ c left. follows c (run.each c left);

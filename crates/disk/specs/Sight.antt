@@ -58,4 +58,11 @@ pub record Reads (file : List ℕ) (at n : ℕ) (old new : List ℕ) : Type 0 wh
 
 -- the same disk with more failed calls
 abbrev pub more_failures : Sight → ℕ → Sight
-more_failures s n = record { seen = s.seen; may_leave = s.may_leave; moment = s.moment; left_since = s.left_since; failures = s.failures + n }
+more_failures s n =
+    record {
+      seen = s.seen;
+      may_leave = s.may_leave;
+      moment = s.moment;
+      left_since = s.left_since;
+      failures = s.failures + n;
+    }

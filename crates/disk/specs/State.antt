@@ -21,7 +21,12 @@ nothing = record { base = []; now = []; ranges = [] }
 
 -- n bytes were to be written at this place, where these stand then
 abbrev pub over : State → ℕ → ℕ → List ℕ → State
-over s at n bytes = record { base = s.base; now = take at s.now ++ bytes ++ drop (at + length bytes) s.now; ranges = (at, n) ∷ s.ranges }
+over s at n bytes =
+    record {
+      base = s.base;
+      now = take at s.now ++ bytes ++ drop (at + length bytes) s.now;
+      ranges = (at, n) ∷ s.ranges;
+    }
 
 -- a write past the end isn't made
 abbrev pub wrote : State → ℕ → ℕ → List ℕ → State

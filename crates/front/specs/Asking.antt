@@ -42,7 +42,8 @@ trims_of (Err fault) = Err fault
 
 -- what a body asks for at a route, stream by stream in its order, or why it is refused
 abbrev pub AsksFor : Route → ℕ → List ℕ → Result (List Asked) PushFault → Type 0
-AsksFor Push now body asked = (read : Result (Vec RawBatch Global) PushFault) × ReadsPush body read × (asked ≡ pushes_of now read)
+AsksFor Push now body asked = (read : Result (Vec RawBatch Global) PushFault) × ReadsPush body read
+    × (asked ≡ pushes_of now read)
 AsksFor Read now body asked = (read : Result RawRead PushFault) × ReadsQuery body read × (asked ≡ reads_of read)
 AsksFor Trim now body asked = (read : Result RawTrim PushFault) × ReadsTrim body read × (asked ≡ trims_of read)
 

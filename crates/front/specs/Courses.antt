@@ -42,8 +42,8 @@ behind_failure (Refused fault ∷ cs) = behind_failure cs
 behind_failure (Replied reply ∷ cs) = behind_failure cs
 behind_failure (Failed fault ∷ cs) = length cs
 
--- how the calls of a request went: its body was refused at its form; or this came of each stream; or the calls ended at a
--- failure, and this came of a beginning of the streams
+-- how the calls of a request went: its body was refused at its form; or this came of each stream; or the calls ended at
+-- a failure, and this came of a beginning of the streams
 pub data Course : Type 0 where
   Unread : PushFault → Course
   Whole : List Came → Course
@@ -76,10 +76,11 @@ module _ {H : Type 0} (gives : H → Call → Result Reply CallFault → H → T
 
   -- the calls ended at this failure: there was no memory for what calls are made of, and none was made; or one failed
   abbrev pub BodyBreaks : H → List Asked → List Came → Failure → H → Type 0
-  BodyBreaks h all cames failure h' = ((cames ≡ []) × (failure ≡ OutOfMemory) × (h' ≡ h)) ⊎ BodyFails h all cames failure h'
+  BodyBreaks h all cames failure h' = ((cames ≡ []) × (failure ≡ OutOfMemory) × (h' ≡ h))
+      ⊎ BodyFails h all cames failure h'
 
-  -- of a beginning of these streams this came: none failed up to one of which there was something to say, and fewer than
-  -- 64 stand behind that
+  -- of a beginning of these streams this came: none failed up to one of which there was something to say, and fewer
+  -- than 64 stand behind that
   pub record BodyStops (h : H) (all : List Asked) (h' : H) : Type 0 where
     pub done : List Asked
     pub more : List Asked
@@ -94,8 +95,10 @@ module _ {H : Type 0} (gives : H → Call → Result Reply CallFault → H → T
   -- what was asked for went so
   abbrev pub BodyGives : H → Result (List Asked) PushFault → Course → H → Type 0
   BodyGives h asked (Unread fault) h' = (asked ≡ Err fault) × (h' ≡ h)
-  BodyGives h asked (Whole cames) h' = (all : List Asked) × (asked ≡ Ok all) × StreamsGive h all cames h' × (first_failure cames ≡ None)
-  BodyGives h asked (Broken cames failure) h' = (all : List Asked) × (asked ≡ Ok all) × BodyBreaks h all cames failure h'
+  BodyGives h asked (Whole cames) h' = (all : List Asked) × (asked ≡ Ok all) × StreamsGive h all cames h'
+      × (first_failure cames ≡ None)
+  BodyGives h asked (Broken cames failure) h' = (all : List Asked) × (asked ≡ Ok all)
+      × BodyBreaks h all cames failure h'
 
   -- it was given up at a stream of which there was something to say, or at a body's form that is not answered by a 500
   abbrev pub BodyIsLeft : H → Result (List Asked) PushFault → H → Type 0
@@ -108,13 +111,15 @@ module _ {H : Type 0} (gives : H → Call → Result Reply CallFault → H → T
   StreamEnds h asked (Err failure) h' = (cames : List Came) × BodyBreaks h (asked ∷ []) cames failure h'
 
 -- the calls of a request with this route, clock, tenant and body went so
-pub record RequestGives {H : Type 0} (gives : H → Call → Result Reply CallFault → H → Type 0) (route : Route) (now : ℕ) (tenant body : List ℕ) (h : H) (course : Course) (h' : H) : Type 0 where
+pub record RequestGives {H : Type 0} (gives : H → Call → Result Reply CallFault → H → Type 0) (route : Route) (now : ℕ)
+    (tenant body : List ℕ) (h : H) (course : Course) (h' : H) : Type 0 where
   pub asked : Result (List Asked) PushFault
   pub asks : AsksFor route now body asked
   pub goes : BodyGives gives tenant h asked course h'
 
 -- and so where they were given up for want of memory
-pub record RequestIsLeft {H : Type 0} (gives : H → Call → Result Reply CallFault → H → Type 0) (route : Route) (now : ℕ) (tenant body : List ℕ) (h h' : H) : Type 0 where
+pub record RequestIsLeft {H : Type 0} (gives : H → Call → Result Reply CallFault → H → Type 0) (route : Route)
+    (now : ℕ) (tenant body : List ℕ) (h h' : H) : Type 0 where
   pub asked : Result (List Asked) PushFault
   pub asks : AsksFor route now body asked
   pub left : BodyIsLeft gives tenant h asked h'

@@ -44,7 +44,8 @@ outcome_line i j outcomes.TooLong = entry_line i j (codes "line too long")
 outcome_line i j outcomes.TooOld = entry_line i j (codes "too old")
 outcome_line i j outcomes.TooNew = entry_line i j (codes "too new")
 outcome_line i j outcomes.Repeat = []
-outcome_line i j (outcomes.TooFarBehind oldest) = entry_front i j ++ codes "too far behind, oldest accepted is " ++ decimal oldest ++ newline
+outcome_line i j (outcomes.TooFarBehind oldest) = entry_front i j ++ codes "too far behind, oldest accepted is "
+    ++ decimal oldest ++ newline
 outcome_line i j outcomes.Stored = []
 
 -- the lines of a batch, whose first entry has place j

@@ -24,12 +24,15 @@ BodyIsRefused fault (Err GivenUp) = fault_failure fault ≡ None
 module _ {H : Type 0} (gives : H → Call → Result Reply CallFault → H → Type 0) (tenant : List ℕ) where
   -- the one stream of a read or a trim
   abbrev pub StreamIsAnswered : H → Asked → Result Answer Halt → H → Type 0
-  StreamIsAnswered h asked (Ok answer) h' = (came : Came) × StreamGives gives tenant h asked came h' × (first_failure (came ∷ []) ≡ None) × Shows (one_status came) (one_text came) answer
-  StreamIsAnswered h asked (Err (Failed failure)) h' = (cames : List Came) × BodyBreaks gives tenant h (asked ∷ []) cames failure h'
+  StreamIsAnswered h asked (Ok answer) h' = (came : Came) × StreamGives gives tenant h asked came h'
+      × (first_failure (came ∷ []) ≡ None) × Shows (one_status came) (one_text came) answer
+  StreamIsAnswered h asked (Err (Failed failure)) h' = (cames : List Came)
+      × BodyBreaks gives tenant h (asked ∷ []) cames failure h'
   StreamIsAnswered h asked (Err GivenUp) h' = BodyStops gives tenant h (asked ∷ []) h'
 
   -- the streams of a push
   abbrev pub BodyIsAnswered : H → List Asked → Result Answer Halt → H → Type 0
-  BodyIsAnswered h all (Ok answer) h' = (cames : List Came) × StreamsGive gives tenant h all cames h' × (first_failure cames ≡ None) × Shows (push_status cames) (lines_from 0 cames) answer
+  BodyIsAnswered h all (Ok answer) h' = (cames : List Came) × StreamsGive gives tenant h all cames h'
+      × (first_failure cames ≡ None) × Shows (push_status cames) (lines_from 0 cames) answer
   BodyIsAnswered h all (Err (Failed failure)) h' = (cames : List Came) × BodyBreaks gives tenant h all cames failure h'
   BodyIsAnswered h all (Err GivenUp) h' = BodyStops gives tenant h all h'

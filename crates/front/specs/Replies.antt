@@ -42,7 +42,8 @@ reply_text replies.NoStream = codes "no such stream"
 reply_text replies.NoRoom = lines_from 0 (Replied replies.NoRoom ∷ [])
 reply_text replies.Unavailable = lines_from 0 (Replied replies.Unavailable ∷ [])
 
--- the status of a read or a trim of whose stream this came: where it is no reply of their own, that of a push of this one stream
+-- the status of a read or a trim of whose stream this came: where it is no reply of their own, that of a push of this
+-- one stream
 abbrev pub one_status : Came → Status
 one_status (Refused fault) = push_status (Refused fault ∷ [])
 one_status (Replied reply) = reply_status reply

@@ -84,12 +84,15 @@ failure_in (Broken cames failure) = Some failure
 abbrev pub content_for : Status → Content
 content_for status = if code_of status == 200 then Json else Text
 
-module _ {H : Type 0} (gives : H → Call → Result Reply CallFault → H → Type 0) (route : Route) (now : ℕ) (tenant body : List ℕ) where
+module _ {H : Type 0} (gives : H → Call → Result Reply CallFault → H → Type 0) (route : Route) (now : ℕ)
+    (tenant body : List ℕ) where
   -- what is answered to a request behind its head: the answer of how its calls went; or nothing, where memory ran out
   abbrev pub RequestIsAnswered : H → Result Answer ServeFault → H → Type 0
-  RequestIsAnswered h (Ok answer) h' = (course : Course) × RequestGives gives route now tenant body h course h' × Shows (status_for route course) (text_for route course) answer
+  RequestIsAnswered h (Ok answer) h' = (course : Course) × RequestGives gives route now tenant body h course h'
+      × Shows (status_for route course) (text_for route course) answer
   RequestIsAnswered h (Err faults.Memory) h' =
-      ((course : Course) × RequestGives gives route now tenant body h course h' × IsSome (failure_in course)) ⊎ RequestIsLeft gives route now tenant body h h'
+      ((course : Course) × RequestGives gives route now tenant body h course h' × IsSome (failure_in course))
+      ⊎ RequestIsLeft gives route now tenant body h h'
   RequestIsAnswered h (Err faults.Read) h' = ⊥
   RequestIsAnswered h (Err faults.Write) h' = ⊥
   RequestIsAnswered h (Err faults.CutShort) h' = ⊥
@@ -97,6 +100,8 @@ module _ {H : Type 0} (gives : H → Call → Result Reply CallFault → H → T
   -- for private clauses: the same, with failures apart
   abbrev pub RequestEnds : H → Result Answer Halt → H → Type 0
   RequestEnds h (Ok answer) h' =
-      (course : Course) × RequestGives gives route now tenant body h course h' × (failure_in course ≡ None) × Shows (status_for route course) (text_for route course) answer
-  RequestEnds h (Err (Failed failure)) h' = (course : Course) × RequestGives gives route now tenant body h course h' × (failure_in course ≡ Some failure)
+      (course : Course) × RequestGives gives route now tenant body h course h' × (failure_in course ≡ None)
+      × Shows (status_for route course) (text_for route course) answer
+  RequestEnds h (Err (Failed failure)) h' = (course : Course) × RequestGives gives route now tenant body h course h'
+      × (failure_in course ≡ Some failure)
   RequestEnds h (Err GivenUp) h' = RequestIsLeft gives route now tenant body h h'

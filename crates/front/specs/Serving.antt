@@ -42,7 +42,8 @@ is_failed (Some failure) = true
 
 -- the answer to calls that went so, or that ended at this failure
 abbrev pub called_text : Route → Bool → Course → Option Failure → List ℕ
-called_text route close course None = answer_text (status_for route course) (content_for (status_for route course)) None close (text_for route course)
+called_text route close course None =
+    answer_text (status_for route course) (content_for (status_for route course)) None close (text_for route course)
 called_text route close course (Some failure) = failure_text failure
 
 abbrev pub response_text : Verdict → Bool → Course → List ℕ
@@ -102,44 +103,52 @@ module _ {H C : Type 0} (gives : H → Asking → Result Reply CallFault → H �
   abbrev pub ConnectionGives : List ℕ → H → C → List Exchange → List ℕ → H → C → Type 0
   ConnectionGives bytes h c [] rest h' c' = (rest ≡ bytes) × (h' ≡ h) × (c' ≡ c)
   ConnectionGives bytes h c (e ∷ es) rest h' c' =
-      (mid : List ℕ) × (hm : H) × (cm : C) × IsExchange bytes h c e mid hm cm × (closes e ≡ false) × ConnectionGives mid hm cm es rest h' c'
+      (mid : List ℕ) × (hm : H) × (cm : C) × IsExchange bytes h c e mid hm cm × (closes e ≡ false)
+      × ConnectionGives mid hm cm es rest h' c'
 
   -- the bytes begin with what is refused, and nothing else happened
   abbrev pub IsTurnedAway : List ℕ → H → C → List ℕ → H → C → Type 0
-  IsTurnedAway bytes h c text h' c' = (why : FixedAnswer) × IsRefused bytes why × (text ≡ fixed_text why true) × (h' ≡ h) × (c' ≡ c)
+  IsTurnedAway bytes h c text h' c' = (why : FixedAnswer) × IsRefused bytes why × (text ≡ fixed_text why true)
+      × (h' ≡ h) × (c' ≡ c)
 
   -- the bytes begin with a request, or with what is refused, and this is the response
   abbrev pub IsNextResponse : List ℕ → H → C → List ℕ → H → C → Type 0
   IsNextResponse bytes h c text h' c' =
-      ((e : Exchange) × (rest : List ℕ) × IsExchange bytes h c e rest h' c' × (text ≡ response e)) ⊎ IsTurnedAway bytes h c text h' c'
+      ((e : Exchange) × (rest : List ℕ) × IsExchange bytes h c e rest h' c' × (text ≡ response e))
+      ⊎ IsTurnedAway bytes h c text h' c'
 
   -- there was no memory for the response, which is not of status 500
   abbrev pub IsUnanswered : List ℕ → H → C → H → C → Type 0
   IsUnanswered bytes h c h' c' =
-      ((e : Exchange) × (rest : List ℕ) × IsExchange bytes h c e rest h' c' × (failure_at e.verdict e.course ≡ None)) ⊎ ((text : List ℕ) × IsTurnedAway bytes h c text h' c')
+      ((e : Exchange) × (rest : List ℕ) × IsExchange bytes h c e rest h' c' × (failure_at e.verdict e.course ≡ None))
+      ⊎ ((text : List ℕ) × IsTurnedAway bytes h c text h' c')
 
   -- and it closes
   abbrev pub IsLastResponse : List ℕ → H → C → List ℕ → H → C → Type 0
   IsLastResponse bytes h c text h' c' =
-      ((e : Exchange) × (rest : List ℕ) × IsExchange bytes h c e rest h' c' × (closes e ≡ true) × (text ≡ response e)) ⊎ IsTurnedAway bytes h c text h' c'
+      ((e : Exchange) × (rest : List ℕ) × IsExchange bytes h c e rest h' c' × (closes e ≡ true) × (text ≡ response e))
+      ⊎ IsTurnedAway bytes h c text h' c'
 
   -- nothing happened behind the last response
   abbrev pub IsIdle : H → C → List ℕ → H → C → Type 0
   IsIdle h c text h' c' = (text ≡ []) × (h' ≡ h) × (c' ≡ c)
 
-  -- how the connection ended, where no further request was answered with the connection kept: text is what is written of
-  -- the last response, and left what the reader may still give
+  -- how the connection ended, where no further request was answered with the connection kept: text is what is written
+  -- of the last response, and left what the reader may still give
   abbrev pub ConnectionEnds : List ℕ → Option (List ℕ) → H → C → List ℕ → H → C → Result Served ServeFault → Type 0
   ConnectionEnds rest left h c text h' c' (Ok Ended) = (rest ≡ []) × IsAtEnd left × IsIdle h c text h' c'
   ConnectionEnds rest left h c text h' c' (Ok Closed) = IsLastResponse rest h c text h' c'
   ConnectionEnds rest left h c text h' c' (Err faults.CutShort) = IsCut rest × IsAtEnd left × IsIdle h c text h' c'
   ConnectionEnds rest left h c text h' c' (Err faults.Read) = ((rest ≡ []) ⊎ IsCut rest) × IsIdle h c text h' c'
-  ConnectionEnds rest left h c text h' c' (Err faults.Write) = (n : ℕ) × (all : List ℕ) × IsNextResponse rest h c all h' c' × (text ≡ take n all)
+  ConnectionEnds rest left h c text h' c' (Err faults.Write) = (n : ℕ) × (all : List ℕ)
+      × IsNextResponse rest h c all h' c' × (text ≡ take n all)
   ConnectionEnds rest left h c text h' c' (Err faults.Memory) =
-      (text ≡ []) × ((((rest ≡ []) ⊎ IsCut rest) × IsIdle h c text h' c') ⊎ IsUnanswered rest h c h' c' ⊎ IsAbandoned rest h c h' c')
+      (text ≡ []) × ((((rest ≡ []) ⊎ IsCut rest) × IsIdle h c text h' c') ⊎ IsUnanswered rest h c h' c'
+      ⊎ IsAbandoned rest h c h' c')
 
   -- from the bytes read to the text written
-  pub record ConnectionIsAnswered (bytes : List ℕ) (left : Option (List ℕ)) (h : H) (c : C) (text : List ℕ) (h' : H) (c' : C) (result : Result Served ServeFault) : Type 0 where
+  pub record ConnectionIsAnswered (bytes : List ℕ) (left : Option (List ℕ)) (h : H) (c : C) (text : List ℕ) (h' : H)
+      (c' : C) (result : Result Served ServeFault) : Type 0 where
     pub exchanges : List Exchange
     pub rest : List ℕ
     pub h_mid : H
@@ -150,7 +159,8 @@ module _ {H C : Type 0} (gives : H → Asking → Result Reply CallFault → H �
     pub written : text ≡ flat_map response exchanges ++ last
 
   -- the reader gave bytes, the writer took a text, and that is what the connection was served
-  pub record ConnectionIsServed (known left before after : Option (List ℕ)) (h : H) (c : C) (h' : H) (c' : C) (result : Result Served ServeFault) : Type 0 where
+  pub record ConnectionIsServed (known left before after : Option (List ℕ)) (h : H) (c : C) (h' : H) (c' : C)
+      (result : Result Served ServeFault) : Type 0 where
     pub bytes : List ℕ
     pub text : List ℕ
     pub consumes : Consumes known left bytes

@@ -14,4 +14,5 @@ pub record Tells (cames : List Came) (lines : PushLines) : Type 0 where
 
 -- the next stream was taken in
 abbrev pub NotesNext : ℕ → Came → PushLines → PushLines → Result (Unit {0}) AllocError → Type 0
-NotesNext stream came old new result = (cames : List Came) → Tells cames old → stream ≡ length cames → OnOk result (Tells (cames ++ came ∷ []) new)
+NotesNext stream came old new result = (cames : List Came) → Tells cames old → stream ≡ length cames
+    → OnOk result (Tells (cames ++ came ∷ []) new)

@@ -80,28 +80,36 @@ pub record IsFilled (old rest : List Keyed) (window : Window) : Type 0 where
 abbrev pub NextComes : Window → Option Came → Window → Type 0
 NextComes old None new = (old.marks.items ≡ []) × IsEmpty new
 NextComes old (Some came) new =
-    (merged old.marks.items old.outcomes.items ≡ came ∷ merged new.marks.items new.outcomes.items) × AreDue new.marks.items new.outcomes.items
+    (merged old.marks.items old.outcomes.items ≡ came ∷ merged new.marks.items new.outcomes.items)
+    × AreDue new.marks.items new.outcomes.items
     × (length old.marks.items ≡ length new.marks.items + 1)
 
 -- this came of a stream, and it was taken into the lines
 abbrev pub CameIsNoted : ℕ → Came → PushLines → Result (Unit {0}) Halt → PushLines → Type 0
-CameIsNoted stream came old (Ok u) new = (first_failure (came ∷ []) ≡ None) × ((cames : List Came) → Tells cames old → stream ≡ length cames → Tells (cames ++ came ∷ []) new)
-CameIsNoted stream came old (Err (Failed failure)) new = (fault : CallFault) × (came ≡ cames.Failed fault) × (failure ≡ failure_of fault)
+CameIsNoted stream came old (Ok u) new = (first_failure (came ∷ []) ≡ None)
+    × ((cames : List Came) → Tells cames old → stream ≡ length cames → Tells (cames ++ came ∷ []) new)
+CameIsNoted stream came old (Err (Failed failure)) new = (fault : CallFault) × (came ≡ cames.Failed fault)
+    × (failure ≡ failure_of fault)
 CameIsNoted stream came old (Err GivenUp) new = first_failure (came ∷ []) ≡ None
 
 -- the lines tell of these streams too
 abbrev pub TellsMore : ℕ → List Came → PushLines → PushLines → Type 0
-TellsMore stream cames old new = (before : List Came) → Tells before old → stream ≡ length before → Tells (before ++ cames) new
+TellsMore stream cames old new = (before : List Came) → Tells before old → stream ≡ length before
+    → Tells (before ++ cames) new
 
 -- these came of the streams of a window, and they were taken into the lines up to the first that failed
 abbrev pub WindowIsNoted : ℕ → List Came → PushLines → Result ℕ Halt → PushLines → Type 0
-WindowIsNoted stream cames old (Ok next) new = (first_failure cames ≡ None) × (next ≡ stream + length cames) × TellsMore stream cames old new
-WindowIsNoted stream cames old (Err (Failed failure)) new = (fault : CallFault) × (first_failure cames ≡ Some fault) × (failure ≡ failure_of fault)
+WindowIsNoted stream cames old (Ok next) new = (first_failure cames ≡ None) × (next ≡ stream + length cames)
+    × TellsMore stream cames old new
+WindowIsNoted stream cames old (Err (Failed failure)) new = (fault : CallFault) × (first_failure cames ≡ Some fault)
+    × (failure ≡ failure_of fault)
 WindowIsNoted stream cames old (Err GivenUp) new =
-    (first : List Came) × (last : Came) × (behind : List Came) × (cames ≡ first ++ last ∷ behind) × (first_failure (first ++ last ∷ []) ≡ None)
+    (first : List Came) × (last : Came) × (behind : List Came) × (cames ≡ first ++ last ∷ behind)
+    × (first_failure (first ++ last ∷ []) ≡ None)
 
 -- of these streams the others are left, and none of them failed
-pub record WindowProgress (all : List Came) (first : ℕ) (start : PushLines) (window : Window) (stream : ℕ) (lines : PushLines) : Type 0 where
+pub record WindowProgress (all : List Came) (first : ℕ) (start : PushLines) (window : Window) (stream : ℕ)
+    (lines : PushLines) : Type 0 where
   pub noted : List Came
   pub split : all ≡ noted ++ merged window.marks.items window.outcomes.items
   pub whole : first_failure noted ≡ None
@@ -110,7 +118,8 @@ pub record WindowProgress (all : List Came) (first : ℕ) (start : PushLines) (w
 
 module _ {H : Type 0} (gives : H → Call → Result Reply CallFault → H → Type 0) (tenant : List ℕ) where
   -- of these streams the first were taken, none of them failed, and these are left
-  pub record StreamsAreTaken (h : H) (all : List Asked) (first : ℕ) (start : PushLines) (stream : ℕ) (h' : H) (rest : List Keyed) (lines : PushLines) : Type 0 where
+  pub record StreamsAreTaken (h : H) (all : List Asked) (first : ℕ) (start : PushLines) (stream : ℕ) (h' : H)
+      (rest : List Keyed) (lines : PushLines) : Type 0 where
     pub done : List Asked
     pub more : List Asked
     pub cames : List Came
@@ -124,5 +133,6 @@ module _ {H : Type 0} (gives : H → Call → Result Reply CallFault → H → T
   -- the streams of a window were taken
   abbrev pub WindowIsTaken : H → List Asked → ℕ → PushLines → Result ℕ Halt → H → List Keyed → PushLines → Type 0
   WindowIsTaken h all stream old (Ok next) h' rest new = StreamsAreTaken h all stream old next h' rest new
-  WindowIsTaken h all stream old (Err (Failed failure)) h' rest new = (cames : List Came) × BodyFails gives tenant h all cames failure h'
+  WindowIsTaken h all stream old (Err (Failed failure)) h' rest new = (cames : List Came)
+      × BodyFails gives tenant h all cames failure h'
   WindowIsTaken h all stream old (Err GivenUp) h' rest new = BodyStops gives tenant h all h'

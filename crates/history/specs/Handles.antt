@@ -66,7 +66,14 @@ is_closed pass = pass.closed || (pass.caller.last + 1 == bound)
 
 -- what stands where a seat has none
 abbrev pub no_about : About
-no_about = record { shards = 0; passes = 0; limits = record { line = 0; half_age = 0; max_old = 0; max_ahead = 0 }; capacity = 0; bases = [] }
+no_about =
+    record {
+      shards = 0;
+      passes = 0;
+      limits = record { line = 0; half_age = 0; max_old = 0; max_ahead = 0 };
+      capacity = 0;
+      bases = [];
+    }
 
 abbrev pub no_ask : Ask
 no_ask = record { pass = 0; number = 0; call = Read (record { tenant = []; labels = [] }) 0 0 }
@@ -107,7 +114,13 @@ caller_in role = newcomer no_about 0
 
 -- what contracts see of a ticket
 abbrev pub announced : Seat Unit View → Announced
-announced s = record { table = s.table_id; ask = ask_in s.me.0.hand; doubted = doubt_in s.me.0.hand; before = before_in s.me.0.hand }
+announced s =
+    record {
+      table = s.table_id;
+      ask = ask_in s.me.0.hand;
+      doubted = doubt_in s.me.0.hand;
+      before = before_in s.me.0.hand;
+    }
 
 -- the seat has an open call in hand, with this number, of this pass
 abbrev pub IsTicket : Seat Unit View → ℕ → ℕ → Type 0
@@ -117,7 +130,13 @@ IsTicket s n p =
 
 -- what contracts see of a receipt
 abbrev pub received : Seat Unit View → Received
-received s = record { table = s.table_id; step = step_in s.me.0.hand; upto = upto_in s.me.0.hand; moment = moment_in s.me.0.hand }
+received s =
+    record {
+      table = s.table_id;
+      step = step_in s.me.0.hand;
+      upto = upto_in s.me.0.hand;
+      moment = moment_in s.me.0.hand;
+    }
 
 -- the seat has a call with its step in hand, with this number, of this pass
 abbrev pub IsReceipt : Seat Unit View → ℕ → ℕ → Type 0
@@ -127,25 +146,30 @@ IsReceipt s n p =
 
 -- what contracts see of a book
 abbrev pub booked : Seat Unit View → Booked
-booked s = let shelf = shelf_in s.me.0.role in record { table = s.table_id; about = shelf.about; shard = shelf.shard; items = shelf.items }
+booked s = let shelf = shelf_in s.me.0.role in
+    record { table = s.table_id; about = shelf.about; shard = shelf.shard; items = shelf.items }
 
 -- the seat is the book of this shard, in this table
 abbrev pub IsBook : TableId → ℕ → Seat Unit View → Type 0
 IsBook table shard s =
     let shelf = shelf_in s.me.0.role in
-    (s.table_id ≡ table) × (shelf.shard ≡ shard) × (shard < shelf.about.shards) × (table.words ≡ shelf.about.shards + shelf.about.passes)
+    (s.table_id ≡ table) × (shelf.shard ≡ shard) × (shard < shelf.about.shards)
+    × (table.words ≡ shelf.about.shards + shelf.about.passes)
     × (s.me ≡ (alone (Keeps shelf) Nothing, [])) × (shelf.doubt ≡ [])
 
 -- what contracts see of a pass
 abbrev pub passed : Seat Unit View → Bool → Passed
 passed s closed = record { table = s.table_id; caller = caller_in s.me.0.role; closed = closed }
 
--- the seat is a pass with this word, of so many shards, which has used numbers up to the last, and has so many open calls
+-- the seat is a pass with this word, of so many shards, which has used numbers up to the last, and has so many open
+-- calls
 abbrev pub IsPass : Seat Unit View → ℕ → ℕ → ℕ → ℕ → Type 0
 IsPass s shards word last calls =
     let c = caller_in s.me.0.role in
-    (s.me ≡ (alone (Calls c) Nothing, [])) × (c.last ≡ last) × (c.about.shards ≡ shards) × (shards + c.pass ≡ word) × (shards + c.about.passes ≡ s.table_id.words)
-    × (c.pass < c.about.passes) × (last < bound) × (0 < shards) × (length c.seen ≡ shards) × (length c.pending ≡ calls) × (calls ≤ 64)
+    (s.me ≡ (alone (Calls c) Nothing, [])) × (c.last ≡ last) × (c.about.shards ≡ shards) × (shards + c.pass ≡ word)
+    × (shards + c.about.passes ≡ s.table_id.words)
+    × (c.pass < c.about.passes) × (last < bound) × (0 < shards) × (length c.seen ≡ shards) × (length c.pending ≡ calls)
+    × (calls ≤ 64)
 
 -- the history with the next call of a pass answered `Unavailable`
 abbrev pub refused_by : List Item → Caller → Call → List Item
@@ -155,7 +179,8 @@ refused_by items c call = items ++ Answered (step_of (ask_of c (c.last + 1) call
 abbrev pub tickets_of : TableId → Caller → List Call → List Announced
 tickets_of table c [] = []
 tickets_of table c (call ∷ calls) =
-    record { table = table; ask = ask_of c (c.last + 1) call; doubted = false; before = before_of c (c.last + 1) call } ∷ tickets_of table (announce_to c (c.last + 1) call) calls
+    record { table = table; ask = ask_of c (c.last + 1) call; doubted = false; before = before_of c (c.last + 1) call }
+    ∷ tickets_of table (announce_to c (c.last + 1) call) calls
 
 -- those of these tickets that are shard k's
 abbrev pub tickets_on : About → ℕ → List Announced → List Announced
@@ -169,7 +194,8 @@ AreInLine front (t ∷ ts) = (t.before ≡ front) × AreInLine (front ++ t.ask �
 
 -- the opening of these bases
 abbrev pub about_of : List Streams → ℕ → Limits → ℕ → About
-about_of bases passes limits capacity = record { shards = length bases; passes = passes; limits = limits; capacity = capacity; bases = bases }
+about_of bases passes limits capacity =
+    record { shards = length bases; passes = passes; limits = limits; capacity = capacity; bases = bases }
 
 abbrev pub about_in : Role → About
 about_in (Opener about a b) = about
@@ -213,7 +239,16 @@ abbrev pub with_doubt : Shelf → List Ask → Shelf
 with_doubt shelf doubt = record { about = shelf.about; shard = shelf.shard; items = shelf.items; doubt = doubt }
 
 abbrev pub with_seen : Caller → List (List Item) → Caller
-with_seen c seen = record { about = c.about; pass = c.pass; last = c.last; seen = seen; made = c.made; withdrawn = c.withdrawn; pending = c.pending }
+with_seen c seen =
+    record {
+      about = c.about;
+      pass = c.pass;
+      last = c.last;
+      seen = seen;
+      made = c.made;
+      withdrawn = c.withdrawn;
+      pending = c.pending;
+    }
 
 -- two passes in one seat
 abbrev pub pair_of : Caller → Caller → View
@@ -224,6 +259,7 @@ pub record HaveMet (c d : Caller) (n : ℕ) (lc ld : List (List Item)) : Type 0 
   pub first_length : length lc ≡ length c.seen
   pub second_length : length ld ≡ length d.seen
   -- where both see one history
-  pub below : (k : ℕ) → k < n → IsMeeting c d k (slice_index_or lc k []) × (slice_index_or ld k [] ≡ slice_index_or lc k [])
+  pub below : (k : ℕ) → k < n → IsMeeting c d k (slice_index_or lc k [])
+      × (slice_index_or ld k [] ≡ slice_index_or lc k [])
   pub first_above : (k : ℕ) → n ≤ k → slice_index_or lc k [] ≡ seen_at c k
   pub second_above : (k : ℕ) → n ≤ k → slice_index_or ld k [] ≡ seen_at d k

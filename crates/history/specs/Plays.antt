@@ -136,7 +136,9 @@ abbrev pub IsRested : Caller → Type 0
 IsRested c = (k : ℕ) → steps_by c.pass (seen_at c k) ≡ steps_on c.about k c.made
 
 abbrev pub Announces : Call → ℕ → Role → View → Type 0
-Announces call n (Calls c) w = (w ≡ alone (Calls (announce_to c n call)) (Open (ask_of c n call) false (before_of c n call))) × (c.pending ≡ [] → IsRested c)
+Announces call n (Calls c) w =
+    (w ≡ alone (Calls (announce_to c n call)) (Open (ask_of c n call) false (before_of c n call)))
+    × (c.pending ≡ [] → IsRested c)
 Announces call n role w = Unit {0}
 
 -- a pass announces the call, under the number that it stores
@@ -188,7 +190,9 @@ pub record Extends (p : ℕ) (old : List Item) (s : Step) (new : List Item) : Ty
 abbrev pub Collects : Role → Token → View → Type 0
 Collects (Calls c) (Done s upto at) w =
     let k : ℕ = shard_in c.about s.ask in
-    (w ≡ alone (Calls (collect_to c s upto)) Nothing) × IsLegalAt c.about k upto × Extends c.pass (seen_at c k) s upto × (k < length c.seen) × IsFirst s.ask c.pending × IsRested (collect_to c s upto) × IsByPasses c.about.passes upto
+    (w ≡ alone (Calls (collect_to c s upto)) Nothing) × IsLegalAt c.about k upto × Extends c.pass (seen_at c k) s upto
+    × (k < length c.seen) × IsFirst s.ask c.pending × IsRested (collect_to c s upto)
+    × IsByPasses c.about.passes upto
 Collects role hand w = Unit {0}
 
 -- a pass takes an answer in
@@ -212,7 +216,8 @@ abbrev pub AreHis : List Step → List Ask → List Ask → Type 0
 AreHis made pending [] = Unit {0}
 AreHis made pending (a ∷ asks) = (HasStep a made ⊎ IsAmong a pending) × AreHis made pending asks
 
--- in these items of shard k the steps of a pass are those that it made and then possibly some of its open calls, in their order. Its calls in the mark's list are of these two kinds
+-- in these items of shard k the steps of a pass are those that it made and then possibly some of its open calls, in
+-- their order. Its calls in the mark's list are of these two kinds
 pub record HasStepsOf (c : Caller) (k : ℕ) (items : List Item) : Type 0 where
   pub rest : List Step
   pub is : steps_by c.pass items ≡ steps_on c.about k c.made ++ rest
@@ -222,29 +227,40 @@ pub record HasStepsOf (c : Caller) (k : ℕ) (items : List Item) : Type 0 where
 
 abbrev pub Looks : ℕ → ℕ → Role → View → Type 0
 Looks k found (Calls c) w =
-    (new : List Item) × (w ≡ alone (Calls (look_to c k new)) Nothing) × IsBeginning (seen_at c k) new × IsLegalAt c.about k new × (length new ≡ found) × HasStepsOf c k new × (k < length c.seen) × IsByPasses c.about.passes new
+    (new : List Item) × (w ≡ alone (Calls (look_to c k new)) Nothing) × IsBeginning (seen_at c k) new
+    × IsLegalAt c.about k new × (length new ≡ found) × HasStepsOf c k new × (k < length c.seen)
+    × IsByPasses c.about.passes new
 Looks k found role w = Unit {0}
 
 -- a pass sees the history of a shard
 abbrev pub looked : TableStep Unit → Me Unit View → ℕ → Me Unit View → Type 0
 looked st m found m' = Looks st.word found m.0.role m'.0 × (m'.1 ≡ m.1)
 
--- what two passes see of shard k begins with what each had seen, is legal, has of each the steps that it made, and no steps but those of passes of the opening
+-- what two passes see of shard k begins with what each had seen, is legal, has of each the steps that it made, and no
+-- steps but those of passes of the opening
 abbrev pub IsMeeting : Caller → Caller → ℕ → List Item → Type 0
-IsMeeting c d k new = IsBeginning (seen_at c k) new × IsBeginning (seen_at d k) new × IsLegalAt c.about k new × HasStepsOf c k new × HasStepsOf d k new × (d.about ≡ c.about) × IsByPasses c.about.passes new
+IsMeeting c d k new = IsBeginning (seen_at c k) new × IsBeginning (seen_at d k) new × IsLegalAt c.about k new
+    × HasStepsOf c k new × HasStepsOf d k new × (d.about ≡ c.about) × IsByPasses c.about.passes new
 
 abbrev pub Meets : ℕ → Role → Role → View → Type 0
 Meets k (Calls c) (Calls d) w =
-    (new : List Item) × (w ≡ record { role = Calls (look_to c k new); guest = Calls (look_to d k new); hand = Nothing }) × IsMeeting c d k new × (k < length c.seen) × (k < length d.seen)
+    (new : List Item) × (w ≡ record {
+      role = Calls (look_to c k new);
+      guest = Calls (look_to d k new);
+      hand = Nothing;
+    }) × IsMeeting c d k new × (k < length c.seen) × (k < length d.seen)
 Meets k role guest w = Unit {0}
 
 -- two passes see one history of a shard
 abbrev pub met : TableStep Unit → Me Unit View → ℕ → Me Unit View → Type 0
 met st m found m' = Meets st.word m.0.role m.0.guest m'.0 × (m'.1 ≡ m.1)
 
--- the book's history begins with what the pass has seen, has just its steps, and no steps but those of passes of the opening
+-- the book's history begins with what the pass has seen, has just its steps, and no steps but those of passes of the
+-- opening
 abbrev pub IsSettled : Role → Role → Type 0
-IsSettled (Keeps shelf) (Calls c) = IsBeginning (seen_at c shelf.shard) shelf.items × IsLegalAt shelf.about shelf.shard shelf.items × HasStepsOf c shelf.shard shelf.items × (c.about ≡ shelf.about) × IsByPasses shelf.about.passes shelf.items
+IsSettled (Keeps shelf) (Calls c) = IsBeginning (seen_at c shelf.shard) shelf.items
+    × IsLegalAt shelf.about shelf.shard shelf.items × HasStepsOf c shelf.shard shelf.items × (c.about ≡ shelf.about)
+    × IsByPasses shelf.about.passes shelf.items
 IsSettled role guest = Unit {0}
 
 -- a look that compares a book with a pass, and changes neither

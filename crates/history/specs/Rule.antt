@@ -28,11 +28,27 @@ opener about a b = alone (Opener about a b) Nothing
 
 -- an opening of which only the sizes are known
 abbrev pub unnamed : Sizes → About
-unnamed sizes = record { shards = sizes.shards; passes = sizes.passes; limits = record { line = 0; half_age = 0; max_old = 0; max_ahead = 0 }; capacity = 0; bases = [] }
+unnamed sizes =
+    record {
+      shards = sizes.shards;
+      passes = sizes.passes;
+      limits = record { line = 0; half_age = 0; max_old = 0; max_ahead = 0 };
+      capacity = 0;
+      bases = [];
+    }
 
 -- a pass that has seen and made nothing
 abbrev pub newcomer : About → ℕ → Caller
-newcomer about p = record { about = about; pass = p; last = 0; seen = replicate about.shards []; made = []; withdrawn = []; pending = [] }
+newcomer about p =
+    record {
+      about = about;
+      pass = p;
+      last = 0;
+      seen = replicate about.shards [];
+      made = [];
+      withdrawn = [];
+      pending = [];
+    }
 
 -- the shards' histories, what each pass knows, and its calls on their way, by their numbers
 pub record Contents : Type 0 where
@@ -72,16 +88,20 @@ abbrev pub AreTold : List Step → (ℕ → Token) → List Ask → Type 0
 AreTold made ts [] = Unit {0}
 AreTold made ts (a ∷ asks) = (HasStep a made ⊎ IsOut a (ts a.number)) × AreTold made ts asks
 
--- the call of a token is an open one of the pass. Where it has no step, all steps of the pass in its shard have smaller numbers
+-- the call of a token is an open one of the pass. Where it has no step, all steps of the pass in its shard have smaller
+-- numbers
 abbrev pub TokenOk : About → (ℕ → List Item) → ℕ → List Ask → ℕ → Token → Type 0
 TokenOk about items p pending n Nothing = Unit {0}
-TokenOk about items p pending n (Open a f e) = (a.number ≡ n) × (a.pass ≡ p) × IsAmong a pending × HaveNumbersBelow n (steps_by p (items (shard_in about a)))
+TokenOk about items p pending n (Open a f e) = (a.number ≡ n) × (a.pass ≡ p) × IsAmong a pending
+    × HaveNumbersBelow n (steps_by p (items (shard_in about a)))
 TokenOk about items p pending n (Done s upto at) =
-    (s.ask.number ≡ n) × (s.ask.pass ≡ p) × IsAmong s.ask pending × IsBeginning upto (items (shard_in about s.ask)) × ((before : List Item) × (upto ≡ before ++ Answered s ∷ []))
+    (s.ask.number ≡ n) × (s.ask.pass ≡ p) × IsAmong s.ask pending × IsBeginning upto (items (shard_in about s.ask))
+    × ((before : List Item) × (upto ≡ before ++ Answered s ∷ []))
 
 -- of two calls without a step on one shard, the later one names the earlier one
 abbrev pub IsOrdered : About → (ℕ → Token) → Type 0
-IsOrdered about ts = (a b : Ask) (f g : Bool) (d e : List Ask) → ts a.number ≡ Open a f d → ts b.number ≡ Open b g e → shard_in about a ≡ shard_in about b → a.number < b.number → IsAmong a e
+IsOrdered about ts = (a b : Ask) (f g : Bool) (d e : List Ask) → ts a.number ≡ Open a f d → ts b.number ≡ Open b g e
+    → shard_in about a ≡ shard_in about b → a.number < b.number → IsAmong a e
 
 -- the step is of an open call of shard k
 pub record IsWaiting (about : About) (k : ℕ) (ts : ℕ → Token) (s : Step) : Type 0 where
@@ -143,7 +163,8 @@ pub record AreWords (about : About) (x : Contents) (words : List ℕ) : Type 0 w
   pub few : about.passes ≤ 64
   pub wide : length words ≡ about.shards + about.passes
   pub lengths : (k : ℕ) → k < about.shards → slice_index words k ≡ length (x.items k)
-  pub numbers : (p : ℕ) → p < about.passes → slice_index words (about.shards + p) ≡ number_of (x.callers p).last (x.callers p).pending
+  pub numbers : (p : ℕ) → p < about.passes → slice_index words (about.shards + p)
+      ≡ number_of (x.callers p).last (x.callers p).pending
 
 -- the call has no step, and is in doubt
 abbrev pub IsInDoubt : Ask → Token → Type 0
@@ -152,7 +173,8 @@ IsInDoubt a t = (e : List Ask) × (t ≡ Open a true e)
 -- these calls of shard k are open, and in doubt
 abbrev pub AreOpen : About → Contents → ℕ → List Ask → Type 0
 AreOpen about x k [] = Unit {0}
-AreOpen about x k (a ∷ asks) = (a.pass < about.passes) × (shard_in about a ≡ k) × IsInDoubt a (x.tokens a.pass a.number) × AreOpen about x k asks
+AreOpen about x k (a ∷ asks) = (a.pass < about.passes) × (shard_in about a ≡ k)
+    × IsInDoubt a (x.tokens a.pass a.number) × AreOpen about x k asks
 
 module _ (about : About) (x : Contents) (seats : Seating) where
   abbrev pub IsRole : ℕ → Role → Type 0
@@ -160,13 +182,16 @@ module _ (about : About) (x : Contents) (seats : Seating) where
   IsRole j (Opener known a b) =
       (known ≡ about) × ((k : ℕ) → a ≤ k → (seats.books k ≡ j) × (x.items k ≡ []))
       × ((p : ℕ) → b ≤ p → (seats.passes p ≡ j) × (x.callers p ≡ newcomer about p))
-  IsRole j (Keeps shelf) = (shelf.about ≡ about) × (shelf.shard < about.shards) × (seats.books shelf.shard ≡ j) × (x.items shelf.shard ≡ shelf.items) × AreOpen about x shelf.shard shelf.doubt
+  IsRole j (Keeps shelf) = (shelf.about ≡ about) × (shelf.shard < about.shards) × (seats.books shelf.shard ≡ j)
+      × (x.items shelf.shard ≡ shelf.items) × AreOpen about x shelf.shard shelf.doubt
   IsRole j (Calls c) = (c.about ≡ about) × (c.pass < about.passes) × (seats.passes c.pass ≡ j) × (x.callers c.pass ≡ c)
 
   abbrev pub IsHand : ℕ → Token → Type 0
   IsHand j Nothing = Unit {0}
-  IsHand j (Open a f e) = (a.pass < about.passes) × (seats.holders a.pass a.number ≡ j) × (x.tokens a.pass a.number ≡ Open a f e)
-  IsHand j (Done s upto at) = (s.ask.pass < about.passes) × (seats.holders s.ask.pass s.ask.number ≡ j) × (x.tokens s.ask.pass s.ask.number ≡ Done s upto at)
+  IsHand j (Open a f e) = (a.pass < about.passes) × (seats.holders a.pass a.number ≡ j)
+      × (x.tokens a.pass a.number ≡ Open a f e)
+  IsHand j (Done s upto at) = (s.ask.pass < about.passes) × (seats.holders s.ask.pass s.ask.number ≡ j)
+      × (x.tokens s.ask.pass s.ask.number ≡ Done s upto at)
 
 -- a pass and its guest are two
 abbrev pub AreTwo : Role → Role → Type 0

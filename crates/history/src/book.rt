@@ -35,7 +35,8 @@ pub trait Kept {
     ghost doubts: { Self → List Ask };
 }
 
-/// A shard's history: whoever has the book adds to it. Contracts see the list of its items; the program keeps their number alone, in the table.
+/// A shard's history: whoever has the book adds to it. Contracts see the list of its items; the program keeps their
+/// number alone, in the table.
 #[derive(Drop)]
 pub struct Book {
     pub(crate) shard: usize,
@@ -61,9 +62,9 @@ impl Model for Book {
 }
 
 impl Book {
-    /// Adds the call with its reply to the history, once the disk keeps it, and gives the reply back. Calls of a pass to
-    /// one shard go in the order in which they were announced. Of calls that were written together each is in doubt until
-    /// it is added.
+    /// Adds the call with its reply to the history, once the disk keeps it, and gives the reply back. Calls of a pass
+    /// to one shard go in the order in which they were announced. Of calls that were written together each is in doubt
+    /// until it is added.
     pub fn commit<K: Kept>(&mut self, kept: &K, ticket: Ticket, reply: Reply) -> (Reply, Receipt)
         requires table { ticket.table ≡ self.old.table }
         requires shard { shard_in self.old.about ticket.ask ≡ self.old.shard }
@@ -133,7 +134,8 @@ impl Book {
         self.commit(kept, ticket, Reply::Unavailable)
     }
 
-    /// Adds the failure mark, with these calls in doubt. They stay open, and each call from now on is answered `Unavailable`.
+    /// Adds the failure mark, with these calls in doubt. They stay open, and each call from now on is answered
+    /// `Unavailable`.
     pub fn mark<K: Kept>(&mut self, kept: &K, tickets: &mut [Ticket])
         requires tickets { AreOf self.old tickets.old }
         requires unmarked { is_marked self.old.items ≡ false }
@@ -156,7 +158,8 @@ impl Book {
         self.table.shared.load::<Counts>(&mut self.seat, self.shard)
     }
 
-    /// Compares the book with a pass, and changes neither: the history begins with what the pass has seen, has just its steps, and no steps but those of passes of the opening.
+    /// Compares the book with a pass, and changes neither: the history begins with what the pass has seen, has just its
+    /// steps, and no steps but those of passes of the opening.
     pub fn settle(&mut self, pass: &mut Pass)
         requires table { pass.old.table ≡ self.old.table }
         ensures book { self.new ≡ self.old }

@@ -32,8 +32,8 @@ impl Model for History {
 }
 
 impl History {
-    /// Announces a call under the next number of the pass. Its ticket names the open calls of the pass to the same shard
-    /// that stand before it.
+    /// Announces a call under the next number of the pass. Its ticket names the open calls of the pass to the same
+    /// shard that stand before it.
     pub fn announce(&self, pass: &mut Pass, call: &Call) -> Result<Ticket, PassSpent>
         requires table { pass.old.table ≡ self.now }
         requires few { length pass.old.caller.pending < 64 }
@@ -104,9 +104,9 @@ impl History {
         }
     }
 
-    /// Takes the answer to the first open call in: what the pass has seen of the shard is then what it had seen, items of
-    /// others, and this step. Answers that came in another order are told apart by their numbers. The answer to the only
-    /// open call needs no look at its number.
+    /// Takes the answer to the first open call in: what the pass has seen of the shard is then what it had seen, items
+    /// of others, and this step. Answers that came in another order are told apart by their numbers. The answer to the
+    /// only open call needs no look at its number.
     pub fn collect(&self, pass: &mut Pass, receipt: Receipt)
         requires table { (pass.old.table ≡ self.now) × (receipt.table ≡ self.now) }
         requires pass { receipt.step.ask.pass ≡ pass.old.caller.pass }
@@ -155,7 +155,8 @@ impl History {
         pass.calls -= 1;
     }
 
-    /// Sees the history of a shard as it is, and answers its length. There are no steps but those of passes of the opening.
+    /// Sees the history of a shard as it is, and answers its length. There are no steps but those of passes of the
+    /// opening.
     pub fn observe(&self, pass: &mut Pass, shard: usize) -> u64
         requires table { pass.old.table ≡ self.now }
         requires shard { shard < pass.old.caller.about.shards }
@@ -178,7 +179,8 @@ impl History {
         requires table { (one.old.table ≡ self.now) × (two.old.table ≡ self.now) }
         ensures one { one.new ≡ record one.old { caller = with_seen one.old.caller one.new.caller.seen } }
         ensures two { two.new ≡ record two.old { caller = with_seen two.old.caller two.new.caller.seen } }
-        ensures met { HaveMet one.old.caller two.old.caller one.old.caller.about.shards one.new.caller.seen two.new.caller.seen }
+        ensures met { HaveMet one.old.caller two.old.caller one.old.caller.about.shards one.new.caller.seen
+            two.new.caller.seen }
     {
         let shared = &self.table.shared;
         let blank = shared.split_seat::<Gives>(&mut one.seat);

@@ -1,4 +1,5 @@
-//! One growing history for each shard, known to every pass. It stands in the proofs alone: the program keeps a counter a shard and a number a pass.
+//! One growing history for each shard, known to every pass. It stands in the proofs alone: the program keeps a counter
+//! a shard and a number a pass.
 #![tactic(auto)]
 
 mod book;

@@ -63,8 +63,8 @@ pub enum Role {
 pub enum Token {
     /// There is none.
     Nothing,
-    /// An announced call that has no step, whether it is in doubt, and the calls of its pass on the same shard that were
-    /// open when it was announced.
+    /// An announced call that has no step, whether it is in doubt, and the calls of its pass on the same shard that
+    /// were open when it was announced.
     Open(Ask, bool, LinkedList<Ask>),
     /// A call with its step, the history up to that, and what the clocks of the shard's two slots said.
     Done(Step, LinkedList<Item>, (u64, u64)),

@@ -39,17 +39,27 @@ pub record IsBatchOf (table : TableId) (about : About) (k : ℕ) (c : Caller) (j
 
 -- for each shard the jobs of a pass's open calls there
 abbrev pub AreBatchesOf : TableId → About → Caller → List (VecDeque Job Global) → Type 0
-AreBatchesOf table about c batches = (k : ℕ) (jobs : VecDeque Job Global) → slice_get batches k ≡ Some jobs → IsBatchOf table about k c jobs.items
+AreBatchesOf table about c batches = (k : ℕ) (jobs : VecDeque Job Global) → slice_get batches k ≡ Some jobs
+    → IsBatchOf table about k c jobs.items
 
 -- the first of the calls was announced, under this number, and its job stands behind the others of its shard
-pub record IsJoined (table : TableId) (old new : Passed) (calls left : List Call) (jobs now : List Job) (number : ℕ) : Type 0 where
+pub record IsJoined (table : TableId) (old new : Passed) (calls left : List Call) (jobs now : List Job)
+    (number : ℕ) : Type 0 where
   pub call : Call
   pub calls_are : calls ≡ call ∷ left
   pub «open» : is_closed old ≡ false
   pub pass : new ≡ with_next old call
   pub rested : old.caller.pending ≡ [] → IsRested old.caller
   pub number_is : number ≡ old.caller.last + 1
-  pub jobs_are : now ≡ jobs ++ record { ticket = record { table = table; ask = ask_of old.caller (old.caller.last + 1) call; doubted = false; before = before_of old.caller (old.caller.last + 1) call }; call = call } ∷ []
+  pub jobs_are : now ≡ jobs ++ record {
+    ticket = record {
+      table = table;
+      ask = ask_of old.caller (old.caller.last + 1) call;
+      doubted = false;
+      before = before_of old.caller (old.caller.last + 1) call;
+    };
+    call = call;
+  } ∷ []
   pub numbers : AreNumbers call
 
 -- the same, without the job
@@ -80,14 +90,17 @@ pub record IsCollected (old new : Passed) (first : Ask) (reply : Reply) : Type 0
   pub upto : List Item
   pub pass : new ≡ record old { caller = collect_to old.caller (step_of first reply) upto }
   pub seen : seen_at (collect_to old.caller (step_of first reply) upto) (shard_in old.caller.about first) ≡ upto
-  pub extends : Extends old.caller.pass (seen_at old.caller (shard_in old.caller.about first)) (step_of first reply) upto
+  pub extends : Extends old.caller.pass (seen_at old.caller (shard_in old.caller.about first)) (step_of first reply)
+      upto
   pub legal : IsLegalAt old.caller.about (shard_in old.caller.about first) upto
   pub by_passes : IsByPasses old.caller.about.passes upto
-  pub others : (k : ℕ) → k ≢ shard_in old.caller.about first → seen_at (collect_to old.caller (step_of first reply) upto) k ≡ seen_at old.caller k
+  pub others : (k : ℕ) → k ≢ shard_in old.caller.about first
+      → seen_at (collect_to old.caller (step_of first reply) upto) k ≡ seen_at old.caller k
   pub rested : IsRested (collect_to old.caller (step_of first reply) upto)
 
 -- this open call was taken back
-pub record IsWithdrawn {D : Type 0} (opening : Opening D) (old new : Passed) (first : Ask) (fault : CallFault) : Type 0 where
+pub record IsWithdrawn {D : Type 0} (opening : Opening D) (old new : Passed) (first : Ask)
+    (fault : CallFault) : Type 0 where
   pub cause : ApplyFault
   pub fault_is : fault ≡ fault_of cause
   pub pass : new ≡ record old { caller = withdraw_to old.caller first.number }
@@ -99,7 +112,8 @@ IsTakenBy opening old new first (Ok reply) = IsCollected old new first reply
 IsTakenBy opening old new first (Err fault) = IsWithdrawn opening old new first fault
 
 -- this came of the first open call
-pub record IsTaken {D : Type 0} (opening : Opening D) (old new : Passed) (outcome : Result Reply CallFault) : Type 0 where
+pub record IsTaken {D : Type 0} (opening : Opening D) (old new : Passed)
+    (outcome : Result Reply CallFault) : Type 0 where
   pub first : Ask
   pub is_first : IsFirst first old.caller.pending
   pub by : IsTakenBy opening old new first outcome
@@ -107,17 +121,20 @@ pub record IsTaken {D : Type 0} (opening : Opening D) (old new : Passed) (outcom
 -- this came of the open calls, from the first on
 abbrev pub AreTaken : {D : Type 0} → Opening D → Passed → List (Result Reply CallFault) → Passed → Type 0
 AreTaken opening old [] new = new ≡ old
-AreTaken opening old (outcome ∷ outcomes) new = (mid : Passed) × IsTaken opening old mid outcome × AreTaken opening mid outcomes new
+AreTaken opening old (outcome ∷ outcomes) new = (mid : Passed) × IsTaken opening old mid outcome
+    × AreTaken opening mid outcomes new
 
 -- so many open calls, from the first on, were taken in, and this came of them
-pub record AreReceived {D : Type 0} (opening : Opening D) (old new : Passed) (before after : List (Result Reply CallFault)) (count : ℕ) : Type 0 where
+pub record AreReceived {D : Type 0} (opening : Opening D) (old new : Passed)
+    (before after : List (Result Reply CallFault)) (count : ℕ) : Type 0 where
   pub came : List (Result Reply CallFault)
   pub outcomes_are : after ≡ before ++ came
   pub counted : length came ≡ count
   pub taken : AreTaken opening old came new
 
 -- the first of the calls was refused
-pub record IsNextRefused {D : Type 0} (opening : Opening D) (old new : Passed) (calls left : List Call) (fault : CallFault) : Type 0 where
+pub record IsNextRefused {D : Type 0} (opening : Opening D) (old new : Passed) (calls left : List Call)
+    (fault : CallFault) : Type 0 where
   pub call : Call
   pub calls_are : calls ≡ call ∷ left
   pub given : IsGiven opening old call (Err fault) new

@@ -26,10 +26,15 @@ next_step c call reply = step_of (ask_of c (c.last + 1) call) reply
 abbrev pub shard_for : Caller → Call → ℕ
 shard_for c call = shard_in c.about (ask_of c (c.last + 1) call)
 
--- The call is answered. Of its shard the pass has seen what it had seen, items of others, and the call's step. Nothing else has changed.
+-- The call is answered. Of its shard the pass has seen what it had seen, items of others, and the call's step. Nothing
+-- else has changed.
 pub record IsAnswered (old new : Passed) (call : Call) (reply : Reply) : Type 0 where
-  pub pass : new ≡ record old { caller = collect_to (announce_to old.caller (old.caller.last + 1) call) (next_step old.caller call reply) (seen_at new.caller (shard_for old.caller call)) }
-  pub extends : Extends old.caller.pass (seen_at old.caller (shard_for old.caller call)) (next_step old.caller call reply) (seen_at new.caller (shard_for old.caller call))
+  pub pass : new ≡ record old {
+    caller = collect_to (announce_to old.caller (old.caller.last + 1) call)
+        (next_step old.caller call reply) (seen_at new.caller (shard_for old.caller call));
+  }
+  pub extends : Extends old.caller.pass (seen_at old.caller (shard_for old.caller call))
+      (next_step old.caller call reply) (seen_at new.caller (shard_for old.caller call))
   pub legal : IsLegalAt old.caller.about (shard_for old.caller call) (seen_at new.caller (shard_for old.caller call))
   pub by_passes : IsByPasses old.caller.about.passes (seen_at new.caller (shard_for old.caller call))
   pub others : (k : ℕ) → k ≢ shard_for old.caller call → seen_at new.caller k ≡ seen_at old.caller k
@@ -54,7 +59,8 @@ IsRefused old new PassClosed = new ≡ old
 IsRefused old new fault = new ≡ without_next old
 
 -- this came of the next call of a pass: from what the pass knew to what it knows then
-pub record IsGiven {D : Type 0} (opening : Opening D) (old : Passed) (call : Call) (outcome : Result Reply CallFault) (new : Passed) : Type 0 where
+pub record IsGiven {D : Type 0} (opening : Opening D) (old : Passed) (call : Call) (outcome : Result Reply CallFault)
+    (new : Passed) : Type 0 where
   pub answered : IfOk outcome (λ reply. IsAnswered old new call reply)
   pub refused : IfErr outcome (λ fault. IsRefused old new fault)
   pub closed : IsErrOf outcome PassClosed ↔ (is_closed old ≡ true)
@@ -65,4 +71,5 @@ abbrev pub AreGiven : {D : Type 0} → Opening D → Passed → List Call → Li
 AreGiven opening old [] [] new = new ≡ old
 AreGiven opening old [] (r ∷ rs) new = ⊥
 AreGiven opening old (call ∷ calls) [] new = ⊥
-AreGiven opening old (call ∷ calls) (r ∷ rs) new = (mid : Passed) × IsGiven opening old call r mid × AreGiven opening mid calls rs new
+AreGiven opening old (call ∷ calls) (r ∷ rs) new = (mid : Passed) × IsGiven opening old call r mid
+    × AreGiven opening mid calls rs new

@@ -26,14 +26,18 @@ pub record IsTold (k : ℕ) (items : List Item) (pass : Passed) : Type 0 where
   pub begins : IsBeginning (seen_at pass.caller k) items
   pub steps : HasStepsOf pass.caller k items
 
--- one legal history of shard k over what its opening found, which the slots keep. It has no steps but those of the opening's passes. What was opened followed the model where this does.
-pub record IsHandedOut {D : Type 0} (sight : D → Sight) (follows : D → Type 0) (opening : Opening D) (passes : List Passed) (k : ℕ) (handed : List D × Bool) : Type 0 where
+-- one legal history of shard k over what its opening found, which the slots keep. It has no steps but those of the
+-- opening's passes. What was opened followed the model where this does.
+pub record IsHandedOut {D : Type 0} (sight : D → Sight) (follows : D → Type 0) (opening : Opening D)
+    (passes : List Passed) (k : ℕ) (handed : List D × Bool) : Type 0 where
   pub items : List Item
   pub legal : IsLegalAt opening.about k items
   pub told : (i : ℕ) (pass : Passed) → slice_get passes i ≡ Some pass → IsTold k items pass
   pub by_passes : IsByPasses opening.about.passes items
   pub marked_is : handed.1 ≡ is_marked items
-  pub covers : AllFollow follows handed.0 → Covers (owner_of k opening.about.shards) opening.about.limits (slots_of sight handed.0) (history_of opening.about k items) (doubt_of items)
+  pub covers : AllFollow follows handed.0
+      → Covers (owner_of k opening.about.shards) opening.about.limits (slots_of sight handed.0)
+      (history_of opening.about k items) (doubt_of items)
   pub opened : Wal D
   pub opened_as : slice_get opening.logs k ≡ Some opened
   pub before : AllFollow follows handed.0 → Follow follows opened

@@ -24,8 +24,10 @@ module _ {D : Type 0} (sight : D → Sight) (follows : D → Type 0) where
     pub before : Follow follows log → AllFollow follows given
     pub rests : Follow follows log → PairRests (slots_of sight given) (slots sight log)
     pub settled : Follow follows log → IsSettled sight log m
-    pub recovers : Follow follows log → Recovers whose (slots_of sight given).first.seen (slots_of sight given).second.seen m
-    pub covered : Follow follows log → (limits : Limits) (h : History) (doubt : List Ask) → Covers whose limits (slots_of sight given) h doubt → IsAfter limits h doubt m
+    pub recovers : Follow follows log
+        → Recovers whose (slots_of sight given).first.seen (slots_of sight given).second.seen m
+    pub covered : Follow follows log → (limits : Limits) (h : History) (doubt : List Ask)
+        → Covers whose limits (slots_of sight given) h doubt → IsAfter limits h doubt m
     pub not_failed : HasNoFailure (slots_of sight given) (slots sight log)
     pub fit : FitStreams whose m
     pub small : room m ≤ 2 ^ 31 + 27
@@ -36,7 +38,8 @@ module _ {D : Type 0} (sight : D → Sight) (follows : D → Type 0) where
   -- so is the log of each shard from k on
   abbrev pub AreOpenedFrom : ℕ → ℕ → ℕ → List (List D) → List (Wal D) → List Streams → Type 0
   AreOpenedFrom count capacity k [] [] [] = Unit {0}
-  AreOpenedFrom count capacity k (given ∷ all) (log ∷ logs) (m ∷ ms) = IsOpenedFrom (owner_of k count) capacity given log m × AreOpenedFrom count capacity (k + 1) all logs ms
+  AreOpenedFrom count capacity k (given ∷ all) (log ∷ logs) (m ∷ ms) =
+      IsOpenedFrom (owner_of k count) capacity given log m × AreOpenedFrom count capacity (k + 1) all logs ms
   AreOpenedFrom count capacity k all logs ms = ⊥
 
   -- the slots of a shard come back, and nothing was written
@@ -52,15 +55,18 @@ module _ {D : Type 0} (sight : D → Sight) (follows : D → Type 0) where
   -- why the slots of a shard are refused
   pub record IsRefusal (whose : Owner) (given back : List D) (fault : LogFault) : Type 0 where
     pub returned : IsReturned given back
-    pub why : IsOfDeviceOrMemory fault ⊎ (AllFollow follows back → IsOpenFault whose (slots_of sight given).first.seen (slots_of sight given).second.seen fault)
-    pub covered : AllFollow follows back → (limits : Limits) (h : History) (doubt : List Ask) → Covers whose limits (slots_of sight given) h doubt → IsOfDeviceOrMemory fault
+    pub why : IsOfDeviceOrMemory fault ⊎ (AllFollow follows back
+        → IsOpenFault whose (slots_of sight given).first.seen (slots_of sight given).second.seen fault)
+    pub covered : AllFollow follows back → (limits : Limits) (h : History) (doubt : List Ask)
+        → Covers whose limits (slots_of sight given) h doubt → IsOfDeviceOrMemory fault
     pub counted : CountsCause fault (slots_of sight given) (slots_of sight back)
 
   -- of the shards from k on the slots come back, and hold streams
   abbrev pub AreGood : ℕ → ℕ → List (List D) → List (List D) → Type 0
   AreGood count k [] [] = Unit {0}
   AreGood count k (given ∷ all) (back ∷ backs) =
-      (IsReturned given back × ((m : Streams) × (AllFollow follows back → Recovers (owner_of k count) (slots_of sight given).first.seen (slots_of sight given).second.seen m)))
+      (IsReturned given back × ((m : Streams) × (AllFollow follows back
+      → Recovers (owner_of k count) (slots_of sight given).first.seen (slots_of sight given).second.seen m)))
       × AreGood count (k + 1) all backs
   AreGood count k all backs = ⊥
 
@@ -83,7 +89,8 @@ module _ {D : Type 0} (sight : D → Sight) (follows : D → Type 0) where
   IsUnmade count all backs faults.Memory = (backs ≡ all) ⊎ AreReturned all backs
 
   -- the next shard is opened
-  pub record IsNextOpened (whose : Owner) (capacity : ℕ) (slots_old slots_new : List (List D)) (logs_old logs_new : List (Wal D)) (images_old images_new : List Streams) : Type 0 where
+  pub record IsNextOpened (whose : Owner) (capacity : ℕ) (slots_old slots_new : List (List D))
+      (logs_old logs_new : List (Wal D)) (images_old images_new : List Streams) : Type 0 where
     pub given : List D
     pub log : Wal D
     pub image : Streams

@@ -13,7 +13,8 @@ use Rattle.shard.specs.Keeping.{owner_in}
 use Rattle.shard.specs.Shards.{Sharded}
 
 -- what a shard is made of: its log with the streams that stood in it, and a book over them without a step
-pub record IsGround {D : Type 0} (sight : D → Sight) (follows : D → Type 0) (limits : Limits) (log : Wal D) (m : Streams) (book : Booked) : Type 0 where
+pub record IsGround {D : Type 0} (sight : D → Sight) (follows : D → Type 0) (limits : Limits) (log : Wal D)
+    (m : Streams) (book : Booked) : Type 0 where
   pub fresh : book.items ≡ []
   pub base : base_at book.about book.shard ≡ m
   pub same_limits : limits ≡ book.about.limits
@@ -27,13 +28,17 @@ pub record IsGround {D : Type 0} (sight : D → Sight) (follows : D → Type 0) 
   pub small : room m ≤ 2 ^ 31 + 27
 
 -- so is each
-abbrev pub AreGround : {D : Type 0} → (D → Sight) → (D → Type 0) → Limits → List (Wal D) → List Streams → List Booked → Type 0
-AreGround {D} sight follows limits logs ms books = (k : ℕ) (log : Wal D) (m : Streams) (book : Booked) → slice_get logs k ≡ Some log → slice_get ms k ≡ Some m → slice_get books k ≡ Some book → IsGround sight follows limits log m book
+abbrev pub AreGround : {D : Type 0} → (D → Sight) → (D → Type 0) → Limits → List (Wal D) → List Streams → List Booked
+    → Type 0
+AreGround {D} sight follows limits logs ms books = (k : ℕ) (log : Wal D) (m : Streams) (book : Booked)
+    → slice_get logs k ≡ Some log → slice_get ms k ≡ Some m → slice_get books k ≡ Some book
+    → IsGround sight follows limits log m book
 
 -- a shard of each log and its book
 abbrev pub AreMade : {D : Type 0} → List (Option (Sharded D)) → List (Wal D) → List Booked → Type 0
 AreMade [] [] [] = Unit {0}
-AreMade (Some shard ∷ shards) (log ∷ logs) (book ∷ books) = (shard ≡ record { log = log; book = book; opened = log }) × AreMade shards logs books
+AreMade (Some shard ∷ shards) (log ∷ logs) (book ∷ books) = (shard ≡ record { log = log; book = book; opened = log })
+    × AreMade shards logs books
 AreMade shards logs books = ⊥
 
 -- each shard is there

@@ -127,8 +127,8 @@ impl<D: Disk + Drop> Ingester<D> {
         Some((first, count))
     }
 
-    // Announces the calls up to the first that cannot be. Says nothing where none could, or where a call before them was
-    // refused.
+    // Announces the calls up to the first that cannot be. Says nothing where none could, or where a call before them
+    // was refused.
     pub(crate) fn announce_some(
         &self,
         alloc: Global,

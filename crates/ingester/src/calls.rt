@@ -32,8 +32,8 @@ pub(crate) fn shard_number(call: &Call, shards: u32) -> usize
 }
 
 impl<D: Disk + Drop> Ingester<D> {
-    /// Makes a call. It waits for the calls to the shard of its key alone: those that wait there together are written at
-    /// once, by the thread of one of them.
+    /// Makes a call. It waits for the calls to the shard of its key alone: those that wait there together are written
+    /// at once, by the thread of one of them.
     ///
     /// # Errors
     ///
@@ -92,7 +92,8 @@ impl<D: Disk + Drop> Ingester<D> {
         self.history.observe(pass, shard as usize)
     }
 
-    /// Two passes see the histories of all shards together: both then hold one and the same history of each. It waits for no lock.
+    /// Two passes see the histories of all shards together: both then hold one and the same history of each. It waits
+    /// for no lock.
     pub fn meet(&self, one: &mut Pass, two: &mut Pass)
         requires one { IsPassOf self.now one.old }
         requires two { IsPassOf self.now two.old }
@@ -100,7 +101,8 @@ impl<D: Disk + Drop> Ingester<D> {
             × (one.new ≡ record one.old { caller = with_seen one.old.caller one.new.caller.seen }) }
         ensures two { IsPassOf self.now two.new
             × (two.new ≡ record two.old { caller = with_seen two.old.caller two.new.caller.seen }) }
-        ensures met { HaveMet one.old.caller two.old.caller self.now.about.shards one.new.caller.seen two.new.caller.seen }
+        ensures met { HaveMet one.old.caller two.old.caller self.now.about.shards one.new.caller.seen
+            two.new.caller.seen }
     {
         self.history.meet(one, two);
     }

@@ -52,8 +52,8 @@ impl<D: Disk> Model for Ingester<D> {
 }
 
 impl<D: Disk + Drop> Ingester<D> {
-    /// Opens a shard over each pair of slots, with so many passes, 1 to 64. `capacity` is how many bytes a segment may have, at most 2^30.
-    /// What the slots hold is the base of the shard's history; nothing is written.
+    /// Opens a shard over each pair of slots, with so many passes, 1 to 64. `capacity` is how many bytes a segment may
+    /// have, at most 2^30. What the slots hold is the base of the shard's history; nothing is written.
     ///
     /// # Errors
     ///

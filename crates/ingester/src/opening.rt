@@ -72,7 +72,8 @@ fn open_next<D: Disk + Drop>(
     requires shard { (shard < count) × (count ≤ 64) }
     requires capacity { capacity ≤ 2 ^ 30 }
     ensures ok { OnOk result (IsNextOpened D.sight D.follows
-        (owner_of shard count) capacity slots.old.items slots.new.items logs.old.items logs.new.items images.old.items images.new.items) }
+        (owner_of shard count) capacity slots.old.items slots.new.items logs.old.items logs.new.items images.old.items
+        images.new.items) }
     ensures err { IfErr result (λ fault.
         IsNextRefused D.sight D.follows (owner_of shard count) fault slots.old.items slots.new.items
         × (logs.new ≡ logs.old)) }
@@ -110,7 +111,8 @@ pub(crate) fn open_logs<D: Disk + Drop>(
         × (count ≤ vec_capacity images.old) }
     requires few { count ≤ 64 }
     requires capacity { capacity ≤ 2 ^ 30 }
-    ensures ok { OnOk result (AreOpenedFrom D.sight D.follows count capacity 0 slots.old.items logs.new.items images.new.items × (slots.new.items ≡ [])) }
+    ensures ok { OnOk result (AreOpenedFrom D.sight D.follows count capacity 0 slots.old.items logs.new.items
+        images.new.items × (slots.new.items ≡ [])) }
     ensures err { IfErr result (λ fault. IsUnmade D.sight D.follows count slots.old.items slots.new.items fault) }
     ensures capacities { deque_capacity slots.new ≡ deque_capacity slots.old }
     ensures lens { OnOk result ((vec_len logs.new ≡ count) × (vec_len images.new ≡ count) × (deque_len slots.new ≡ 0)) }

@@ -32,11 +32,11 @@ const CALLS: u64 = 65_536;
 
 /// Runs `ingest1 NOW` for the tenant `t` on an empty shard in memory, and gives its exit status.
 ///
-/// NOW is the clock in nanoseconds, 1 to 19 decimal digits below 2^63. The input is a push body of at most 4,194,304 bytes.
-/// Written are the push's status, a newline and its body, then for each stream with lawful labels, in body order, the body
-/// of a read of all its entries and a newline. A body refused at its form writes status, newline and text, and no more.
-/// Status 0: an answer was written, whatever its own status. 1: a fault while running. 2: wrong words. 3: a refused opening.
-/// A fault stands on one line of `errors`.
+/// NOW is the clock in nanoseconds, 1 to 19 decimal digits below 2^63. The input is a push body of at most 4,194,304
+/// bytes. Written are the push's status, a newline and its body, then for each stream with lawful labels, in body
+/// order, the body of a read of all its entries and a newline. A body refused at its form writes status, newline and
+/// text, and no more. Status 0: an answer was written, whatever its own status. 1: a fault while running. 2: wrong
+/// words. 3: a refused opening. A fault stands on one line of `errors`.
 pub fn run_ingest1<R: Wait, I: Read, W: Write, E: Write>(
     rt: &R,
     alloc: Global,

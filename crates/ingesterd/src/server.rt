@@ -27,12 +27,13 @@ use workers::serve_listener;
 /// Runs `ingesterd DIR PORT SHARDS WORKERS [CONNECTIONS]`, and gives its exit status. `setting` is what the environment
 /// says of a slot's capacity.
 ///
-/// The slots of DIR are opened and replayed, the port of 127.0.0.1 is listened on (0: any that is free), `ready <port>` is
-/// written, and each connection is served by one of WORKERS threads. After CONNECTIONS connections, where given, it ends
-/// with status 0, as it does where no worker is left; else it goes on. A connection that fails costs no more than itself
-/// (`serve_listener`). Status 1: a fault while running. 2: wrong words, or a wrong setting. 3: a refused opening.
-/// A fault stands on one line of `errors`, and a shard that stops answering has one in `marks`, where they are given.
-/// Where `marks` are a terminal, what was replayed is said there before `ready` is: a line for each shard, one for all.
+/// The slots of DIR are opened and replayed, the port of 127.0.0.1 is listened on (0: any that is free), `ready <port>`
+/// is written, and each connection is served by one of WORKERS threads. After CONNECTIONS connections, where given, it
+/// ends with status 0, as it does where no worker is left; else it goes on. A connection that fails costs no more than
+/// itself (`serve_listener`). Status 1: a fault while running. 2: wrong words, or a wrong setting. 3: a refused
+/// opening. A fault stands on one line of `errors`, and a shard that stops answering has one in `marks`, where they are
+/// given. Where `marks` are a terminal, what was replayed is said there before `ready` is: a line for each shard, one
+/// for all.
 pub fn run_server<R, W: Write, E: Write>(
     rt: &R,
     alloc: Global,

@@ -121,7 +121,8 @@ impl<T, K, P: Fits<T, K>> Locks<T, K, P> {
         Some((value, Grip { seat, lock: number }))
     }
 
-    // Sleeps until the lock can be taken. Others may sleep too, so its word then says so: who gives it back wakes one of them.
+    // Sleeps until the lock can be taken. Others may sleep too, so its word then says so: who gives it back wakes one
+    // of them.
     fn sleep_for<R: Wait>(&self, rt: &R, number: usize) -> (T, Grip<T, K>)
         requires { number < count_of self.now }
         ensures value { P.fits (key_of self.now) number result.0 }

@@ -1,5 +1,6 @@
 //! The rule of the locks, and what their steps tell.
-//! The word of a lock is 0 while it is free, 1 while it is taken, and 2 while it is taken and threads may sleep until it is given back.
+//! The word of a lock is 0 while it is free, 1 while it is taken, and 2 while it is taken and threads may sleep until
+//! it is given back.
 
 use atomic_table::{Play, TableRule};
 use std::marker::PhantomData;

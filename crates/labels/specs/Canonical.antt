@@ -11,7 +11,8 @@ use Rattle.labels.specs.Faults.{label_fault}
 
 -- a byte of a value: `\`, `"` and a newline stand behind a `\`
 abbrev pub escape : ℕ → List ℕ
-escape b = if b == 92 then 92 ∷ 92 ∷ [] else (if b == 34 then 92 ∷ 34 ∷ [] else (if b == 10 then 92 ∷ 110 ∷ [] else b ∷ []))
+escape b =
+    if b == 92 then 92 ∷ 92 ∷ [] else (if b == 34 then 92 ∷ 34 ∷ [] else (if b == 10 then 92 ∷ 110 ∷ [] else b ∷ []))
 
 -- `a="1"`
 abbrev pub label_text : Label → List ℕ
@@ -59,4 +60,5 @@ IsTextOf text pairs = (ps : List Label) × IsPermutation pairs ps × IsCanonical
 
 -- the text is what follows a label of this name, with at most so many labels more
 abbrev pub EndsSet : List ℕ → ℕ → List ℕ → Type 0
-EndsSet name most text = (qs : List Label) × (length qs ≤ most) × AllByRecursion IsLabel qs × NamesRise ((name, []) ∷ qs) × (text ≡ tail_text qs)
+EndsSet name most text = (qs : List Label) × (length qs ≤ most) × AllByRecursion IsLabel qs
+    × NamesRise ((name, []) ∷ qs) × (text ≡ tail_text qs)

@@ -15,4 +15,6 @@ same_key a b = is_eq (key_cmp a b)
 
 -- a key is stored as the pair of its texts
 abbrev pub coded_key : Coded StreamKey
-coded_key = code_by (List ℕ × List ℕ) (coded× (coded_list coded_ℕ) (coded_list coded_ℕ)) (λ k. (k.tenant, k.labels)) (λ p. record { tenant = p.0; labels = p.1 }) (λ _. refl)
+coded_key =
+    code_by (List ℕ × List ℕ) (coded× (coded_list coded_ℕ) (coded_list coded_ℕ)) (λ k. (k.tenant, k.labels))
+    (λ p. record { tenant = p.0; labels = p.1 }) (λ _. refl)

@@ -81,7 +81,7 @@ pub fn set_text(alloc: Global, pairs: &[(String, String)]) -> Result<String, All
 }
 
 /// Sorts by name in place. That values break ties matters nowhere: labels of one name are refused.
-fn sort(pairs: &mut Vec<(String, String)>)
+pub fn sort(pairs: &mut Vec<(String, String)>)
     ensures permutation { IsPermutation pairs.old.items pairs.new.items }
     ensures len { vec_len pairs.new ≡ vec_len pairs.old }
     ensures sorted { IsSorted (λ x y. ordering_then
@@ -92,7 +92,7 @@ fn sort(pairs: &mut Vec<(String, String)>)
 }
 
 /// Whether each name is below the next, so that none stands twice.
-fn names_rise(pairs: &[(String, String)]) -> bool
+pub fn names_rise(pairs: &[(String, String)]) -> bool
     ensures { IsAllAdjacentAnswer (λ x y b. b
         ≡ is_lt (slice_cmp nat_cmp (string_bytes x.0) (string_bytes y.0))) pairs.now result }
 {

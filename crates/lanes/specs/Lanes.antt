@@ -29,7 +29,8 @@ pub record IsEmptyLane (lane : Lane) : Type 0 where
 
 -- so is each
 abbrev pub AreEmptyLanes : List (Option Lane) → Type 0
-AreEmptyLanes lanes = (k : ℕ) → k < length lanes → (lane : Lane) × (slice_get lanes k ≡ Some (Some lane)) × IsEmptyLane lane
+AreEmptyLanes lanes = (k : ℕ) → k < length lanes → (lane : Lane) × (slice_get lanes k ≡ Some (Some lane))
+    × IsEmptyLane lane
 
 -- in each place there is nothing
 abbrev pub AreEmptyPlaces : List (Option Settled) → Type 0
@@ -43,7 +44,8 @@ pub record IsEmptyMail (mail : Mail) : Type 0 where
 
 -- so is each
 abbrev pub AreEmptyMails : List (Option Mail) → Type 0
-AreEmptyMails mails = (p : ℕ) → p < length mails → (mail : Mail) × (slice_get mails p ≡ Some (Some mail)) × IsEmptyMail mail
+AreEmptyMails mails = (p : ℕ) → p < length mails → (mail : Mail) × (slice_get mails p ≡ Some (Some mail))
+    × IsEmptyMail mail
 
 -- whose call it was
 abbrev pub pass_in : Settled → ℕ
@@ -62,13 +64,15 @@ with_memory (Refused fault t) = Refused Memory t
 
 -- it is put at the place of its number, of places whose numbers begin with `first`, or there is none
 abbrev pub IsPutIn : ℕ → List (Option Settled) → Settled → List (Option Settled) → Type 0
-IsPutIn first old settled new = (new ≡ old) ⊎ ((first ≤ number_in settled) × (new ≡ slice_set old (number_in settled - first) (Some settled)))
+IsPutIn first old settled new =
+    (new ≡ old) ⊎ ((first ≤ number_in settled) × (new ≡ slice_set old (number_in settled - first) (Some settled)))
 
 -- what lies at the place of a number is taken out, or there is no such place
 abbrev pub IsTakenFrom : ℕ → List (Option Settled) → ℕ → Option Settled → List (Option Settled) → Type 0
 IsTakenFrom first old number taken new =
     ((taken ≡ None) × (new ≡ old))
-    ⊎ ((first ≤ number) × (number - first < length old) × (taken ≡ slice_index_or old (number - first) None) × (new ≡ slice_set old (number - first) None))
+    ⊎ ((first ≤ number) × (number - first < length old) × (taken ≡ slice_index_or old (number - first) None)
+    × (new ≡ slice_set old (number - first) None))
 
 -- each is of pass p
 abbrev pub AreOfPass : ℕ → List Announced → Type 0
@@ -99,7 +103,8 @@ module _ (table : TableId) (about : About) where
   AreWaiting k [] = Unit {0}
   AreWaiting k (j ∷ jobs) = IsWaiting k j × AreWaiting k jobs
 
-  -- the calls of pass p that are to be made at shard k, in the order of their announcement: each names just those in front of it
+  -- the calls of pass p that are to be made at shard k, in the order of their announcement: each names just those in
+  -- front of it
   pub record IsBatch (k p : ℕ) (jobs : List Job) : Type 0 where
     pub waiting : AreWaiting k jobs
     pub pass : AreOfPass p (tickets_of jobs)
@@ -126,7 +131,8 @@ module _ {D : Type 0} (opening : Opening D) where
   -- where the call needs another generation, the log of its shard is spent
   abbrev pub IsSpentAsSaid : Settled → Type 0
   IsSpentAsSaid (Answered reply receipt) = Unit {0}
-  IsSpentAsSaid (Refused fault t) = fault ≡ GenerationSpent → HasSpentLog opening (shard_in opening.about t.ask) t.ask.call
+  IsSpentAsSaid (Refused fault t) = fault ≡ GenerationSpent
+      → HasSpentLog opening (shard_in opening.about t.ask) t.ask.call
 
   -- it came of a call of pass p
   pub record IsDueTo (p : ℕ) (settled : Settled) : Type 0 where

@@ -17,7 +17,8 @@ pub record Opening (D : Type 0) : Type 0 where
 abbrev pub opening_of : {D : Type 0} → Booked → List (Wal D) → Opening D
 opening_of first logs = record { table = first.table; about = first.about; logs = logs }
 
--- The call needs another generation of its shard's log, which has used its last one. The log was opened so late that a history may have rolled it there.
+-- The call needs another generation of its shard's log, which has used its last one. The log was opened so late that a
+-- history may have rolled it there.
 pub record HasSpentLog {D : Type 0} (opening : Opening D) (k : ℕ) (call : Call) : Type 0 where
   pub shard : Sharded D
   pub about : shard.book.about ≡ opening.about

@@ -12,4 +12,5 @@ pub record IsOf {D : Type 0} (opening : Opening D) (k : ℕ) (shard : Sharded D)
 
 -- each is there, and is the shard of its number
 abbrev pub AreShardsOf : {D : Type 0} → Opening D → List (Option (Sharded D)) → Type 0
-AreShardsOf {D} opening shards = (k : ℕ) → k < length shards → (shard : Sharded D) × (slice_get shards k ≡ Some (Some shard)) × IsOf opening k shard
+AreShardsOf {D} opening shards = (k : ℕ) → k < length shards → (shard : Sharded D)
+    × (slice_get shards k ≡ Some (Some shard)) × IsOf opening k shard

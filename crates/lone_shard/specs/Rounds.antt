@@ -27,11 +27,13 @@ AreOwn table p (t ∷ ts) = IsOwn table p t × AreOwn table p ts
 -- the settled calls are of pass p of the table
 abbrev pub AreSettled : TableId → ℕ → List Settled → Type 0
 AreSettled table p [] = Unit {0}
-AreSettled table p (Answered reply receipt ∷ ss) = ((receipt.table ≡ table) × (receipt.step.ask.pass ≡ p)) × AreSettled table p ss
+AreSettled table p (Answered reply receipt ∷ ss) = ((receipt.table ≡ table) × (receipt.step.ask.pass ≡ p))
+    × AreSettled table p ss
 AreSettled table p (Refused fault t ∷ ss) = IsOwn table p t × AreSettled table p ss
 
 -- The open calls of the pass are those that are settled and then the jobs, which may be made.
-pub record IsOpen (table : TableId) (book : Booked) (pass : Passed) (jobs : List Job) (settled : List Settled) : Type 0 where
+pub record IsOpen (table : TableId) (book : Booked) (pass : Passed) (jobs : List Job)
+    (settled : List Settled) : Type 0 where
   pub book_table : book.table ≡ table
   pub pass_table : pass.table ≡ table
   pub one : book.about.shards ≡ 1

@@ -23,8 +23,8 @@ pub struct LoneShard<D: Disk> {
 }
 
 impl<D: Disk + Drop> LoneShard<D> {
-    /// Opens the shard in slot 0 and slot 1, with segments of at most so many bytes. A refusal says why, and gives the slots
-    /// back.
+    /// Opens the shard in slot 0 and slot 1, with segments of at most so many bytes. A refusal says why, and gives the
+    /// slots back.
     ///
     /// # Errors
     /// Limits that aren't lawful, a capacity above 2^30, or want of memory.

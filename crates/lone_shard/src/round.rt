@@ -15,8 +15,8 @@ use std::marker::Model;
 /// How many calls a pass may have open.
 pub const MOST: usize = 64;
 
-/// The shard while calls of its pass are open: announced, they are jobs; made by a turn, they are settled; and then their
-/// answers are taken in. Contracts see how many of them are jobs.
+/// The shard while calls of its pass are open: announced, they are jobs; made by a turn, they are settled; and then
+/// their answers are taken in. Contracts see how many of them are jobs.
 #[derive(Drop)]
 pub struct Round<D: Disk> {
     history: History,

@@ -44,7 +44,8 @@ abbrev pub ReadsQuery : List ℕ → Result RawRead PushFault → Type 0
 ReadsQuery bytes (Ok r) = (q : Query) × IsJson bytes (query_tree q) × IsTime q.from × IsTime q.to × (r ≡ raw_read_of q)
 ReadsQuery bytes (Err NotJson) = (d : Data) → ¬ IsJson bytes d
 ReadsQuery bytes (Err WrongShape) = (d : Data) × IsJson bytes d × ((q : Query) → d ≢ query_tree q)
-ReadsQuery bytes (Err (BadTime i j)) = (q : Query) × IsJson bytes (query_tree q) × (¬ (IsTime q.from × IsTime q.to)) × (i ≡ 0) × (j ≡ 0)
+ReadsQuery bytes (Err (BadTime i j)) = (q : Query) × IsJson bytes (query_tree q) × (¬ (IsTime q.from × IsTime q.to))
+    × (i ≡ 0) × (j ≡ 0)
 ReadsQuery bytes (Err TooManyEntries) = ⊥
 ReadsQuery bytes (Err Memory) = ⊤
 

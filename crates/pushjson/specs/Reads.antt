@@ -11,11 +11,14 @@ use Rattle.pushjson.specs.declared.fault.PushFault.TheVariants.{NotJson, WrongSh
 -- the answer to a push body of these bytes
 abbrev pub IsPushAnswer : List ℕ → Result (List RawBatch) PushFault → Type 0
 IsPushAnswer bytes (Ok batches) =
-    (streams : List Stream) × IsJson bytes (body_tree streams) × HaveTimes streams × (entry_count streams ≤ 10000) × (batches ≡ map batch_of streams)
+    (streams : List Stream) × IsJson bytes (body_tree streams) × HaveTimes streams × (entry_count streams ≤ 10000)
+    × (batches ≡ map batch_of streams)
 IsPushAnswer bytes (Err NotJson) = (d : Data) → ¬ IsJson bytes d
 IsPushAnswer bytes (Err WrongShape) = (d : Data) × IsJson bytes d × ((streams : List Stream) → d ≢ body_tree streams)
-IsPushAnswer bytes (Err (BadTime i j)) = (streams : List Stream) × IsJson bytes (body_tree streams) × IsFirstBadTime streams i j
-IsPushAnswer bytes (Err TooManyEntries) = (streams : List Stream) × IsJson bytes (body_tree streams) × HaveTimes streams × (10000 < entry_count streams)
+IsPushAnswer bytes (Err (BadTime i j)) = (streams : List Stream) × IsJson bytes (body_tree streams)
+    × IsFirstBadTime streams i j
+IsPushAnswer bytes (Err TooManyEntries) = (streams : List Stream) × IsJson bytes (body_tree streams)
+    × HaveTimes streams × (10000 < entry_count streams)
 IsPushAnswer bytes (Err Memory) = ⊤
 
 -- an answer, without where its batches lie in memory

@@ -67,7 +67,8 @@ last_lines closes = (if closes then codes "Connection: close" ++ crlf else []) +
 abbrev pub answer_text : Status → Content → Option Method → Bool → List ℕ → List ℕ
 answer_text status content allow closes body =
     if code_of status == 204 then status_line status ++ last_lines closes
-    else status_line status ++ type_line content ++ length_line (length body) ++ allow_line allow ++ last_lines closes ++ body
+    else status_line status ++ type_line content ++ length_line (length body) ++ allow_line allow ++ last_lines closes
+    ++ body
 
 abbrev pub status_of : FixedAnswer → Status
 status_of BadRequest = statuses.BadRequest
@@ -147,7 +148,15 @@ failure_text failure = answer_text statuses.InternalServerError Text None true (
 
 -- the same text, written out
 abbrev pub failure_bytes : Failure → List ℕ
-failure_bytes OutOfMemory = codes "HTTP/1.1 500 Internal Server Error" ++ crlf ++ codes "Content-Type: text/plain; charset=utf-8" ++ crlf ++ codes "Content-Length: 13" ++ crlf ++ codes "Connection: close" ++ crlf ++ crlf ++ codes "out of memory"
-failure_bytes PassClosed = codes "HTTP/1.1 500 Internal Server Error" ++ crlf ++ codes "Content-Type: text/plain; charset=utf-8" ++ crlf ++ codes "Content-Length: 11" ++ crlf ++ codes "Connection: close" ++ crlf ++ crlf ++ codes "pass closed"
-failure_bytes InDoubt = codes "HTTP/1.1 500 Internal Server Error" ++ crlf ++ codes "Content-Type: text/plain; charset=utf-8" ++ crlf ++ codes "Content-Length: 13" ++ crlf ++ codes "Connection: close" ++ crlf ++ crlf ++ codes "call in doubt"
-failure_bytes LogSpent = codes "HTTP/1.1 500 Internal Server Error" ++ crlf ++ codes "Content-Type: text/plain; charset=utf-8" ++ crlf ++ codes "Content-Length: 9" ++ crlf ++ codes "Connection: close" ++ crlf ++ crlf ++ codes "log spent"
+failure_bytes OutOfMemory = codes "HTTP/1.1 500 Internal Server Error" ++ crlf
+    ++ codes "Content-Type: text/plain; charset=utf-8" ++ crlf ++ codes "Content-Length: 13" ++ crlf
+    ++ codes "Connection: close" ++ crlf ++ crlf ++ codes "out of memory"
+failure_bytes PassClosed = codes "HTTP/1.1 500 Internal Server Error" ++ crlf
+    ++ codes "Content-Type: text/plain; charset=utf-8" ++ crlf ++ codes "Content-Length: 11" ++ crlf
+    ++ codes "Connection: close" ++ crlf ++ crlf ++ codes "pass closed"
+failure_bytes InDoubt = codes "HTTP/1.1 500 Internal Server Error" ++ crlf
+    ++ codes "Content-Type: text/plain; charset=utf-8" ++ crlf ++ codes "Content-Length: 13" ++ crlf
+    ++ codes "Connection: close" ++ crlf ++ crlf ++ codes "call in doubt"
+failure_bytes LogSpent = codes "HTTP/1.1 500 Internal Server Error" ++ crlf
+    ++ codes "Content-Type: text/plain; charset=utf-8" ++ crlf ++ codes "Content-Length: 9" ++ crlf
+    ++ codes "Connection: close" ++ crlf ++ crlf ++ codes "log spent"

@@ -15,7 +15,8 @@ is_length value = nat_lt 0 (length value) && nat_le (length value) 19 && list_al
 -- the framing by the one value of Content-Length
 abbrev pub framing_of_value : List ℕ → Framing
 framing_of_value value =
-    if is_length value then (if nat_le (digits_value 10 value) 4194304 then Length (digits_value 10 value) else Refused BodyTooLarge)
+    if is_length value then (if nat_le (digits_value 10 value) 4194304 then Length (digits_value 10 value)
+    else Refused BodyTooLarge)
     else Refused BadLength
 
 -- the framing by the values of Content-Length

@@ -76,7 +76,8 @@ pub record IsMessage (buffer : List ℕ) (r : Request) (m : Message) : Type 0 wh
 -- what an answer says of the bytes that the buffer then has, where left is what the reader may still give
 abbrev pub IsNext : List ℕ → Option (List ℕ) → Result Next ServeFault → Type 0
 IsNext buffer left (Ok (Is.Whole m)) =
-    (r : Request) × ReadsMessage buffer r (drop m.end buffer) × IsMessage buffer r m × (length (drop m.end buffer) ≤ 16384)
+    (r : Request) × ReadsMessage buffer r (drop m.end buffer) × IsMessage buffer r m
+    × (length (drop m.end buffer) ≤ 16384)
 IsNext buffer left (Ok (Is.Refused why)) = IsRefused buffer why
 IsNext buffer left (Ok Is.Ended) = (buffer ≡ []) × IsAtEnd left
 IsNext buffer left (Err Fault.CutShort) = IsCut buffer × IsAtEnd left
@@ -93,11 +94,13 @@ Fits buffer (Err fault) = ⊤
 
 -- for private clauses: what reading a head says of the bytes that the buffer then has
 abbrev pub StopsAt : List ℕ → Option (List ℕ) → List HeaderSpan → Result Head ServeFault → Type 0
-StopsAt buffer left headers (Ok (Came.Whole spans)) = IsRequestOf buffer headers spans × IsRequestWithin buffer headers spans
+StopsAt buffer left headers (Ok (Came.Whole spans)) = IsRequestOf buffer headers spans
+    × IsRequestWithin buffer headers spans
 StopsAt buffer left headers (Ok Came.Refused) = RequestOverflows 64 buffer
 StopsAt buffer left headers (Ok Came.TooLarge) = (length buffer ≡ 16384) × IsUnfinished buffer
 StopsAt buffer left headers (Ok Came.Ended) = (buffer ≡ []) × IsAtEnd left
-StopsAt buffer left headers (Err Fault.CutShort) = (buffer ≢ []) × (length buffer < 16384) × IsUnfinished buffer × IsAtEnd left
+StopsAt buffer left headers (Err Fault.CutShort) = (buffer ≢ []) × (length buffer < 16384) × IsUnfinished buffer
+    × IsAtEnd left
 StopsAt buffer left headers (Err Fault.Read) = (length buffer < 16384) × IsUnfinished buffer
 StopsAt buffer left headers (Err Fault.Memory) = (length buffer < 16384) × IsUnfinished buffer
 StopsAt buffer left headers (Err Fault.Write) = ⊥

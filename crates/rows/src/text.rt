@@ -61,8 +61,8 @@ pub fn text_of(alloc: Global, text: &str) -> Result<String> {
     String::from_utf8(bytes).map_err(|_| anyhow!("no UTF-8"))
 }
 
-/// Appends a text for these bytes that [`unescape`] reads: printable characters stand for themselves where all is UTF-8,
-/// else those of ASCII do.
+/// Appends a text for these bytes that [`unescape`] reads: printable characters stand for themselves where all is
+/// UTF-8, else those of ASCII do.
 ///
 /// # Errors
 /// Want of memory.

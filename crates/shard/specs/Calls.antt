@@ -36,7 +36,8 @@ pub record Writes (book : Booked) (call : Call) : Type 0 where
 
 -- the call is refused, or changes nothing
 abbrev pub IsQuiet : Booked → Call → Type 0
-IsQuiet book call = (reply_in book call ≡ Unavailable) ⊎ ((reply_in book call ≡ NoRoom) ⊎ (after_in book call ≡ meaning (history_in book)))
+IsQuiet book call = (reply_in book call ≡ Unavailable)
+    ⊎ ((reply_in book call ≡ NoRoom) ⊎ (after_in book call ≡ meaning (history_in book)))
 
 -- how many bytes a change takes as a block with its closing gate
 abbrev pub block_length : Option Record → ℕ
@@ -52,18 +53,22 @@ abbrev pub IsLate : {D : Type 0} → Wal D → Booked → Type 0
 IsLate opened book = 2 ^ 63 - 1 ≤ opened.generation + (book.about.passes * bound + 1)
 
 -- The call has its step, and no device call failed.
-pub record IsCommitted (old new : Pair) (before : Booked) (ticket : Announced) (behind : Booked) (reply : Reply) : Type 0 where
+pub record IsCommitted (old new : Pair) (before : Booked) (ticket : Announced) (behind : Booked)
+    (reply : Reply) : Type 0 where
   pub no_failure : HasNoFailure old new
   pub replied : reply ≡ reply_in before ticket.ask.call
   pub book : behind ≡ longer before (Answered (step_of ticket.ask reply))
 
 -- A device call failed: a mark with this one call stands before its step.
-pub record IsLost (old new : Pair) (before : Booked) (ticket : Announced) (behind : Booked) (reply : Reply) : Type 0 where
+pub record IsLost (old new : Pair) (before : Booked) (ticket : Announced) (behind : Booked)
+    (reply : Reply) : Type 0 where
   pub failure : HasFailed old new
   pub unmarked : is_marked before.items ≡ false
   pub replied : reply ≡ Unavailable
   pub book : behind ≡ longer (longer before (Failed (ticket.ask ∷ []))) (Answered (step_of ticket.ask Unavailable))
 
--- What a crash may leave while the call is on its way: what was allowed at its start, or, where it writes, what stands for the streams after it.
+-- What a crash may leave while the call is on its way: what was allowed at its start, or, where it writes, what stands
+-- for the streams after it.
 abbrev pub MayLeave : Booked → Call → List ℕ → List ℕ → Type 0
-MayLeave book call a b = IsAllowed book (doubt_of book.items) a b ⊎ (Writes book call × Recovers (owner_in book) a b (after_in book call))
+MayLeave book call a b = IsAllowed book (doubt_of book.items) a b
+    ⊎ (Writes book call × Recovers (owner_in book) a b (after_in book call))

@@ -21,7 +21,8 @@ with_step book ask = longer book (Answered (step_of ask (reply_in book ask.call)
 -- these items of shard k with a step of each call behind them, which has the reply that is due there
 abbrev pub items_with : About → ℕ → List Item → List Ask → List Item
 items_with about k items [] = items
-items_with about k items (a ∷ asks) = items_with about k (items ++ Answered (step_of a (reply_of about k items a.call)) ∷ []) asks
+items_with about k items (a ∷ asks) =
+    items_with about k (items ++ Answered (step_of a (reply_of about k items a.call)) ∷ []) asks
 
 -- the book with a step of each call behind it
 abbrev pub with_steps : Booked → List Ask → Booked
@@ -36,12 +37,14 @@ dues book (a ∷ asks) = reply_in book a.call ∷ dues (with_step book a) asks
 abbrev pub changing_of : Booked → List Ask → List Ask
 changing_of book [] = []
 changing_of book (a ∷ asks) =
-    if changes (reply_in book a.call) then a ∷ changing_of (with_step book a) asks else changing_of (with_step book a) asks
+    if changes (reply_in book a.call) then a ∷ changing_of (with_step book a) asks
+    else changing_of (with_step book a) asks
 
 -- each of the calls has a step in these items, or is one of those in front
 abbrev pub HaveStepsOr : List Ask → List Item → List Ask → Type 0
 HaveStepsOr [] items front = Unit {0}
-HaveStepsOr (a ∷ asks) items front = (HasStep a (steps_by a.pass items) ⊎ IsAmong a front) × HaveStepsOr asks items front
+HaveStepsOr (a ∷ asks) items front = (HasStep a (steps_by a.pass items) ⊎ IsAmong a front)
+    × HaveStepsOr asks items front
 
 -- each ticket names calls with a step, those in front, and those of the tickets before it
 abbrev pub AreInTurn : List Item → List Ask → List Announced → Type 0
@@ -53,18 +56,22 @@ abbrev pub marked_by : Booked → List Ask → Booked
 marked_by book asks = longer book (Failed (changing_of book asks))
 
 -- Each call has its step, and no device call failed.
-pub record AreCommitted (old new : Pair) (before : Booked) (asks : List Ask) (behind : Booked) (replies : List Reply) : Type 0 where
+pub record AreCommitted (old new : Pair) (before : Booked) (asks : List Ask) (behind : Booked)
+    (replies : List Reply) : Type 0 where
   pub no_failure : HasNoFailure old new
   pub replied : replies ≡ dues before asks
   pub book : behind ≡ with_steps before asks
 
 -- A device call failed: a mark with the calls that change something stands before the steps.
-pub record AreLost (old new : Pair) (before : Booked) (asks : List Ask) (behind : Booked) (replies : List Reply) : Type 0 where
+pub record AreLost (old new : Pair) (before : Booked) (asks : List Ask) (behind : Booked)
+    (replies : List Reply) : Type 0 where
   pub failure : HasFailed old new
   pub unmarked : is_marked before.items ≡ false
   pub replied : replies ≡ map (λ _. Unavailable) asks
   pub book : behind ≡ with_steps (marked_by before asks) asks
 
--- What a crash may leave while the calls are on their way: what was allowed at their start, or what stands for the streams after them all.
+-- What a crash may leave while the calls are on their way: what was allowed at their start, or what stands for the
+-- streams after them all.
 abbrev pub MayLeaveAll : Booked → List Ask → List ℕ → List ℕ → Type 0
-MayLeaveAll book asks a b = IsAllowed book (doubt_of book.items) a b ⊎ Recovers (owner_in book) a b (meaning (history_in (with_steps book asks)))
+MayLeaveAll book asks a b = IsAllowed book (doubt_of book.items) a b
+    ⊎ Recovers (owner_in book) a b (meaning (history_in (with_steps book asks)))

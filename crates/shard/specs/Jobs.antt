@@ -16,7 +16,8 @@ tickets_of (j ∷ jobs) = j.ticket ∷ tickets_of jobs
 -- each call is its ticket's, is of shard k, and has lawful numbers
 abbrev pub AreLawful : About → ℕ → List Job → Type 0
 AreLawful about k [] = Unit {0}
-AreLawful about k (j ∷ jobs) = (shard_in about j.ticket.ask ≡ k) × (j.ticket.ask.call ≡ j.call) × AreNumbers j.call × AreLawful about k jobs
+AreLawful about k (j ∷ jobs) = (shard_in about j.ticket.ask ≡ k) × (j.ticket.ask.call ≡ j.call) × AreNumbers j.call
+    × AreLawful about k jobs
 
 -- the jobs of pass p
 abbrev pub jobs_by : ℕ → List Job → List Job
@@ -31,4 +32,5 @@ jobs_but p (j ∷ jobs) = if p == j.ticket.ask.pass then jobs_but p jobs else j 
 -- each ticket names calls with a step, and calls of its own pass that are in front of it
 abbrev pub AreInPassTurn : List Item → List Ask → List Announced → Type 0
 AreInPassTurn items front [] = Unit {0}
-AreInPassTurn items front (t ∷ ts) = HaveStepsOr t.before items (of_pass t.ask.pass front) × AreInPassTurn items (front ++ t.ask ∷ []) ts
+AreInPassTurn items front (t ∷ ts) = HaveStepsOr t.before items (of_pass t.ask.pass front)
+    × AreInPassTurn items (front ++ t.ask ∷ []) ts

@@ -25,7 +25,8 @@ abbrev pub ArePartsOf : {D : Type 0} → (D → Sight) → (D → Type 0) → Pa
 ArePartsOf sight follows p = IsShard sight follows p.log.wal p.book p.opened.value p.states p.is_marked p.limits
 
 -- The change of a call is stored in memory, and its bytes are ready: all else is as before.
-pub record IsStored {D : Type 0} (sight : D → Sight) (follows : D → Type 0) (p : Parts D) (ask : Ask) (reply : Reply) (place : Target) : Type 0 where
+pub record IsStored {D : Type 0} (sight : D → Sight) (follows : D → Type 0) (p : Parts D) (ask : Ask) (reply : Reply)
+    (place : Target) : Type 0 where
   pub before : Mapped
   pub shard : IsShard sight follows p.log.wal p.book p.opened.value before false p.limits
   pub unmarked : p.is_marked ≡ false
@@ -34,18 +35,28 @@ pub record IsStored {D : Type 0} (sight : D → Sight) (follows : D → Type 0) 
   pub owner_is : p.states.owner ≡ before.owner
   pub no_change : p.states.change ≡ None
   pub streams_are : p.states.streams ≡ after_in p.book ask.call
-  pub written_at : IsWritten p.log.wal place p.buffer.items (block_length (change_of ask.call reply)) before.streams p.states.streams
+  pub written_at : IsWritten p.log.wal place p.buffer.items (block_length (change_of ask.call reply)) before.streams
+      p.states.streams
 
 -- The call has its step.
-pub record IsApplied {D : Type 0} (sight : D → Sight) (follows : D → Type 0) (old new : Sharded D) (ticket : Announced) (reply : Reply) (receipt : Received) : Type 0 where
+pub record IsApplied {D : Type 0} (sight : D → Sight) (follows : D → Type 0) (old new : Sharded D) (ticket : Announced)
+    (reply : Reply) (receipt : Received) : Type 0 where
   pub step : IsCommitted (slots sight old.log) (slots sight new.log) old.book ticket new.book reply
       ⊎ IsLost (slots sight old.log) (slots sight new.log) old.book ticket new.book reply
   pub quiet : IsQuiet old.book ticket.ask.call → new.log ≡ old.log
   pub before : Follow follows new.log → Follow follows old.log
-  pub any_moment : Follow follows new.log → PairLeavesOnly (slots sight old.log) (slots sight new.log) (MayLeave old.book ticket.ask.call)
-  pub receipt_is : receipt ≡ record { table = ticket.table; step = step_of ticket.ask reply; upto = new.book.items; moment = moments (slots sight new.log) }
-  pub since : Follow follows new.log → LeavesSince (moments (slots sight new.log)) (slots sight new.log) (IsAllowed new.book (doubt_of new.book.items))
+  pub any_moment : Follow follows new.log
+      → PairLeavesOnly (slots sight old.log) (slots sight new.log) (MayLeave old.book ticket.ask.call)
+  pub receipt_is : receipt ≡ record {
+    table = ticket.table;
+    step = step_of ticket.ask reply;
+    upto = new.book.items;
+    moment = moments (slots sight new.log);
+  }
+  pub since : Follow follows new.log
+      → LeavesSince (moments (slots sight new.log)) (slots sight new.log) (IsAllowed new.book (doubt_of new.book.items))
   pub appended : FitsBehind old.log old.book ticket.ask.call → new.log.generation ≡ old.log.generation
-  pub rolled : Writes old.book ticket.ask.call → ¬ FitsBehind old.log old.book ticket.ask.call → HasNoFailure (slots sight old.log) (slots sight new.log)
+  pub rolled : Writes old.book ticket.ask.call → ¬ FitsBehind old.log old.book ticket.ask.call
+      → HasNoFailure (slots sight old.log) (slots sight new.log)
       → new.log.generation ≡ old.log.generation + 1
   pub opened : new.opened ≡ old.opened

@@ -17,7 +17,8 @@ use Rattle.shard.specs.Keeping.{Keeps}
 use Rattle.shard.specs.Calls.{reply_in}
 use Rattle.shard.specs.Groups.{with_step, with_steps, AreInTurn}
 
--- the judged calls in their order, each with its ticket and its reply, where these are the tickets of those that change something
+-- the judged calls in their order, each with its ticket and its reply, where these are the tickets of those that change
+-- something
 abbrev pub waiting_in : List Judged → List Announced → List (Announced × Reply)
 waiting_in [] ts = []
 waiting_in (Quiet t r ∷ js) ts = (t, r) ∷ waiting_in js ts
@@ -54,10 +55,12 @@ abbrev pub settled_of : Booked → List Announced → ℕ × ℕ → List Settle
 settled_of book [] moment = []
 settled_of book (t ∷ ts) moment =
     let r = reply_in book t.ask.call in
-    settled.Answered r (receipt_at (with_step book t.ask).items t r moment) ∷ settled_of (with_step book t.ask) ts moment
+    settled.Answered r (receipt_at (with_step book t.ask).items t r moment)
+    ∷ settled_of (with_step book t.ask) ts moment
 
 -- The waiting calls may be added to the book: each with its reply, in its turn, and all of them are kept.
-pub record IsReady {D : Type 0} (sight : D → Sight) (follows : D → Type 0) (log : Wal D) (book : Booked) (waiting : List (Announced × Reply)) : Type 0 where
+pub record IsReady {D : Type 0} (sight : D → Sight) (follows : D → Type 0) (log : Wal D) (book : Booked)
+    (waiting : List (Announced × Reply)) : Type 0 where
   pub due : AreDue book waiting
   pub here : AreOf book (tickets_in waiting)
   pub turn : AreInTurn book.items [] (tickets_in waiting)
@@ -65,7 +68,8 @@ pub record IsReady {D : Type 0} (sight : D → Sight) (follows : D → Type 0) (
   pub kept : Follow follows log → Keeps (slots sight log) (with_steps book (asks_in waiting)) (doubt_of book.items)
 
 -- After a failure mark the waiting calls may be refused, each in its turn.
-pub record IsRefusable {D : Type 0} (sight : D → Sight) (follows : D → Type 0) (log : Wal D) (book : Booked) (waiting : List (Announced × Reply)) : Type 0 where
+pub record IsRefusable {D : Type 0} (sight : D → Sight) (follows : D → Type 0) (log : Wal D) (book : Booked)
+    (waiting : List (Announced × Reply)) : Type 0 where
   pub marked : is_marked book.items ≡ true
   pub here : AreOf book (tickets_in waiting)
   pub turn : AreInTurn book.items [] (tickets_in waiting)

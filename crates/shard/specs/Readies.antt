@@ -25,7 +25,8 @@ abbrev pub answer_of : Limits → Streams → Call → Reply
 answer_of limits m call = answer_from limits (finite.get m (key_of call)) call
 
 abbrev pub after_of : Limits → Streams → Call → Streams
-after_of limits m call = set_stream m (key_of call) (stream_after (finite.get m (key_of call)) call (answer_of limits m call))
+after_of limits m call =
+    set_stream m (key_of call) (stream_after (finite.get m (key_of call)) call (answer_of limits m call))
 
 -- so many bytes may be written at this place
 abbrev pub HasPlace : {D : Type 0} → Wal D → Target → ℕ → Type 0
@@ -35,7 +36,8 @@ HasPlace log Next n = (1 + n ≤ log.cap) × (log.generation < 2 ^ 63 - 1)
 -- the bytes, written at this place, lead from these streams to those
 abbrev pub LeadsAt : {D : Type 0} → Wal D → Target → List ℕ → Streams → Streams → Type 0
 LeadsAt log Behind written m n = Leads (owner log) written m n
-LeadsAt log Next written m n = IsSegmentBehind (owner log) written (latest_header (log.generation + 1)) (length written) n
+LeadsAt log Next written m n =
+    IsSegmentBehind (owner log) written (latest_header (log.generation + 1)) (length written) n
 
 -- a block of so many bytes goes behind the segment in use where it fits, and nowhere else
 abbrev pub IsPlaced : {D : Type 0} → Wal D → ℕ → Target → Type 0
@@ -48,13 +50,15 @@ pub record IsUnchanged (limits : Limits) (cap : ℕ) (m : Streams) (call : Call)
       ⊎ ((changes (answer_of limits m call) ≡ true) × (cap < room (after_of limits m call)) × (r ≡ NoRoom))
 
 -- these bytes are to be written at this place
-pub record IsWritten {D : Type 0} (log : Wal D) (place : Target) (written : List ℕ) (size : ℕ) (m n : Streams) : Type 0 where
+pub record IsWritten {D : Type 0} (log : Wal D) (place : Target) (written : List ℕ) (size : ℕ)
+    (m n : Streams) : Type 0 where
   pub placed : IsPlaced log size place
   pub has_place : HasPlace log place (length written)
   pub leads : LeadsAt log place written m n
 
 -- the answer changes something, that is stored in memory, and these bytes are to be written at this place
-pub record IsChanged {D : Type 0} (limits : Limits) (log : Wal D) (m : Streams) (call : Call) (n : Streams) (written : List ℕ) (r : Reply) (place : Target) : Type 0 where
+pub record IsChanged {D : Type 0} (limits : Limits) (log : Wal D) (m : Streams) (call : Call) (n : Streams)
+    (written : List ℕ) (r : Reply) (place : Target) : Type 0 where
   pub changing : changes (answer_of limits m call) ≡ true
   pub replied : r ≡ answer_of limits m call
   pub next : n ≡ after_of limits m call

@@ -18,8 +18,10 @@ pub record Sharded (D : Type 0) : Type 0 where
   pub book : Booked
   pub opened : Wal D
 
--- The flag, the limits, the states and the log are those of the book's history. Of the states nothing is said once a device has failed.
-pub record IsShard {D : Type 0} (sight : D → Sight) (follows : D → Type 0) (log : Wal D) (book : Booked) (opened : Wal D) (states : Mapped) (flag : Bool) (limits : Limits) : Type 0 where
+-- The flag, the limits, the states and the log are those of the book's history. Of the states nothing is said once a
+-- device has failed.
+pub record IsShard {D : Type 0} (sight : D → Sight) (follows : D → Type 0) (log : Wal D) (book : Booked)
+    (opened : Wal D) (states : Mapped) (flag : Bool) (limits : Limits) : Type 0 where
   pub marked : flag ≡ is_marked book.items
   pub within : IsWithin book.about.limits (history_in book)
   pub same_limits : limits ≡ book.about.limits

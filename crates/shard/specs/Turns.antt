@@ -22,20 +22,26 @@ use Rattle.shard.specs.Queues.{settled_of}
 use Rattle.shard.specs.Shards.{Sharded}
 
 -- Each call has its step, and no device call failed; or one failed, and each call is refused behind the mark.
-abbrev pub AreStepped : {D : Type 0} → (D → Sight) → Sharded D → Sharded D → List Announced → List Settled → List Settled → Type 0
+abbrev pub AreStepped : {D : Type 0} → (D → Sight) → Sharded D → Sharded D → List Announced → List Settled
+    → List Settled → Type 0
 AreStepped sight old new tickets was now =
     let moment : ℕ × ℕ = moments (slots sight new.log) in
     let marked : Booked = marked_by old.book (asks_of tickets) in
-    (HasNoFailure (slots sight old.log) (slots sight new.log) × (new.book ≡ with_steps old.book (asks_of tickets)) × (now ≡ was ++ settled_of old.book tickets moment))
-    ⊎ (HasFailed (slots sight old.log) (slots sight new.log) × (new.book ≡ with_steps marked (asks_of tickets)) × (now ≡ was ++ settled_of marked tickets moment))
+    (HasNoFailure (slots sight old.log) (slots sight new.log) × (new.book ≡ with_steps old.book (asks_of tickets))
+    × (now ≡ was ++ settled_of old.book tickets moment))
+    ⊎ (HasFailed (slots sight old.log) (slots sight new.log) × (new.book ≡ with_steps marked (asks_of tickets))
+    × (now ≡ was ++ settled_of marked tickets moment))
 
 -- The calls of these tickets have their steps, and what was settled then stands behind what was settled before.
-pub record AreApplied {D : Type 0} (sight : D → Sight) (follows : D → Type 0) (old new : Sharded D) (tickets : List Announced) (was now : List Settled) : Type 0 where
+pub record AreApplied {D : Type 0} (sight : D → Sight) (follows : D → Type 0) (old new : Sharded D)
+    (tickets : List Announced) (was now : List Settled) : Type 0 where
   pub stepped : AreStepped sight old new tickets was now
   pub quiet : changing_of old.book (asks_of tickets) ≡ [] → new.log ≡ old.log
   pub before : Follow follows new.log → Follow follows old.log
-  pub any_moment : Follow follows new.log → PairLeavesOnly (slots sight old.log) (slots sight new.log) (MayLeaveAll old.book (asks_of tickets))
-  pub since : Follow follows new.log → LeavesSince (moments (slots sight new.log)) (slots sight new.log) (IsAllowed new.book (doubt_of new.book.items))
+  pub any_moment : Follow follows new.log
+      → PairLeavesOnly (slots sight old.log) (slots sight new.log) (MayLeaveAll old.book (asks_of tickets))
+  pub since : Follow follows new.log
+      → LeavesSince (moments (slots sight new.log)) (slots sight new.log) (IsAllowed new.book (doubt_of new.book.items))
   pub appended : new.log.generation ≡ old.log.generation
   pub opened : new.opened ≡ old.opened
 
@@ -48,7 +54,8 @@ EndsFor book front (j ∷ rest) Full = Writes (with_steps book (asks_of front)) 
 EndsFor book front rest Memory = rest ≢ []
 
 -- A front of the jobs is written at once, and the rest is as it was.
-pub record HasFront {D : Type 0} (sight : D → Sight) (follows : D → Type 0) (old new : Sharded D) (jobs rest : List Job) (was now : List Settled) (ended : Ended) : Type 0 where
+pub record HasFront {D : Type 0} (sight : D → Sight) (follows : D → Type 0) (old new : Sharded D)
+    (jobs rest : List Job) (was now : List Settled) (ended : Ended) : Type 0 where
   pub front : List Announced
   pub some : 1 ≤ length front
   pub few : length front ≤ 64
@@ -64,7 +71,8 @@ GoesAlone old job Full = Writes old.book job.call × (¬ FitsBehind old.log old.
 GoesAlone old job Memory = Unit {0}
 
 -- The first job goes alone: as a call that is made by itself.
-pub record IsAlone {D : Type 0} (sight : D → Sight) (follows : D → Type 0) (old new : Sharded D) (jobs rest : List Job) (was now : List Settled) (ended : Ended) : Type 0 where
+pub record IsAlone {D : Type 0} (sight : D → Sight) (follows : D → Type 0) (old new : Sharded D) (jobs rest : List Job)
+    (was now : List Settled) (ended : Ended) : Type 0 where
   pub job : Job
   pub split : jobs ≡ job ∷ rest
   pub why : GoesAlone old job ended
@@ -79,19 +87,22 @@ refused_of fault [] = []
 refused_of fault (t ∷ ts) = settled.Refused fault t ∷ refused_of fault ts
 
 -- The first job comes back, with those of its pass behind it, and all else is as it was.
-pub record IsGivenBack {D : Type 0} (old new : Sharded D) (jobs rest : List Job) (was now : List Settled) (ended : Ended) : Type 0 where
+pub record IsGivenBack {D : Type 0} (old new : Sharded D) (jobs rest : List Job) (was now : List Settled)
+    (ended : Ended) : Type 0 where
   pub job : Job
   pub others : List Job
   pub split : jobs ≡ job ∷ others
   pub why : GoesAlone old job ended
   pub same : new ≡ old
   pub fault : ApplyFault
-  pub spent : fault ≡ GenerationSpent → (2 ^ 63 - 1 ≤ old.log.generation) × Writes old.book job.call × (¬ FitsBehind old.log old.book job.call)
+  pub spent : fault ≡ GenerationSpent → (2 ^ 63 - 1 ≤ old.log.generation) × Writes old.book job.call
+      × (¬ FitsBehind old.log old.book job.call)
   pub late : fault ≡ GenerationSpent → IsLate old.opened old.book
   pub settled : now ≡ was ++ refused_of fault (tickets_of (jobs_by job.ticket.ask.pass jobs))
   pub rest_is : rest ≡ jobs_but job.ticket.ask.pass jobs
 
-abbrev pub IsTurn : {D : Type 0} → (D → Sight) → (D → Type 0) → Sharded D → Sharded D → List Job → List Job → List Settled → List Settled → Ended → Type 0
+abbrev pub IsTurn : {D : Type 0} → (D → Sight) → (D → Type 0) → Sharded D → Sharded D → List Job → List Job
+    → List Settled → List Settled → Ended → Type 0
 IsTurn sight follows old new jobs rest was now ended =
     HasFront sight follows old new jobs rest was now ended
     ⊎ (IsAlone sight follows old new jobs rest was now ended

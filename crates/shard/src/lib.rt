@@ -1,6 +1,7 @@
 //! One shard: the states of its streams, its log over two slots, and its book, in which each call is one step.
 //!
-//! A change is written to the log before its step is added to the book, so that nothing is seen that a crash could take.
+//! A change is written to the log before its step is added to the book, so that nothing is seen that a crash could
+//! take.
 #![tactic(auto)]
 
 mod adding;

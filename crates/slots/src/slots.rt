@@ -26,8 +26,8 @@ impl From<AllocError> for SlotsFault {
     }
 }
 
-/// Opens the slots of so many shards, the files `shard-SS-0.wal` and `shard-SS-1.wal` of a folder. What is missing is made
-/// empty, the folder too, and each file is locked against another process. What was made survives a crash. A shard
+/// Opens the slots of so many shards, the files `shard-SS-0.wal` and `shard-SS-1.wal` of a folder. What is missing is
+/// made empty, the folder too, and each file is locked against another process. What was made survives a crash. A shard
 /// that stops answering has a line in `errors`, where they are given.
 pub fn open_slots<R: Files<File = File>>(
     rt: &R,

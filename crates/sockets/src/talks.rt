@@ -352,7 +352,8 @@ fn words_of(alloc: Global, line: &str) -> Result<Vec<String>, Fail> {
     Ok(words)
 }
 
-/// The server of the folder `sockets_test` with two shards and one worker for two connections, and what is answered there.
+/// The server of the folder `sockets_test` with two shards and one worker for two connections, and what is answered
+/// there.
 fn run_and_ask<R>(rt: &R, alloc: Global, port: u16, talk: Talk<'_>) -> Result<(String, Ended), Fail>
 where
     R: Files<File = File> + Net<Listener = TcpListener, Stream = TcpStream>,

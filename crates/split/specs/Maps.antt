@@ -18,9 +18,11 @@ map_at maps s = slice_index_or maps s finite.empty
 abbrev pub AreApart : ℕ → (ℕ → Streams) → Type 0
 AreApart n maps = (s : ℕ) (k : StreamKey) → s < n → IsSome (finite.get (maps s) k) → shard k n ≡ s
 
--- m maps have the streams of n maps: each key stands in the map of its new shard alone, with what it had in that of its old one
+-- m maps have the streams of n maps: each key stands in the map of its new shard alone, with what it had in that of its
+-- old one
 abbrev pub IsSplit : ℕ → ℕ → (ℕ → Streams) → (ℕ → Streams) → Type 0
-IsSplit n m olds news = (s : ℕ) (k : StreamKey) → s < m → finite.get (news s) k ≡ (if shard k m == s then finite.get (olds (shard k n)) k else None)
+IsSplit n m olds news = (s : ℕ) (k : StreamKey) → s < m → finite.get (news s) k
+    ≡ (if shard k m == s then finite.get (olds (shard k n)) k else None)
 
 -- ---- how streams are dealt
 

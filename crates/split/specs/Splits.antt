@@ -63,7 +63,8 @@ module _ {D : Type 0} (sight : D → Sight) (follows : D → Type 0) where
 
   -- an old shard's slots held these streams, and no crash takes them
   pub record IsRead (owner : Owner) (given back : List D) (m : Streams) : Type 0 where
-    pub recovers : AllFollow follows back → Recovers owner (slots_of sight given).first.seen (slots_of sight given).second.seen m
+    pub recovers : AllFollow follows back
+        → Recovers owner (slots_of sight given).first.seen (slots_of sight given).second.seen m
     pub keeps : AllFollow follows back → Keeps owner (slots_of sight back) m
     pub not_failed : HasNotFailed given back
 
@@ -71,7 +72,8 @@ module _ {D : Type 0} (sight : D → Sight) (follows : D → Type 0) where
   pub record IsStarted (owner : Owner) (cap : ℕ) (given back : List D) (m : Streams) : Type 0 where
     pub empty : AllFollow follows back → IsEmptyPair (slots_of sight given)
     pub keeps : AllFollow follows back → Keeps owner (slots_of sight back) m
-    pub first : AllFollow follows back → (a b : List ℕ) → (slots_of sight back).first.may_leave a → (slots_of sight back).second.may_leave b → IsFirst owner a b m
+    pub first : AllFollow follows back → (a b : List ℕ) → (slots_of sight back).first.may_leave a
+        → (slots_of sight back).second.may_leave b → IsFirst owner a b m
     pub small : room m ≤ cap
     pub not_failed : HasNotFailed given back
 
@@ -86,18 +88,21 @@ module _ {D : Type 0} (sight : D → Sight) (follows : D → Type 0) where
   -- all that the old slots hold stands in the new ones, under the new number of shards
   pub record AreSplit (cap : ℕ) (old old_back new new_back : List (List D)) : Type 0 where
     pub division : Division (length new) old old_back
-    pub started : EachPair (λ s given back. IsStarted (owner_of s (length new)) cap given back (division.news s)) new new_back
+    pub started : EachPair (λ s given back. IsStarted (owner_of s (length new)) cap given back (division.news s)) new
+        new_back
 
   -- why the slots of an old shard are refused, as the log says it
   pub record IsRefusal (owner : Owner) (given back : List D) (fault : OpenFault) : Type 0 where
-    pub why : IsOfDeviceOrMemory fault ⊎ (AllFollow follows back → IsOpenFault owner (slots_of sight given).first.seen (slots_of sight given).second.seen fault)
+    pub why : IsOfDeviceOrMemory fault ⊎ (AllFollow follows back
+        → IsOpenFault owner (slots_of sight given).first.seen (slots_of sight given).second.seen fault)
     pub counted : CountsCause fault (slots_of sight given) (slots_of sight back)
 
   -- This old shard is the first whose slots are refused. No new slot was touched.
   pub record IsOldRefused (s : ℕ) (fault : OpenFault) (old old_back new new_back : List (List D)) : Type 0 where
     pub within : s < length old
     pub refused : IsRefusal (owner_of s (length old)) (pair_at old s) (pair_at old_back s) fault
-    pub before : (i : ℕ) → i < s → (m : Streams) × IsRead (owner_of i (length old)) (pair_at old i) (pair_at old_back i) m
+    pub before : (i : ℕ) → i < s → (m : Streams)
+        × IsRead (owner_of i (length old)) (pair_at old i) (pair_at old_back i) m
     pub untouched : new_back ≡ new
 
   -- This slot of this new shard is the first that is not empty, and nothing was written.
@@ -120,5 +125,7 @@ module _ {D : Type 0} (sight : D → Sight) (follows : D → Type 0) where
   IsCause (Old s fault) cap old old_back new new_back = IsOldRefused s fault old old_back new new_back
   IsCause (NotEmpty s slot) cap old old_back new new_back = IsNotEmpty s slot new new_back
   IsCause (NoRoom s) cap old old_back new new_back = HasNoRoom cap s old old_back new new_back
-  IsCause (Device s) cap old old_back new new_back = (s < length new) × HasFailed (slots_of sight (pair_at new s)) (slots_of sight (pair_at new_back s))
-  IsCause Memory cap old old_back new new_back = EachPair (λ _. HasNotFailed) old old_back × EachPair (λ _. HasNotFailed) new new_back
+  IsCause (Device s) cap old old_back new new_back = (s < length new)
+      × HasFailed (slots_of sight (pair_at new s)) (slots_of sight (pair_at new_back s))
+  IsCause Memory cap old old_back new new_back = EachPair (λ _. HasNotFailed) old old_back
+      × EachPair (λ _. HasNotFailed) new new_back

@@ -34,24 +34,29 @@ module _ {D : Type 0} (sight : D → Sight) (follows : D → Type 0) where
 
   -- or they are not, or a device failed
   pub data IsTestFault (s : ℕ) (given back : List D) (fault : SplitFault) : Type 0 where
-    filled : (slot : ℕ) → fault ≡ NotEmpty s slot → (AllFollow follows back → IsFirstFull slot (slots_of sight given)) → IsTestFault s given back fault
-    unmeasured : fault ≡ Device s → HasFailed (slots_of sight given) (slots_of sight back) → IsTestFault s given back fault
+    filled : (slot : ℕ) → fault ≡ NotEmpty s slot → (AllFollow follows back → IsFirstFull slot (slots_of sight given))
+        → IsTestFault s given back fault
+    unmeasured : fault ≡ Device s → HasFailed (slots_of sight given) (slots_of sight back)
+        → IsTestFault s given back fault
 
   -- generation 1 stands in slot 1 with these streams
   pub record IsBegun (owner : Owner) (given back : List D) (m : Streams) : Type 0 where
     pub before : IsBefore sight follows given back
     pub keeps : AllFollow follows back → Keeps owner (slots_of sight back) m
-    pub first : AllFollow follows back → (a b : List ℕ) → (slots_of sight back).first.may_leave a → (slots_of sight back).second.may_leave b → IsFirst owner a b m
+    pub first : AllFollow follows back → (a b : List ℕ) → (slots_of sight back).first.may_leave a
+        → (slots_of sight back).second.may_leave b → IsFirst owner a b m
     pub not_failed : HasNoFailure (slots_of sight given) (slots_of sight back)
 
   -- or it is not there, and why
   pub data IsStartFault (s : ℕ) (given back : List D) (fault : SplitFault) : Type 0 where
-    found_more : (slot : ℕ) → fault ≡ NotEmpty s slot → (AllFollow follows back → IsEmptyPair (slots_of sight given) → ⊥) → IsStartFault s given back fault
+    found_more : (slot : ℕ) → fault ≡ NotEmpty s slot
+        → (AllFollow follows back → IsEmptyPair (slots_of sight given) → ⊥) → IsStartFault s given back fault
     broken : fault ≡ Device s → HasFailed (slots_of sight given) (slots_of sight back) → IsStartFault s given back fault
     short : fault ≡ Memory → HasNoFailure (slots_of sight given) (slots_of sight back) → IsStartFault s given back fault
 
 -- why a log has no first generation of these streams
 pub data IsBeginFault {D : Type 0} (sight : D → Sight) (old new : Wal D) (fault : SplitFault) : Type 0 where
   in_use : (slot : ℕ) → fault ≡ NotEmpty old.shard slot → 0 < old.generation → IsBeginFault sight old new fault
-  unwritten : fault ≡ Device old.shard → HasFailed (slots sight old) (slots sight new) → IsBeginFault sight old new fault
+  unwritten : fault ≡ Device old.shard → HasFailed (slots sight old) (slots sight new)
+      → IsBeginFault sight old new fault
   no_memory : fault ≡ Memory → HasNoFailure (slots sight old) (slots sight new) → IsBeginFault sight old new fault

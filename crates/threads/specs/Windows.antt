@@ -55,7 +55,8 @@ IsThreadReady table about history calls pass = (history ≡ table) × (length ca
 
 -- the open calls of a pass have steps in the book of their shard
 abbrev pub HaveAll : About → List Ask → Booked → Booked → Type 0
-HaveAll about pending zero one = HaveSteps (asks_on about 0 pending) zero.items × HaveSteps (asks_on about 1 pending) one.items
+HaveAll about pending zero one = HaveSteps (asks_on about 0 pending) zero.items
+    × HaveSteps (asks_on about 1 pending) one.items
 
 -- where the call is shard k's, the calls in front of it have steps in its book
 abbrev pub MayFollowIn : About → ℕ → Announced → Booked → Type 0

@@ -13,13 +13,13 @@ use std::test::*;
 use std::thread::{self, Threads, join};
 use std::time::{Clock, Duration};
 
-/// How long a thread lets the one before it come to the shard, in milliseconds. Where that was too short for the threads
-/// to come in their order, all is made anew with the next time.
+/// How long a thread lets the one before it come to the shard, in milliseconds. Where that was too short for the
+/// threads to come in their order, all is made anew with the next time.
 const TIMES: [u64; 6] = [10, 20, 40, 80, 160, 320];
 
 /// The lengths of the slots with a segment of one push and of one block with two more. (With a block for each it would
 /// be longer.)
-const GROUPED: [u64; 2] = [0, 152];
+const GROUPED: [u64; 2] = [0, 153];
 
 /// What a thread does at a stream.
 #[derive(Clone, Copy)]

@@ -20,7 +20,8 @@ IsNumberIn least most text = IsTime text × (least ≤ value text) × (value tex
 
 -- two numbers, of 1 to 19 digits each: a shard's, and among how many it is, 1 to 64
 abbrev pub NameShard : List ℕ → List ℕ → Type 0
-NameShard shard count = IsTime shard × IsTime count × (1 ≤ value count) × (value count ≤ 64) × (value shard < value count)
+NameShard shard count = IsTime shard × IsTime count × (1 ≤ value count) × (value count ≤ 64)
+    × (value shard < value count)
 
 -- three words: a file, a shard's number, and the number of shards
 pub record GiveShard (words : List (String Global)) : Type 0 where
@@ -66,7 +67,8 @@ pub record GiveServer (words : List (String Global)) : Type 0 where
   pub limited : IsLimit limit
 
 -- what names a server says of it
-pub record SaysOfServer (folder port shards workers : List ℕ) (connections : Option ℕ) (server : ServerWords) : Type 0 where
+pub record SaysOfServer (folder port shards workers : List ℕ) (connections : Option ℕ)
+    (server : ServerWords) : Type 0 where
   pub folder_is : server.folder.now ≡ folder
   pub port_is : server.port ≡ value port
   pub shards_are : server.shards ≡ value shards
@@ -81,7 +83,8 @@ connections_of (limit ∷ more) = Some (value (string_bytes limit))
 -- the server that the words say
 pub record SaysServer (words : List (String Global)) (server : ServerWords) : Type 0 where
   pub given : GiveServer words
-  pub says : SaysOfServer (string_bytes given.folder) (string_bytes given.port) (string_bytes given.shards) (string_bytes given.workers) (connections_of given.limit) server
+  pub says : SaysOfServer (string_bytes given.folder) (string_bytes given.port) (string_bytes given.shards)
+      (string_bytes given.workers) (connections_of given.limit) server
 
 -- what is asked for
 abbrev pub verb_of : Route → List ℕ
@@ -117,7 +120,8 @@ pub record SaysOfCall (verb folder shards tenant now : List ℕ) (call : CallWor
 -- the call that the words say
 pub record SaysCall (words : List (String Global)) (call : CallWords) : Type 0 where
   pub given : GiveCall words
-  pub says : SaysOfCall (string_bytes given.verb) (string_bytes given.folder) (string_bytes given.shards) (string_bytes given.tenant) (string_bytes given.now) call
+  pub says : SaysOfCall (string_bytes given.verb) (string_bytes given.folder) (string_bytes given.shards)
+      (string_bytes given.tenant) (string_bytes given.now) call
 
 -- what the environment says of a slot's bytes: nothing, or 4,096 to 2^30 of them
 abbrev pub GivesCapacity : Option (List ℕ) → Type 0

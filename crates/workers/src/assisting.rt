@@ -1,5 +1,5 @@
-//! Threads that help the workers: one at each shard, so that the calls of one body to several shards are written side by
-//! side.
+//! Threads that help the workers: one at each shard, so that the calls of one body to several shards are written side
+//! by side.
 ghost use Rattle.std.specs.Prelude.{◌<◌};
 
 use crate::fault::WorkersFault;

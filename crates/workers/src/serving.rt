@@ -77,8 +77,8 @@ fn work<D: Disk + Drop, C: Clock + Drop, R: Wait>(worker: Worker<D, C, R>)
     }
 }
 
-// Hands each connection that comes to the workers, so many at most, until no worker is left. Where none can be accepted, as
-// for want of file descriptors, it waits a little in place of asking at once again.
+// Hands each connection that comes to the workers, so many at most, until no worker is left. Where none can be
+// accepted, as for want of file descriptors, it waits a little in place of asking at once again.
 fn accept<R: Wait + rt::Clock>(
     rt: &R,
     listener: &TcpListener,
@@ -182,13 +182,14 @@ where
     )
 }
 
-/// Serves the connections that come to a listener, so many at most: one thread accepts them, and for each pass a worker,
-/// with a clock of its own, serves one after another. At each shard a further thread helps them.
+/// Serves the connections that come to a listener, so many at most: one thread accepts them, and for each pass a
+/// worker, with a clock of its own, serves one after another. At each shard a further thread helps them.
 ///
-/// It ends when so many connections have come and each has ended; or, where no worker is left, since a pass is closed when
-/// its numbers are used up, with the next connection that comes; or at once, with an error, where there is no memory or a
-/// thread cannot be started. A connection that fails, or does nothing for 60 seconds, is closed, and its worker takes the
-/// next; what it was answered stands. A connection that could not be accepted is not counted, and costs 10 milliseconds.
+/// It ends when so many connections have come and each has ended; or, where no worker is left, since a pass is closed
+/// when its numbers are used up, with the next connection that comes; or at once, with an error, where there is no
+/// memory or a thread cannot be started. A connection that fails, or does nothing for 60 seconds, is closed, and its
+/// worker takes the next; what it was answered stands. A connection that could not be accepted is not counted, and
+/// costs 10 milliseconds.
 pub fn serve_listener<D, C, R>(
     rt: &R,
     alloc: Global,
