@@ -1,7 +1,6 @@
 ghost use Rattle.std.specs.Prelude.{◌≡◌, ◌⊎◌, [], true, map, IfOk, IfErr};
 ghost use Rattle.std.specs.List.Sorted.{IsPermutation};
 ghost use Rattle.std.specs.Cmp as order;
-ghost use Rattle.std.specs.Cmp.Lexicographic.{lists_equiv, nat_list_eq_equiv};
 ghost use Rattle.labels.specs.Labels.{label_of};
 ghost use Rattle.labels.specs.Canonical.{NamesRise};
 ghost use Rattle.labels.specs.Faults.{repeats_name};
