@@ -14,6 +14,7 @@ pub use call::{Call, MAX_ENTRIES, Reply};
 pub use entries::{Entry, EntryList, Line};
 pub use history::{Ask, History, Item, Step};
 pub use image::{Image, StreamImage};
+pub use labels::Meta;
 pub use laws::{
     answer_is_of_stream, answered_in_a_row, answered_step, changes_what_it_says,
     entries_come_from_batches, equal_meanings_answer_alike, legal_histories, limits_of_profile,

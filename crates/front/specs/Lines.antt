@@ -41,6 +41,7 @@ entry_line i j words = entry_front i j ++ words ++ newline
 -- what is written of an outcome: nothing where it is no refusal
 abbrev pub outcome_line : ℕ → ℕ → Outcome → List ℕ
 outcome_line i j outcomes.TooLong = entry_line i j (codes "line too long")
+outcome_line i j outcomes.BadMetadata = entry_line i j (codes "bad metadata")
 outcome_line i j outcomes.TooOld = entry_line i j (codes "too old")
 outcome_line i j outcomes.TooNew = entry_line i j (codes "too new")
 outcome_line i j outcomes.Repeat = []

@@ -3,20 +3,27 @@ use Rattle.std.specs.Prelude.{ℕ, List, [], ◌∷◌, ◌++◌, map, codes, de
 use Rattle.serde_json.specs.Data.{Data, string, array, object, member, no_members}
 use Rattle.serde_json.specs.View.{items_of}
 use Rattle.serde_json.specs.Written.{compact_text}
+use Rattle.labels.specs.Labels.{Label}
 use Rattle.entries.specs.declared.entry.Entry.{Entry}
 use Rattle.accept.specs.declared.call.Reply.{Reply}
 use Rattle.accept.specs.declared.call.Reply.TheVariants as replies
+use Rattle.pushjson.specs.Bodies.{labels_tree}
 use Rattle.requests.specs.declared.status.Status.{Status}
 use Rattle.requests.specs.declared.status.Status.TheVariants as statuses
 use Rattle.front.specs.declared.calling.Came.{Came}
 use Rattle.front.specs.declared.calling.Came.TheVariants.{Refused, Replied, Failed}
 use Rattle.front.specs.Lines.{push_status, lines_from}
 
--- a time and a line
-abbrev pub entry_tree : Entry → Data
-entry_tree e = array (items_of (string (decimal e.time) ∷ string e.line ∷ []))
+-- the object of the metadata, and nothing where there is none
+abbrev pub meta_tree : List Label → List Data
+meta_tree [] = []
+meta_tree (p ∷ ps) = object (labels_tree (p ∷ ps)) ∷ []
 
--- `{"values":[[time, line], ..]}`
+-- a time, a line, and metadata where there is some
+abbrev pub entry_tree : Entry → Data
+entry_tree e = array (items_of (string (decimal e.time) ∷ string e.line ∷ meta_tree e.meta))
+
+-- `{"values":[[time, line], [time, line, metadata], ..]}`
 abbrev pub read_tree : List Entry → Data
 read_tree es = object (member (codes "values") (array (items_of (map entry_tree es))) no_members)
 

@@ -104,6 +104,7 @@ fn push_outcome(
 {
     match outcome {
         Outcome::TooLong => push_entry_line(text, stream, entry, b"line too long"),
+        Outcome::BadMetadata => push_entry_line(text, stream, entry, b"bad metadata"),
         Outcome::TooOld => push_entry_line(text, stream, entry, b"too old"),
         Outcome::TooNew => push_entry_line(text, stream, entry, b"too new"),
         Outcome::TooFarBehind { oldest } => push_far_behind(text, stream, entry, oldest),

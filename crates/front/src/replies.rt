@@ -1,7 +1,11 @@
 //! The answers to reads and trims.
 ghost use Rattle.std.specs.Prelude.{◌≡◌, ◌∷◌, [], None, IfOk, IfErr, map};
+ghost use Rattle.serde_json.specs.Data.{object};
 ghost use Rattle.serde_json.specs.View.{view};
 ghost use Rattle.serde_json.specs.Written.{compact_text};
+ghost use Rattle.labels.specs.Labels.{label_of};
+ghost use Rattle.labels.specs.Canonical.{NamesRise};
+ghost use Rattle.pushjson.specs.Bodies.{labels_tree};
 ghost use Rattle.front.specs.Courses.{first_failure};
 ghost use Rattle.front.specs.Lines.{push_status, lines_from};
 ghost use Rattle.front.specs.Replies.{entry_tree, read_tree, trimmed_text, reply_status, reply_text, one_status, one_text};
@@ -15,7 +19,8 @@ use requests::{Answer, ServeFault, Status};
 use serde_json::{Map, Value};
 use std::alloc::{AllocError, Global};
 
-/// Status and body of the answer to a read that got this reply, as `answer` gives them.
+/// Status and body of the answer to a read that got this reply, as `answer` gives them. A value is a time and a line,
+/// and where the line has structured metadata a third element, the object of its pairs.
 ///
 /// # Errors
 ///
@@ -120,29 +125,46 @@ fn object_of_entries(alloc: Global, entries: EntryList) -> Result<Value, AllocEr
     ensures { IfOk result (λ v. view v ≡ read_tree entries) }
 {
     let mut members = Map::new(alloc);
-    let values = pairs_of_entries(alloc, entries.into_vec())?;
+    let values = values_of_entries(alloc, entries.into_vec())?;
     members.insert("values".to_string(alloc)?, Value::Array(values))?;
     Ok(Value::Object(members))
 }
 
-fn pairs_of_entries(alloc: Global, entries: Vec<Entry>) -> Result<Vec<Value>, AllocError>
+fn values_of_entries(alloc: Global, entries: Vec<Entry>) -> Result<Vec<Value>, AllocError>
     ensures { IfOk result (λ values. map view values.items ≡ map entry_tree entries.items) }
 {
     let mut values = Vec::with_capacity(alloc, entries.len())?;
     for entry in entries {
-        values.push(pair_of_entry(alloc, entry)?)?;
+        values.push(value_of_entry(alloc, entry)?)?;
     }
     Ok(values)
 }
 
-fn pair_of_entry(alloc: Global, entry: Entry) -> Result<Value, AllocError>
+/// A time, a line, and metadata where there is some.
+fn value_of_entry(alloc: Global, entry: Entry) -> Result<Value, AllocError>
     ensures { IfOk result (λ v. view v ≡ entry_tree entry) }
 {
-    let Entry { time, line } = entry;
-    let mut pair = Vec::with_capacity(alloc, 2)?;
-    pair.push(Value::String(time.to_string(alloc)?))?;
-    pair.push(Value::String(line.into_string()))?;
-    Ok(Value::Array(pair))
+    let Entry { time, line, meta } = entry;
+    let pairs = meta.as_slice();
+    let mut value = Vec::with_capacity(alloc, if pairs.is_empty() { 2 } else { 3 })?;
+    value.push(Value::String(time.to_string(alloc)?))?;
+    value.push(Value::String(line.into_string()))?;
+    if !pairs.is_empty() {
+        value.push(object_of_pairs(alloc, pairs)?)?;
+    }
+    Ok(Value::Array(value))
+}
+
+/// The object of these pairs, whose names rise.
+fn object_of_pairs(alloc: Global, pairs: &[(String, String)]) -> Result<Value, AllocError>
+    requires { NamesRise (map label_of pairs.now) }
+    ensures { IfOk result (λ v. view v ≡ object (labels_tree (map label_of pairs.now))) }
+{
+    let mut members = Map::new(alloc);
+    for (name, value) in pairs {
+        members.insert(name.clone()?, Value::String(value.clone()?))?;
+    }
+    Ok(Value::Object(members))
 }
 
 /// An answer of this text.

@@ -3,7 +3,7 @@ use Rattle.std.specs.Cmp.Lexicographic.{pointwise}
 use Rattle.std.specs.Cmp.Derive.Mapped.{pointwise-map}
 use Rattle.labels.specs.Metas.{same_pair, same_pairs}
 use Rattle.labels.specs.declared.meta.MetaFault.TheVariants.{Memory, NameTwice}
-use Rattle.std.proofs.Common.{Bool, ◌⊎◌, inr, sym, subst, ◌≡◌, ℕ, ◌+◌, ◌<◌, true, false, List, [], ◌∷◌, length, get_or, map, refl, ◌∙◌, String, string_bytes, Result, Ok, Err, IfOk, Vec, vec_len}
+use Rattle.std.proofs.Common.{suc, zero, ap, arith, Ordering, Less, Equal, Greater, Bool, ◌⊎◌, inr, sym, subst, ◌≡◌, ℕ, ◌+◌, ◌<◌, true, false, List, [], ◌∷◌, length, get_or, map, refl, ◌∙◌, String, string_bytes, Result, Ok, Err, IfOk, Vec, vec_len}
 use Rattle.std.specs.Result.{MatchResult}
 use Rattle.std.specs.declared.alloc.Global.{Global}
 use Rattle.std.specs.List.{AllAdjacentBelow, AllZip}
@@ -29,6 +29,25 @@ pub rise_when_below : (ys es : List (String Global × String Global)) → es ≡
     → AllAdjacentBelow (λ (x y : String Global × String Global). true ≡ is_lt (slice_cmp nat_cmp (string_bytes x.0) (string_bytes y.0))) es (length es)
     → NamesRise (map label_of ys)
 rise_when_below ys es f adjacent = rise_from_adjacent ys (rw f at adjacent)
+
+less_is_lt : (o : Ordering) → o ≡ Less → false ≡ is_lt o → ⊥
+less_is_lt Less l f = cc
+less_is_lt Equal l f = cc
+less_is_lt Greater l f = cc
+
+stuck_at : (es : List (String Global × String Global)) (k : ℕ) → k + 1 < length es → ((d : String Global × String Global) → false ≡ is_lt (slice_cmp nat_cmp (string_bytes (get_or es k d).0) (string_bytes (get_or es (k + 1) d).0))) → NamesRise (map label_of es) → ⊥
+stuck_at [] k l n rise = absurd (omega arith)
+stuck_at (x ∷ []) k l n rise = absurd (omega arith)
+stuck_at (x ∷ y ∷ ys) zero l n rise = less_is_lt _ rise.0 (n x)
+stuck_at (x ∷ y ∷ ys) (suc k) l n rise =
+    let more : suc k + 1 ≡ suc (k + 1) = omega arith in
+    stuck_at (y ∷ ys) k (omega arith) (λ d. n d ∙ ap (λ i. is_lt (slice_cmp nat_cmp (string_bytes (get_or (y ∷ ys) k d).0) (string_bytes (get_or (x ∷ y ∷ ys) i d).0))) more) rise.1
+
+-- names that rise are nowhere stuck
+pub rise_nowhere_stuck : (es ys : List (String Global × String Global)) → es ≡ ys → IsStuck es → NamesRise (map label_of ys) → ⊥
+rise_nowhere_stuck es ys f stuck rise =
+    let at : IsStuck ys = rw f at stuck in
+    stuck_at ys at.0 at.1 at.2 rise
 
 -- copies have the same pairs
 abbrev pub IsCopy : String Global × String Global → String Global × String Global → Type 0

@@ -1,5 +1,6 @@
 -- Structured metadata of a line: names with values.
-use Rattle.std.specs.Prelude.{List, [], map, Option, None, Some, Bool, ◌&&◌, ◌==◌, String}
+use Rattle.std.specs.Prelude.{ℕ, ◌+◌, nat_lt, nat_le, List, [], length, map, sum_by, Option, None, Some, Bool, ◌&&◌, ◌==◌, String}
+use Rattle.std.specs.List.{list_all}
 use Rattle.std.specs.declared.alloc.Global.{Global}
 use Rattle.std.specs.declared.boxed.Box.{Box}
 use Rattle.std.specs.declared.vec.Vec.{Vec}
@@ -24,3 +25,19 @@ pub same_pairs-equiv : IsEquivalence same_pairs
 same_pairs-equiv =
     lists_equiv (and_equiv (on_equiv (λ (p : Label). p.0) nat_list_eq_equiv)
     (on_equiv (λ (p : Label). p.1) nat_list_eq_equiv))
+
+-- the bytes of a pair in a log: its texts, each behind its length in two bytes
+abbrev pub pair_room : Label → ℕ
+pair_room p = 4 + length p.0 + length p.1
+
+-- the bytes of the pairs in a log
+abbrev pub meta_room : List Label → ℕ
+meta_room ps = sum_by pair_room ps
+
+-- a name of 1 to 256 bytes with a value of at most 1,024
+abbrev pub is_short_pair : Label → Bool
+is_short_pair p = nat_lt 0 (length p.0) && nat_le (length p.0) 256 && nat_le (length p.1) 1024
+
+-- metadata that a line may have: at most 16 such pairs
+abbrev pub is_short_meta : List Label → Bool
+is_short_meta ps = nat_le (length ps) 16 && list_all is_short_pair ps

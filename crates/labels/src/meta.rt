@@ -1,16 +1,24 @@
-ghost use Rattle.std.specs.Prelude.{◌≡◌, ◌⊎◌, [], true, map, IfOk, IfErr};
+ghost use Rattle.std.specs.Prelude.{◌≡◌, ◌⊎◌, ◌<◌, ◌^◌, [], true, map, IfOk, IfErr, IfSome, IsOk, MatchOption};
+ghost use Rattle.std.specs.List.{list_all};
 ghost use Rattle.std.specs.List.Sorted.{IsPermutation};
 ghost use Rattle.std.specs.Cmp as order;
 ghost use Rattle.labels.specs.Labels.{label_of};
 ghost use Rattle.labels.specs.Canonical.{NamesRise};
 ghost use Rattle.labels.specs.Faults.{repeats_name};
-ghost use Rattle.labels.specs.Metas.{same_pairs, same_pairs-equiv};
+ghost use Rattle.labels.specs.Metas.{same_pairs, same_pairs-equiv, meta_room, is_short_pair, is_short_meta};
 ghost use Rattle.labels.specs.declared.meta.MetaFault.TheVariants.{Memory, NameTwice};
 
 use crate::writing::{names_rise, sort};
 use std::alloc::{AllocError, Global};
 use std::marker::Model;
 use thiserror::Error;
+
+/// The most pairs of a line's metadata.
+const MAX_PAIRS: usize = 16;
+/// The longest name of a pair, in bytes.
+const MAX_NAME: usize = 256;
+/// The longest value of a pair, in bytes.
+const MAX_VALUE: usize = 1_024;
 
 /// Why structured metadata is refused. `Memory` may come at any point.
 #[derive(Clone, Copy, Debug, PartialEq, Eq, Error)]
@@ -70,6 +78,17 @@ fn copied(pairs: &Vec<(String, String)>) -> Result<Vec<(String, String)>, AllocE
     pairs.clone()
 }
 
+fn are_short(pairs: &[(String, String)]) -> bool
+    ensures { result ≡ list_all is_short_pair (map label_of pairs.now) }
+{
+    for (name, value) in pairs {
+        if name.is_empty() || name.len() > MAX_NAME || value.len() > MAX_VALUE {
+            return false;
+        }
+    }
+    true
+}
+
 impl Meta {
     /// No metadata.
     pub fn none() -> Meta
@@ -83,6 +102,7 @@ impl Meta {
     #[tactic(auto, using(crate::proofs::Metas::rise_when_below, crate::proofs::Metas::pairs_when_sorted))]
     pub fn new(alloc: Global, mut pairs: Vec<(String, String)>) -> Result<Meta, MetaFault>
         ensures pairs { IfOk result (IsPermutation (map label_of pairs.items)) }
+        ensures none { pairs.items ≡ [] → IsOk result }
         ensures rise { IfOk result NamesRise }
         ensures cause { IfErr result (λ e. (e ≡ Memory)
             ⊎ ((e ≡ NameTwice) × (repeats_name (map label_of pairs.items) ≡ true))) }
@@ -95,6 +115,43 @@ impl Meta {
             return Err(MetaFault::NameTwice);
         }
         Ok(boxed(alloc, pairs)?)
+    }
+
+    /// The metadata of these pairs as they stand, `None` where a name is not above the one before it.
+    #[tactic(auto, using(crate::proofs::Metas::rise_when_below))]
+    pub fn in_order(alloc: Global, pairs: Vec<(String, String)>) -> Result<Option<Meta>, AllocError>
+        ensures pairs { IfOk result (λ o. MatchOption o (¬ NamesRise (map label_of pairs.items))
+            (λ meta. meta ≡ map label_of pairs.items)) }
+        ensures rise { IfOk result (λ o. IfSome o NamesRise) }
+    {
+        if pairs.is_empty() {
+            return Ok(Some(Meta::none()));
+        }
+        if !names_rise(&pairs) {
+            return Ok(None);
+        }
+        Ok(Some(boxed(alloc, pairs)?))
+    }
+
+    /// The bytes that the pairs take in a log: their texts, each behind its length in two bytes.
+    pub fn room(&self) -> u64
+        requires { meta_room self.now < 2 ^ 64 }
+        ensures { result ≡ meta_room self.now }
+    {
+        let mut room = 0;
+        for (name, value) in self.as_slice() {
+            room += 4 + name.len() as u64 + value.len() as u64;
+        }
+        room
+    }
+
+    /// Whether a line may have it: at most 16 pairs, with names of 1 to 256 bytes and values of at most 1,024. These
+    /// limits are this project's profile.
+    pub fn is_short(&self) -> bool
+        ensures { result ≡ is_short_meta self.now }
+    {
+        let pairs = self.as_slice();
+        pairs.len() <= MAX_PAIRS && are_short(pairs)
     }
 
     /// The pairs, in order.

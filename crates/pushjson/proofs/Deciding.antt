@@ -1,5 +1,5 @@
 -- Whether a tree is that of a body, and whether the times in it are times.
-use Rattle.std.proofs.Common.{◌≡◌, ◌≢◌, ◌⊎◌, inl, inr, ℕ, suc, ◌<◌, ◌≤◌, ◌^◌, Bool, true, false, List, [], ◌∷◌, length, map, take, get_or, codes, All, refl, ap, sym, ◌∙◌, subst, arith}
+use Rattle.std.proofs.Common.{◌≡◌, ◌≢◌, ◌⊎◌, inl, inr, ℕ, suc, ◌<◌, ◌≤◌, ◌^◌, Bool, true, false, Option, None, Some, List, [], ◌∷◌, length, map, take, get_or, codes, All, refl, ap, sym, ◌∙◌, subst, arith}
 use Rattle.std.specs.Str.{bytes_eq}
 use Rattle.std.specs.Char.{digit_value}
 use Rattle.std.specs.Str.Parse.{AllDigits, digits_value}
@@ -12,6 +12,7 @@ use Rattle.labels.specs.Labels.{Label}
 use Rattle.pushjson.specs.Times.{IsTime}
 use Rattle.pushjson.specs.Bodies.{Stream, TimedLine, labels_tree, value_tree, stream_tree, body_tree, AreTimed, HaveTimes, IsFirstBad, IsFirstBadTime}
 use Rattle.pushjson.specs.Queries.{query_tree, trim_tree}
+use Rattle.pushjson.proofs.Thirds.{third_items, no_third, no_fourth}
 
 -- the tree is that of something, or of nothing
 abbrev pub Decided : {X Y : Type 0} → (Y → X) → X → Type 0
@@ -72,6 +73,16 @@ items_decided : {Y : Type 0} (tree : Y → Data) → ((d : Data) → Decided tre
 items_decided tree each no_items = inl ([], refl)
 items_decided tree each (item d ds) = items_by tree d ds (each d) (items_decided tree each ds)
 
+item_by : {Y Z : Type 0} (tree : Y → Data) (rest : Z → Items) (d : Data) (ds : Items) → Decided tree d → Decided rest ds → Decided (λ (p : Y × Z). item (tree p.0) (rest p.1)) (item d ds)
+item_by tree rest d ds (inl p) (inl q) = inl ((p.0, q.0), λ i. item (p.1 i) (q.1 i))
+item_by tree rest d ds (inr h) q = inr (λ y e. h y.0 cc)
+item_by tree rest d ds (inl p) (inr h) = inr (λ y e. h y.1 cc)
+
+-- an item of one kind, and the rest
+item_decided : {Y Z : Type 0} (tree : Y → Data) (rest : Z → Items) → ((d : Data) → Decided tree d) → ((is : Items) → Decided rest is) → (is : Items) → Decided (λ (p : Y × Z). item (tree p.0) (rest p.1)) is
+item_decided tree rest one more no_items = inr (λ y e. cc)
+item_decided tree rest one more (item d ds) = item_by tree rest d ds (one d) (more ds)
+
 -- members
 no_member : (k : List ℕ) (d : Data) (ms : Members) → ((text : List ℕ) → d ≢ string text) → (ps : List Label) → member k d ms ≢ labels_tree ps
 no_member k d ms h [] = λ e. cc
@@ -114,33 +125,37 @@ restated tree other f g there back d (inl p) = inl (f p.0, p.1 ∙ there p.0)
 restated tree other f g there back d (inr h) = inr (λ z e. h (g z) (e ∙ back z))
 
 -- the trees of bodies
-abbrev pair_items : TimedLine → Items
-pair_items v = items_of (string v.0 ∷ string v.1 ∷ [])
-
-two_texts : (ts : List (List ℕ)) (is : Items) → is ≡ items_of (map string ts) → Decided pair_items is
-two_texts [] is e = inr (λ v f. let g : no_items ≡ pair_items v = sym e ∙ f in cc)
-two_texts (a ∷ []) is e = inr (λ v f. let g : item (string a) no_items ≡ pair_items v = sym e ∙ f in cc)
-two_texts (a ∷ b ∷ []) is e = inl ((a, b), e)
-two_texts (a ∷ b ∷ c ∷ ts) is e = inr (λ v f. let g : items_of (map string (a ∷ b ∷ c ∷ ts)) ≡ pair_items v = sym e ∙ f in cc)
-
-pair_by : (is : Items) → Decided (λ ts. items_of (map string ts)) is → Decided pair_items is
-pair_by is (inl p) = two_texts p.0 is p.1
-pair_by is (inr h) = inr (λ v e. h (v.0 ∷ v.1 ∷ []) e)
-
-value_decided : (d : Data) → Decided value_tree d
-value_decided d = array_decided pair_items (λ is. pair_by is (items_decided string text_decided is)) d
-
 abbrev labels_object : List Label → Data
 labels_object ps = object (labels_tree ps)
+
+labels_object_decided : (d : Data) → Decided labels_object d
+labels_object_decided d = object_decided labels_tree labels_decided d
+
+third_by : (d : Data) → Decided labels_object d → Decided third_items (item d no_items)
+third_by d (inl p) = inl (Some p.0, ap (λ x. item x no_items) p.1)
+third_by d (inr h) = inr (no_third d h)
+
+third_decided : (is : Items) → Decided third_items is
+third_decided no_items = inl (None, refl)
+third_decided (item d no_items) = third_by d (labels_object_decided d)
+third_decided (item d (item e is)) = inr (no_fourth d e is)
+
+abbrev line_items : List ℕ × Option (List Label) → Items
+line_items p = item (string p.0) (third_items p.1)
+
+abbrev value_items : List ℕ × (List ℕ × Option (List Label)) → Items
+value_items p = item (string p.0) (line_items p.1)
+
+value_decided : (d : Data) → Decided value_tree d
+value_decided d =
+    restated (λ p. array (value_items p)) value_tree (λ p. record { time = p.0; line = p.1.0; third = p.1.1 }) (λ v. (v.time, (v.line, v.third))) (λ p. refl) (λ v. refl) d
+    (array_decided value_items (item_decided string line_items text_decided (item_decided string third_items text_decided third_decided)) d)
 
 abbrev values_array : List TimedLine → Data
 values_array vs = array (items_of (map value_tree vs))
 
 abbrev streams_array : List Stream → Data
 streams_array ss = array (items_of (map stream_tree ss))
-
-labels_object_decided : (d : Data) → Decided labels_object d
-labels_object_decided d = object_decided labels_tree labels_decided d
 
 values_decided : (d : Data) → Decided values_array d
 values_decided d = array_decided (λ vs. items_of (map value_tree vs)) (items_decided value_tree value_decided) d
@@ -235,14 +250,14 @@ spoiled : {X : Type 0} (P Q : X → Type 0) → ((x : X) → P x ⊎ Q x) → (x
 spoiled P Q each [] = inl (All-nil P)
 spoiled P Q each (x ∷ xs) = spoiled_by P Q x xs (each x) (spoiled P Q each xs)
 
-bad_by : (values : List TimedLine) → AreTimed values ⊎ Spoiled (λ v. IsTime v.0) (λ v. ¬ (IsTime v.0)) values → AreTimed values ⊎ ((j : ℕ) × IsFirstBad values j)
+bad_by : (values : List TimedLine) → AreTimed values ⊎ Spoiled (λ v. IsTime v.time) (λ v. ¬ (IsTime v.time)) values → AreTimed values ⊎ ((j : ℕ) × IsFirstBad values j)
 bad_by values (inl a) = inl a
 bad_by values (inr f) =
-    let P : TimedLine → Type 0 = λ v. ¬ (IsTime v.0) in
+    let P : TimedLine → Type 0 = λ v. ¬ (IsTime v.time) in
     inr (f.place, record { within = f.inside; here = λ d. subst P (sym (f.here d)) f.bad; earlier = f.earlier })
 
 bad_in : (values : List TimedLine) → AreTimed values ⊎ ((j : ℕ) × IsFirstBad values j)
-bad_in values = bad_by values (spoiled (λ v. IsTime v.0) (λ v. ¬ (IsTime v.0)) (λ v. time_decided v.0) values)
+bad_in values = bad_by values (spoiled (λ v. IsTime v.time) (λ v. ¬ (IsTime v.time)) (λ v. time_decided v.time) values)
 
 bad_time_by : (streams : List Stream) → HaveTimes streams ⊎ Spoiled (λ s. AreTimed s.values) (λ s. (j : ℕ) × IsFirstBad s.values j) streams → HaveTimes streams ⊎ ((i : ℕ) × (j : ℕ) × IsFirstBadTime streams i j)
 bad_time_by streams (inl a) = inl a

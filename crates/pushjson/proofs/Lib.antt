@@ -3,4 +3,5 @@ pub mod Existence
 pub mod Fronts
 pub mod OneAnswer
 pub mod OneQuery
+pub mod Thirds
 pub mod Trees

@@ -1,5 +1,5 @@
 -- A tree is the body of one list of streams at most, and streams have one answer.
-use Rattle.std.proofs.Common.{◌≡◌, ◌≢◌, inl, inr, ℕ, ◌<◌, List, [], ◌∷◌, length, map, take, get_or, length-take, Result, Ok, Err, Some, All, refl, ap, sym, ◌∙◌, arith}
+use Rattle.std.proofs.Common.{◌≡◌, ◌≢◌, inl, inr, ℕ, ◌<◌, List, [], ◌∷◌, length, map, take, get_or, length-take, Result, Ok, Err, Option, None, Some, All, refl, ap, sym, ◌∙◌, arith}
 use Rattle.std.proofs.lemmas.Bool.{cases_order}
 use Rattle.std.proofs.lemmas.List.{get_or-take}
 use Rattle.serde_json.specs.Data.{Data}
@@ -8,6 +8,7 @@ use Rattle.labels.specs.Labels.{Label}
 use Rattle.pushjson.specs.Times.{IsTime}
 use Rattle.pushjson.specs.Bodies.{Stream, TimedLine, labels_tree, value_tree, stream_tree, body_tree, IsJson, AreTimed, HaveTimes, IsFirstBad, IsFirstBadTime, entry_count, batch_of}
 use Rattle.pushjson.specs.Reads.{IsPushAnswer}
+use Rattle.pushjson.proofs.Thirds.{third_items}
 use Rattle.pushjson.specs.declared.push.RawBatch.{RawBatch}
 use Rattle.pushjson.specs.declared.fault.PushFault.{PushFault}
 use Rattle.pushjson.specs.declared.fault.PushFault.TheVariants.{NotJson, WrongShape, BadTime, TooManyEntries, Memory}
@@ -36,11 +37,26 @@ same_labels (p ∷ ps) (q ∷ qs) e =
     let first : p ≡ q = same_pair p q name value in
     cc
 
+same_third : (o p : Option (List Label)) → third_items o ≡ third_items p → o ≡ p
+same_third None None e = refl
+same_third None (Some qs) e = cc
+same_third (Some ps) None e = cc
+same_third (Some ps) (Some qs) e = let pairs : ps ≡ qs = same_labels ps qs cc in cc
+
+make_value : List ℕ → List ℕ → Option (List Label) → TimedLine
+make_value time line third = record { time = time; line = line; third = third }
+
 pub same_value : (v w : TimedLine) → value_tree v ≡ value_tree w → v ≡ w
+unfolding make_value
 same_value v w e =
-    let time : v.0 ≡ w.0 = cc in
-    let line : v.1 ≡ w.1 = cc in
-    same_pair v w time line
+    let time : v.time ≡ w.time = cc in
+    let line : v.line ≡ w.line = cc in
+    let third : v.third ≡ w.third = same_third v.third w.third cc in
+    let made : make_value v.time v.line v.third ≡ make_value w.time w.line w.third = cc in
+    made
+
+no_value : TimedLine
+no_value = make_value [] [] None
 
 pub same_stream : (s t : Stream) → stream_tree s ≡ stream_tree t → s ≡ t
 same_stream s t e =
@@ -60,7 +76,7 @@ same_streams bytes ss ts j k = same_body ss ts (same_tree bytes _ _ j k)
 
 -- a bad time is no time
 pub bad_among_times : (values : List TimedLine) (j : ℕ) → IsFirstBad values j → AreTimed values → ⊥
-bad_among_times values j b h = b.here ([], []) (h j ([], []) b.within)
+bad_among_times values j b h = b.here no_value (h j no_value b.within)
 
 pub bad_among_good : (ss : List Stream) (i j : ℕ) → IsFirstBadTime ss i j → HaveTimes ss → ⊥
 bad_among_good ss i j b h =
@@ -73,7 +89,7 @@ at_front P all j k d h w front = rw (← get_or-take k all j d h) (front j d (om
 
 -- none is bad before the first that is
 bad_before : (values : List TimedLine) (j k : ℕ) → IsFirstBad values j → IsFirstBad values k → j < k → ⊥
-bad_before values j k b c h = b.here ([], []) (at_front (λ v. IsTime v.0) values j k ([], []) h c.within c.earlier)
+bad_before values j k b c h = b.here no_value (at_front (λ v. IsTime v.time) values j k no_value h c.within c.earlier)
 
 same_bad : (values : List TimedLine) (j k : ℕ) → IsFirstBad values j → IsFirstBad values k → j ≡ k
 same_bad values j k b c = elim (cases_order j k) [ inl e ↦ e | inr o ↦ elim o [ inl h ↦ absurd (bad_before values j k b c h) | inr h ↦ absurd (bad_before values k j c b h) ] ]

@@ -9,6 +9,7 @@ use Rattle.serde_json.specs.declared.value.Value.{Value}
 use Rattle.serde_json.specs.Data.{Data, string, object, Items, Members, no_members, member}
 use Rattle.serde_json.specs.View.{items_of}
 use Rattle.labels.specs.Labels.{Label}
+use Rattle.labels.specs.Canonical.{NamesRise}
 use Rattle.pushjson.specs.Bodies.{labels_tree, HaveRisingNames}
 use Rattle.pushjson.specs.Shape.{IsFaultOf}
 use Rattle.pushjson.specs.declared.fault.PushFault.{PushFault}
@@ -88,3 +89,10 @@ pub rising_last : (ps : List Label) (es : List (String Global × Value)) → IsS
 rising_last ps es h e =
     let same : all_names ps es ≡ map (λ p. p.0) ps = rw e (append-nil _) in
     rw (← same) h
+
+-- names that rise, each below all that follow, are each below the next
+pub names_rise : (ps : List Label) → HaveRisingNames ps → NamesRise ps
+unfolding IsStrictlySortedBy
+names_rise [] h = tt
+names_rise (p ∷ []) h = tt
+names_rise (p ∷ q ∷ qs) h = (h.0.0, names_rise (q ∷ qs) h.1)

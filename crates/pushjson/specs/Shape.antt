@@ -4,11 +4,12 @@ use Rattle.serde_json.specs.Data.{Data}
 use Rattle.serde_json.specs.View.{view}
 use Rattle.serde_json.specs.declared.value.Value.{Value}
 use Rattle.labels.specs.Labels.{label_of}
-use Rattle.pushjson.specs.Bodies.{Stream, IsJson}
+use Rattle.pushjson.specs.Bodies.{Stream, TimedLine, IsJson}
 use Rattle.pushjson.specs.declared.fault.PushFault.{PushFault}
 use Rattle.pushjson.specs.declared.fault.PushFault.TheVariants.{NotJson, WrongShape, BadTime, TooManyEntries, Memory}
 use Rattle.pushjson.specs.Queries.{Query, Trim}
 use Rattle.pushjson.specs.declared.shape.StreamTexts.{StreamTexts}
+use Rattle.pushjson.specs.declared.shape.ValueTexts.{ValueTexts}
 use Rattle.pushjson.specs.declared.shape.QueryTexts.{QueryTexts}
 use Rattle.pushjson.specs.declared.shape.TrimTexts.{TrimTexts}
 
@@ -35,8 +36,11 @@ ReadsData bytes (Err (BadTime i j)) = ⊥
 ReadsData bytes (Err TooManyEntries) = ⊥
 
 -- the texts, without where they lie in memory
+abbrev pub value_texts_of : ValueTexts → TimedLine
+value_texts_of v = record { time = string_bytes v.time; line = string_bytes v.line; third = v.third }
+
 abbrev pub stream_texts_of : StreamTexts → Stream
-stream_texts_of s = record { pairs = map label_of s.pairs.items; values = map label_of s.values.items }
+stream_texts_of s = record { pairs = map label_of s.pairs.items; values = map value_texts_of s.values.items }
 
 abbrev pub query_texts_of : QueryTexts → Query
 query_texts_of q = record { pairs = map label_of q.pairs.items; from = string_bytes q.from; to = string_bytes q.to }

@@ -1,14 +1,13 @@
 ghost use Rattle.std.specs.Prelude.{◌≡◌, ◌↔◌, ◌<◌, ◌^◌, IsTrue, IfOk, All, map, length, sum_by};
-ghost use Rattle.labels.specs.Labels.{label_of};
 ghost use Rattle.pushjson.specs.Bodies.{HaveRisingNames};
 ghost use Rattle.pushjson.specs.Reads.{ReadsPush, GivesEntries, GivesBatches};
-ghost use Rattle.pushjson.specs.Shape.{stream_texts_of};
+ghost use Rattle.pushjson.specs.Shape.{stream_texts_of, value_texts_of};
 
 use crate::fault::PushFault;
-use crate::shape::{StreamTexts, body_texts, read_tree};
+use crate::shape::{StreamTexts, ValueTexts, body_texts, read_tree};
 use crate::time::time_of;
 use accept::{Entry, EntryList, Line, MAX_ENTRIES};
-use labels::LabelPairs;
+use labels::{LabelPairs, Meta};
 use std::alloc::Global;
 
 /// A stream of a push body: its labels, not yet tested, and its entries.
@@ -22,8 +21,12 @@ pub struct RawBatch {
 
 /// The batches of a push body as Loki's push API writes it in JSON: an object with the one key
 /// `streams`, an array of objects with just the keys `stream`, an object of texts, and `values`, an
-/// array of arrays of just two texts, a time and a line. A key that stands twice counts once, with its
-/// last value. A time is 1 to 19 decimal digits of at most 2^63 - 1, in nanoseconds since 1970.
+/// array of arrays of two texts, a time and a line, and at most one element more: an object of texts,
+/// the line's structured metadata, where an empty one is as none. A key that stands twice counts once,
+/// with its last value. A time is 1 to 19 decimal digits of at most 2^63 - 1, in nanoseconds since 1970.
+///
+/// From Loki's documentation: structured metadata are names with values that stand beside a line, the
+/// third element of a value. How many and how long they may be is judged later, with the line's length.
 ///
 /// # Errors
 ///
@@ -60,19 +63,20 @@ fn batches_of(alloc: Global, streams: Vec<StreamTexts>) -> Result<Vec<RawBatch>,
 fn entries_of(
     alloc: Global,
     stream: usize,
-    values: Vec<(String, String)>,
+    values: Vec<ValueTexts>,
 ) -> Result<Vec<Entry>, PushFault>
-    ensures { GivesEntries stream (map label_of values.items) result }
+    ensures { GivesEntries stream (map value_texts_of values.items) result }
 {
     let mut entries = Vec::with_capacity(alloc, values.len()).map_err(|_| PushFault::Memory)?;
-    for (text, line) in values {
-        let Some(time) = time_of(text.as_str()) else {
+    for ValueTexts { time, line, third } in values {
+        let Some(time) = time_of(time.as_str()) else {
             let entry = entries.len();
             return Err(PushFault::BadTime { stream, entry });
         };
         let line = Line::new(line);
+        let meta = third.unwrap_or_else(Meta::none);
         entries
-            .push(Entry { time, line })
+            .push(Entry { time, line, meta })
             .map_err(|_| PushFault::Memory)?;
     }
     Ok(entries)

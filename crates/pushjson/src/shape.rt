@@ -5,9 +5,10 @@ ghost use Rattle.serde_json.specs.Data.{Data, string, array, object, no_members,
 ghost use Rattle.serde_json.specs.View.{view, items_of};
 ghost use Rattle.pushjson.specs.Bodies.{labels_tree, value_tree, stream_tree, body_tree, HaveRisingNames};
 ghost use Rattle.pushjson.specs.Queries.{query_tree, trim_tree};
-ghost use Rattle.pushjson.specs.Shape.{ReadsTree, ReadsData, stream_texts_of, query_texts_of, trim_texts_of};
+ghost use Rattle.pushjson.specs.Shape.{ReadsTree, ReadsData, value_texts_of, stream_texts_of, query_texts_of, trim_texts_of};
 
 use crate::fault::PushFault;
+use labels::Meta;
 use serde_json::Value;
 use std::alloc::Global;
 
@@ -16,8 +17,16 @@ use std::alloc::Global;
 pub(crate) struct StreamTexts {
     // Names and values.
     pub(crate) pairs: Vec<(String, String)>,
-    // Texts of times, and lines.
-    pub(crate) values: Vec<(String, String)>,
+    pub(crate) values: Vec<ValueTexts>,
+}
+
+// A value whose time is not read yet.
+#[derive(Drop)]
+pub(crate) struct ValueTexts {
+    pub(crate) time: String,
+    pub(crate) line: String,
+    // The third element, where there is one.
+    pub(crate) third: Option<Meta>,
 }
 
 // A query whose times are not read yet.
@@ -153,9 +162,22 @@ fn label_texts(alloc: Global, value: Value) -> Result<Vec<(String, String)>, Pus
     Ok(pairs)
 }
 
-// The text of a time, and a line.
-fn value_texts(value: Value) -> Result<(String, String), PushFault>
-    ensures { ReadsTree label_of value_tree (view value) result }
+// The metadata that an object of texts is.
+#[tactic(auto, using(crate::proofs::Trees::names_rise))]
+fn meta_in(alloc: Global, value: Value) -> Result<Meta, PushFault>
+    ensures { ReadsTree (λ meta. meta) (λ ps. object (labels_tree ps)) (view value) result }
+{
+    match Meta::in_order(alloc, label_texts(alloc, value)?) {
+        Ok(Some(meta)) => Ok(meta),
+        // (an object's names rise)
+        Ok(None) => unreachable!(),
+        Err(_) => Err(PushFault::Memory),
+    }
+}
+
+// The text of a time, a line, and metadata where there is a third element.
+fn value_texts(alloc: Global, value: Value) -> Result<ValueTexts, PushFault>
+    ensures { ReadsTree value_texts_of value_tree (view value) result }
 {
     let mut items = items_in(value)?.into_iter();
     let Some(time) = items.next() else {
@@ -164,21 +186,28 @@ fn value_texts(value: Value) -> Result<(String, String), PushFault>
     let Some(line) = items.next() else {
         return Err(PushFault::WrongShape);
     };
+    let third = items.next();
     if items.next().is_some() {
         return Err(PushFault::WrongShape);
     }
-    Ok((text_of(time)?, text_of(line)?))
+    let time = text_of(time)?;
+    let line = text_of(line)?;
+    let third = match third {
+        Some(object) => Some(meta_in(alloc, object)?),
+        None => None,
+    };
+    Ok(ValueTexts { time, line, third })
 }
 
-fn values_texts(alloc: Global, value: Value) -> Result<Vec<(String, String)>, PushFault>
-    ensures { ReadsTree (λ values. map label_of values.items) (λ vs. array (items_of (map value_tree vs)))
+fn values_texts(alloc: Global, value: Value) -> Result<Vec<ValueTexts>, PushFault>
+    ensures { ReadsTree (λ values. map value_texts_of values.items) (λ vs. array (items_of (map value_tree vs)))
         (view value) result }
 {
     let items = items_in(value)?;
     let mut values = Vec::with_capacity(alloc, items.len()).map_err(|_| PushFault::Memory)?;
     for item in items {
         values
-            .push(value_texts(item)?)
+            .push(value_texts(alloc, item)?)
             .map_err(|_| PushFault::Memory)?;
     }
     Ok(values)

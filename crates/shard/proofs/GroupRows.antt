@@ -33,7 +33,7 @@ abbrev k : StreamKey
 k = record { tenant = codes "t"; labels = codes "{a=\"1\"}" }
 
 abbrev x : Entry
-x = record { time = 10; line = codes "x" }
+x = record { time = 10; line = codes "x"; meta = [] }
 
 -- what the stream has after the push
 abbrev one : StreamImage
