@@ -21,9 +21,17 @@ const RUNS: u32 = 20;
 /// The time of the first entry, and the clock: a nanosecond count of 2023.
 const START: u64 = 1_700_000_000_000_000_000;
 
-/// Entries and bytes of a line of the two bodies, of about 1 MB and 4 MB. A body holds at most 10,000
-/// entries, so the lines of the larger one are longer.
-const BODIES: [(u64, usize); 2] = [(4_600, 200), (9_600, 400)];
+/// What stands behind a line of the third body: 3 pairs of metadata, as a tracing library adds them.
+const METADATA: &str =
+    r#",{"level":"info","span_id":"00f067aa0ba902b7","trace_id":"4bf92f3577b34da6a3ce929d0e0e4736"}"#;
+
+/// Entries, bytes of a line, and what stands behind each, of the bodies of about 1 MB, 4 MB and 1.5 MB. A body holds at
+/// most 10,000 entries, so the lines of the larger one are longer.
+const BODIES: [(u64, usize, &str); 3] = [
+    (4_600, 200, ""),
+    (9_600, 400, ""),
+    (4_600, 200, METADATA),
+];
 
 fn main(rt: HostRuntime) -> Result<()> {
     let words: Vec<String> = env::args(&rt)?.skip(1).collect(rt.alloc())?;
@@ -41,10 +49,10 @@ fn time<R: Clock + Print + Env + Files<File = File> + AllocGlobal>(rt: &R) -> Re
 }
 
 fn time_bodies<R: Clock + Print + AllocGlobal>(rt: &R) -> Result<()> {
-    for (entries, line) in BODIES {
-        let body = body_of(rt.alloc(), entries, line)?;
+    for (entries, line, more) in BODIES {
+        let body = body_of(rt.alloc(), entries, line, more)?;
         let size = body.len();
-        rt.println(format_args!("{size} bytes: {entries} lines of {line} bytes"))?;
+        rt.println(format_args!("{size} bytes: {entries} lines of {line} bytes{more}"))?;
         report(rt, &body)?;
     }
     Ok(())
@@ -76,8 +84,8 @@ fn bounds_of(alloc: Global) -> Result<(u64, u64)> {
     Ok((query.from, query.to))
 }
 
-/// A push body of one stream.
-fn body_of(alloc: Global, entries: u64, line: usize) -> Result<Vec<u8>> {
+/// A push body of one stream. Behind each line stands `more`.
+fn body_of(alloc: Global, entries: u64, line: usize, more: &str) -> Result<Vec<u8>> {
     let mut body = Vec::new(alloc);
     body.extend_from_slice(b"{\"streams\":[{\"stream\":{\"a\":\"1\"},\"values\":[")?;
     let text = vec![in alloc; b'x'; line]?;
@@ -85,17 +93,19 @@ fn body_of(alloc: Global, entries: u64, line: usize) -> Result<Vec<u8>> {
         if entry > 0 {
             body.push(b',')?;
         }
-        put_entry(alloc, &mut body, START.saturating_add(entry), &text)?;
+        put_entry(alloc, &mut body, START.saturating_add(entry), &text, more)?;
     }
     body.extend_from_slice(b"]}]}")?;
     Ok(body)
 }
 
-fn put_entry(alloc: Global, body: &mut Vec<u8>, time: u64, text: &[u8]) -> Result<()> {
+fn put_entry(alloc: Global, body: &mut Vec<u8>, time: u64, text: &[u8], more: &str) -> Result<()> {
     let head = format!(in alloc; "[\"{time}\",\"")?;
     body.extend_from_slice(head.as_bytes())?;
     body.extend_from_slice(text)?;
-    Ok(body.extend_from_slice(b"\"]")?)
+    body.push(b'"')?;
+    body.extend_from_slice(more.as_bytes())?;
+    Ok(body.push(b']')?)
 }
 
 fn report<R: Clock + Print + AllocGlobal>(rt: &R, body: &[u8]) -> Result<()> {

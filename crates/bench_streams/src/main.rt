@@ -1,6 +1,6 @@
-//! `bench_streams time` prints how long calls on one stream take by how many entries it keeps: pushes in order, pushes
-//! that come a second late, a read of 100 lines in its middle, and a trim of its older half. `bench_streams check`
-//! makes a few of each.
+//! `bench_streams time` prints how long calls on one stream take by how many entries it keeps: pushes in order, those
+//! of lines with metadata, pushes that come a second late, a read of 100 lines in its middle, and a trim of its older
+//! half. `bench_streams check` makes a few of each.
 #![tactic(auto)]
 
 mod stream;
@@ -56,11 +56,13 @@ fn time<R: Clock + Print + AllocGlobal>(rt: &R) -> Result<()> {
 fn report<R: Print>(rt: &R, load: Load, best: Times) -> Result<()> {
     let kept = load.kept;
     let in_order = nanos_each(best.in_order, load.pushes);
+    let paired = nanos_each(best.paired, load.pushes);
+    let speed = (LINES as u128 * LINE as u128 * 1_000) / paired.max(1);
     let late = nanos_each(best.late, load.pushes);
     let read = best.read.as_nanos();
     let trim = best.trim.as_nanos();
     rt.println(format_args!(
-        "  {kept} kept: a push in order {in_order} ns, a second late {late} ns; a read of 100 lines {read} ns; a trim of the older half {trim} ns"
+        "  {kept} kept: a push in order {in_order} ns, with 3 pairs a line {paired} ns, {speed} MB/s of lines, a second late {late} ns; a read of 100 lines {read} ns; a trim of the older half {trim} ns"
     ))?;
     Ok(())
 }
@@ -72,14 +74,15 @@ fn nanos_each(time: Duration, calls: u64) -> u128 {
 /// Makes a few of each, and says what came of them.
 fn check<R: Clock + Print + AllocGlobal>(rt: &R) -> Result<()> {
     let counts = stream::make_run(rt, FEW)?.counts;
-    let (in_order, late, read, removed) = (
+    let (in_order, paired, late, read, removed) = (
         counts.in_order,
+        counts.paired,
         counts.late,
         counts.read,
         counts.removed,
     );
     rt.println(format_args!(
-        "{in_order} lines stored in order, {late} a second late, {read} read, {removed} removed"
+        "{in_order} lines stored in order, {paired} with metadata, {late} a second late, {read} read, {removed} removed"
     ))?;
     Ok(())
 }

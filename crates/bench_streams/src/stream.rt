@@ -1,6 +1,6 @@
 //! Calls on one stream, and how long they take.
 
-use accept::{Call, Entry, EntryList, Limits, Line, StreamState};
+use accept::{Call, Entry, EntryList, Limits, Line, Meta, StreamState};
 use anyhow::{Result, bail};
 use pushes::{LINE, LINES, START, key_of};
 use std::alloc::Global;
@@ -28,6 +28,13 @@ const MOST: u64 = 10_000;
 /// How many lines a read asks for.
 const READ: u64 = 100;
 
+/// The metadata of a line that has some, as a tracing library adds it.
+const PAIRS: [(&str, &str); 3] = [
+    ("level", "info"),
+    ("span_id", "00f067aa0ba902b7"),
+    ("trace_id", "4bf92f3577b34da6a3ce929d0e0e4736"),
+];
+
 /// How many entries the stream keeps at first, and how many pushes are timed.
 #[derive(Clone, Copy)]
 pub struct Load {
@@ -35,10 +42,18 @@ pub struct Load {
     pub pushes: u64,
 }
 
-/// How long all pushes in order took, all late ones, a read and a trim.
+impl Load {
+    /// The time behind the entries that the stream keeps.
+    fn end(self) -> u64 {
+        START.saturating_add(self.kept.saturating_mul(STEP))
+    }
+}
+
+/// How long all pushes in order took, all in order with metadata, all late ones, a read and a trim.
 #[derive(Clone, Copy)]
 pub struct Times {
     pub in_order: Duration,
+    pub paired: Duration,
     pub late: Duration,
     pub read: Duration,
     pub trim: Duration,
@@ -49,6 +64,7 @@ impl Times {
     pub fn or_less(self, other: Times) -> Times {
         Times {
             in_order: self.in_order.min(other.in_order),
+            paired: self.paired.min(other.paired),
             late: self.late.min(other.late),
             read: self.read.min(other.read),
             trim: self.trim.min(other.trim),
@@ -56,10 +72,11 @@ impl Times {
     }
 }
 
-/// How many lines were stored in order and late, read, and removed.
+/// How many lines were stored in order, with metadata and late, read, and removed.
 #[derive(Clone, Copy)]
 pub struct Counts {
     pub in_order: usize,
+    pub paired: usize,
     pub late: usize,
     pub read: usize,
     pub removed: u64,
@@ -72,14 +89,15 @@ pub struct Run {
     pub counts: Counts,
 }
 
-/// A push of so many lines, the first at this time, each so many nanoseconds behind the one before it.
-fn push_of(alloc: Global, first: u64, step: u64, lines: u64) -> Result<Call> {
+/// A push of so many lines with this metadata, the first at this time, each so many nanoseconds behind the one before it.
+fn push_of(alloc: Global, meta: &Meta, first: u64, step: u64, lines: u64) -> Result<Call> {
     let text = vec![in alloc; b'x'; LINE]?;
     let mut entries = Vec::new(alloc);
     for number in 0..lines {
         entries.push(Entry {
             time: first.saturating_add(number.saturating_mul(step)),
             line: Line::new(String::from_utf8(text.clone()?)?),
+            meta: meta.clone()?,
         })?;
     }
     Ok(Call::Push {
@@ -89,14 +107,24 @@ fn push_of(alloc: Global, first: u64, step: u64, lines: u64) -> Result<Call> {
     })
 }
 
-/// So many pushes of `LINES` lines, one behind another.
-fn pushes_of(alloc: Global, first: u64, step: u64, pushes: u64) -> Result<Vec<Call>> {
+/// So many pushes of `LINES` lines with this metadata, one behind another.
+fn pushes_of(alloc: Global, meta: &Meta, first: u64, step: u64, pushes: u64) -> Result<Vec<Call>> {
     let mut calls = Vec::new(alloc);
     for push in 0..pushes {
         let before = push.saturating_mul(LINES).saturating_mul(step);
-        calls.push(push_of(alloc, first.saturating_add(before), step, LINES)?)?;
+        let first = first.saturating_add(before);
+        calls.push(push_of(alloc, meta, first, step, LINES)?)?;
     }
     Ok(calls)
+}
+
+/// The metadata of a line that has some.
+fn three_pairs(alloc: Global) -> Result<Meta> {
+    let mut pairs = Vec::new(alloc);
+    for (name, value) in PAIRS {
+        pairs.push((name.to_string(alloc)?, value.to_string(alloc)?))?;
+    }
+    Ok(Meta::new(alloc, pairs)?)
 }
 
 /// Judges and stores a push, and answers how many of its lines were stored.
@@ -125,11 +153,13 @@ fn store_all(alloc: Global, stream: &mut StreamState, calls: &[Call]) -> Result<
 /// A stream that keeps so many entries, a step apart.
 fn filled(alloc: Global, kept: u64) -> Result<StreamState> {
     let mut stream = StreamState::new(alloc);
+    let none = Meta::none();
     let mut left = kept;
     for _ in 0..=kept / MOST {
         let lines = left.min(MOST);
         let first = START.saturating_add(kept.saturating_sub(left).saturating_mul(STEP));
-        store(alloc, &mut stream, &push_of(alloc, first, STEP, lines)?)?;
+        let push = push_of(alloc, &none, first, STEP, lines)?;
+        store(alloc, &mut stream, &push)?;
         left -= lines;
     }
     Ok(stream)
@@ -146,17 +176,35 @@ fn time_pushes<R: Clock + AllocGlobal>(
     Ok((start.elapsed(rt)?, stored))
 }
 
-/// Makes the calls on a new stream.
+/// Stores pushes in a stream that keeps so many entries.
+fn time_on_new<R: Clock + AllocGlobal>(
+    rt: &R,
+    kept: u64,
+    calls: &[Call],
+) -> Result<(Duration, usize)> {
+    let mut stream = filled(rt.alloc(), kept)?;
+    time_pushes(rt, &mut stream, calls)
+}
+
+/// Stores pushes of lines with metadata, in order, in a stream that keeps entries.
+fn time_paired<R: Clock + AllocGlobal>(rt: &R, load: Load) -> Result<(Duration, usize)> {
+    let pairs = three_pairs(rt.alloc())?;
+    let calls = pushes_of(rt.alloc(), &pairs, load.end(), STEP, load.pushes)?;
+    time_on_new(rt, load.kept, &calls)
+}
+
+/// Makes the calls on new streams.
 pub fn make_run<R: Clock + AllocGlobal>(rt: &R, load: Load) -> Result<Run> {
     let alloc = rt.alloc();
-    let end = START.saturating_add(load.kept.saturating_mul(STEP));
+    let none = Meta::none();
     let middle = START.saturating_add((load.kept / 2).saturating_mul(STEP));
-    let late_calls = pushes_of(alloc, end.saturating_sub(LATE), 1, load.pushes)?;
-    let calls = pushes_of(alloc, end, STEP, load.pushes)?;
+    let calls = pushes_of(alloc, &none, load.end(), STEP, load.pushes)?;
+    let (in_order, stored) = time_on_new(rt, load.kept, &calls)?;
+    let (paired, stored_paired) = time_paired(rt, load)?;
+    let first = load.end().saturating_sub(LATE);
+    let calls = pushes_of(alloc, &none, first, 1, load.pushes)?;
     let mut stream = filled(alloc, load.kept)?;
-    let (in_order, stored) = time_pushes(rt, &mut stream, &calls)?;
-    let mut stream = filled(alloc, load.kept)?;
-    let (late, stored_late) = time_pushes(rt, &mut stream, &late_calls)?;
+    let (late, stored_late) = time_pushes(rt, &mut stream, &calls)?;
     let start = Instant::now(rt)?;
     let found = stream.read(
         alloc,
@@ -170,12 +218,14 @@ pub fn make_run<R: Clock + AllocGlobal>(rt: &R, load: Load) -> Result<Run> {
     Ok(Run {
         times: Times {
             in_order,
+            paired,
             late,
             read,
             trim,
         },
         counts: Counts {
             in_order: stored,
+            paired: stored_paired,
             late: stored_late,
             read: found.as_slice().len(),
             removed,

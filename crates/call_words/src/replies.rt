@@ -1,6 +1,6 @@
 use accept::{Entry, Outcome, Reply};
 use anyhow::Result;
-use rows::escape;
+use rows::{escape, only_character, write_pairs};
 use std::fmt::Write;
 
 /// A line of one character that is longer than this is said by its length.
@@ -29,12 +29,13 @@ fn write_outcomes(outcomes: &[Outcome], into: &mut String) -> Result<()> {
 fn write_entries(entries: &[Entry], into: &mut String) -> Result<()> {
     into.push_str("entries")?;
     for entry in entries {
-        write_entry(entry.time, entry.line.as_str(), into)?;
+        write_entry(entry, into)?;
     }
     Ok(())
 }
 
-fn write_entry(time: u64, line: &str, into: &mut String) -> Result<()> {
+fn write_entry(entry: &Entry, into: &mut String) -> Result<()> {
+    let (time, line) = (entry.time, entry.line.as_str());
     let count = line.len();
     match only_character(line) {
         Some(character) if count > LONG => write!(into, " {time}*{count}:{character}")?,
@@ -43,13 +44,5 @@ fn write_entry(time: u64, line: &str, into: &mut String) -> Result<()> {
             escape(line.as_bytes(), into)?;
         }
     }
-    Ok(())
-}
-
-/// The character of which a line consists.
-fn only_character(line: &str) -> Option<char> {
-    let first = line.chars().next()?;
-    line.chars()
-        .all(|character| character == first)
-        .then_some(first)
+    write_pairs(entry.meta.as_slice(), into)
 }

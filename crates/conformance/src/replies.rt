@@ -1,14 +1,14 @@
 //! Replies to reads, as answers.
-use accept::{Entry, EntryList, Line, Reply};
+use accept::{Entry, EntryList, Line, Meta, Reply};
 use anyhow::{Result, anyhow, bail};
 use front::answer_of_read;
-use rows::text_of;
+use rows::{split_pairs, text_of};
 use std::alloc::Global;
 use std::fmt::Write;
 use wire::say_lines;
 
 /// Says status and body of the answer to a read that got the reply of this line. Its entries are lines
-/// `entry TIME TEXT`.
+/// `entry TIME TEXT`, with metadata as `entry TIME TEXT{NAME=VALUE,..}`.
 ///
 /// # Errors
 /// A line that is none of these; want of memory.
@@ -41,8 +41,10 @@ fn entry_of(alloc: Global, line: &str) -> Result<Entry> {
         .strip_prefix("entry ")
         .and_then(|entry| entry.split_once(' '))
         .ok_or(anyhow!("entry TIME TEXT"))?;
+    let (text, pairs) = split_pairs(alloc, text)?;
     Ok(Entry {
         time: time.parse::<u64>()?,
         line: Line::new(text_of(alloc, text)?),
+        meta: Meta::new(alloc, pairs)?,
     })
 }

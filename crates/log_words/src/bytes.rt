@@ -14,6 +14,16 @@ const SEGMENT: [u8; 82] = *b"\x01LWL2\x01\0\0\0\0\0\0\0\0\0\0\0\x01\0\0\0\x01\x3
 const FRAME: [u8; 38] = *b"\x21\0\0\0\x01\x01\0t\x07\0\0\0{a=\"1\"}\x01\0\0\0\
 \x0b\0\0\0\0\0\0\0\x01\0\0\0y\0\0";
 
+/// The example with an entry that has the metadata k=v. Its closing gate stands at 93.
+const SEGMENT_WITH_PAIR: [u8; 94] = *b"\x01LWL2\x01\0\0\0\0\0\0\0\0\0\0\0\x01\0\0\0\x01\x43\0\0\0\
+\x03\x01\0t\x07\0\0\0{a=\"1\"}\x0a\0\0\0\0\0\0\0\
+\x0a\0\0\0\0\0\0\0\x01\0\0\0x\x01\x01\0k\x01\0v\x01\0\0\0\
+\x0a\0\0\0\0\0\0\0\x01\0\0\0x\x01\x01\0k\x01\0v\0";
+
+/// What an append of that entry puts behind a gate.
+const FRAME_WITH_PAIR: [u8; 44] = *b"\x27\0\0\0\x01\x01\0t\x07\0\0\0{a=\"1\"}\x01\0\0\0\
+\x0a\0\0\0\0\0\0\0\x01\0\0\0x\x01\x01\0k\x01\0v\0";
+
 /// The example in version 1 of the layout, where an entry ends with its line. Its closing gate stands at 79.
 const SEGMENT_OF_1: [u8; 80] = *b"\x01LWL1\x01\0\0\0\0\0\0\0\0\0\0\0\x01\0\0\0\x01\x35\0\0\0\
 \x03\x01\0t\x07\0\0\0{a=\"1\"}\x0a\0\0\0\0\0\0\0\
@@ -29,9 +39,10 @@ const LINE: usize = 32;
 
 /// The bytes that words stand for, each taken in behind those before.
 ///
-/// Pairs of digits are bytes; `segment` and `frame` those of the example, `segment_of_1` and `frame_of_1` those of the
-/// same in version 1; `-` none; `COUNT*HEX` the same so often. `cut:COUNT` keeps the first of what stands so far,
-/// `from:COUNT` drops them, and `at:PLACE=HEX` writes over bytes.
+/// Pairs of digits are bytes; `segment` and `frame` those of the example, `segment_with_pair` and `frame_with_pair` those
+/// of the one with metadata, `segment_of_1` and `frame_of_1` those of the example in version 1; `-` none; `COUNT*HEX` the
+/// same so often. `cut:COUNT` keeps the first of what stands so far, `from:COUNT` drops them, and `at:PLACE=HEX` writes
+/// over bytes.
 ///
 /// # Errors
 /// Another word, a place that isn't there, or want of memory.
@@ -48,6 +59,8 @@ fn take_word(alloc: Global, mut bytes: Vec<u8>, word: &str) -> Result<Vec<u8>> {
         "" | "-" => {}
         "segment" => bytes.extend_from_slice(&SEGMENT)?,
         "frame" => bytes.extend_from_slice(&FRAME)?,
+        "segment_with_pair" => bytes.extend_from_slice(&SEGMENT_WITH_PAIR)?,
+        "frame_with_pair" => bytes.extend_from_slice(&FRAME_WITH_PAIR)?,
         "segment_of_1" => bytes.extend_from_slice(&SEGMENT_OF_1)?,
         "frame_of_1" => bytes.extend_from_slice(&FRAME_OF_1)?,
         _ => match word.split_once(':') {

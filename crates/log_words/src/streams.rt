@@ -1,7 +1,7 @@
 use accept::{Entry, Image, StreamImage};
 use anyhow::Result;
 use labels::StreamKey;
-use rows::escape;
+use rows::{escape, only_character, write_pairs};
 use std::fmt::Write;
 
 /// The shortest line that is written as how often its one character stands in it.
@@ -17,22 +17,23 @@ pub fn write_key(key: &StreamKey, into: &mut String) -> Result<()> {
     Ok(())
 }
 
-/// Appends an entry, `TIME:LINE`, or `TIME*COUNT:CHARACTER` where a long line has one character so often.
+/// Appends an entry, `TIME:LINE`, or `TIME*COUNT:CHARACTER` where a long line has one character so often; behind it
+/// `{NAME=VALUE,..}` where it has metadata.
 ///
 /// # Errors
 /// Want of memory.
 pub fn write_entry(entry: &Entry, into: &mut String) -> Result<()> {
     let (time, line) = (entry.time, entry.line.as_str());
-    match line.chars().next() {
-        Some(first) if line.len() >= LONG && line.chars().all(|other| other == first) => {
-            write!(into, "{time}*{}:{first}", line.len())?;
+    match only_character(line) {
+        Some(character) if line.len() >= LONG => {
+            write!(into, "{time}*{}:{character}", line.len())?;
         }
         _ => {
             write!(into, "{time}:")?;
             escape(line.as_bytes(), into)?;
         }
     }
-    Ok(())
+    write_pairs(entry.meta.as_slice(), into)
 }
 
 /// Appends what a stream has: `highest TIME last ENTRY kept ENTRY ..`.

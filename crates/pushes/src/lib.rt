@@ -4,7 +4,7 @@
 ghost use Rattle.std.specs.Prelude.{◌↔◌, IsTrue};
 ghost use Rattle.pushes.specs.Replies.{IsStored};
 
-use accept::{Call, Entry, EntryList, Line, Outcome, Reply};
+use accept::{Call, Entry, EntryList, Line, Meta, Outcome, Reply};
 use anyhow::Result;
 use labels::{LabelSet, StreamKey, Tenant};
 use std::alloc::Global;
@@ -35,6 +35,7 @@ pub fn push_of(alloc: Global, stream: u64, before: u64, lines: u64) -> Result<Ca
         entries.push(Entry {
             time: START.saturating_add(before).saturating_add(number),
             line: Line::new(String::from_utf8(text.clone()?)?),
+            meta: Meta::none(),
         })?;
     }
     Ok(Call::Push {

@@ -1,6 +1,6 @@
 //! Trims of a stream.
 
-use accept::{Entry, EntryList, Limits, Line, StreamImage, StreamState};
+use accept::{Entry, EntryList, Limits, Line, Meta, StreamImage, StreamState};
 use anyhow::{Result, bail};
 use std::alloc::Global;
 
@@ -40,6 +40,7 @@ fn entry_at(alloc: Global, time: u64) -> Result<Entry> {
     Ok(Entry {
         time,
         line: Line::new(text),
+        meta: Meta::none(),
     })
 }
 

@@ -5,11 +5,13 @@
 #![tactic(auto)]
 
 mod hex;
+mod pairs;
 mod row;
 mod tally;
 mod text;
 
 pub use hex::{read_hex, write_hex};
+pub use pairs::{split_pairs, write_pairs};
 pub use row::{Row, rows_of, word_of};
 pub use tally::Tally;
-pub use text::{escape, text_of, unescape};
+pub use text::{escape, only_character, text_of, text_times, unescape};

@@ -61,6 +61,27 @@ pub fn text_of(alloc: Global, text: &str) -> Result<String> {
     String::from_utf8(bytes).map_err(|_| anyhow!("no UTF-8"))
 }
 
+/// The text that a text with escapes stands for, so many times.
+///
+/// # Errors
+/// Those of [`text_of`].
+pub fn text_times(alloc: Global, text: &str, count: u64) -> Result<String> {
+    let part = text_of(alloc, text)?;
+    let mut whole = String::new(alloc);
+    for _ in 0..count {
+        whole.push_str(part.as_str())?;
+    }
+    Ok(whole)
+}
+
+/// The character of which a text consists, if it is of one alone.
+pub fn only_character(text: &str) -> Option<char> {
+    let first = text.chars().next()?;
+    text.chars()
+        .all(|character| character == first)
+        .then_some(first)
+}
+
 /// Appends a text for these bytes that [`unescape`] reads: printable characters stand for themselves where all is
 /// UTF-8, else those of ASCII do.
 ///
@@ -82,7 +103,7 @@ pub fn escape(bytes: &[u8], into: &mut String) -> Result<()> {
     Ok(())
 }
 
-fn escape_character(character: char, into: &mut String) -> Result<()> {
+pub(crate) fn escape_character(character: char, into: &mut String) -> Result<()> {
     match u8::try_from(character) {
         Ok(byte) if byte < 128 => escape_byte(byte, into),
         _ => Ok(into.push(character)?),

@@ -1,10 +1,10 @@
 //! Keys, entries and records as words.
 
-use accept::{Entry, EntryList, Line};
+use accept::{Entry, EntryList, Line, Meta};
 use anyhow::{Context, Result};
 use labels::{LabelSet, StreamKey, Tenant};
 use log_words::number_of;
-use rows::{text_of, word_of};
+use rows::{split_pairs, text_times, word_of};
 use segment::Record;
 use std::alloc::Global;
 
@@ -17,25 +17,19 @@ pub fn key_of(alloc: Global, words: &str) -> Result<StreamKey> {
     })
 }
 
-/// The entry of `TIME:LINE`, or of `TIME*COUNT:LINE` with the line so often.
+/// The entry of `TIME:LINE`, or of `TIME*COUNT:LINE` with the line so often, and with the metadata of `{NAME=VALUE,..}`
+/// behind it.
 fn entry_of(alloc: Global, word: &str) -> Result<Entry> {
-    let (time, line) = word.split_once(':').context("no entry")?;
+    let (time, text) = word.split_once(':').context("no entry")?;
+    let (text, pairs) = split_pairs(alloc, text)?;
     let (time, count) = match time.split_once('*') {
         Some((time, count)) => (time, number_of(count)?),
         None => (time, 1),
     };
     let time = number_of(time)?;
-    let line = Line::new(line_of(alloc, line, count)?);
-    Ok(Entry { time, line })
-}
-
-fn line_of(alloc: Global, part: &str, count: u64) -> Result<String> {
-    let part = text_of(alloc, part)?;
-    let mut line = String::new(alloc);
-    for _ in 0..count {
-        line.push_str(part.as_str())?;
-    }
-    Ok(line)
+    let line = Line::new(text_times(alloc, text, count)?);
+    let meta = Meta::new(alloc, pairs)?;
+    Ok(Entry { time, line, meta })
 }
 
 /// The entries of words with a blank between them.

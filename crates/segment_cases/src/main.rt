@@ -8,6 +8,7 @@ mod judge;
 mod layout;
 mod reading;
 mod runs;
+mod short;
 mod shown;
 mod sizes;
 mod trimming;

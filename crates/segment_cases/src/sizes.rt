@@ -1,6 +1,7 @@
 //! Whether records are small enough to be written.
 ghost use Rattle.std.specs.Prelude.{◌≡◌, ◌<◌, ◌^◌, ◌+◌, length, IsTrue, IfSome};
 ghost use Rattle.std.specs.List.{flat_map};
+ghost use Rattle.labels.specs.Metas.{meta_room};
 ghost use Rattle.accept.specs.Rooms.{room};
 ghost use Rattle.segment.specs.Versions.{latest};
 ghost use Rattle.segment.specs.Spelling as spelling;
@@ -8,7 +9,7 @@ ghost use Rattle.segment.specs.Spelling.{record_text, payload};
 ghost use Rattle.segment.specs.Segments.{states_of};
 
 use accept::{Entry, Image};
-use labels::StreamKey;
+use labels::{Meta, StreamKey};
 use segment::Record;
 
 /// Fewer bytes than so many are small.
@@ -25,11 +26,23 @@ fn key_size(key: &StreamKey) -> Option<usize>
         .checked_add(6)
 }
 
+fn meta_size(meta: &Meta) -> Option<usize>
+    ensures { IfSome result (λ n. n ≡ meta_room meta.now) }
+{
+    let mut size: usize = 0;
+    for (name, value) in meta.as_slice() {
+        let more = name.len().checked_add(value.len())?.checked_add(4)?;
+        size = size.checked_add(more)?;
+    }
+    Some(size)
+}
+
 #[tactic(auto, using(segment::proofs::Lengths::lengths))]
 fn entry_size(entry: &Entry) -> Option<usize>
     ensures { IfSome result (λ n. n ≡ length (spelling.entry latest entry.now)) }
 {
-    entry.line.as_str().len().checked_add(13)
+    let line = entry.line.as_str().len().checked_add(13)?;
+    line.checked_add(meta_size(&entry.meta)?)
 }
 
 fn entries_size(entries: &[Entry]) -> Option<usize>

@@ -2,6 +2,7 @@
 ghost use Rattle.std.specs.Prelude.{ℕ, OnOk};
 ghost use Rattle.segment.specs.Blocks.{IsOpenAt, EndsOpen};
 
+use crate::short::{are_all_short, is_short, is_short_image};
 use crate::sizes::{MANY, are_small, is_small, is_small_image};
 use accept::{Entry, Image, StreamImage};
 use anyhow::{Result, bail};
@@ -17,7 +18,7 @@ use std::fmt::Write;
 
 /// Writes one block of all records.
 pub fn put_records(records: &[Record], slot: &mut Vec<u8>) -> Result<()> {
-    if !are_small(records) {
+    if !are_small(records) || !are_all_short(records) {
         bail!("too large");
     }
     put_block(records, slot)?;
@@ -44,7 +45,7 @@ fn put_one(record: &Record, slot: &mut Vec<u8>) -> Result<usize>
     requires { EndsOpen slot.old.items }
     ensures { OnOk result ((at : ℕ) → IsOpenAt at slot.old.items → IsOpenAt at slot.new.items) }
 {
-    if !is_small(record) {
+    if !is_small(record) || !is_short(record) {
         bail!("too large");
     }
     match record {
@@ -83,7 +84,7 @@ fn put_state_split(record: &Record, first: usize, slot: &mut Vec<u8>) -> Result<
     else {
         bail!("no state");
     };
-    if !is_small(record) || first > entries.as_slice().len() {
+    if !is_small(record) || !is_short(record) || first > entries.as_slice().len() {
         bail!("too large");
     }
     let (front, back) = entries.as_slice().split_at(first);
@@ -108,7 +109,7 @@ fn put_image(image: &Image, words: &str, slot: &mut Vec<u8>, said: &mut String) 
     let (generation, owner) = word_of(words);
     let generation = number_of(generation)?;
     let (shard, count) = owner_of(owner)?;
-    if !is_small_image(image) {
+    if !is_small_image(image) || !is_short_image(image) {
         bail!("too large");
     }
     writeln!(said, "room {}", state_size(image))?;

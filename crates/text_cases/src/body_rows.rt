@@ -6,7 +6,7 @@ use labels::LabelPairs;
 use pushjson::{
     PushFault, RawBatch, RawRead, RawTrim, one_answer, read_push, read_query, read_trim,
 };
-use rows::{Row, word_of};
+use rows::{Row, word_of, write_pairs};
 use std::alloc::Global;
 use std::fmt::Write;
 
@@ -135,6 +135,7 @@ fn say_entries(entries: &[Entry], said: &mut String) -> Result<()> {
         let time = entry.time;
         write!(said, "entry {time}:")?;
         write_text(entry.line.as_str(), said)?;
+        write_pairs(entry.meta.as_slice(), said)?;
         said.push('\n')?;
     }
     Ok(())

@@ -1,6 +1,7 @@
 ghost use Rattle.std.specs.Prelude.{◌≡◌, IfOk};
 
 use crate::counts::Counts;
+use crate::metas;
 use crate::texts::{Draft, say, text_of_word};
 use anyhow::{Result, bail};
 use labels::{LabelFault, LabelPairs, LabelSet, StreamKey, Tenant, order_of_keys, shard_of};
@@ -43,6 +44,8 @@ impl Made {
             "tenant" => self.make_tenant(rest, said),
             "labels" => self.make_set(rest, said),
             "key" => self.make_key(rest, said),
+            "meta" => metas::say_new(self.alloc, rest, said),
+            "in_order" => metas::say_in_order(self.alloc, rest, said),
             "parse" => {
                 let text = self.draft.end_text(self.alloc, rest)?;
                 say_parsed(self.alloc, text.as_str(), said)

@@ -7,6 +7,7 @@
 mod body_rows;
 mod counts;
 mod label_rows;
+mod metas;
 mod shuffled_rows;
 mod stream_rows;
 mod texts;

@@ -1,7 +1,7 @@
 //! Many entries with drawn times in one stream, and beside it a plain list of the same entries in the order of storing.
 
 use crate::stream_rows::{MOST, are_times, write_entry};
-use accept::{Entry, Limits, Line, StreamState};
+use accept::{Entry, Limits, Line, Meta, StreamState};
 use anyhow::{Result, bail};
 use rows::word_of;
 use std::alloc::Global;
@@ -156,6 +156,7 @@ impl Drawn {
             entries.push(Entry {
                 time,
                 line: Line::new(format!(in self.alloc; "{number}")?),
+                meta: Meta::none(),
             })?;
             self.highest = self.highest.max(time);
             self.stored = number.saturating_add(1);

@@ -3,9 +3,9 @@ ghost use Rattle.accept.specs.OneStream.{AreTimes};
 
 use crate::shuffled_rows::{self, Order};
 use crate::texts::{text_of_word, write_word};
-use accept::{Entry, Limits, Line, Outcome, StreamState, TrimRefusal};
+use accept::{Entry, Limits, Line, Meta, Outcome, StreamState, TrimRefusal};
 use anyhow::{Result, bail};
-use rows::{Row, word_of};
+use rows::{Row, split_pairs, word_of, write_pairs};
 use std::alloc::Global;
 use std::fmt::Write;
 
@@ -142,19 +142,26 @@ fn limits_of(words: &str) -> Result<Limits> {
     Ok(limits)
 }
 
-/// The entries `TIME:LINE` of words.
+/// The entries of words.
 fn entries_of(alloc: Global, words: &str) -> Result<Vec<Entry>> {
     let mut entries = Vec::new(alloc);
     for word in words.split_ascii_whitespace() {
-        let Some((time, line)) = word.split_once(':') else {
-            bail!("no entry: {word}");
-        };
-        entries.push(Entry {
-            time: time.parse()?,
-            line: Line::new(text_of_word(alloc, line)?),
-        })?;
+        entries.push(entry_of(alloc, word)?)?;
     }
     Ok(entries)
+}
+
+/// The entry `TIME:LINE`, with the metadata of `{NAME=VALUE,..}` behind it.
+fn entry_of(alloc: Global, word: &str) -> Result<Entry> {
+    let Some((time, text)) = word.split_once(':') else {
+        bail!("no entry: {word}");
+    };
+    let (line, pairs) = split_pairs(alloc, text)?;
+    Ok(Entry {
+        time: time.parse()?,
+        line: Line::new(text_of_word(alloc, line)?),
+        meta: Meta::new(alloc, pairs)?,
+    })
 }
 
 /// Whether each time may be one.
@@ -170,6 +177,7 @@ fn say_outcomes(outcomes: &[Outcome], said: &mut String) -> Result<()> {
         said.push_str(gap)?;
         match outcome {
             Outcome::TooLong => said.push_str("TooLong")?,
+            Outcome::BadMetadata => said.push_str("BadMetadata")?,
             Outcome::TooOld => said.push_str("TooOld")?,
             Outcome::TooNew => said.push_str("TooNew")?,
             Outcome::Repeat => said.push_str("Repeat")?,
@@ -185,7 +193,8 @@ fn say_outcomes(outcomes: &[Outcome], said: &mut String) -> Result<()> {
 pub fn write_entry(alloc: Global, entry: &Entry, into: &mut String) -> Result<()> {
     let time = entry.time;
     write!(into, " {time}:")?;
-    write_word(alloc, entry.line.as_str(), into)
+    write_word(alloc, entry.line.as_str(), into)?;
+    write_pairs(entry.meta.as_slice(), into)
 }
 
 /// Ends a line with these entries.

@@ -4,7 +4,7 @@ ghost use Rattle.history.specs.Handles.{Passed};
 ghost use Rattle.ingester.specs.Calls.{IsPassOf};
 ghost use Rattle.threads.specs.Looks.{CanLook};
 
-use accept::{Call, Entry, EntryList, Limits, Line, Outcome, Reply};
+use accept::{Call, Entry, EntryList, Limits, Line, Meta, Outcome, Reply};
 use disk::{Gate, GateDisk, MemDisk};
 use history::Pass;
 use ingester::Ingester;
@@ -170,7 +170,8 @@ fn stores<R: Wait>(
 {
     let line = Line::new(value.to_string(alloc).ok()?);
     let mut entries = Vec::new(alloc);
-    entries.push(Entry { time, line }).ok()?;
+    let meta = Meta::none();
+    entries.push(Entry { time, line, meta }).ok()?;
     let push = Call::Push {
         key: key(alloc, value)?,
         now: NOW,
