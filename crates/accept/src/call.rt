@@ -1,8 +1,9 @@
-ghost use Rattle.std.specs.Prelude.{◌≡◌, ◌↔◌, ◌<◌, ◌^◌, IsTrue};
+ghost use Rattle.std.specs.Prelude.{◌≡◌, ◌↔◌, ◌<◌, ◌^◌, IsTrue, IfOk};
 
 use crate::outcome::OutcomeList;
-use entries::EntryList;
+use entries::{Entry, EntryList};
 use labels::StreamKey;
+use std::alloc::{AllocError, Global};
 
 /// The most entries of a push.
 pub const MAX_ENTRIES: usize = 10_000;
@@ -51,7 +52,7 @@ pub enum Reply {
 }
 
 impl Call {
-    ghost use Rattle.std.specs.Prelude.{◌≡◌, ◌↔◌, IsTrue};
+    ghost use Rattle.std.specs.Prelude.{◌≡◌, ◌↔◌, IsTrue, IfOk};
     ghost use Rattle.accept.specs.Histories.{key_of};
     ghost use Rattle.accept.specs.Calls.{AreNumbers};
 
@@ -62,6 +63,28 @@ impl Call {
         match self {
             Call::Push { key, .. } | Call::Read { key, .. } | Call::Trim { key, .. } => key,
         }
+    }
+
+    /// A copy, for what keeps the call.
+    pub fn copy(&self, alloc: Global) -> Result<Call, AllocError>
+        ensures { IfOk result (λ call. call ≡ self.now) }
+    {
+        Ok(match self {
+            Call::Push { key, now, entries } => Call::Push {
+                key: key.clone()?,
+                now: *now,
+                entries: copy_of(alloc, entries.as_slice())?,
+            },
+            Call::Read { key, from, to } => Call::Read {
+                key: key.clone()?,
+                from: *from,
+                to: *to,
+            },
+            Call::Trim { key, bound } => Call::Trim {
+                key: key.clone()?,
+                bound: *bound,
+            },
+        })
     }
 
     /// Whether the clock and the times of a push are below 2^63, and its entries are at most `MAX_ENTRIES`.
@@ -84,4 +107,14 @@ fn is_time(time: u64) -> bool
     ensures { IsTrue result ↔ (time < 2 ^ 63) }
 {
     time < 1 << 63
+}
+
+fn copy_of(alloc: Global, entries: &[Entry]) -> Result<EntryList, AllocError>
+    ensures { IfOk result (λ es. es ≡ entries.now) }
+{
+    let mut copies = Vec::with_capacity(alloc, entries.len())?;
+    for entry in entries {
+        copies.push(entry.clone()?)?;
+    }
+    Ok(EntryList::new(copies))
 }

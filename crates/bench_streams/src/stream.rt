@@ -1,5 +1,9 @@
 //! Calls on one stream, and how long they take.
 
+ghost use Rattle.std.specs.Prelude.{◌<◌, ◌^◌, IfSome};
+ghost use Rattle.accept.specs.OneStream.{AreTimes};
+ghost use Rattle.accept.specs.Calls.{AreNumbers};
+
 use accept::{Call, Entry, EntryList, Limits, Line, Meta, StreamState};
 use anyhow::{Result, bail};
 use pushes::{LINE, LINES, START, key_of};
@@ -128,21 +132,57 @@ fn three_pairs(alloc: Global) -> Result<Meta> {
 }
 
 /// Judges and stores a push, and answers how many of its lines were stored.
-fn store(alloc: Global, stream: &mut StreamState, call: &Call) -> Result<usize> {
+fn store(alloc: Global, stream: &mut StreamState, call: Call) -> Result<usize> {
     if !call.has_lawful_numbers() {
         bail!("no lawful numbers");
     }
-    let Call::Push { now, entries, .. } = call else {
+    let Some((now, entries)) = entries_of(call) else {
         bail!("no push");
     };
-    let outcomes = stream.judge(alloc, *now, entries.as_slice(), &LIMITS)?;
-    let reserved = stream.reserve(alloc, entries.as_slice(), outcomes.as_slice())?;
-    let stored = reserved.as_slice().len();
-    stream.store(reserved);
+    store_entries(alloc, stream, now, entries)
+}
+
+/// What the clock says at a push, and its entries.
+fn entries_of(call: Call) -> Option<(u64, EntryList)>
+    requires { AreNumbers call }
+    ensures { IfSome result (λ it. (it.0 < 2 ^ 63) × AreTimes it.1) }
+{
+    match call {
+        Call::Push {
+            key: _key,
+            now,
+            entries,
+        } => Some((now, entries)),
+        Call::Read {
+            key: _key,
+            from: _,
+            to: _,
+        } => None,
+        Call::Trim {
+            key: _key,
+            bound: _,
+        } => None,
+    }
+}
+
+fn store_entries(
+    alloc: Global,
+    stream: &mut StreamState,
+    now: u64,
+    entries: EntryList,
+) -> Result<usize>
+    requires { (now < 2 ^ 63) × AreTimes entries }
+{
+    let outcomes = stream.judge(alloc, now, entries.as_slice(), &LIMITS)?;
+    let Ok(reserved) = stream.reserve_own(alloc, entries, outcomes.as_slice()) else {
+        bail!("out of memory");
+    };
+    let stored = reserved.0.as_slice().len();
+    stream.store(reserved.0);
     Ok(stored)
 }
 
-fn store_all(alloc: Global, stream: &mut StreamState, calls: &[Call]) -> Result<usize> {
+fn store_all(alloc: Global, stream: &mut StreamState, calls: Vec<Call>) -> Result<usize> {
     let mut stored: usize = 0;
     for call in calls {
         stored = stored.saturating_add(store(alloc, stream, call)?);
@@ -159,7 +199,7 @@ fn filled(alloc: Global, kept: u64) -> Result<StreamState> {
         let lines = left.min(MOST);
         let first = START.saturating_add(kept.saturating_sub(left).saturating_mul(STEP));
         let push = push_of(alloc, &none, first, STEP, lines)?;
-        store(alloc, &mut stream, &push)?;
+        store(alloc, &mut stream, push)?;
         left -= lines;
     }
     Ok(stream)
@@ -169,7 +209,7 @@ fn filled(alloc: Global, kept: u64) -> Result<StreamState> {
 fn time_pushes<R: Clock + AllocGlobal>(
     rt: &R,
     stream: &mut StreamState,
-    calls: &[Call],
+    calls: Vec<Call>,
 ) -> Result<(Duration, usize)> {
     let start = Instant::now(rt)?;
     let stored = store_all(rt.alloc(), stream, calls)?;
@@ -180,7 +220,7 @@ fn time_pushes<R: Clock + AllocGlobal>(
 fn time_on_new<R: Clock + AllocGlobal>(
     rt: &R,
     kept: u64,
-    calls: &[Call],
+    calls: Vec<Call>,
 ) -> Result<(Duration, usize)> {
     let mut stream = filled(rt.alloc(), kept)?;
     time_pushes(rt, &mut stream, calls)
@@ -190,7 +230,7 @@ fn time_on_new<R: Clock + AllocGlobal>(
 fn time_paired<R: Clock + AllocGlobal>(rt: &R, load: Load) -> Result<(Duration, usize)> {
     let pairs = three_pairs(rt.alloc())?;
     let calls = pushes_of(rt.alloc(), &pairs, load.end(), STEP, load.pushes)?;
-    time_on_new(rt, load.kept, &calls)
+    time_on_new(rt, load.kept, calls)
 }
 
 /// Makes the calls on new streams.
@@ -199,12 +239,12 @@ pub fn make_run<R: Clock + AllocGlobal>(rt: &R, load: Load) -> Result<Run> {
     let none = Meta::none();
     let middle = START.saturating_add((load.kept / 2).saturating_mul(STEP));
     let calls = pushes_of(alloc, &none, load.end(), STEP, load.pushes)?;
-    let (in_order, stored) = time_on_new(rt, load.kept, &calls)?;
+    let (in_order, stored) = time_on_new(rt, load.kept, calls)?;
     let (paired, stored_paired) = time_paired(rt, load)?;
     let first = load.end().saturating_sub(LATE);
     let calls = pushes_of(alloc, &none, first, 1, load.pushes)?;
     let mut stream = filled(alloc, load.kept)?;
-    let (late, stored_late) = time_pushes(rt, &mut stream, &calls)?;
+    let (late, stored_late) = time_pushes(rt, &mut stream, calls)?;
     let start = Instant::now(rt)?;
     let found = stream.read(
         alloc,

@@ -1,5 +1,5 @@
 -- What is shown of a call that has its step.
-use Rattle.std.proofs.Common.{◌≡◌, ℕ, ◌+◌, ◌≤◌, inl, inr, Bool, true, false, List, [], ◌∷◌, refl, sym, ◌∙◌, subst, arith}
+use Rattle.std.proofs.Common.{◌≡◌, ℕ, ◌+◌, inl, inr, Bool, true, false, List, [], ◌∷◌, refl, sym, ◌∙◌, subst, arith}
 use Rattle.accept.specs.declared.limits.Limits.{Limits}
 use Rattle.accept.specs.declared.call.Call.{Call}
 use Rattle.accept.specs.declared.call.Reply.{Reply}
@@ -11,17 +11,13 @@ use Rattle.segment.specs.declared.owner.Owner.{Owner}
 use Rattle.wal.specs.declared.log.Wal.{Wal}
 use Rattle.wal.specs.Recovery.{IsEither}
 use Rattle.wal.specs.Moments.{Pair, PairLeavesOnly, HasFailed, HasNoFailure}
-use Rattle.wal.specs.Logs.{Follow, slots, owner, FitsInUse}
+use Rattle.wal.specs.Logs.{Follow, slots, owner}
 use Rattle.history.specs.Histories.{doubt_of, step_of}
 use Rattle.history.specs.Handles.{Booked, Announced, Received, history_in, longer}
-use Rattle.shard.specs.declared.ready.Target.{Target}
-use Rattle.shard.specs.declared.ready.Target.TheVariants.{Behind, Next}
-use Rattle.streams.specs.Changes.{change_of}
 use Rattle.streams.specs.Mapped.{Mapped}
 use Rattle.shard.specs.Keeping.{moments, LeavesSince, owner_in, IsAllowed}
-use Rattle.shard.specs.Calls.{answer_in, after_in, reply_in, Writes, block_length, MayLeave}
+use Rattle.shard.specs.Calls.{answer_in, after_in, reply_in, Writes, FitsBehind, MayLeave}
 use Rattle.shard.specs.Shards.{IsShard}
-use Rattle.shard.specs.Readies.{IsPlaced}
 use Rattle.shard.specs.Parts.{IsApplied}
 use Rattle.shard.proofs.Replies.{due_written, writes_not_quiet}
 use Rattle.shard.proofs.Slots.{IsClocked, only_now_left, no_time, weaker_pair, none_yet}
@@ -68,34 +64,19 @@ either_may book whose call a b same writes either =
       | inr new ↦ inr (writes, new)
     ]
 
--- where it was written
-pub placed_behind : {D : Type 0} (log : Wal D) (n : ℕ) (place : Target) → IsPlaced log n place → FitsInUse log n → place ≡ Behind
-placed_behind log n Behind placed fits = refl
-placed_behind log n Next placed fits = absurd (placed fits)
-
-pub placed_next : {D : Type 0} (log : Wal D) (n : ℕ) (place : Target) → IsPlaced log n place → ¬ FitsInUse log n → place ≡ Next
-placed_next log n Behind placed full = absurd (full placed)
-placed_next log n Next placed full = refl
-
--- the generation rises by at most one
-pub at_most_one : (n m : ℕ) (place : Target) → (place ≡ Behind → n ≡ m) → (place ≡ Next → n ≡ m + 1) → n ≤ m + 1
-at_most_one n m Behind same next = let e = same refl in omega arith
-at_most_one n m Next same next = let e = next refl in omega arith
-
--- a change that was written
+-- a change to which the log was rolled
 pub applied_made : {D : Type 0} (sight : D → Sight) (follows : D → Type 0) → IsClocked sight follows → (old new : Wal D) (book : Booked) (opened : Wal D) (before states : Mapped) (limits : Limits)
-    (ticket : Announced) (reply given : Reply) (receipt : Received) (place : Target)
+    (ticket : Announced) (reply given : Reply) (receipt : Received)
     → IsShard sight follows old book opened before false limits → IsShard sight follows new (longer book (Answered (step_of ticket.ask reply))) opened states false limits
     → Writes book ticket.ask.call → reply ≡ answer_in book ticket.ask.call → given ≡ reply
     → receipt ≡ record { table = ticket.table; step = step_of ticket.ask reply; upto = (longer book (Answered (step_of ticket.ask reply))).items; moment = moments (slots sight new) }
-    → IsPlaced old (block_length (change_of ticket.ask.call reply)) place
+    → ¬ FitsBehind old book ticket.ask.call
     → (Follow follows new → Follow follows old)
     → (Follow follows new → PairLeavesOnly (slots sight old) (slots sight new) (IsEither (owner old) (meaning (history_in book)) (after_in book ticket.ask.call)))
-    → HasNoFailure (slots sight old) (slots sight new) → (place ≡ Behind → new.generation ≡ old.generation) → (place ≡ Next → new.generation ≡ old.generation + 1)
+    → HasNoFailure (slots sight old) (slots sight new) → new.generation ≡ old.generation + 1
     → IsApplied sight follows (record { log = old; book = book; opened = opened }) (record { log = new; book = longer book (Answered (step_of ticket.ask reply)); opened = opened }) ticket given receipt
-applied_made sight follows clocked old new book opened before states limits ticket reply given receipt place s after_step writes replied gives receipt_is placed back run none appended rolled =
+applied_made sight follows clocked old new book opened before states limits ticket reply given receipt s after_step writes replied gives receipt_is full back run none rolled =
     let call = ticket.ask.call in
-    let placed_so : IsPlaced old (block_length (change_of call (answer_in book call))) place = subst (λ (r : Reply). IsPlaced old (block_length (change_of call r)) place) replied placed in
     subst (λ (r : Reply). IsApplied sight follows (record { log = old; book = book; opened = opened }) (record { log = new; book = longer book (Answered (step_of ticket.ask reply)); opened = opened }) ticket r receipt) (sym gives)
     (record {
       step = inl (record { no_failure = none; replied = replied ∙ due_written book call writes; book = refl });
@@ -104,31 +85,30 @@ applied_made sight follows clocked old new book opened before states limits tick
       any_moment = λ f. weaker_pair (slots sight old) (slots sight new) (IsEither (owner old) (meaning (history_in book)) (after_in book call)) (MayLeave book call) (λ a b e. either_may book (owner old) call a b s.same_owner writes e) (run f);
       receipt_is = receipt_is;
       since = since_now sight follows clocked new (longer book (Answered (step_of ticket.ask reply))) opened states false limits after_step;
-      appended = λ fits. appended (placed_behind old (block_length (change_of call (answer_in book call))) place placed_so fits);
-      rolled = λ w full e. rolled (placed_next old (block_length (change_of call (answer_in book call))) place placed_so full);
+      appended = λ fits. absurd (full fits);
+      rolled = λ _ _ _. rolled;
       opened = refl;
     })
 
-both_not : (a b : Pair) → HasFailed a b → HasNoFailure a b → ⊥
+pub both_not : (a b : Pair) → HasFailed a b → HasNoFailure a b → ⊥
 both_not a b (inl f) h = f h.0
 both_not a b (inr f) h = f h.1
 
--- a change at which a device failed
+-- a roll at which a device failed
 pub applied_lost : {D : Type 0} (sight : D → Sight) (follows : D → Type 0) → IsClocked sight follows → (old new : Wal D) (book : Booked) (opened : Wal D) (before states : Mapped) (limits : Limits)
-    (ticket : Announced) (reply given : Reply) (receipt : Received) (place : Target)
+    (ticket : Announced) (reply given : Reply) (receipt : Received)
     → IsShard sight follows old book opened before false limits
     → IsShard sight follows new (longer (longer book (Failed (ticket.ask ∷ []))) (Answered (step_of ticket.ask Unavailable))) opened states true limits
     → Writes book ticket.ask.call → reply ≡ answer_in book ticket.ask.call → given ≡ Unavailable
     → receipt ≡ record { table = ticket.table; step = step_of ticket.ask Unavailable; upto = (longer (longer book (Failed (ticket.ask ∷ []))) (Answered (step_of ticket.ask Unavailable))).items; moment = moments (slots sight new) }
-    → IsPlaced old (block_length (change_of ticket.ask.call reply)) place
+    → ¬ FitsBehind old book ticket.ask.call
     → (Follow follows new → Follow follows old)
     → (Follow follows new → PairLeavesOnly (slots sight old) (slots sight new) (IsEither (owner old) (meaning (history_in book)) (after_in book ticket.ask.call)))
-    → HasFailed (slots sight old) (slots sight new) → (place ≡ Behind → new.generation ≡ old.generation)
+    → HasFailed (slots sight old) (slots sight new)
     → IsApplied sight follows (record { log = old; book = book; opened = opened }) (record { log = new; book = longer (longer book (Failed (ticket.ask ∷ []))) (Answered (step_of ticket.ask Unavailable)); opened = opened }) ticket given receipt
-applied_lost sight follows clocked old new book opened before states limits ticket reply given receipt place s after_step writes replied gives receipt_is placed back run failure appended =
+applied_lost sight follows clocked old new book opened before states limits ticket reply given receipt s after_step writes replied gives receipt_is full back run failure =
     let call = ticket.ask.call in
     let last = longer (longer book (Failed (ticket.ask ∷ []))) (Answered (step_of ticket.ask Unavailable)) in
-    let placed_so : IsPlaced old (block_length (change_of call (answer_in book call))) place = subst (λ (r : Reply). IsPlaced old (block_length (change_of call r)) place) replied placed in
     subst (λ (r : Reply). IsApplied sight follows (record { log = old; book = book; opened = opened }) (record { log = new; book = last; opened = opened }) ticket r receipt) (sym gives)
     (record {
       step = inr (record { failure = failure; unmarked = writes.unmarked; replied = refl; book = refl });
@@ -137,7 +117,7 @@ applied_lost sight follows clocked old new book opened before states limits tick
       any_moment = λ f. weaker_pair (slots sight old) (slots sight new) (IsEither (owner old) (meaning (history_in book)) (after_in book call)) (MayLeave book call) (λ a b e. either_may book (owner old) call a b s.same_owner writes e) (run f);
       receipt_is = receipt_is;
       since = since_now sight follows clocked new last opened states true limits after_step;
-      appended = λ fits. appended (placed_behind old (block_length (change_of call (answer_in book call))) place placed_so fits);
-      rolled = λ w full none. absurd (both_not (slots sight old) (slots sight new) failure none);
+      appended = λ fits. absurd (full fits);
+      rolled = λ _ _ none. absurd (both_not (slots sight old) (slots sight new) failure none);
       opened = refl;
     })

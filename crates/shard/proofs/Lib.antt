@@ -24,3 +24,4 @@ pub mod Fronts
 pub mod Turning
 pub mod Taking
 pub mod Refusals
+pub mod OneApplied

@@ -1,20 +1,20 @@
 -- The parts of a shard, and what a call makes of them.
-use Rattle.std.specs.Prelude.{◌≡◌, ◌⊎◌, ◌+◌, false, None}
+use Rattle.std.specs.Prelude.{◌≡◌, ◌⊎◌, ◌+◌, ◌-◌, ◌^◌, ◌≤◌, false}
+use Rattle.accept.specs.declared.call.Call.{Call}
 use Rattle.accept.specs.declared.call.Reply.{Reply}
 use Rattle.accept.specs.declared.history.Ask.{Ask}
 use Rattle.disk.specs.Sight.{Sight}
+use Rattle.wal.specs.declared.log.Wal.{Wal}
 use Rattle.wal.specs.Moments.{PairLeavesOnly, HasNoFailure}
 use Rattle.wal.specs.Logs.{Follow, slots}
 use Rattle.history.specs.Histories.{doubt_of, step_of}
-use Rattle.history.specs.Handles.{Announced, Received}
+use Rattle.history.specs.Handles.{Booked, Announced, Received}
 use Rattle.shard.specs.declared.parts.Parts.{Parts}
-use Rattle.shard.specs.declared.ready.Target.{Target}
-use Rattle.streams.specs.Changes.{change_of}
 use Rattle.streams.specs.Mapped.{Mapped}
 use Rattle.shard.specs.Keeping.{moments, LeavesSince, IsAllowed}
-use Rattle.shard.specs.Calls.{answer_in, after_in, Writes, IsQuiet, block_length, FitsBehind, IsCommitted, IsLost, MayLeave}
+use Rattle.shard.specs.Calls.{Writes, IsQuiet, FitsBehind, IsLate, IsCommitted, IsLost, MayLeave}
 use Rattle.shard.specs.Shards.{Sharded, IsShard}
-use Rattle.shard.specs.Readies.{IsWritten}
+use Rattle.shard.specs.Readies.{IsNext}
 
 -- what contracts see of them
 abbrev pub seen_of : {D : Type 0} → Parts D → Sharded D
@@ -24,19 +24,21 @@ seen_of p = record { log = p.log.wal; book = p.book; opened = p.opened.value }
 abbrev pub ArePartsOf : {D : Type 0} → (D → Sight) → (D → Type 0) → Parts D → Type 0
 ArePartsOf sight follows p = IsShard sight follows p.log.wal p.book p.opened.value p.states p.is_marked p.limits
 
--- The change of a call is stored in memory, and its bytes are ready: all else is as before.
-pub record IsStored {D : Type 0} (sight : D → Sight) (follows : D → Type 0) (p : Parts D) (ask : Ask) (reply : Reply)
-    (place : Target) : Type 0 where
+-- The change of a call that does not fit behind the segment in use is stored in memory, and the segment of the next
+-- generation is ready: all else is as before.
+pub record IsStored {D : Type 0} (sight : D → Sight) (follows : D → Type 0) (p : Parts D) (ask : Ask)
+    (reply : Reply) : Type 0 where
   pub before : Mapped
   pub shard : IsShard sight follows p.log.wal p.book p.opened.value before false p.limits
   pub unmarked : p.is_marked ≡ false
   pub writes : Writes p.book ask.call
-  pub replied : reply ≡ answer_in p.book ask.call
-  pub owner_is : p.states.owner ≡ before.owner
-  pub no_change : p.states.change ≡ None
-  pub streams_are : p.states.streams ≡ after_in p.book ask.call
-  pub written_at : IsWritten p.log.wal place p.buffer.items (block_length (change_of ask.call reply)) before.streams
-      p.states.streams
+  pub full : ¬ FitsBehind p.log.wal p.book ask.call
+  pub next : IsNext p.limits p.log.wal before ask.call p.states p.buffer.items reply
+
+-- the generations are used up, the call's change does not fit behind the segment in use, and the log was opened late
+abbrev pub IsSpent : {D : Type 0} → Wal D → Booked → Wal D → Call → Type 0
+IsSpent log book opened call = (2 ^ 63 - 1 ≤ log.generation) × Writes book call × (¬ FitsBehind log book call)
+    × IsLate opened book
 
 -- The call has its step.
 pub record IsApplied {D : Type 0} (sight : D → Sight) (follows : D → Type 0) (old new : Sharded D) (ticket : Announced)

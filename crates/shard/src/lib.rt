@@ -15,7 +15,6 @@ mod ready;
 mod refusing;
 mod shard;
 mod turn;
-mod writing;
 
 pub use fault::ApplyFault;
 pub use front::{Ended, Job};

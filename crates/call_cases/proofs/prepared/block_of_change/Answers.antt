@@ -1,6 +1,6 @@
 use Rattle.std.proofs.Common.{◌+◌, length, refl, arith}
 use Rattle.shard.proofs.Gathered.{length_opened}
-use Rattle.shard.proofs.Written.{measured_by, still_open, held_long}
+use Rattle.call_cases.proofs.OneRecord.{measured_by, still_open, held_long}
 use Rattle.call_cases.proofs.prepared.block_of_change.Goals as goal
 
 pub close_block-requires-clause-is_open : goal.close_block-requires-clause-is_open
