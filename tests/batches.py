@@ -27,6 +27,19 @@ def functions_of(lines):
     return found
 
 
+IMPL = re.compile(r"impl(?:<.*?>)? (?:([\w:]+)(?:<.*>)? for )?([\w:]+)")
+
+
+def name_of(path, lines, head):
+    """The function that begins on this line, by the end of its name that the prover knows it by."""
+    name = re.search(r"\bfn (\w+)", lines[head - 1])[1]
+    if not lines[head - 1].startswith(" "):
+        module = path.removeprefix("src/").removesuffix(".rt").replace("/", "::")
+        return name if module in ("lib", "main") else f"{module}::{name}"
+    of = next(found for line in reversed(lines[: head - 1]) if (found := IMPL.match(line)))
+    return f"{of[2]}{(of[1] or '').rpartition('::')[2]}::{name}"
+
+
 def bodies_of(rt, crate, edit):
     """The functions whose bodies an edit changes, each as its file, first and last line. None where it changes anything else."""
     found = set()
