@@ -6,8 +6,8 @@ WORKERS ?= 64
 
 .PHONY: run demo sample test edits faults check fmt bench kill failed-disk roll-time deb deb-check edge-check drain-check pictures
 
-# (each thread of the allocator keeps more freed pieces at hand: 15 % less of a processor a push of many streams, for
-# some 70 MB)
+# (each thread of the allocator keeps more freed pieces at hand: 12 to 19 % less of a processor a push of many
+# streams, for some 70 MB)
 TUNED = GLIBC_TUNABLES=glibc.malloc.tcache_count=1000
 
 # the main job: the server, with its log in the folder data
