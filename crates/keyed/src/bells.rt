@@ -13,8 +13,8 @@ const RUNG: u64 = 1;
 
 const AWAITED: u64 = 2;
 
-// How often a thread looks at a quiet bell before it sleeps.
-const LOOKS: usize = 100;
+// How often a thread looks at a quiet bell before it sleeps: few, since who rings it mostly syncs a disk first.
+const LOOKS: usize = 20;
 
 /// The rule of the bells, which claims nothing of their words.
 pub struct Unruled;

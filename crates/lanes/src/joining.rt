@@ -105,6 +105,16 @@ impl<D: Disk + Drop> Queues<D> {
         work
     }
 
+    /// Puts the work of a shard back. Nobody is told to lead there: the thread itself has to see whether calls wait.
+    pub(crate) fn put_back<R: Wait>(&self, rt: &R, shard: usize, work: Work)
+        requires shard { shard < count_of self.now.lanes }
+        requires idle { IsIdle work }
+    {
+        let (mut lane, grip) = self.lanes.take(rt, shard);
+        lane.work = Some(work);
+        self.lanes.give(lane, grip);
+    }
+
     /// Puts the work of a shard back, and lets the pass of the first call that waits lead there.
     pub(crate) fn hand_over<R: Wait>(&self, rt: &R, shard: usize, work: Work)
         requires shard { shard < count_of self.now.lanes }

@@ -39,8 +39,10 @@ impl<D: Disk + Drop> Queues<D> {
             } else {
                 behind_another(last)
             };
-            passes.add(pass_of(&came));
-            self.send(rt, came);
+            let pass = pass_of(&came);
+            if self.send(rt, came) {
+                passes.add(pass);
+            }
         }
     }
 
@@ -72,6 +74,24 @@ impl<D: Disk + Drop> Queues<D> {
 }
 
 impl<D: Disk + Drop> Lanes<D> {
+    // Makes all calls of the work under the shard's lock. Says whose bells are to be rung.
+    fn make_under_lock<R: Wait>(
+        &self,
+        rt: &R,
+        alloc: Global,
+        shard: usize,
+        work: &mut Work,
+    ) -> NumberSet
+        requires shard { shard < self.now.about.shards }
+        requires work { IsWork self.now.table self.now.about shard work.old }
+        ensures { IsIdle work.new }
+    {
+        let (mut state, grip) = self.shards.take(rt, shard);
+        let passes = self.queues.make_all(rt, alloc, &mut state, work);
+        self.shards.give(state, grip);
+        passes
+    }
+
     /// Leads at a shard, where some calls wait and no other thread leads: makes them under the shard's lock, and hands
     /// the lead over to the pass of the first call that has come since then. It says whose bells are to be rung, so
     /// that the next turn need not wait for them.
@@ -81,10 +101,24 @@ impl<D: Disk + Drop> Lanes<D> {
         let Some(mut work) = self.queues.load(rt, shard) else {
             return NumberSet::EMPTY;
         };
-        let (mut state, grip) = self.shards.take(rt, shard);
-        let passes = self.queues.make_all(rt, alloc, &mut state, &mut work);
-        self.shards.give(state, grip);
+        let passes = self.make_under_lock(rt, alloc, shard, &mut work);
         self.queues.hand_over(rt, shard, work);
         passes
+    }
+
+    /// Leads at a shard as long as calls wait there and no other thread leads: for a thread that has no call of its own
+    /// to answer, so that none of the passes is woken to lead.
+    pub(crate) fn lead_on<R: Wait>(&self, rt: &R, alloc: Global, shard: usize)
+        requires shard { shard < self.now.about.shards }
+    {
+        for _ in rt.forever() {
+            let loaded = self.queues.load(rt, shard);
+            let Some(mut work) = loaded else {
+                return;
+            };
+            let passes = self.make_under_lock(rt, alloc, shard, &mut work);
+            self.queues.put_back(rt, shard, work);
+            self.queues.ring_all(passes);
+        }
     }
 }

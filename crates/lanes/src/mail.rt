@@ -20,6 +20,8 @@ pub(crate) struct Mail {
     first: u64,
     // What became of each call that is out, in the order of their numbers, as far as it is known.
     places: Vec<Option<Settled>>,
+    // How many of them are still to come. Nothing is claimed of it: it says when the pass is woken.
+    awaited: usize,
     /// The shards where the pass is to lead.
     pub(crate) leads: NumberSet,
 }
@@ -76,6 +78,7 @@ impl Mail {
         Ok(Mail {
             first: 0,
             places: Vec::with_capacity(alloc, MOST)?,
+            awaited: 0,
             leads: NumberSet::EMPTY,
         })
     }
@@ -88,26 +91,31 @@ impl Mail {
         ensures places { AreEmptyPlaces self.new.places.items }
     {
         self.first = first;
+        self.awaited = count;
         self.places.clear();
         for _ in 0..count {
             self.places.push_reserved(None);
         }
     }
 
-    /// Puts what became of a call at its place. What no place is for is dropped.
-    pub(crate) fn put(&mut self, settled: Settled)
+    /// Puts what became of a call at its place. What no place is for is dropped. It says whether nothing more is to
+    /// come, so that the pass may be woken once for all its calls.
+    pub(crate) fn put(&mut self, settled: Settled) -> bool
         ensures room { vec_capacity self.new.places ≡ vec_capacity self.old.places }
         ensures first { self.new.first ≡ self.old.first }
         ensures places { IsPutIn self.old.first self.old.places.items settled self.new.places.items }
     {
         let number = number_of(&settled);
         if number < self.first {
-            return;
+            return false;
         }
         let at = (number - self.first) as usize;
-        if at < self.places.len() {
-            self.places[at] = Some(settled);
+        if at >= self.places.len() {
+            return false;
         }
+        self.places[at] = Some(settled);
+        self.awaited = self.awaited.saturating_sub(1);
+        self.awaited == 0
     }
 
     /// Takes out what became of the call of this number.

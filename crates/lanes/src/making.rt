@@ -86,15 +86,14 @@ impl<D: Disk + Drop> Lanes<D> {
         unreachable!()
     }
 
-    /// Waits until the bell of a shard's assistants is rung, and leads there where no other thread does. A thread that
-    /// does nothing else calls it again and again: so that the calls of one body to several shards are written side by
-    /// side. Nothing depends on such threads.
+    /// Waits until the bell of a shard's assistants is rung, and leads there, as long as calls wait and no other thread
+    /// leads. A thread that does nothing else calls it again and again: so that the calls of one body to several shards
+    /// are written side by side. Nothing depends on such threads.
     pub fn assist<R: Wait>(&self, rt: &R, alloc: Global, shard: usize)
         requires shard { shard < self.now.about.shards }
     {
         self.queues.wait_to_assist(rt, shard);
-        let passes = self.lead(rt, alloc, shard);
-        self.queues.ring_all(passes);
+        self.lead_on(rt, alloc, shard);
     }
 
     /// Rings the bells of all assistants: each that waits, or waits next, goes on.

@@ -25,21 +25,23 @@ impl<D: Disk + Drop> Queues<D> {
         self.mails.give(mail, grip);
     }
 
-    /// Sends what became of a call to its pass, whose bell is not rung.
-    pub(crate) fn send<R: Wait>(&self, rt: &R, settled: Settled)
+    /// Sends what became of a call to its pass, whose bell is not rung. It says whether nothing more is to come there.
+    pub(crate) fn send<R: Wait>(&self, rt: &R, settled: Settled) -> bool
         requires pass { pass_in settled < self.now.passes }
         requires due { IsDueTo (opening_in self.now) (pass_in settled) settled }
     {
         let (mut mail, grip) = self.mails.take(rt, pass_of(&settled));
-        mail.put(settled);
+        let is_all = mail.put(settled);
         self.mails.give(mail, grip);
+        is_all
     }
 
-    /// Sends a call back to its pass, whose bell is not rung: there was no memory for it.
-    pub(crate) fn refuse<R: Wait>(&self, rt: &R, ticket: Ticket)
+    /// Sends a call back to its pass, whose bell is not rung: there was no memory for it. It says whether nothing more
+    /// is to come there.
+    pub(crate) fn refuse<R: Wait>(&self, rt: &R, ticket: Ticket) -> bool
         requires { IsOpen (opening_in self.now).table (opening_in self.now).about ticket }
     {
-        self.send(rt, Settled::Refused(ApplyFault::Memory, ticket));
+        self.send(rt, Settled::Refused(ApplyFault::Memory, ticket))
     }
 
     /// Sends calls back to their passes: there was no memory for them. Whose bells are to be rung is added to `passes`.
@@ -53,8 +55,10 @@ impl<D: Disk + Drop> Queues<D> {
         ensures { jobs.new.items ≡ [] }
     {
         while let Some(Job { ticket, call: _ }) = jobs.pop_front() {
-            passes.add(ticket.pass());
-            self.refuse(rt, ticket);
+            let pass = ticket.pass();
+            if self.refuse(rt, ticket) {
+                passes.add(pass);
+            }
         }
     }
 

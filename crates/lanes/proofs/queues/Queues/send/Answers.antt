@@ -10,6 +10,6 @@ give-requires-clause-value g c =
     let p = c.pass_of.result in
     let settled = c.args.settled in
     let due = due_at key (key_of c.args.self.now.lanes) p (pass_in settled) settled c.args.self.now.same c.pass_of.ensures c.requires.due in
-    let put = c.put.ensures in
-    subst (λ q. IsMailFor (opened_by key) q c.put.new.self) (sym c.take-mail.ensures.grip.lock)
-    (mail_put (opened_by key) p c.take-mail.result.0 c.put.new.self settled c.take-mail.ensures.value due put.room put.first put.places)
+    let put = c.put-is_all.ensures in
+    subst (λ q. IsMailFor (opened_by key) q c.put-is_all.new.self) (sym c.take-mail.ensures.grip.lock)
+    (mail_put (opened_by key) p c.take-mail.result.0 c.put-is_all.new.self settled c.take-mail.ensures.value due put.room put.first put.places)

@@ -33,3 +33,9 @@ loop-last-preserved g c =
     let inv = c.loop-last.invariant in
     let last = last_turned (opening_in c.args.self.now) c.loop-last.settled.items c.pop.new.self.items c.in-Some.last c.in-Some.ensures.items inv.turned in
     record { turned = last.front_turned; capacity = c.in-Some.ensures.capacity ∙ inv.capacity }
+
+pub loop-last-preserved-then-send : goal.loop-last-preserved-then-send
+loop-last-preserved-then-send g c =
+    let inv = c.loop-last.invariant in
+    let last = last_turned (opening_in c.args.self.now) c.loop-last.settled.items c.pop.new.self.items c.in-Some.last c.in-Some.ensures.items inv.turned in
+    record { turned = last.front_turned; capacity = c.in-Some.ensures.capacity ∙ inv.capacity }
