@@ -6,9 +6,10 @@ WORKERS ?= 64
 
 .PHONY: run demo sample test edits faults check fmt bench kill failed-disk roll-time deb deb-check edge-check drain-check pictures
 
-# (each thread of the allocator keeps more freed pieces at hand: 12 to 19 % less of a processor a push of many
-# streams, for some 70 MB)
-TUNED = GLIBC_TUNABLES=glibc.malloc.tcache_count=1000
+# (jemalloc where it is installed, else an allocator of the C library whose threads keep more freed pieces at hand: README
+# says what a push takes by each)
+JEMALLOC = $(firstword $(wildcard /usr/lib/*/libjemalloc.so.2))
+TUNED = $(if $(JEMALLOC),LD_PRELOAD=$(JEMALLOC),GLIBC_TUNABLES=glibc.malloc.tcache_count=1000)
 
 # the main job: the server, with its log in the folder data
 run:
