@@ -14,6 +14,7 @@ TUNED = $(if $(JEMALLOC),LD_PRELOAD=$(JEMALLOC),GLIBC_TUNABLES=glibc.malloc.tcac
 # the main job: the server, with its log in the folder data
 run:
 	@RT='$(RT)' tests/build server
+	@deploy/fill-slots "$(CURDIR)/data" $(SHARDS) || true
 	@$(TUNED) exec crates/server/out/server "$(CURDIR)/data" 3100 $(SHARDS) $(WORKERS)
 
 # pushes a line to the server, and reads it back
