@@ -3,6 +3,7 @@
 
 mod body;
 mod clock;
+mod connections;
 mod ctl;
 mod ingest1;
 mod opening;
@@ -12,6 +13,7 @@ mod setting;
 mod stopped;
 
 pub use clock::SystemClock;
+pub use connections::Connections;
 pub use ctl::run_ctl;
 pub use ingest1::run_ingest1;
 pub use server::run_server;

@@ -5,6 +5,7 @@ ghost use Rattle.ingester.specs.Calls.{IsPassOf};
 ghost use Rattle.words.specs.Words.{GiveServer, GivesCapacity};
 
 use crate::clock::SystemClock;
+use crate::connections::Connections;
 use crate::opening::open_shards;
 use crate::replayed::say_replayed;
 use crate::setting::capacity_by;
@@ -110,9 +111,10 @@ where
     let Ok(bound) = listener.local_addr() else {
         return Err(Stopped::Listen);
     };
-    let mut clocks = Vec::with_capacity(alloc, passes.len())?;
+    let mut servers = Vec::with_capacity(alloc, passes.len())?;
     for _ in 0..passes.len() {
-        if clocks.push(SystemClock::new(rt)).is_err() {
+        let server = Connections::new(SystemClock::new(rt));
+        if servers.push(server).is_err() {
             return Err(Stopped::Memory);
         }
     }
@@ -121,6 +123,6 @@ where
         return Err(Stopped::Output);
     }
     let connections = words.connections.unwrap_or(u64::MAX);
-    serve_listener(rt, alloc, ingester, passes, clocks, &listener, connections)?;
+    serve_listener(rt, alloc, ingester, passes, servers, &listener, connections)?;
     Ok(())
 }

@@ -5,7 +5,7 @@ ghost use Rattle.ingester.specs.Calls.{IsPassOf};
 use accept::Limits;
 use disk::{Gate, GateDisk, MemDisk};
 use ingester::Ingester;
-use ingesterd::{SystemClock, run_ctl, run_server};
+use ingesterd::{Connections, SystemClock, run_ctl, run_server};
 use std::alloc::Global;
 use std::fs::{self, File, Files};
 use std::io::{self, ErrorKind, Write};
@@ -226,9 +226,9 @@ where
     let Ok((ingester, passes)) = opened else {
         return Err(Fail::from("slots are refused"));
     };
-    let mut clocks = Vec::new(alloc);
+    let mut servers = Vec::new(alloc);
     for _ in 0..workers {
-        clocks.push(Standing)?;
+        servers.push(Connections::new(Standing))?;
     }
     let ingester = &ingester;
     let (told, served) = join(
@@ -236,7 +236,7 @@ where
         move || answers_of(client).ok(),
         move || -> Result<(), WorkersFault>
             requires { (i : ℕ) (pass : Passed) → slice_get passes.items i ≡ Some pass → IsPassOf ingester.now pass }
-        { serve_listener(rt, alloc, ingester, passes, clocks, listener, connections) },
+        { serve_listener(rt, alloc, ingester, passes, servers, listener, connections) },
     );
     if served.is_err() {
         return Err(Fail::from("not served"));

@@ -13,13 +13,13 @@ use Rattle.ingester.proofs.Sent.{ingester_sync}
 use Rattle.workers.specs.contracts.assisting.Assistant as assistant
 use Rattle.workers.specs.contracts.serving.Worker as worker
 
-fields_send : (κ : NamedLft) (D C R : RattleType) (g : disk.Ghosts D.Denot) → IsSend D → IsSend C → IsSync R → AllSend (declared.fields (worker.the_type κ D C R g))
-fields_send κ D C R g s c r = let i = ingester_sync D g s in
-    (search (r, sendable), (search sendable, (search (i, sendable), (pass.the_send, (c, (search (receiver.the_send, stream.the_send, send, sync, frees, sendable) depth 20, tt))))))
+fields_send : (κ : NamedLft) (D S R : RattleType) (g : disk.Ghosts D.Denot) → IsSend D → IsSend S → IsSync R → AllSend (declared.fields (worker.the_type κ D S R g))
+fields_send κ D S R g d s r = let i = ingester_sync D g d in
+    (search (r, sendable), (search sendable, (search (i, sendable), (pass.the_send, (s, (search (receiver.the_send, stream.the_send, send, sync, frees, sendable) depth 20, tt))))))
 
-pub worker_send : (κ : NamedLft) (D C R : RattleType) (g : disk.Ghosts D.Denot) → IsSend D → IsSend C → IsSync R → IsSend (worker.the_row κ D C R g)
-worker_send κ D C R g s c r = let T = worker.the_type κ D C R g in
-    recorded_send (Struct (declared.shape T)) T.D T.to T.to_one (struct_send (declared.shape T) (fields_send κ D C R g s c r))
+pub worker_send : (κ : NamedLft) (D S R : RattleType) (g : disk.Ghosts D.Denot) → IsSend D → IsSend S → IsSync R → IsSend (worker.the_row κ D S R g)
+worker_send κ D S R g d s r = let T = worker.the_type κ D S R g in
+    recorded_send (Struct (declared.shape T)) T.D T.to T.to_one (struct_send (declared.shape T) (fields_send κ D S R g d s r))
 
 assistant_fields_send : (κ : NamedLft) (D R : RattleType) (g : disk.Ghosts D.Denot) → IsSend D → IsSync R → AllSend (declared.fields (assistant.the_type κ D R g))
 assistant_fields_send κ D R g s r = let i = ingester_sync D g s in

@@ -7,4 +7,4 @@ mod fault;
 mod serving;
 
 pub use fault::WorkersFault;
-pub use serving::serve_listener;
+pub use serving::{Serve, serve_listener};

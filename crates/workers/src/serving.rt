@@ -7,7 +7,6 @@ use crate::assisting::{end_assistants, start_assistants};
 use crate::fault::WorkersFault;
 use crossbeam_channel::{Receiver, Sender, bounded};
 use disk::Disk;
-use front::{Clock, serve};
 use history::Pass;
 use ingester::Ingester;
 use std::alloc::Global;
@@ -26,39 +25,42 @@ const WAITING: usize = 64;
 /// For how many milliseconds the acceptor waits where it could accept nothing.
 const PAUSE_MILLIS: u64 = 10;
 
-// Serves one connection until it ends. Whatever goes wrong with it, the worker takes the next.
-fn serve_stream<D: Disk + Drop, C: Clock, R: Wait>(
-    rt: &R,
-    alloc: Global,
-    ingester: &Ingester<D>,
-    pass: &mut Pass,
-    clock: &mut C,
-    stream: &TcpStream,
-)
-    requires { IsPassOf ingester.now pass.old }
-    ensures { IsPassOf ingester.now pass.new }
-{
+/// What a worker serves connections by. It stands above this crate, which needs no more of it.
+pub trait Serve<D: Disk> {
+    /// Serves a connection until it ends. Whatever goes wrong with it, the worker takes the next.
+    fn serve<R: Wait>(
+        &mut self,
+        rt: &R,
+        alloc: Global,
+        ingester: &Ingester<D>,
+        pass: &mut Pass,
+        stream: &TcpStream,
+    )
+        requires { IsPassOf ingester.now pass.old }
+        ensures { IsPassOf ingester.now pass.new };
+}
+
+// Has a connection closed that does nothing for long, and sent at once what is written.
+fn limit_waits(stream: &TcpStream) {
     let idle = Duration::from_secs(IDLE_SECONDS);
     let _ = stream.set_nodelay(true);
     let _ = stream.set_read_timeout(Some(idle));
     let _ = stream.set_write_timeout(Some(idle));
-    let (mut reader, mut writer) = (stream, stream);
-    let _ = serve(rt, alloc, ingester, pass, clock, &mut reader, &mut writer);
 }
 
 // What a worker's thread is given.
 #[derive(Drop)]
-struct Worker<'a, D: Disk, C, R> {
+struct Worker<'a, D: Disk, S, R> {
     rt: &'a R,
     alloc: Global,
     ingester: &'a Ingester<D>,
     pass: Pass,
-    clock: C,
+    server: S,
     streams: Receiver<TcpStream>,
 }
 
 // Serves connections until no more come, or the pass is closed.
-fn work<D: Disk + Drop, C: Clock + Drop, R: Wait>(worker: Worker<D, C, R>)
+fn work<D: Disk + Drop, S: Serve<D> + Drop, R: Wait>(worker: Worker<D, S, R>)
     requires { IsPassOf worker.ingester.now worker.pass }
 {
     let Worker {
@@ -66,11 +68,12 @@ fn work<D: Disk + Drop, C: Clock + Drop, R: Wait>(worker: Worker<D, C, R>)
         alloc,
         ingester,
         mut pass,
-        mut clock,
+        mut server,
         streams,
     } = worker;
     for stream in streams.iter(rt) {
-        serve_stream(rt, alloc, ingester, &mut pass, &mut clock, &stream);
+        limit_waits(&stream);
+        server.serve(rt, alloc, ingester, &mut pass, &stream);
         if pass.is_closed() {
             break;
         }
@@ -99,13 +102,13 @@ fn accept<R: Wait + rt::Clock>(
 }
 
 // Starts a worker.
-fn start<'s, E, D, C, R>(
+fn start<'s, E, D, S, R>(
     scope: &'s Scope<'s, E>,
-    worker: Worker<'s, D, C, R>,
+    worker: Worker<'s, D, S, R>,
 ) -> Result<(), WorkersFault>
 where
     D: Disk + Drop + Send + 's,
-    C: Clock + Drop + Send + 's,
+    S: Serve<D> + Drop + Send + 's,
     R: Threads + Wait + Sync,
     requires pass { IsPassOf worker.ingester.now worker.pass }
 {
@@ -119,23 +122,23 @@ where
 }
 
 // Starts a worker for each pass.
-fn start_all<'s, E, D, C, R>(
+fn start_all<'s, E, D, S, R>(
     scope: &'s Scope<'s, E>,
     rt: &'s R,
     alloc: Global,
     ingester: &'s Ingester<D>,
     mut passes: Vec<Pass>,
-    mut clocks: Vec<C>,
+    mut servers: Vec<S>,
     streams: Receiver<TcpStream>,
 ) -> Result<(), WorkersFault>
 where
     D: Disk + Drop + Send + 's,
-    C: Clock + Drop + Send + 's,
+    S: Serve<D> + Drop + Send + 's,
     R: Threads + Wait + Sync,
     requires passes { (i : ℕ) (pass : Passed) → slice_get passes.items i ≡ Some pass → IsPassOf ingester.now pass }
 {
     while let Some(pass) = passes.pop() {
-        let Some(clock) = clocks.pop() else {
+        let Some(server) = servers.pop() else {
             break;
         };
         let streams = streams.clone()?;
@@ -144,7 +147,7 @@ where
             alloc,
             ingester,
             pass,
-            clock,
+            server,
             streams,
         };
         start(scope, worker)?;
@@ -153,18 +156,18 @@ where
 }
 
 // Serves connections by workers, and hands those that come to them.
-fn serve_by_workers<D, C, R>(
+fn serve_by_workers<D, S, R>(
     rt: &R,
     alloc: Global,
     ingester: &Ingester<D>,
     passes: Vec<Pass>,
-    clocks: Vec<C>,
+    servers: Vec<S>,
     listener: &TcpListener,
     connections: u64,
 ) -> Result<(), WorkersFault>
 where
     D: Disk + Drop + Send,
-    C: Clock + Drop + Send,
+    S: Serve<D> + Drop + Send,
     R: Threads + Wait + rt::Clock + Sync,
     requires passes { (i : ℕ) (pass : Passed) → slice_get passes.items i ≡ Some pass → IsPassOf ingester.now pass }
 {
@@ -175,7 +178,7 @@ where
         |scope| -> Result<(), WorkersFault>
             requires { (i : ℕ) (pass : Passed) → slice_get passes.items i ≡ Some pass → IsPassOf ingester.now pass }
         {
-            start_all(scope, rt, alloc, ingester, passes, clocks, receiver)?;
+            start_all(scope, rt, alloc, ingester, passes, servers, receiver)?;
             accept(rt, listener, connections, sender);
             Ok(())
         },
@@ -183,25 +186,25 @@ where
 }
 
 /// Serves the connections that come to a listener, so many at most: one thread accepts them, and for each pass a
-/// worker, with a clock of its own, serves one after another. At each shard a further thread helps them.
+/// worker serves one after another by what it is given. At each shard a further thread helps them.
 ///
 /// It ends when so many connections have come and each has ended; or, where no worker is left, since a pass is closed
 /// when its numbers are used up, with the next connection that comes; or at once, with an error, where there is no
 /// memory or a thread cannot be started. A connection that fails, or does nothing for 60 seconds, is closed, and its
 /// worker takes the next; what it was answered stands. A connection that could not be accepted is not counted, and
 /// costs 10 milliseconds.
-pub fn serve_listener<D, C, R>(
+pub fn serve_listener<D, S, R>(
     rt: &R,
     alloc: Global,
     ingester: &Ingester<D>,
     passes: Vec<Pass>,
-    clocks: Vec<C>,
+    servers: Vec<S>,
     listener: &TcpListener,
     connections: u64,
 ) -> Result<(), WorkersFault>
 where
     D: Disk + Drop + Send,
-    C: Clock + Drop + Send,
+    S: Serve<D> + Drop + Send,
     R: Threads + Wait + rt::Clock + Sync,
     requires passes { (i : ℕ) (pass : Passed) → slice_get passes.items i ≡ Some pass → IsPassOf ingester.now pass }
 {
@@ -218,7 +221,7 @@ where
                     alloc,
                     ingester,
                     passes,
-                    clocks,
+                    servers,
                     listener,
                     connections,
                 ),
