@@ -1,7 +1,7 @@
 //! `ingest1 NOW`: judges the push body on standard input on an empty shard, and reads it back.
 #![tactic(auto)]
 
-use offline::{run_ingest1, words_of};
+use ingesterd::{run_ingest1, words_of};
 use std::process::ExitCode;
 
 fn main(rt: HostRuntime) -> ExitCode {

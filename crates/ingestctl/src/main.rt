@@ -1,7 +1,7 @@
 //! `ingestctl push|read|trim DIR SHARDS TENANT NOW`: answers the request on standard input over the slots of a folder.
 #![tactic(auto)]
 
-use offline::{run_ctl, setting_of, words_of};
+use ingesterd::{run_ctl, setting_of, words_of};
 use std::process::ExitCode;
 
 fn main(rt: HostRuntime) -> ExitCode {

@@ -1,9 +1,11 @@
-//! The call behind the server's program, over its words and writers, so that tests can run it, and what other programs
-//! share with it.
+//! The calls behind the programs: each over its words, readers and writers, so that tests can run them.
 #![tactic(auto)]
 
+mod body;
 mod clock;
 mod connections;
+mod ctl;
+mod ingest1;
 mod opening;
 mod replayed;
 mod server;
@@ -12,8 +14,7 @@ mod stopped;
 
 pub use clock::SystemClock;
 pub use connections::Connections;
-pub use opening::open_for_one;
+pub use ctl::run_ctl;
+pub use ingest1::run_ingest1;
 pub use server::run_server;
-pub use setting::capacity_by;
-pub use stopped::Stopped;
 pub use words::{setting_of, words_of};

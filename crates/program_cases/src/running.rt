@@ -2,9 +2,8 @@
 
 use crate::ended::Ended;
 use crate::pipes::{Sink, Source};
-use ingesterd::run_server;
+use ingesterd::{run_ctl, run_ingest1, run_server};
 use listing::run_walcat;
-use offline::{run_ctl, run_ingest1};
 use splitting::run_walsplit;
 use std::alloc::Global;
 use std::fs::{File, Files};

@@ -1,5 +1,5 @@
 use Rattle.ingester.specs.Calls.{IsPassOf}
-use Rattle.offline.proofs.ingest1.read_back.Given as goal
+use Rattle.ingesterd.proofs.ingest1.read_back.Given as goal
 
 abbrev pub invariant-loop-batch : goal.invariant-loop-batch
 invariant-loop-batch g l =

@@ -3,8 +3,10 @@ ghost use Rattle.std.specs.Prelude.{◌≡◌, ◌↔◌, ◌≤◌, ◌^◌, If
 ghost use Rattle.words.specs.Words.{GiveCall, GivesCapacity};
 
 use crate::body::{read_body, write_answer};
+use crate::opening::open_for_one;
+use crate::setting::capacity_by;
+use crate::stopped::Stopped;
 use front::{Answer, Status, answer};
-use ingesterd::{Stopped, capacity_by, open_for_one};
 use slots::open_slots;
 use std::alloc::Global;
 use std::fs::{File, Files};

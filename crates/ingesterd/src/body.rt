@@ -1,7 +1,7 @@
 //! Bodies that programs read, and answers that they write.
 
+use crate::stopped::Stopped;
 use front::Answer;
-use ingesterd::Stopped;
 use std::alloc::Global;
 use std::io::{ErrorKind, Read, Write};
 

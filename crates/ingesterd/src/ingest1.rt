@@ -4,12 +4,13 @@ ghost use Rattle.ingester.specs.Calls.{IsPassOf};
 ghost use Rattle.words.specs.Words.{GiveClock};
 
 use crate::body::{read_body, write_answer, write_bytes};
+use crate::opening::open_for_one;
+use crate::stopped::Stopped;
 use accept::Call;
 use disk::{Disk, MemDisk};
 use front::{Route, Status, answer, answer_of_read};
 use history::Pass;
 use ingester::Ingester;
-use ingesterd::{Stopped, open_for_one};
 use labels::{LabelFault, LabelSet, StreamKey, Tenant};
 use pushjson::{PushFault, RawBatch, read_push};
 use std::alloc::Global;
