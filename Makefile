@@ -70,9 +70,9 @@ sample:
 test:
 	@RT='$(RT)' tests/gate
 
-# the wrong bodies that the gate leaves out: make edits [CRATES="labels accept"] [JOBS=2] [ALL=1, with the gate's]
+# the wrong bodies, with those that the gate tries: make edits [CRATES="labels accept"] [JOBS=2]
 edits:
-	@RT='$(RT)' tests/edits $(if $(ALL),--all) $(if $(JOBS),--jobs $(JOBS)) $(CRATES)
+	@RT='$(RT)' tests/edits $(if $(JOBS),--jobs $(JOBS)) $(CRATES)
 
 # hostile use: bytes cut and changed anywhere, memory refused at each request, files and clients that fail. Each says how many
 # cases it had and how many differ from what the definitions ask for
