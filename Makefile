@@ -41,7 +41,7 @@ deb:
 	@RT='$(RT)' tests/build server ingestctl ingest1 walcat walsplit
 	@deploy/deb
 
-# the package installed into a fresh folder, used there, and removed (as root)
+# the package on a fresh machine of Debian's systemd in a folder: installed, used, removed (as root, seven minutes)
 deb-check:
 	@RT='$(RT)' tests/build server ingestctl ingest1 walcat walsplit
 	@tests/deb_check "$$(deploy/deb)"
