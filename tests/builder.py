@@ -13,6 +13,7 @@ import copy
 import functools
 import os
 import shutil
+import signal
 import tempfile
 import threading
 import time
@@ -175,9 +176,12 @@ def build(rt, needed):
     crates = not_made(rt, needed)
     if not crates:
         return []
+    # (with its own handler Python would wait for the threads' commands)
+    usual = signal.signal(signal.SIGINT, signal.SIG_DFL)
     builder = Builder(rt, crates)
     builder.say(f"{len(crates)} of {len(needed)} crates to prove and build")
     threading.Thread(target=builder.watch, daemon=True).start()
     lacking = [it.name for it in builder.run()]
     builder.say(f"not built: {', '.join(lacking)}" if lacking else "built")
+    signal.signal(signal.SIGINT, usual)
     return lacking
