@@ -75,14 +75,24 @@ fn slots_of(alloc: Global, load: Load) -> Result<Vec<[MemDisk; 2]>> {
 }
 
 /// An ingester over empty slots, and its passes.
-fn open(alloc: Global, load: Load) -> Result<(Ingester<MemDisk>, Vec<Pass>)>
+fn open<R>(rt: &R, alloc: Global, load: Load) -> Result<(Ingester<MemDisk>, Vec<Pass>)>
+where
+    R: Threads + Wait + Copy + Send + 'static,
     ensures { IfOk result (λ it. (p : ℕ) (pass : Passed) → slice_get it.1.items p ≡ Some pass → IsPassOf it.0 pass) }
 {
     let slots = slots_of(alloc, load)?;
     if slots.is_empty() || slots.len() > 64 || load.passes == 0 || load.passes > 64 {
         bail!("what is opened is out of its bounds");
     }
-    match Ingester::open(alloc, slots, load.passes, Limits::PROFILE, CAPACITY) {
+    match Ingester::open(
+        rt,
+        *rt,
+        alloc,
+        slots,
+        load.passes,
+        Limits::PROFILE,
+        CAPACITY,
+    ) {
         Ok(opened) => Ok(opened),
         Err(refusal) => Err(refusal.0.into()),
     }
@@ -243,16 +253,19 @@ fn release<R: Clock + Wait>(
 }
 
 /// One run: how many pushes were stored, and how long they took.
-fn run<R: Clock + Threads + Wait + Sync + AllocGlobal>(
-    rt: &R,
-    load: Load,
-) -> Result<(u64, Duration)> {
-    let (ingester, passes) = open(rt.alloc(), load)?;
+fn run<R>(rt: &R, load: Load) -> Result<(u64, Duration)>
+where
+    R: Clock + Threads + Wait + Sync + AllocGlobal + Copy + Send + 'static,
+{
+    let (ingester, passes) = open(rt, rt.alloc(), load)?;
     push_in_threads(rt, rt.alloc(), &ingester, passes, load)
 }
 
 /// Prints how many calls a second an ingester answers, for each load.
-pub fn time<R: Clock + Print + Threads + Wait + Sync + AllocGlobal>(rt: &R) -> Result<()> {
+pub fn time<R>(rt: &R) -> Result<()>
+where
+    R: Clock + Print + Threads + Wait + Sync + AllocGlobal + Copy + Send + 'static,
+{
     rt.println(format_args!("an ingester, pushes of {LINES} lines of {LINE} bytes"))?;
     for shards in [1, 4] {
         for passes in [1, 4, 16] {
@@ -270,10 +283,10 @@ pub fn time<R: Clock + Print + Threads + Wait + Sync + AllocGlobal>(rt: &R) -> R
     Ok(())
 }
 
-fn time_load<R: Clock + Print + Threads + Wait + Sync + AllocGlobal>(
-    rt: &R,
-    load: Load,
-) -> Result<()> {
+fn time_load<R>(rt: &R, load: Load) -> Result<()>
+where
+    R: Clock + Print + Threads + Wait + Sync + AllocGlobal + Copy + Send + 'static,
+{
     let wanted = load.pushes.saturating_mul(u64::from(load.passes));
     let mut best = Duration::MAX;
     for _ in 0..RUNS {
@@ -291,7 +304,10 @@ fn time_load<R: Clock + Print + Threads + Wait + Sync + AllocGlobal>(
 }
 
 /// Makes a few pushes in two threads.
-pub fn check<R: Clock + Print + Threads + Wait + Sync + AllocGlobal>(rt: &R) -> Result<()> {
+pub fn check<R>(rt: &R) -> Result<()>
+where
+    R: Clock + Print + Threads + Wait + Sync + AllocGlobal + Copy + Send + 'static,
+{
     let load = Load {
         passes: 2,
         shards: 2,

@@ -21,13 +21,19 @@ fn main(rt: HostRuntime) -> Result<()> {
     }
 }
 
-fn time<R: Clock + Print + Threads + Wait + Sync + AllocGlobal>(rt: &R) -> Result<()> {
+fn time<R>(rt: &R) -> Result<()>
+where
+    R: Clock + Print + Threads + Wait + Sync + AllocGlobal + Copy + Send + 'static,
+{
     shard_calls::time(rt)?;
     ingester_calls::time(rt)?;
     served::time(rt)
 }
 
-fn check<R: Clock + Print + Threads + Wait + Sync + AllocGlobal>(rt: &R) -> Result<()> {
+fn check<R>(rt: &R) -> Result<()>
+where
+    R: Clock + Print + Threads + Wait + Sync + AllocGlobal + Copy + Send + 'static,
+{
     shard_calls::check(rt)?;
     ingester_calls::check(rt)?;
     served::check(rt)

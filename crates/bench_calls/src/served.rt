@@ -18,6 +18,7 @@ use std::alloc::{AllocError, Global};
 use std::io::{self, Write};
 use std::rt::Clock;
 use std::sync::Wait;
+use std::thread::Threads;
 use std::time::{Duration, Instant};
 
 /// How often each thing is timed; the best run counts.
@@ -113,22 +114,26 @@ fn slot(alloc: Global) -> Result<MemDisk, AllocError> {
 }
 
 /// One shard over empty slots, and its passes.
-fn open_all(alloc: Global) -> Result<(Ingester<MemDisk>, Vec<Pass>)>
+fn open_all<R>(rt: &R, alloc: Global) -> Result<(Ingester<MemDisk>, Vec<Pass>)>
+where
+    R: Threads + Wait + Copy + Send + 'static,
     ensures { IfOk result (λ it. (p : ℕ) (pass : Passed) → slice_get it.1.items p ≡ Some pass → IsPassOf it.0 pass) }
 {
     let mut slots = Vec::new(alloc);
     slots.push([slot(alloc)?, slot(alloc)?])?;
-    match Ingester::open(alloc, slots, 1, Limits::PROFILE, CAPACITY) {
+    match Ingester::open(rt, *rt, alloc, slots, 1, Limits::PROFILE, CAPACITY) {
         Ok(opened) => Ok(opened),
         Err(refusal) => Err(refusal.0.into()),
     }
 }
 
 /// The same with its one pass.
-fn open(alloc: Global) -> Result<(Ingester<MemDisk>, Pass)>
+fn open<R>(rt: &R, alloc: Global) -> Result<(Ingester<MemDisk>, Pass)>
+where
+    R: Threads + Wait + Copy + Send + 'static,
     ensures { IfOk result (λ it. IsPassOf it.0 it.1) }
 {
-    let (ingester, mut passes) = open_all(alloc)?;
+    let (ingester, mut passes) = open_all(rt, alloc)?;
     match passes.pop() {
         Some(pass) => Ok((ingester, pass)),
         None => Err(anyhow!("no pass")),
@@ -136,8 +141,11 @@ fn open(alloc: Global) -> Result<(Ingester<MemDisk>, Pass)>
 }
 
 /// Serves a load from empty slots on, and gives how long that took.
-fn time_serve<R: Clock + Wait + AllocGlobal>(rt: &R, load: &Load) -> Result<Duration> {
-    let (ingester, mut pass) = open(rt.alloc())?;
+fn time_serve<R>(rt: &R, load: &Load) -> Result<Duration>
+where
+    R: Clock + Threads + Wait + AllocGlobal + Copy + Send + 'static,
+{
+    let (ingester, mut pass) = open(rt, rt.alloc())?;
     time_serve_over(rt, &ingester, &mut pass, load)
 }
 
@@ -258,8 +266,11 @@ fn time_bodies<R: Clock + Wait + AllocGlobal>(
 }
 
 /// The same of a load, from empty slots on.
-fn time_parts<R: Clock + Wait + AllocGlobal>(rt: &R, load: &Load) -> Result<(Duration, Duration)> {
-    let (ingester, mut pass) = open(rt.alloc())?;
+fn time_parts<R>(rt: &R, load: &Load) -> Result<(Duration, Duration)>
+where
+    R: Clock + Threads + Wait + AllocGlobal + Copy + Send + 'static,
+{
+    let (ingester, mut pass) = open(rt, rt.alloc())?;
     time_bodies(rt, &ingester, &mut pass, &load.bodies)
 }
 
@@ -294,21 +305,19 @@ fn compare<R: Print>(rt: &R, name: &str, serving: Duration, parts: [Duration; 2]
     Ok(())
 }
 
-fn time_load<R: Clock + Print + Wait + AllocGlobal>(
-    rt: &R,
-    requests: u64,
-    entries: u64,
-) -> Result<()> {
+fn time_load<R>(rt: &R, requests: u64, entries: u64) -> Result<()>
+where
+    R: Clock + Print + Threads + Wait + AllocGlobal + Copy + Send + 'static,
+{
     let load = load_of(rt.alloc(), requests, entries)?;
     time_each(rt, &load, entries)
 }
 
 /// Prints how fast a load of requests of so many lines is served, and its parts alone.
-fn time_each<R: Clock + Print + Wait + AllocGlobal>(
-    rt: &R,
-    load: &Load,
-    entries: u64,
-) -> Result<()> {
+fn time_each<R>(rt: &R, load: &Load, entries: u64) -> Result<()>
+where
+    R: Clock + Print + Threads + Wait + AllocGlobal + Copy + Send + 'static,
+{
     let (mut serving, mut alone) = (Duration::MAX, Duration::MAX);
     let (mut reading, mut calling) = (Duration::MAX, Duration::MAX);
     for _ in 0..RUNS {
@@ -340,7 +349,10 @@ fn time_each<R: Clock + Print + Wait + AllocGlobal>(
 }
 
 /// Prints how fast connections are served.
-pub fn time<R: Clock + Print + Wait + AllocGlobal>(rt: &R) -> Result<()> {
+pub fn time<R>(rt: &R) -> Result<()>
+where
+    R: Clock + Print + Threads + Wait + AllocGlobal + Copy + Send + 'static,
+{
     for (requests, entries) in LOADS {
         time_load(rt, requests, entries)?;
     }
@@ -348,12 +360,18 @@ pub fn time<R: Clock + Print + Wait + AllocGlobal>(rt: &R) -> Result<()> {
 }
 
 /// Serves a short connection, and makes its calls alone.
-pub fn check<R: Clock + Print + Wait + AllocGlobal>(rt: &R) -> Result<()> {
+pub fn check<R>(rt: &R) -> Result<()>
+where
+    R: Clock + Print + Threads + Wait + AllocGlobal + Copy + Send + 'static,
+{
     let load = load_of(rt.alloc(), 3, 2)?;
     check_load(rt, &load)
 }
 
-fn check_load<R: Clock + Print + Wait + AllocGlobal>(rt: &R, load: &Load) -> Result<()> {
+fn check_load<R>(rt: &R, load: &Load) -> Result<()>
+where
+    R: Clock + Print + Threads + Wait + AllocGlobal + Copy + Send + 'static,
+{
     time_serve(rt, load)?;
     time_reading(rt, &load.bodies)?;
     time_parts(rt, load)?;

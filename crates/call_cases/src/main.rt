@@ -15,6 +15,7 @@ use rows::{Row, Tally, rows_of};
 use std::env;
 use std::fs::{self, Files};
 use std::sync::Wait;
+use std::thread::Threads;
 
 fn main(rt: HostRuntime) -> Result<()> {
     let mut tally = Tally::new();
@@ -24,11 +25,10 @@ fn main(rt: HostRuntime) -> Result<()> {
     tally.end(&rt)
 }
 
-fn judge_file<R: Files + Print + Wait + AllocGlobal>(
-    rt: &R,
-    name: &str,
-    tally: &mut Tally,
-) -> Result<()> {
+fn judge_file<R>(rt: &R, name: &str, tally: &mut Tally) -> Result<()>
+where
+    R: Files + Print + Threads + Wait + AllocGlobal + Copy + Send + 'static,
+{
     let alloc = rt.alloc();
     let text = fs::read_to_string(rt, name)?;
     for row in rows_of(alloc, text.as_str())?.iter() {
@@ -37,23 +37,28 @@ fn judge_file<R: Files + Print + Wait + AllocGlobal>(
     Ok(())
 }
 
-fn judge_row<R: Print + Wait + AllocGlobal>(
-    rt: &R,
-    row: &Row<'_>,
-    tally: &mut Tally,
-) -> Result<()> {
+fn judge_row<R>(rt: &R, row: &Row<'_>, tally: &mut Tally) -> Result<()>
+where
+    R: Print + Threads + Wait + AllocGlobal + Copy + Send + 'static,
+{
     let mut said = String::new(rt.alloc());
     take_row(rt, row, &mut said).context(format_args!("row {}", row.name))?;
     tally.judge(rt, row, said.as_str())
 }
 
 /// Does what the lines of a row say, and appends what is said to that.
-fn take_row<R: Wait + AllocGlobal>(rt: &R, row: &Row<'_>, said: &mut String) -> Result<()> {
+fn take_row<R>(rt: &R, row: &Row<'_>, said: &mut String) -> Result<()>
+where
+    R: Threads + Wait + AllocGlobal + Copy + Send + 'static,
+{
     let mut stage = Stage::new(rt.alloc())?;
     take_lines(rt, row, &mut stage, said)
 }
 
-fn take_lines<R: Wait>(rt: &R, row: &Row<'_>, stage: &mut Stage, said: &mut String) -> Result<()> {
+fn take_lines<R>(rt: &R, row: &Row<'_>, stage: &mut Stage, said: &mut String) -> Result<()>
+where
+    R: Threads + Wait + Copy + Send + 'static,
+{
     for line in row.given.iter() {
         stage.take_line(rt, line, said)?;
     }

@@ -9,6 +9,7 @@ use lone_shard::LoneShard;
 use std::alloc::Global;
 use std::fmt::Write;
 use std::sync::Wait;
+use std::thread::Threads;
 
 /// What makes the calls of a row.
 #[derive(Drop)]
@@ -27,16 +28,20 @@ pub struct Refused {
 
 impl Opened {
     /// Opens an ingester over these slots, or their only shard without one.
-    pub fn open(
+    pub fn open<R>(
+        rt: &R,
         alloc: Global,
         pairs: Vec<Pair>,
         settings: Settings,
         is_alone: bool,
-    ) -> Result<Result<Opened, Refused>> {
+    ) -> Result<Result<Opened, Refused>>
+    where
+        R: Threads + Wait + Copy + Send + 'static,
+    {
         if is_alone {
             return Opened::alone(alloc, only_of(pairs)?, settings);
         }
-        match Together::open(alloc, pairs, settings)? {
+        match Together::open(rt, alloc, pairs, settings)? {
             Ok(together) => Ok(Ok(Opened::Together(Box::new(alloc, together)?))),
             Err((fault, pairs)) => {
                 let why = format!(in alloc; "refused: {fault}\n")?;

@@ -12,6 +12,7 @@ use std::alloc::Global;
 use std::fmt::Write;
 use std::mem;
 use std::sync::Wait;
+use std::thread::Threads;
 
 /// What a row has made so far.
 #[derive(Drop)]
@@ -43,10 +44,13 @@ impl Stage {
     }
 
     /// Does what a line asks for, and appends what is to be said to it.
-    pub fn take_line<R: Wait>(&mut self, rt: &R, line: &str, said: &mut String) -> Result<()> {
+    pub fn take_line<R>(&mut self, rt: &R, line: &str, said: &mut String) -> Result<()>
+    where
+        R: Threads + Wait + Copy + Send + 'static,
+    {
         let (word, rest) = word_of(line);
         match word {
-            "open" => self.open(rest, said),
+            "open" => self.open(rt, rest, said),
             "close" => self.close(rt, said),
             "push" | "read" | "trim" | "each" => self.take_call(rt, line, said),
             "with" => self.gathered.add(self.alloc, rest),
@@ -94,10 +98,13 @@ impl Stage {
     }
 
     /// `open`: an ingester over all slots; `open alone`: the only shard without one.
-    fn open(&mut self, text: &str, said: &mut String) -> Result<()> {
+    fn open<R>(&mut self, rt: &R, text: &str, said: &mut String) -> Result<()>
+    where
+        R: Threads + Wait + Copy + Send + 'static,
+    {
         self.before = calls_of(self.alloc, &self.pairs)?;
         let pairs = mem::replace(&mut self.pairs, Vec::new(self.alloc));
-        match Opened::open(self.alloc, pairs, self.settings, text == "alone")? {
+        match Opened::open(rt, self.alloc, pairs, self.settings, text == "alone")? {
             Ok(opened) => {
                 self.opened = Some(opened);
                 Ok(())

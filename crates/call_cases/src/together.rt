@@ -18,6 +18,7 @@ use std::collections::VecDeque;
 use std::fmt::Write;
 use std::mem;
 use std::sync::Wait;
+use std::thread::Threads;
 
 /// An ingester, the pass that makes the calls, and all other passes.
 #[derive(Drop)]
@@ -69,11 +70,15 @@ fn pairs_of(alloc: Global, slots: Vec<[MemDisk; 2]>) -> Result<Vec<Pair>> {
 
 impl Together {
     /// Opens a shard over each pair of slots. A refusal says why, and gives the slots back in their order.
-    pub fn open(
+    pub fn open<R>(
+        rt: &R,
         alloc: Global,
         pairs: Vec<Pair>,
         settings: Settings,
-    ) -> Result<Result<Together, (OpenFault, Vec<Pair>)>> {
+    ) -> Result<Result<Together, (OpenFault, Vec<Pair>)>>
+    where
+        R: Threads + Wait + Copy + Send + 'static,
+    {
         let Settings {
             limits,
             capacity,
@@ -87,7 +92,7 @@ impl Together {
             bail!("a limit is out of its bounds");
         }
         let count = slots.len() as u32;
-        match Ingester::open(alloc, slots, passes, limits, capacity) {
+        match Ingester::open(rt, *rt, alloc, slots, passes, limits, capacity) {
             Ok((ingester, mut others)) => {
                 let Some(pass) = others.pop() else {
                     bail!("there is no pass");

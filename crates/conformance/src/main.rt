@@ -13,6 +13,7 @@ use anyhow::{Result, anyhow};
 use rows::{Row, Tally, rows_of};
 use std::rt::{Env, Files};
 use std::sync::Wait;
+use std::thread::Threads;
 use std::{env, fs};
 
 fn main(rt: HostRuntime) -> Result<()> {
@@ -23,11 +24,10 @@ fn main(rt: HostRuntime) -> Result<()> {
     tally.end(&rt)
 }
 
-fn take_file<R: Files + Print + Wait + AllocGlobal>(
-    rt: &R,
-    file: &str,
-    tally: &mut Tally,
-) -> Result<()> {
+fn take_file<R>(rt: &R, file: &str, tally: &mut Tally) -> Result<()>
+where
+    R: Files + Print + Threads + Wait + AllocGlobal + Copy + Send + 'static,
+{
     let alloc = rt.alloc();
     let text = fs::read_to_string(rt, file)?;
     for row in rows_of(alloc, text.as_str())?.iter() {
@@ -39,7 +39,10 @@ fn take_file<R: Files + Print + Wait + AllocGlobal>(
 }
 
 /// A row whose first line is a `reply` asks for its answer, any other one for connections.
-fn take_row<R: Wait + AllocGlobal>(rt: &R, row: &Row<'_>, said: &mut String) -> Result<()> {
+fn take_row<R>(rt: &R, row: &Row<'_>, said: &mut String) -> Result<()>
+where
+    R: Threads + Wait + AllocGlobal + Copy + Send + 'static,
+{
     let alloc = rt.alloc();
     match row.given.split_first() {
         Some((first, entries)) if first.starts_with("reply ") => {

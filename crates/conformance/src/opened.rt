@@ -14,6 +14,7 @@ use history::Pass;
 use ingester::Ingester;
 use std::alloc::{AllocError, Global};
 use std::sync::Wait;
+use std::thread::Threads;
 use wire::{Manner, Sink};
 
 /// The bytes that the slots of a shard have room for together, and twice so many in their records.
@@ -56,15 +57,18 @@ impl Opened {
     /// What a plan says of shards, slots and capacity.
     ///
     /// # Errors
-    /// Other than 1 to 64 shards; want of memory.
-    pub fn open(alloc: Global, plan: &Plan) -> Result<Opened> {
+    /// Other than 1 to 64 shards; want of memory; a thread that is not started.
+    pub fn open<R>(rt: &R, alloc: Global, plan: &Plan) -> Result<Opened>
+    where
+        R: Threads + Wait + Copy + Send + 'static,
+    {
         let slots = slots_of(alloc, plan.shards, plan.stops)?;
         if slots.is_empty() || slots.len() > 64 {
             bail!("there are 1 to 64 shards");
         }
         let count = slots.len() as u32;
         let capacity = plan.capacity.min(1 << 30);
-        match Ingester::open(alloc, slots, 1, Limits::PROFILE, capacity) {
+        match Ingester::open(rt, *rt, alloc, slots, 1, Limits::PROFILE, capacity) {
             Ok((ingester, mut passes)) => {
                 let Some(pass) = passes.pop() else {
                     bail!("there is no pass");
@@ -111,5 +115,21 @@ impl Opened {
         );
         let steps = self.steps();
         Came { sink, end, steps }
+    }
+
+    /// Ends the threads of the shards.
+    ///
+    /// # Errors
+    /// Want of memory.
+    pub fn close<R: Wait>(self, rt: &R, alloc: Global) -> Result<()> {
+        let Opened {
+            ingester,
+            pass,
+            count: _,
+        } = self;
+        let mut passes = Vec::new(alloc);
+        passes.push(pass)?;
+        drop(ingester.close(rt, passes));
+        Ok(())
     }
 }

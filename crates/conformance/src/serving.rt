@@ -6,18 +6,33 @@ use crate::visits::Came;
 use anyhow::Result;
 use std::alloc::Global;
 use std::sync::Wait;
+use std::thread::Threads;
 use wire::{Each, Groups};
 
 /// Serves the connections of a row, and says what each came to.
 ///
 /// # Errors
-/// Want of memory.
-pub fn serve_plan<R: Wait>(rt: &R, alloc: Global, plan: &Plan, said: &mut String) -> Result<()> {
-    let mut opened = Opened::open(alloc, plan)?;
+/// Want of memory; a thread that is not started.
+pub fn serve_plan<R>(rt: &R, alloc: Global, plan: &Plan, said: &mut String) -> Result<()>
+where
+    R: Threads + Wait + Copy + Send + 'static,
+{
+    let mut opened = Opened::open(rt, alloc, plan)?;
+    serve_visits(rt, alloc, &mut opened, plan, said)?;
+    opened.close(rt, alloc)
+}
+
+fn serve_visits<R: Wait>(
+    rt: &R,
+    alloc: Global,
+    opened: &mut Opened,
+    plan: &Plan,
+    said: &mut String,
+) -> Result<()> {
     for visit in &plan.visits {
-        serve_visit(rt, alloc, &mut opened, visit, said)?;
+        serve_visit(rt, alloc, opened, visit, said)?;
     }
-    serve_visit(rt, alloc, &mut opened, &plan.last, said)
+    serve_visit(rt, alloc, opened, &plan.last, said)
 }
 
 /// Serves a connection, and then again at each place.

@@ -1,7 +1,2 @@
-pub mod Bodies
 pub mod Gaining
-pub mod Going
-pub mod Noting
-pub mod Objects
-pub mod Pushing
-pub mod Turning
+pub mod Telling

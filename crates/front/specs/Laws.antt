@@ -1,82 +1,31 @@
 -- The steps that a pass gains are the calls of the requests, in their order.
-use Rattle.std.specs.Prelude.{◌≡◌, ℕ, List, [], ◌∷◌, ◌++◌, Result, Ok, Err}
+use Rattle.std.specs.Prelude.{◌≡◌, ℕ, List, ◌++◌}
 use Rattle.accept.specs.declared.history.Step.{Step}
 use Rattle.history.specs.Handles.{Passed}
-use Rattle.pushjson.specs.declared.fault.PushFault.{PushFault}
-use Rattle.requests.specs.declared.verdict.Verdict.{Verdict}
-use Rattle.requests.specs.declared.verdict.Verdict.TheVariants.{Fixed, Call, NoMemory}
-use Rattle.front.specs.declared.calling.Asked.{Asked}
-use Rattle.front.specs.declared.calling.Came.{Came}
-use Rattle.front.specs.declared.calling.Came.TheVariants.{Refused, Replied, Failed}
-use Rattle.front.specs.Asking.{AsksFor, IsCallOf}
+use Rattle.owners.specs.Openings.{Opening}
+use Rattle.answering.specs.Serving.{Exchange, World, ConnectionGives, IsExchange, IsAbandoned}
+use Rattle.answering.specs.Steps.{AreStepsBy, AreFirstStepsBy, AreTheirSteps}
 use Rattle.front.specs.Calls.{CallGives}
-use Rattle.front.specs.Courses.{Course, Unread, Whole, Broken}
-use Rattle.front.specs.Serving.{Exchange, ConnectionGives, IsExchange, IsAbandoned}
-
--- a step for each stream that got a reply: its call, and the reply
-abbrev pub AreSteps : List ℕ → List Asked → List Came → List Step → Type 0
-AreSteps tenant [] [] steps = steps ≡ []
-AreSteps tenant [] (c ∷ cs) steps = ⊥
-AreSteps tenant (a ∷ more) [] steps = ⊥
-AreSteps tenant (a ∷ more) (Refused fault ∷ cs) steps = AreSteps tenant more cs steps
-AreSteps tenant (a ∷ more) (Failed fault ∷ cs) steps = AreSteps tenant more cs steps
-AreSteps tenant (a ∷ more) (Replied reply ∷ cs) [] = ⊥
-AreSteps tenant (a ∷ more) (Replied reply ∷ cs) (s ∷ steps) = IsCallOf tenant a s.ask.call × (s.reply ≡ reply)
-    × AreSteps tenant more cs steps
-
--- the steps of what was asked for; where calls failed, those of a beginning of it
-abbrev pub AreStepsOf : List ℕ → Result (List Asked) PushFault → Course → List Step → Type 0
-AreStepsOf tenant asked (Unread fault) steps = steps ≡ []
-AreStepsOf tenant asked (Whole cames) steps = (all : List Asked) × (asked ≡ Ok all) × AreSteps tenant all cames steps
-AreStepsOf tenant asked (Broken cames failure) steps = (done : List Asked) × (more : List Asked)
-    × (asked ≡ Ok (done ++ more)) × AreSteps tenant done cames steps
-
--- the steps of a beginning of it
-abbrev pub AreFirstStepsOf : List ℕ → Result (List Asked) PushFault → List Step → Type 0
-AreFirstStepsOf tenant (Err fault) steps = steps ≡ []
-AreFirstStepsOf tenant (Ok all) steps = (done : List Asked) × (more : List Asked) × (cames : List Came)
-    × (all ≡ done ++ more) × AreSteps tenant done cames steps
-
--- the steps of a request
-abbrev pub AreStepsBy : ℕ → List ℕ → Verdict → Course → List Step → Type 0
-AreStepsBy now body (Fixed answer) course steps = steps ≡ []
-AreStepsBy now body (Call route tenant) course steps = (asked : Result (List Asked) PushFault)
-    × AsksFor route now body asked × AreStepsOf tenant asked course steps
-AreStepsBy now body NoMemory course steps = steps ≡ []
-
--- the steps of a request whose calls were given up
-abbrev pub AreFirstStepsBy : ℕ → List ℕ → Verdict → List Step → Type 0
-AreFirstStepsBy now body (Fixed answer) steps = ⊥
-AreFirstStepsBy now body (Call route tenant) steps = (asked : Result (List Asked) PushFault)
-    × AsksFor route now body asked × AreFirstStepsOf tenant asked steps
-AreFirstStepsBy now body NoMemory steps = ⊥
-
--- the steps of these requests, in their order
-abbrev pub AreTheirSteps : List Exchange → List Step → Type 0
-AreTheirSteps [] steps = steps ≡ []
-AreTheirSteps (e ∷ es) steps =
-    (first : List Step) × (others : List Step) × (steps ≡ first ++ others)
-    × AreStepsBy e.now e.request.body e.verdict e.course first × AreTheirSteps es others
 
 -- the pass made just these steps more
 abbrev pub Gains : Passed → List Step → Passed → Type 0
 Gains old steps new = new.caller.made ≡ old.caller.made ++ steps
 
 -- served so, a pass made just the calls of the requests, in their order
-abbrev pub MakesTheirCalls : {C : Type 0} → (C → ℕ → C → Type 0) → List ℕ → Passed → C → List Exchange → List ℕ
-    → Passed → C → Type 0
-MakesTheirCalls ticks bytes h c es rest h' c' = ConnectionGives CallGives ticks bytes h c es rest h' c'
-    → (steps : List Step) × Gains h steps h' × AreTheirSteps es steps
+abbrev pub MakesTheirCalls : {D C : Type 0} → Opening D → (C → ℕ → C → Type 0) → List ℕ → World Passed C → List Exchange
+    → List ℕ → World Passed C → Type 0
+MakesTheirCalls opening ticks bytes w es rest w' = ConnectionGives (CallGives opening) ticks bytes w es rest w'
+    → (steps : List Step) × Gains w.knows steps w'.knows × AreTheirSteps es steps
 
 -- and so of one request, of whose streams a beginning may have been called, where a call failed
-abbrev pub MakesItsCalls : {C : Type 0} → (C → ℕ → C → Type 0) → List ℕ → Passed → C → Exchange → List ℕ → Passed → C
-    → Type 0
-MakesItsCalls ticks bytes h c e rest h' c' =
-    IsExchange CallGives ticks bytes h c e rest h' c' → (steps : List Step) × Gains h steps h'
-    × AreStepsBy e.now e.request.body e.verdict e.course steps
+abbrev pub MakesItsCalls : {D C : Type 0} → Opening D → (C → ℕ → C → Type 0) → List ℕ → World Passed C → Exchange
+    → List ℕ → World Passed C → Type 0
+MakesItsCalls opening ticks bytes w e rest w' = IsExchange (CallGives opening) ticks bytes w e rest w'
+    → (steps : List Step) × Gains w.knows steps w'.knows × AreStepsBy e.now e.request.body e.verdict e.course steps
 
 -- and so of a request that was given up for want of memory: the calls of a beginning of its streams
-abbrev pub MakesItsFirstCalls : {C : Type 0} → (C → ℕ → C → Type 0) → List ℕ → Passed → C → Passed → C → Type 0
-MakesItsFirstCalls ticks bytes h c h' c' =
-    (left : IsAbandoned CallGives ticks bytes h c h' c') → (steps : List Step) × Gains h steps h'
+abbrev pub MakesItsFirstCalls : {D C : Type 0} → Opening D → (C → ℕ → C → Type 0) → List ℕ → World Passed C
+    → World Passed C → Type 0
+MakesItsFirstCalls opening ticks bytes w w' = (left : IsAbandoned (CallGives opening) ticks bytes w w')
+    → (steps : List Step) × Gains w.knows steps w'.knows
     × AreFirstStepsBy left.now left.request.body left.verdict steps

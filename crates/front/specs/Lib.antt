@@ -1,13 +1,2 @@
-pub mod Asking
 pub mod Calls
-pub mod Courses
 pub mod Laws
-pub mod Lines
-pub mod Parts
-pub mod Replies
-pub mod Responses
-pub mod Serving
-pub mod Showing
-pub mod Telling
-pub mod Turns
-pub mod Windows

@@ -1,48 +1,91 @@
-//! A connection: its requests read, their calls made, and the answers written.
-ghost use Rattle.std.specs.Prelude.{◌≡◌, ◌<◌, ◌≤◌, ◌^◌, length, drop, Ok, []};
+//! An ingester as what makes the calls of requests.
+ghost use Rattle.std.specs.Prelude.{◌≡◌, ◌<◌, ◌^◌};
 ghost use Rattle.ingester.specs.Calls.{IsPassOf};
-ghost use Rattle.front.specs.Calls.{CallGives};
-ghost use Rattle.front.specs.Responses.{content_for};
-ghost use Rattle.front.specs.Serving.{ConnectionIsServed};
-ghost use Rattle.front.specs.Turns.{ResponseIsWritten, ConnectionTurnIsServed, ConnectionTakesMessage};
+ghost use Rattle.answering.specs.Responses.{RequestIsAnswered};
+ghost use Rattle.answering.specs.Serving.{ConnectionIsServed, world, io};
+ghost use Rattle.front.specs.Calls.{CallGives, failure_of, told_of};
 
-use crate::clock::Clock;
-use crate::responding::{Halt, respond};
+use accept::{Call, Reply};
+use answering::{Answer, Calls, Clock, Failure, Route, ServeFault, Served};
 use disk::Disk;
 use history::Pass;
-use ingester::Ingester;
+use ingester::{CallFault, Ingester};
 use labels::Tenant;
-use requests::{
-    Content, Failure, Incoming, MAX_HEAD, Message, Next, Outgoing, Route, ServeFault, Served,
-    Status, Verdict, write_failure,
-};
 use std::alloc::Global;
+use std::collections::VecDeque;
 use std::io::{Read, Write};
 use std::sync::Wait;
 
-/// What came of a turn.
-#[derive(Clone, Copy, Debug, PartialEq, Eq)]
-pub(crate) enum Turn {
-    /// A request was answered, and the connection goes on.
-    Answered,
-    /// An answer closed it.
-    Closed,
-    /// The stream ended behind the last request.
-    Ended,
+/// An ingester, by which the calls of requests are made.
+#[derive(Drop)]
+struct Service<'a, D: Disk + Drop> {
+    ingester: &'a Ingester<D>,
 }
 
-fn content_for(status: Status) -> Content
-    ensures { result ≡ content_for status }
+fn failure_of(fault: CallFault) -> Failure
+    ensures { result ≡ failure_of fault }
 {
-    if status == Status::Ok {
-        Content::Json
-    } else {
-        Content::Text
+    match fault {
+        CallFault::Memory => Failure::OutOfMemory,
+        CallFault::PassClosed => Failure::PassClosed,
+        CallFault::LogSpent => Failure::LogSpent,
+        CallFault::InDoubt => Failure::InDoubt,
     }
 }
 
-/// Makes the calls of a request and writes its answer. Whether the connection ends behind it.
-fn reply_to_call<D: Disk + Drop, R: Wait, O: Write>(
+impl<'a, D: Disk + Drop> Calls for Service<'a, D> {
+    type Pass = Pass;
+
+    type Outcome = Result<Reply, CallFault>;
+
+    ghost is_ready = { λ service. IsPassOf service.ingester.now };
+
+    ghost gives = { λ service. CallGives service.ingester.now };
+
+    ghost told = { told_of };
+
+    fn call<R: Wait>(
+        &self,
+        rt: &R,
+        alloc: Global,
+        pass: &mut Pass,
+        call: Call,
+    ) -> Result<Reply, Failure> {
+        match self.ingester.call(rt, alloc, pass, call) {
+            Ok(reply) => Ok(reply),
+            Err(fault) => Err(failure_of(fault)),
+        }
+    }
+
+    fn call_all<R: Wait>(
+        &self,
+        rt: &R,
+        alloc: Global,
+        pass: &mut Pass,
+        calls: &mut VecDeque<Call>,
+        outcomes: &mut VecDeque<Result<Reply, CallFault>>,
+    ) {
+        self.ingester.call_all(rt, alloc, pass, calls, outcomes);
+    }
+
+    fn told(outcome: Result<Reply, CallFault>) -> Result<Reply, Failure> {
+        match outcome {
+            Ok(reply) => Ok(reply),
+            Err(fault) => Err(failure_of(fault)),
+        }
+    }
+}
+
+/// Makes the calls that a request asks for, in the order of its body, and gives status and body of its
+/// answer. The labels of all streams of a push are read first, and then their calls are made in windows of up
+/// to 64 streams. A refused stream does not stop the rest of a push. `now` is the clock in nanoseconds, below
+/// 2^63. After an answer of status 500 no call is made after the window in which one failed; calls that were
+/// made stand. Where a call is in doubt, each that comes after it in its window is in doubt too or was not made.
+///
+/// # Errors
+///
+/// `Memory`, where there was none for the answer. Calls made before stand.
+pub fn answer<D: Disk + Drop, R: Wait>(
     rt: &R,
     alloc: Global,
     ingester: &Ingester<D>,
@@ -50,168 +93,19 @@ fn reply_to_call<D: Disk + Drop, R: Wait, O: Write>(
     now: u64,
     route: Route,
     tenant: &Tenant,
-    closes: bool,
     body: &[u8],
-    outgoing: &mut Outgoing,
-    writer: &mut O,
-) -> Result<bool, ServeFault>
+) -> Result<Answer, ServeFault>
     requires pass { IsPassOf ingester.now pass.old }
     requires clock { now < 2 ^ 63 }
     ensures pass { IsPassOf ingester.now pass.new }
-    ensures replies { ResponseIsWritten CallGives now body.now (O.contents writer.old) (O.contents writer.new)
-        (Verdict.Call route tenant.now) closes pass.old pass.new result }
+    ensures answers { RequestIsAnswered (CallGives ingester.now) route now tenant.now body.now pass.old result
+        pass.new }
 {
-    match respond(rt, alloc, ingester, pass, now, route, tenant, body) {
-        Ok(answer) => {
-            outgoing.answer(writer, &answer, content_for(answer.status), closes)?;
-            Ok(closes)
-        }
-        Err(Halt::Failed(failure)) => {
-            write_failure(writer, failure)?;
-            Ok(true)
-        }
-        Err(Halt::GivenUp) => Err(ServeFault::Memory),
-    }
+    let service = Service { ingester };
+    answering::answer(rt, alloc, &service, pass, now, route, tenant, body)
 }
 
-/// Answers a whole request. Whether the connection ends behind it.
-fn reply_to<D: Disk + Drop, R: Wait, O: Write>(
-    rt: &R,
-    alloc: Global,
-    ingester: &Ingester<D>,
-    pass: &mut Pass,
-    now: u64,
-    verdict: &Verdict,
-    closes: bool,
-    body: &[u8],
-    outgoing: &mut Outgoing,
-    writer: &mut O,
-) -> Result<bool, ServeFault>
-    requires pass { IsPassOf ingester.now pass.old }
-    requires clock { now < 2 ^ 63 }
-    ensures pass { IsPassOf ingester.now pass.new }
-    ensures replies { ResponseIsWritten CallGives now body.now (O.contents writer.old)
-        (O.contents writer.new) verdict.now closes pass.old pass.new result }
-{
-    match verdict {
-        Verdict::Fixed(answer) => {
-            outgoing.fixed(writer, *answer, closes)?;
-            Ok(answer.always_closes() | closes)
-        }
-        Verdict::Call(route, tenant) => reply_to_call(
-            rt, alloc, ingester, pass, now, *route, tenant, closes, body, outgoing, writer,
-        ),
-        Verdict::NoMemory => {
-            write_failure(writer, Failure::OutOfMemory)?;
-            Ok(true)
-        }
-    }
-}
-
-/// Answers a whole request that stands at the front, and drops it.
-fn take_message<D: Disk + Drop, R: Wait, C: Clock, O: Write>(
-    rt: &R,
-    alloc: Global,
-    ingester: &Ingester<D>,
-    pass: &mut Pass,
-    clock: &mut C,
-    message: &Message,
-    incoming: &mut Incoming,
-    outgoing: &mut Outgoing,
-    writer: &mut O,
-) -> Result<Turn, ServeFault>
-    requires pass { IsPassOf ingester.now pass.old }
-    requires ordered { message.now.start ≤ message.now.end }
-    requires within { message.now.end ≤ length incoming.old }
-    ensures pass { IsPassOf ingester.now pass.new }
-    ensures drops { result ≡ Ok Turn.Answered → incoming.new ≡ drop message.now.end incoming.old }
-    ensures takes { ConnectionTakesMessage CallGives C.ticks (O.contents writer.old)
-        (O.contents writer.new) message.now incoming.old incoming.new pass.old clock.old pass.new clock.new result }
-{
-    let now = clock.now();
-    let closes = reply_to(
-        rt,
-        alloc,
-        ingester,
-        pass,
-        now,
-        &message.verdict,
-        message.closes,
-        incoming.body(message),
-        outgoing,
-        writer,
-    )?;
-    incoming.finish(message);
-    if closes {
-        Ok(Turn::Closed)
-    } else {
-        Ok(Turn::Answered)
-    }
-}
-
-/// Reads and answers what stands at the front.
-fn take_turn<D: Disk + Drop, R: Wait, C: Clock, I: Read, O: Write>(
-    rt: &R,
-    alloc: Global,
-    ingester: &Ingester<D>,
-    pass: &mut Pass,
-    clock: &mut C,
-    reader: &mut I,
-    writer: &mut O,
-    incoming: &mut Incoming,
-    outgoing: &mut Outgoing,
-) -> Result<Turn, ServeFault>
-    requires pass { IsPassOf ingester.now pass.old }
-    requires short { length incoming.old ≤ MAX_HEAD }
-    ensures pass { IsPassOf ingester.now pass.new }
-    ensures short { result ≡ Ok Turn.Answered → length incoming.new ≤ MAX_HEAD }
-    ensures turns { ConnectionTurnIsServed CallGives C.ticks (I.remaining reader.old) (I.remaining reader.new)
-        (O.contents writer.old) (O.contents writer.new) incoming.old incoming.new
-        pass.old clock.old pass.new clock.new result }
-{
-    match incoming.next(alloc, reader)? {
-        Next::Ended => Ok(Turn::Ended),
-        Next::Refused(why) => {
-            outgoing.fixed(writer, why, true)?;
-            Ok(Turn::Closed)
-        }
-        Next::Whole(message) => take_message(
-            rt, alloc, ingester, pass, clock, &message, incoming, outgoing, writer,
-        ),
-    }
-}
-
-/// Turn after turn, until the connection ends.
-fn take_turns<D: Disk + Drop, R: Wait, C: Clock, I: Read, O: Write>(
-    rt: &R,
-    alloc: Global,
-    ingester: &Ingester<D>,
-    pass: &mut Pass,
-    clock: &mut C,
-    reader: &mut I,
-    writer: &mut O,
-    incoming: &mut Incoming,
-    outgoing: &mut Outgoing,
-) -> Result<Served, ServeFault>
-    requires pass { IsPassOf ingester.now pass.old }
-    requires fresh { incoming.old ≡ [] }
-    ensures pass { IsPassOf ingester.now pass.new }
-    ensures serves { ConnectionIsServed CallGives C.ticks (I.remaining reader.old) (I.remaining reader.new)
-        (O.contents writer.old) (O.contents writer.new) pass.old clock.old pass.new clock.new result }
-{
-    for _turn in rt.forever() {
-        match take_turn(
-            rt, alloc, ingester, pass, clock, reader, writer, incoming, outgoing,
-        )? {
-            Turn::Answered => {}
-            Turn::Closed => return Ok(Served::Closed),
-            Turn::Ended => return Ok(Served::Ended),
-        }
-    }
-    unreachable!()
-}
-
-/// Answers the requests of a connection, one behind another, until its stream ends between two or an
+/// Answers the requests of a connection, one after another, until its stream ends between two or an
 /// answer closes it. The clock is read once for each whole request. No call is made of a request that was
 /// cut. Each answer is one write, where the writer takes it whole.
 ///
@@ -231,20 +125,10 @@ pub fn serve<D: Disk + Drop, R: Wait, C: Clock, I: Read, O: Write>(
 ) -> Result<Served, ServeFault>
     requires pass { IsPassOf ingester.now pass.old }
     ensures pass { IsPassOf ingester.now pass.new }
-    ensures serves { ConnectionIsServed CallGives C.ticks (I.remaining reader.old) (I.remaining reader.new)
-        (O.contents writer.old) (O.contents writer.new) pass.old clock.old pass.new clock.new result }
+    ensures serves { ConnectionIsServed (CallGives ingester.now) C.ticks
+        (io (I.remaining reader.old) (O.contents writer.old)) (world pass.old clock.old)
+        (io (I.remaining reader.new) (O.contents writer.new)) (world pass.new clock.new) result }
 {
-    let mut incoming = Incoming::new(alloc);
-    let mut outgoing = Outgoing::new(alloc);
-    take_turns(
-        rt,
-        alloc,
-        ingester,
-        pass,
-        clock,
-        reader,
-        writer,
-        &mut incoming,
-        &mut outgoing,
-    )
+    let service = Service { ingester };
+    answering::serve(rt, alloc, &service, pass, clock, reader, writer)
 }

@@ -1,10 +1,9 @@
--- Jobs of a pass's open calls, in batches of their shards.
-use Rattle.std.proofs.Common.{◌≡◌, ◌≢◌, ℕ, ◌+◌, ◌<◌, List, [], ◌∷◌, ◌++◌, Bool, true, false, cond, eqb, length, refl, sym, ap, ◌∙◌, subst, ⊎_elim, append_assoc, append-nil, get_or, arith, eq-eqb, ne_eqb}
-use Rattle.std.specs.Prelude.{Option, Some, None, IfSome, MatchOption, slice_get, slice_set}
-use Rattle.std.specs.declared.alloc.Global.{Global}
-use Rattle.std.specs.declared.collections.VecDeque.{VecDeque}
+-- Jobs of a pass's open calls, in the letters to their shards.
+use Rattle.std.proofs.Common.{◌≡◌, ◌≢◌, ℕ, zero, suc, ◌+◌, ◌<◌, ◌≤◌, List, [], ◌∷◌, ◌++◌, Bool, true, false, cond, eqb, length, refl, sym, ap, ◌∙◌, subst, ⊎_elim, append_assoc, append-nil, get_or, arith, eq-eqb, ne_eqb}
+use lib.ListN.{replicate}
+use Rattle.std.specs.Prelude.{Option, Some, None, MatchOption, slice_set, slice_index_or}
 use Rattle.std.proofs.lemmas.List.{get_or-set_same, get_or-set_other, length-set}
-use Rattle.std.proofs.lemmas.Option.{slice_get-get_or, slice_get_within, get_or_from_slice_get}
+use Rattle.std.proofs.lemmas.Option.{none-some, same_Some, slice_get-get_or, slice_get_within, get_or_from_slice_get}
 use Rattle.std.proofs.lemmas.Bool.{cases_eq}
 use Rattle.atomic_table.specs.Seated.{TableId}
 use Rattle.accept.specs.Calls.{AreNumbers}
@@ -20,8 +19,13 @@ use Rattle.labels.specs.Shards.{shard}
 use Rattle.ingester.proofs.Routing.{routed}
 use Rattle.shard.specs.declared.front.Job.{Job}
 use Rattle.shard.specs.Jobs.{tickets_of}
-use Rattle.lanes.specs.Lanes.{IsWaiting, AreWaiting, AreOfPass}
-use Rattle.ingester.specs.Batches.{IsBatchOf, AreBatchesOf, AreNumbered, IsJoined}
+use Rattle.keyed.specs.Queues.{sends_to, receives_as}
+use Rattle.owners.specs.declared.ways.Way.{Way}
+use Rattle.owners.specs.Homes.{Homed}
+use Rattle.owners.specs.Calls.{IsWaiting, AreWaiting, AreOfPass}
+use Rattle.owners.specs.Ways.{IsReady, AreReady, AreLoaded, AreIdleWays, HasSameRest}
+use Rattle.owners.proofs.Each.{ways_set}
+use Rattle.ingester.specs.Batches.{IsBatchOf, AreBatchesOf, AreBelow, AreNumbered, IsJoined}
 
 tickets_more : (jobs : List Job) (job : Job) → tickets_of (jobs ++ job ∷ []) ≡ tickets_of jobs ++ job.ticket ∷ []
 tickets_more [] job = refl
@@ -88,27 +92,27 @@ module _ (table : TableId) (about : About) where
   batch_same c call k jobs ne h = record { batch = h.batch; asks = h.asks ∙ sym (asks_elsewhere about k c.pending (ask_of c (c.last + 1) call) ne) }
 
   -- one call more, in the batch of its shard
-  pub batches_more : (c : Caller) (call : Call) (batches : List (VecDeque Job Global)) (k : ℕ) (was now : VecDeque Job Global) → c.about ≡ about → c.pass < about.passes → AreNumbers call → shard_in about (ask_of c (c.last + 1) call) ≡ k → k < length batches
-      → was ≡ get_or batches k was → now.items ≡ was.items ++ job_of c call ∷ [] → AreBatchesOf table about c batches → AreBatchesOf table about (announce_to c (c.last + 1) call) (slice_set batches k now)
+  pub batches_more : (c : Caller) (call : Call) (batches : List (Way)) (k : ℕ) (was now : Way) → c.about ≡ about → c.pass < about.passes → AreNumbers call → shard_in about (ask_of c (c.last + 1) call) ≡ k → k < length batches
+      → was ≡ get_or batches k was → now.letter.jobs.items ≡ was.letter.jobs.items ++ job_of c call ∷ [] → AreBatchesOf table about c batches → AreBatchesOf table about (announce_to c (c.last + 1) call) (slice_set batches k now)
   batches_more c call batches k was now at below numbers here lt there is all j jobs e = ⊎_elim
       (λ (same : j ≡ k).
       let mine : jobs ≡ now = sym (get_or_from_slice_get (slice_set batches k now) j jobs now e) ∙ ap (λ (n : ℕ). get_or (slice_set batches k now) n now) same ∙ get_or-set_same batches k now now lt in
-      let before : IsBatchOf table about k c was.items = all k was (slice_get-get_or batches k was lt ∙ ap Some (sym there)) in
-      subst (λ (n : ℕ). IsBatchOf table about n (announce_to c (c.last + 1) call) jobs.items) (here ∙ sym same) (batch_more c call was.items jobs.items at below numbers (subst (λ (n : ℕ). IsBatchOf table about n c was.items) (sym here) before) (ap (λ (d : VecDeque Job Global). d.items) mine ∙ is)))
+      let before : IsBatchOf table about k c was.letter.jobs.items = all k was (slice_get-get_or batches k was lt ∙ ap Some (sym there)) in
+      subst (λ (n : ℕ). IsBatchOf table about n (announce_to c (c.last + 1) call) jobs.letter.jobs.items) (here ∙ sym same) (batch_more c call was.letter.jobs.items jobs.letter.jobs.items at below numbers (subst (λ (n : ℕ). IsBatchOf table about n c was.letter.jobs.items) (sym here) before) (ap (λ (d : Way). d.letter.jobs.items) mine ∙ is)))
       (λ (ne : j ≢ k).
       let long : length (slice_set batches k now) ≡ length batches = length-set batches k now in
       let within : j < length (slice_set batches k now) = slice_get_within (slice_set batches k now) j jobs e in
       let still : get_or batches j jobs ≡ jobs = sym (get_or-set_other batches k j now jobs ne) ∙ get_or_from_slice_get (slice_set batches k now) j jobs jobs e in
-      batch_same c call j jobs.items (λ (same : j ≡ shard_in about (ask_of c (c.last + 1) call)). ne (same ∙ here)) (all j jobs (slice_get-get_or batches j jobs (omega arith) ∙ ap Some still)))
+      batch_same c call j jobs.letter.jobs.items (λ (same : j ≡ shard_in about (ask_of c (c.last + 1) call)). ne (same ∙ here)) (all j jobs (slice_get-get_or batches j jobs (omega arith) ∙ ap Some still)))
       (cases_eq j k)
 
   -- no call more
-  pub batches_alike : (c : Caller) (batches : List (VecDeque Job Global)) (k : ℕ) (was now : VecDeque Job Global) → k < length batches → was ≡ get_or batches k was → now.items ≡ was.items → AreBatchesOf table about c batches → AreBatchesOf table about c (slice_set batches k now)
+  pub batches_alike : (c : Caller) (batches : List (Way)) (k : ℕ) (was now : Way) → k < length batches → was ≡ get_or batches k was → now.letter.jobs.items ≡ was.letter.jobs.items → AreBatchesOf table about c batches → AreBatchesOf table about c (slice_set batches k now)
   batches_alike c batches k was now lt there is all j jobs e = ⊎_elim
       (λ (same : j ≡ k).
       let mine : jobs ≡ now = sym (get_or_from_slice_get (slice_set batches k now) j jobs now e) ∙ ap (λ (n : ℕ). get_or (slice_set batches k now) n now) same ∙ get_or-set_same batches k now now lt in
-      let before : IsBatchOf table about k c was.items = all k was (slice_get-get_or batches k was lt ∙ ap Some (sym there)) in
-      subst (λ (z : ℕ × List Job). IsBatchOf table about z.0 c z.1) (λ i. (sym same i, sym (ap (λ (d : VecDeque Job Global). d.items) mine ∙ is) i)) before)
+      let before : IsBatchOf table about k c was.letter.jobs.items = all k was (slice_get-get_or batches k was lt ∙ ap Some (sym there)) in
+      subst (λ (z : ℕ × List Job). IsBatchOf table about z.0 c z.1) (λ i. (sym same i, sym (ap (λ (d : Way). d.letter.jobs.items) mine ∙ is) i)) before)
       (λ (ne : j ≢ k).
       let long : length (slice_set batches k now) ≡ length batches = length-set batches k now in
       let within : j < length (slice_set batches k now) = slice_get_within (slice_set batches k now) j jobs e in
@@ -117,23 +121,70 @@ module _ (table : TableId) (about : About) where
       (cases_eq j k)
 
   -- one call more in the batch of its shard
-  pub batches_joined : (old new : Passed) (calls left : List Call) (batches : List (VecDeque Job Global)) (k count number : ℕ) (was now : VecDeque Job Global) (first : Call) → old.caller.about ≡ about → old.caller.pass < about.passes → about.shards ≡ count → first ≡ get_or calls 0 first → k ≡ shard (key_of first) count → k < length batches
-      → was ≡ get_or batches k was → AreBatchesOf table about old.caller batches → IsJoined table old new calls left was.items now.items number → AreBatchesOf table about new.caller (slice_set batches k now)
+  pub batches_joined : (old new : Passed) (calls left : List Call) (batches : List (Way)) (k count number : ℕ) (was now : Way) (first : Call) → old.caller.about ≡ about → old.caller.pass < about.passes → about.shards ≡ count → first ≡ get_or calls 0 first → k ≡ shard (key_of first) count → k < length batches
+      → was ≡ get_or batches k was → AreBatchesOf table about old.caller batches → IsJoined table old new calls left was.letter.jobs.items now.letter.jobs.items number → AreBatchesOf table about new.caller (slice_set batches k now)
   batches_joined old new calls left batches k count number was now first at below shards is_first routes lt there all h =
       let a : Ask = ask_of old.caller (old.caller.last + 1) h.call in
       let same : h.call ≡ first = sym (is_first ∙ ap (λ (l : List Call). get_or l 0 first) h.calls_are) in
       subst (λ (p : Passed). AreBatchesOf table about p.caller (slice_set batches k now)) (sym h.pass)
       (batches_more old.caller h.call batches k was now at below h.numbers (routed about a first count k same shards routes) lt there h.jobs_are all)
 
-  -- that, or no call more
-  pub batches_after : (old new : Passed) (calls left : List Call) (batches : List (VecDeque Job Global)) (k count : ℕ) (was now : VecDeque Job Global) (first : Call) (r : Option ℕ) (P : Type 0) (Q : ℕ → Type 0) → old.caller.about ≡ about → old.caller.pass < about.passes → about.shards ≡ count → first ≡ get_or calls 0 first → k ≡ shard (key_of first) count → k < length batches
-      → was ≡ get_or batches k was → AreBatchesOf table about old.caller batches → IfSome r (λ number. IsJoined table old new calls left was.items now.items number) → MatchOption r ((new ≡ old) × P × (now.items ≡ was.items)) Q → AreBatchesOf table about new.caller (slice_set batches k now)
-  batches_after old new calls left batches k count was now first (Some number) P Q at below shards is_first routes lt there all h _ = batches_joined old new calls left batches k count number was now first at below shards is_first routes lt there all h
-  batches_after old new calls left batches k count was now first None P Q at below shards is_first routes lt there all _ h =
-      subst (λ (p : Passed). AreBatchesOf table about p.caller (slice_set batches k now)) (sym h.0) (batches_alike old.caller batches k was now lt there h.2 all)
-
   -- batches without a call
-  pub batches_none : (c : Caller) (batches : List (VecDeque Job Global)) → c.pending ≡ [] → ((k : ℕ) (jobs : VecDeque Job Global) → slice_get batches k ≡ Some jobs → jobs.items ≡ []) → AreBatchesOf table about c batches
-  batches_none c batches idle none k jobs e =
+  pub batches_none : (home : Homed) (p : ℕ) (c : Caller) (ways : List Way) → c.pending ≡ [] → AreIdleWays home p ways → AreBatchesOf table about c ways
+  batches_none home p c ways idle none k way e =
       let empty : IsBatchOf table about k c [] = record { batch = record { waiting = tt; pass = tt; line = tt }; asks = ap (λ (l : List Ask). asks_on about k l) (sym idle) } in
-      subst (IsBatchOf table about k c) (sym (none k jobs e)) empty
+      subst (IsBatchOf table about k c) (sym (none k way e).letter.jobs) empty
+
+  no_asks : (jobs : List Job) → asks_of (tickets_of jobs) ≡ [] → jobs ≡ []
+  no_asks [] e = refl
+  no_asks (j ∷ jobs) e = absurd (clash e)
+    where
+      clash : j.ticket.ask ∷ asks_of (tickets_of jobs) ≡ [] → ⊥
+      clash e = cc
+
+  -- where no call is open, no call is in the letters
+  pub ways_idle : (home : Homed) (p : ℕ) (c : Caller) (ways : List Way) → c.pending ≡ [] → AreBatchesOf table about c ways → AreReady home p ways → AreIdleWays home p ways
+  ways_idle home p c ways idle all ready k way e =
+      let r = ready k way e in
+      record { letter = record { pass = r.pass; jobs = no_asks way.letter.jobs.items ((all k way e).asks ∙ ap (λ (l : List Ask). asks_on about k l) idle); settled = r.settled }; orders = r.orders; answers = r.answers }
+
+few_asks : (about : About) (k : ℕ) (asks : List Ask) → length (asks_on about k asks) ≤ length asks
+few_asks about k [] = omega arith
+few_asks about k (a ∷ asks) = pick (eqb k (shard_in about a)) (few_asks about k asks)
+  where
+    pick : (b : Bool) → length (asks_on about k asks) ≤ length asks → length (cond b (a ∷ asks_on about k asks) (asks_on about k asks)) ≤ length (a ∷ asks)
+    pick true few = omega arith
+    pick false few = omega arith
+
+as_many : (jobs : List Job) → length jobs ≡ length (asks_of (tickets_of jobs))
+as_many [] = refl
+as_many (j ∷ jobs) = ap suc (as_many jobs)
+
+-- the ways are loaded with the open calls
+pub ways_loaded : (home : Homed) (c : Caller) (ways : List Way) → length c.pending ≤ 64 → AreBatchesOf home.table home.about c ways → AreReady home c.pass ways → AreLoaded home c.pass ways
+ways_loaded home c ways few all ready k way e =
+    let b = all k way e in
+    let long = as_many way.letter.jobs.items ∙ ap length b.asks in
+    let less = few_asks home.about k c.pending in
+    record { ready = ready k way e; batch = b.batch; few = omega (arith, way.letter.jobs.ok.0) }
+
+-- what a way was but for the calls in its letter
+pub ready_still : (home : Homed) (p : ℕ) (ways : List Way) (k : ℕ) (was now : Way) → k < length ways → was ≡ get_or ways k was → HasSameRest was now → AreReady home p ways → AreReady home p (slice_set ways k now)
+ready_still home p ways k was now lt there same all =
+    let r = all k was (slice_get-get_or ways k was lt ∙ ap Some (sym there)) in
+    ways_set (IsReady home p) ways k now lt all (record { pass = same.pass ∙ r.pass; settled = same.settled ∙ r.settled; orders = ap (λ s. sends_to s) same.orders ∙ r.orders; answers = ap (λ s. receives_as s) same.answers ∙ r.answers })
+
+-- one number again and again
+pub below_same : (n x m : ℕ) → x < n → AreBelow n (replicate m x)
+below_same n x zero lt k number e = absurd (none-some number e)
+below_same n x (suc m) lt zero number e = subst (λ y. y < n) (same_Some x number e) lt
+below_same n x (suc m) lt (suc k) number e = below_same n x m lt k number e
+
+-- where there is none
+pub none_is : {A : Type 0} (P : Type 0) (Q : A → Type 0) (found : Option A) → found ≡ None → MatchOption found P Q → P
+none_is P Q None e h = h
+none_is P Q (Some x) e h = absurd (none-some x (sym e))
+
+-- a number of a list
+pub below_at : (n : ℕ) (numbers : List ℕ) (k : ℕ) → AreBelow n numbers → k < length numbers → slice_index_or numbers k 0 < n
+below_at n numbers k all lt = all k (slice_index_or numbers k 0) (slice_get-get_or numbers k 0 lt)

@@ -1,6 +1,6 @@
 -- Calls that a pass announces together, and whose answers it takes in one after another: as if each had been made alone.
-use Rattle.std.proofs.Common.{◌≡◌, ℕ, ◌+◌, List, [], ◌∷◌, ◌++◌, true, false, length, refl, sym, ap, ◌∙◌, subst, arith}
-use Rattle.std.specs.Prelude.{Result, Ok, Err}
+use Rattle.std.proofs.Common.{◌≡◌, ℕ, suc, ◌+◌, ◌≤◌, Bool, List, [], ◌∷◌, ◌++◌, true, false, length, inl, inr, refl, sym, ap, ◌∙◌, subst, arith}
+use Rattle.std.specs.Prelude.{◌||◌, Result, Ok, Err}
 use Rattle.std.specs.Result.{IsErrOf}
 use Rattle.std.proofs.lemmas.Bool.{false≢true}
 use Rattle.accept.specs.declared.call.Call.{Call}
@@ -15,12 +15,12 @@ use Rattle.history.specs.Plays.{seen_at, ask_of, announce_to, withdraw_to, colle
 use Rattle.history.specs.Handles.{Passed, is_closed}
 use Rattle.shard.specs.declared.fault.ApplyFault.{ApplyFault}
 use Rattle.shard.specs.declared.fault.ApplyFault.TheVariants.{Memory, GenerationSpent}
-use Rattle.lanes.specs.Openings.{Opening, HasSpentLog}
+use Rattle.owners.specs.Openings.{Opening, HasSpentLog}
 use Rattle.ingester.specs.declared.fault.CallFault.{CallFault}
 use Rattle.ingester.specs.declared.fault.CallFault.TheVariants as faults
 use Rattle.ingester.specs.Faults.{fault_of}
-use Rattle.ingester.specs.Calls.{IsPassOf, IsRefused, IsGiven, AreGiven, next_step, shard_for, without_next}
-use Rattle.ingester.specs.Batches.{with_next, AreAnnounced, IsCollected, IsWithdrawn, IsTakenBy, IsTaken, AreTaken}
+use Rattle.ingester.specs.Calls.{IsPassOf, IsRefused, IsGiven, AreGivenAfter, AreGiven, is_doubt, next_step, shard_for, without_next, with_next, closed_now}
+use Rattle.ingester.specs.Batches.{IsTakenBack, doubts, AreAnnounced, IsCollected, IsWithdrawn, IsTakenBy, IsTaken, AreTaken}
 use Rattle.ingester.proofs.Refusing.{first_only, log_spent}
 
 behind_more : (qs : List Ask) (a b : Ask) → IsFirst a qs → behind_first (qs ++ b ∷ []) ≡ behind_first qs ++ b ∷ []
@@ -43,11 +43,19 @@ pub announced_more : (old mid new : Passed) (calls : List Call) (call : Call) �
 announced_more old mid new [] call a up is = (ap is_closed (sym a) ∙ up, is ∙ ap (λ (p : Passed). with_next p call) a)
 announced_more old mid new (c ∷ calls) call a up is = (a.0, announced_more (with_next old c) mid new calls call a.1 up is)
 
-refused_as : (cause : ApplyFault) (fault : CallFault) (old new : Passed) → fault ≡ fault_of cause → new ≡ without_next old → IsRefused old new fault
-refused_as Memory fault old new e is = subst (IsRefused old new) (sym e) is
-refused_as GenerationSpent fault old new e is = subst (IsRefused old new) (sym e) is
+-- a pass that is not closed waits for no answer
+not_closed_open : (b c : Bool) → (b || c) ≡ false → b ≡ false
+not_closed_open false c e = refl
+not_closed_open true c e = absurd (false≢true (sym e))
 
-not_closed : (cause : ApplyFault) (fault : CallFault) → fault ≡ fault_of cause → IsErrOf {T = Reply} {E = CallFault} (Err fault) faults.PassClosed → ⊥
+pub idle_of : {D : Type 0} (opening : Opening D) (old : Passed) → IsPassOf opening old → is_closed old ≡ false → old.caller.pending ≡ []
+idle_of opening old is up = is.idle (not_closed_open old.closed _ up)
+
+pub refused_as : (cause : ApplyFault) (fault : CallFault) (old new : Passed) (call : Call) → fault ≡ fault_of cause → new ≡ without_next old → IsRefused old call new fault
+refused_as Memory fault old new call e is = subst (IsRefused old call new) (sym e) is
+refused_as GenerationSpent fault old new call e is = subst (IsRefused old call new) (sym e) is
+
+pub not_closed : (cause : ApplyFault) (fault : CallFault) → fault ≡ fault_of cause → IsErrOf {T = Reply} {E = CallFault} (Err fault) faults.PassClosed → ⊥
 not_closed Memory fault e is = let one : Err fault ≡ Err faults.PassClosed = is in cc
 not_closed GenerationSpent fault e is = let one : Err fault ≡ Err faults.PassClosed = is in cc
 
@@ -129,14 +137,14 @@ module _ {D : Type 0} (opening : Opening D) where
           closed = (λ (e : IsErrOf {T = Reply} {E = CallFault} (Ok reply) faults.PassClosed). absurd (not_refused reply faults.PassClosed e), λ (e : is_closed old ≡ true). absurd (false≢true (sym up ∙ e)));
           spent = λ (e : IsErrOf {T = Reply} {E = CallFault} (Ok reply) faults.LogSpent). absurd (not_refused reply faults.LogSpent e);
         };
-        pass = record { table = is.table; about = is.about; idle = ap (λ (l : List Ask). behind_first (l ++ a ∷ [])) is.idle };
+        pass = record { table = is.table; about = is.about; idle = λ _. ap (λ (l : List Ask). behind_first (l ++ a ∷ [])) (idle_of opening old is up) };
         rested = λ (_ : IsRested old.caller). by.rested;
       })
 
   withdrawn_next : (old new : Passed) (call : Call) (fault : CallFault) → IsPassOf opening old → is_closed old ≡ false → IsWithdrawn opening (with_next old call) new (ask_of old.caller (old.caller.last + 1) call) fault → IsDone old call (Err fault) new
   withdrawn_next old new call fault is up by =
       let a : Ask = ask_of old.caller (old.caller.last + 1) call in
-      let none : behind_first (old.caller.pending ++ a ∷ []) ≡ [] = ap (λ (l : List Ask). behind_first (l ++ a ∷ [])) is.idle in
+      let none : behind_first (old.caller.pending ++ a ∷ []) ≡ [] = ap (λ (l : List Ask). behind_first (l ++ a ∷ [])) (idle_of opening old is up) in
       let same : new ≡ without_next old = by.pass ∙ (λ i. record {
         table = old.table;
         caller = record { about = old.caller.about; pass = old.caller.pass; last = old.caller.last + 1; seen = old.caller.seen; made = old.caller.made; withdrawn = old.caller.withdrawn ++ (old.caller.last + 1) ∷ []; pending = none i };
@@ -145,11 +153,11 @@ module _ {D : Type 0} (opening : Opening D) where
       record {
         given = record {
           answered = tt;
-          refused = refused_as by.cause fault old new by.fault_is same;
+          refused = refused_as by.cause fault old new call by.fault_is same;
           closed = (λ (e : IsErrOf {T = Reply} {E = CallFault} (Err fault) faults.PassClosed). absurd (not_closed by.cause fault by.fault_is e), λ (e : is_closed old ≡ true). absurd (false≢true (sym up ∙ e)));
           spent = λ (e : IsErrOf {T = Reply} {E = CallFault} (Err fault) faults.LogSpent). subst (λ (b : About). HasSpentLog opening (shard_in b a) call) (sym is.about) (by.spent (log_spent by.cause fault by.fault_is e));
         };
-        pass = subst (IsPassOf opening) (sym same) (record { table = is.table; about = is.about; idle = refl });
+        pass = subst (IsPassOf opening) (sym same) (record { table = is.table; about = is.about; idle = λ _. refl });
         rested = λ (r : IsRested old.caller). subst (λ (p : Passed). IsRested p.caller) (sym same) r;
       }
 
@@ -161,7 +169,7 @@ module _ {D : Type 0} (opening : Opening D) where
       a = ask_of old.caller (old.caller.last + 1) call
 
       mine : a ≡ h.first
-      mine = first_only (old.caller.pending ++ a ∷ []) old.caller.pending h.first a refl is.idle h.is_first
+      mine = first_only (old.caller.pending ++ a ∷ []) old.caller.pending h.first a refl (idle_of opening old is up) h.is_first
 
       by : IsTakenBy opening (with_next old call) new (ask_of old.caller (old.caller.last + 1) call) r
       by = subst (λ (x : Ask). IsTakenBy opening (with_next old call) new x r) (sym mine) h.by
@@ -170,26 +178,81 @@ module _ {D : Type 0} (opening : Opening D) where
       pick (Ok reply) by = collected_next old new call reply is up by
       pick (Err fault) by = withdrawn_next old new call fault is up by
 
-  -- what came of calls, made one after another
-  pub record AreDone (old : Passed) (calls : List Call) (rs : List (Result Reply CallFault)) (new : Passed) : Type 0 where
-    pub given : AreGiven opening old calls rs new
-    pub pass : IsPassOf opening new
-
-  -- calls that are announced together are as if made one after another
-  pub all_given : (old now new : Passed) (calls : List Call) (rs : List (Result Reply CallFault)) → IsPassOf opening old → IsRested old.caller → AreAnnounced old calls now → AreTaken opening now rs new → length rs ≡ length calls → AreDone old calls rs new
-  all_given old now new [] [] is rested a t n = record { given = t ∙ a; pass = subst (IsPassOf opening) (sym (t ∙ a)) is }
-  all_given old now new [] (r ∷ rs) is rested a t n = absurd (omega arith)
-  all_given old now new (call ∷ calls) [] is rested a t n = absurd (omega arith)
-  all_given old now new (call ∷ calls) (r ∷ rs) is rested a t n =
-      let mine : Ask = ask_of old.caller (old.caller.last + 1) call in
-      let first = taken_first (with_next old call) now t.0 calls mine r (first_alone old.caller.pending mine is.idle) a.1 t.1 in
-      let done = taken_next old first.0 call r is a.0 first.1 in
-      let rest = all_given first.0 t.0 new calls rs done.pass (done.rested rested) first.2 t.2 (omega arith) in
-      record { given = (first.0, done.given, rest.given); pass = rest.pass }
+  -- what is given after an answer may be given after a doubt
+  given_any : (lost : Bool) (old new : Passed) (cs : List Call) (rs : List (Result Reply CallFault)) → AreGivenAfter false opening old cs rs new → AreGivenAfter lost opening old cs rs new
+  given_any false old new cs rs g = g
+  given_any true old new [] [] g = g
+  given_any true old new [] (r ∷ rs) g = absurd g
+  given_any true old new (c ∷ cs) [] g = absurd g
+  given_any true old new (c ∷ cs) (r ∷ rs) g = (g.0, inl g.1, g.2)
 
   -- calls and then others
-  pub given_append : (old mid new : Passed) (cs ds : List Call) (rs ss : List (Result Reply CallFault)) → AreGiven opening old cs rs mid → AreGiven opening mid ds ss new → AreGiven opening old (cs ++ ds) (rs ++ ss) new
-  given_append old mid new [] ds [] ss g h = subst (λ (p : Passed). AreGiven opening p ds ss new) g h
-  given_append old mid new [] ds (r ∷ rs) ss g h = absurd g
-  given_append old mid new (c ∷ cs) ds [] ss g h = absurd g
-  given_append old mid new (c ∷ cs) ds (r ∷ rs) ss g h = (g.0, g.1, given_append g.0 mid new cs ds rs ss g.2 h)
+  pub given_append : (lost : Bool) (old mid new : Passed) (cs ds : List Call) (rs ss : List (Result Reply CallFault)) → AreGivenAfter lost opening old cs rs mid → AreGiven opening mid ds ss new → AreGivenAfter lost opening old (cs ++ ds) (rs ++ ss) new
+  given_append lost old mid new [] ds [] ss g h = subst (λ (p : Passed). AreGivenAfter lost opening p ds ss new) g (given_any lost mid new ds ss h)
+  given_append lost old mid new [] ds (r ∷ rs) ss g h = absurd g
+  given_append lost old mid new (c ∷ cs) ds [] ss g h = absurd g
+  given_append lost old mid new (c ∷ cs) ds (r ∷ rs) ss g h = (g.0, g.1, given_append (is_doubt r) g.0 mid new cs ds rs ss g.2 h)
+
+  -- What came of the first of calls that were announced together: as if they had been made one after another. The others
+  -- are open.
+  pub record AreDone (old : Passed) (calls : List Call) (rs : List (Result Reply CallFault)) (new : Passed) : Type 0 where
+    pub done : List Call
+    pub left : List Call
+    pub calls_are : calls ≡ done ++ left
+    pub counted : length done ≡ length rs
+    pub mid : Passed
+    pub given : AreGiven opening old done rs mid
+    pub pass : IsPassOf opening mid
+    pub announced : AreAnnounced mid left new
+
+  pub some_given : (old now new : Passed) (calls : List Call) (rs : List (Result Reply CallFault)) → IsPassOf opening old → IsRested old.caller → AreAnnounced old calls now → AreTaken opening now rs new → length rs ≤ length calls → AreDone old calls rs new
+  some_given old now new calls [] is rested a t n = record { done = []; left = calls; calls_are = refl; counted = refl; mid = old; given = refl; pass = is; announced = subst (AreAnnounced old calls) (sym t) a }
+  some_given old now new [] (r ∷ rs) is rested a t n = absurd (omega arith)
+  some_given old now new (call ∷ calls) (r ∷ rs) is rested a t n =
+      let mine : Ask = ask_of old.caller (old.caller.last + 1) call in
+      let first = taken_first (with_next old call) now t.0 calls mine r (first_alone old.caller.pending mine (idle_of opening old is a.0)) a.1 t.1 in
+      let done = taken_next old first.0 call r is a.0 first.1 in
+      let rest = some_given first.0 t.0 new calls rs done.pass (done.rested rested) first.2 t.2 (omega arith) in
+      record {
+        done = call ∷ rest.done;
+        left = rest.left;
+        calls_are = ap (λ (l : List Call). call ∷ l) rest.calls_are;
+        counted = ap suc rest.counted;
+        mid = rest.mid;
+        given = (first.0, done.given, given_any (is_doubt r) first.0 rest.mid rest.done rs rest.given);
+        pass = rest.pass;
+        announced = rest.announced;
+      }
+
+  -- calls that were announced after a lost one are lost
+  lost_after : (mid new : Passed) (calls : List Call) → AreAnnounced mid calls new → AreGivenAfter true opening (closed_now mid) calls (doubts (length calls)) (closed_now new)
+  lost_after mid new [] a = ap closed_now a
+  lost_after mid new (call ∷ calls) a = (closed_now (with_next mid call), inr (refl, refl), lost_after (with_next mid call) new calls a.1)
+
+  doubted : (mid new : Passed) (call : Call) → is_closed mid ≡ false → IsRefused mid call new faults.InDoubt → IsGiven opening mid call (Err faults.InDoubt) new
+  doubted mid new call up h = record {
+    answered = tt;
+    refused = h;
+    closed = (λ (e : IsErrOf {T = Reply} {E = CallFault} (Err faults.InDoubt) faults.PassClosed). absurd (no_closed e), λ (e : is_closed mid ≡ true). absurd (false≢true (sym up ∙ e)));
+    spent = λ (e : IsErrOf {T = Reply} {E = CallFault} (Err faults.InDoubt) faults.LogSpent). absurd (no_spent e);
+  }
+    where
+      no_closed : IsErrOf {T = Reply} {E = CallFault} (Err faults.InDoubt) faults.PassClosed → ⊥
+      no_closed e = let one : Err faults.InDoubt ≡ Err faults.PassClosed = e in cc
+
+      no_spent : IsErrOf {T = Reply} {E = CallFault} (Err faults.InDoubt) faults.LogSpent → ⊥
+      no_spent e = let one : Err faults.InDoubt ≡ Err faults.LogSpent = e in cc
+
+  -- open calls that are lost, of which the first may have come back
+  pub all_lost : (mid now back new : Passed) (call : Call) (calls : List Call) → IsPassOf opening mid → AreAnnounced mid (call ∷ calls) now → IsTakenBack now back → new ≡ closed_now back → AreGiven opening mid (call ∷ calls) (doubts (length (call ∷ calls))) new
+  all_lost mid now back new call calls is a (inl same) closed =
+      (closed_now (with_next mid call), doubted mid (closed_now (with_next mid call)) call a.0 (inr refl), subst (AreGivenAfter true opening (closed_now (with_next mid call)) calls (doubts (length calls))) (sym (closed ∙ ap closed_now same)) (lost_after (with_next mid call) now calls a.1))
+  all_lost mid now back new call calls is a (inr taken) closed =
+      let mine : Ask = ask_of mid.caller (mid.caller.last + 1) call in
+      let one : IsTaken opening now back (Err faults.Memory) = record { first = taken.0; is_first = taken.1; by = record { cause = Memory; fault_is = refl; pass = taken.2; spent = λ (e : Memory ≡ GenerationSpent). absurd (clash e) } } in
+      let first = taken_first (with_next mid call) now back calls mine (Err faults.Memory) (first_alone mid.caller.pending mine (idle_of opening mid is a.0)) a.1 one in
+      let done = taken_next mid first.0 call (Err faults.Memory) is a.0 first.1 in
+      (closed_now first.0, doubted mid (closed_now first.0) call a.0 (inl (ap closed_now done.given.refused)), subst (AreGivenAfter true opening (closed_now first.0) calls (doubts (length calls))) (sym closed) (lost_after first.0 back calls first.2))
+    where
+      clash : Memory ≡ GenerationSpent → ⊥
+      clash e = cc

@@ -22,7 +22,7 @@ use Rattle.history.specs.Histories.{IsLegalAt, IsByPasses, doubt_of, history_of}
 use Rattle.history.specs.Handles.{Booked, Passed}
 use Rattle.shard.specs.Keeping.{Keeps}
 use Rattle.shard.specs.Shards.{Sharded}
-use Rattle.lanes.specs.Openings.{Opening}
+use Rattle.owners.specs.Openings.{Opening}
 use Rattle.ingester.specs.Closings.{IsComparedTo, AreComparedTo, IsHandedOut}
 
 pub one_more : (book : Booked) (passes : List Passed) (n : ℕ) (p : Passed) → AreComparedTo book passes n → slice_get passes n ≡ Some p → IsComparedTo book p → AreComparedTo book passes (n + 1)

@@ -7,7 +7,8 @@ use Rattle.accept.specs.declared.call.Call.{Call}
 use Rattle.accept.specs.declared.history.Ask.{Ask}
 use Rattle.history.specs.Plays.{ask_of}
 use Rattle.history.specs.Handles.{Passed}
-use Rattle.ingester.specs.Batches.{with_next, AreNumbered, IsNextOpen, AreSomeOpen}
+use Rattle.ingester.specs.Calls.{with_next}
+use Rattle.ingester.specs.Batches.{AreNumbered, IsNextOpen, AreSomeOpen}
 use Rattle.ingester.proofs.Batching.{numbered_more}
 use Rattle.ingester.proofs.Chaining.{announced_more}
 

@@ -18,8 +18,9 @@ use Rattle.history.specs.declared.views.About.{About}
 use Rattle.history.specs.Handles.{Booked, Passed, about_of, fresh_book, fresh_books, fresh_pass, fresh_passes}
 use Rattle.shard.specs.Shards.{Sharded}
 use Rattle.keyed.proofs.Filling.{get_before, get_last}
-use Rattle.lanes.specs.Openings.{Opening, opening_of}
-use Rattle.lanes.specs.Places.{AreShardsOf}
+use Rattle.owners.specs.Openings.{Opening, opening_of}
+use Rattle.owners.specs.Places.{AreShardsOf, IsShardAt}
+use Rattle.owners.proofs.Each.{each_of}
 use Rattle.ingester.specs.Openings.{AreFresh}
 use Rattle.ingester.specs.Calls.{IsPassOf}
 use Rattle.ingester.specs.Findings.{IsOpenedFrom, AreOpenedFrom, AreReturned}
@@ -208,21 +209,24 @@ module _ {D : Type 0} where
   made_at (Some s ∷ shards) (l ∷ logs) (b ∷ books) zero h lt = record { log = l; book = b; shard_is = ap (λ x. Some (Some x)) h.0; log_is = refl; book_is = refl }
   made_at (Some s ∷ shards) (l ∷ logs) (b ∷ books) (suc k) h lt = let r = made_at shards logs books k h.1 (omega arith) in record { log = r.log; book = r.book; shard_is = r.shard_is; log_is = r.log_is; book_is = r.book_is }
 
-  -- each shard fits under its number
+  -- each shard is the one of its number
   pub made_fit : (first : Booked) (opened logs : List (Wal D)) (shards : List (Option (Sharded D))) (books : List Booked) (n : ℕ) → opened ≡ logs → books ≡ fresh_books first.table first.about n → AreMade shards logs books
       → AreShardsOf (opening_of first opened) shards
-  made_fit first opened logs shards books n e is h k lt =
-      let r = made_at shards logs books k h lt in
-      let fresh = fresh_book_at first.table first.about n k r.book (ap (λ l. slice_get l k) (sym is) ∙ r.book_is) in (
-        record { log = r.log; book = r.book; opened = r.log },
-        r.shard_is,
-        record {
-          table = ap (λ (b : Booked). b.table) fresh;
-          about = ap (λ (b : Booked). b.about) fresh;
-          number = ap (λ (b : Booked). b.shard) fresh;
-          opened = ap (λ l. slice_get l k) e ∙ r.log_is;
-        },
-      )
+  made_fit first opened logs shards books n e is h = each_of (IsShardAt (opening_of first opened)) shards at
+    where
+      some_inj : (a b : Option (Sharded D)) → Some a ≡ Some b → a ≡ b
+      some_inj a b e = cc
+
+      at : (k : ℕ) (place : Option (Sharded D)) → slice_get shards k ≡ Some place → IsShardAt (opening_of first opened) k place
+      at k place found =
+          let r = made_at shards logs books k h (slice_get_within shards k place found) in
+          let fresh = fresh_book_at first.table first.about n k r.book (ap (λ l. slice_get l k) (sym is) ∙ r.book_is) in
+          subst (IsShardAt (opening_of first opened) k) (some_inj (Some (record { log = r.log; book = r.book; opened = r.log })) place (sym r.shard_is ∙ found)) (record {
+            table = ap (λ (b : Booked). b.table) fresh;
+            about = ap (λ (b : Booked). b.about) fresh;
+            number = ap (λ (b : Booked). b.shard) fresh;
+            opened = ap (λ l. slice_get l k) e ∙ r.log_is;
+          })
 
 -- the one value fits
 pub only_fits : {T : Type 0} (P : T → Type 0) (values : List (Option T)) (y : T) → values ≡ Some y ∷ [] → P y → (k : ℕ) → k < length values → (x : T) × (slice_get values k ≡ Some (Some x)) × P x
@@ -236,7 +240,7 @@ only_fits {T} P values y e h k lt = here k (subst (λ vs. k < length vs) e lt)
 pub fresh_are_of : {D : Type 0} (opening : Opening D) (n : ℕ) (passes : List Passed) → AreFresh opening n passes → (p : ℕ) (pass : Passed) → slice_get passes p ≡ Some pass → IsPassOf opening pass
 fresh_are_of opening n passes h p pass at =
     let e = h.fresh p pass at in
-    record { table = ap (λ (x : Passed). x.table) e; about = ap (λ (x : Passed). x.caller.about) e; idle = ap (λ (x : Passed). x.caller.pending) e }
+    record { table = ap (λ (x : Passed). x.table) e; about = ap (λ (x : Passed). x.caller.about) e; idle = λ _. ap (λ (x : Passed). x.caller.pending) e }
 
 -- what the first book says of the opening
 pub about_first : (table : TableId) (ms : List Streams) (passes : ℕ) (limits : Limits) (capacity : ℕ) (first : Booked) → first ≡ fresh_book table (about_of ms passes limits capacity) 0 → first.about ≡ about_of first.about.bases passes limits capacity

@@ -14,8 +14,8 @@ use Rattle.history.specs.Handles.{Passed}
 use Rattle.shard.specs.Keeping.{Keeps}
 use Rattle.shard.specs.Shards.{Sharded}
 use Rattle.keyed.proofs.Filling.{get_before, get_last}
-use Rattle.lanes.specs.Openings.{Opening}
-use Rattle.lanes.specs.Places.{IsOf}
+use Rattle.owners.specs.Openings.{Opening}
+use Rattle.owners.specs.Places.{IsOf}
 use Rattle.ingester.specs.Closings.{AreComparedTo, IsHandedOut, IsLast, AreLast}
 use Rattle.ingester.proofs.Comparing.{handed}
 

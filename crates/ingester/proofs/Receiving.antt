@@ -1,5 +1,6 @@
 -- What comes of announced calls, taken in one after another, and of all calls so far.
-use Rattle.std.proofs.Common.{◌≡◌, ℕ, ◌+◌, ◌<◌, List, [], ◌∷◌, ◌++◌, length, refl, sym, ap, ◌∙◌, subst, append_assoc, length-append, arith}
+use Rattle.std.proofs.Common.{◌≡◌, ℕ, zero, suc, ◌+◌, ◌-◌, ◌<◌, ◌≤◌, List, [], ◌∷◌, ◌++◌, true, false, length, inl, inr, refl, sym, ap, ◌∙◌, subst, ⊎_elim, append_assoc, append-nil, length-append, arith}
+use Rattle.std.proofs.lemmas.Bool.{false≢true}
 use Rattle.std.specs.Prelude.{Result, Ok, Err, All}
 use Rattle.std.proofs.lemmas.List.{length_push, get_or-append-add}
 use Rattle.accept.specs.Calls.{AreNumbers}
@@ -9,16 +10,18 @@ use Rattle.accept.specs.declared.history.Ask.{Ask}
 use Rattle.history.specs.Histories.{IsFirstNumber, behind_first}
 use Rattle.history.specs.Plays.{IsRested}
 use Rattle.history.specs.Handles.{Passed}
-use Rattle.lanes.specs.Openings.{Opening}
+use Rattle.owners.specs.Openings.{Opening}
 use Rattle.ingester.specs.declared.fault.CallFault.{CallFault}
-use Rattle.ingester.specs.Calls.{IsPassOf, AreGiven}
-use Rattle.ingester.specs.Batches.{with_next, AreAnnounced, AreNumbered, AreSomeOpen, IsCollected, IsWithdrawn, IsTaken, AreReceived, IsNextRefused}
-use Rattle.ingester.proofs.Chaining.{taken_more, all_given, given_append}
+use Rattle.ingester.specs.declared.fault.CallFault.TheVariants.{Memory, LogSpent, PassClosed, InDoubt}
+use Rattle.ingester.specs.Calls.{IsPassOf, IsRefused, AreGiven, with_next, closed_now}
+use Rattle.ingester.specs.Batches.{doubts, IsTakenBack, AreAnnounced, AreNumbered, AreSomeOpen, IsCollected, IsWithdrawn, IsTaken, AreTaken, AreReceived, AreLost, AreEnded, IsNextRefused}
+use Rattle.ingester.proofs.Chaining.{AreDone, taken_more, some_given, all_lost, given_append}
 
 -- the first open call was taken in
 pub record IsBehind (old new : Passed) : Type 0 where
   pub table : new.table ≡ old.table
   pub about : new.caller.about ≡ old.caller.about
+  pub pass : new.caller.pass ≡ old.caller.pass
   pub pending : new.caller.pending ≡ behind_first old.caller.pending
   pub rested : IsRested old.caller → IsRested new.caller
 
@@ -47,14 +50,33 @@ length_behind : (asks : List Ask) → 0 < length asks → length (behind_first a
 length_behind [] some = absurd (omega arith)
 length_behind (a ∷ asks) some = omega arith
 
+-- one outcome more that is in doubt
+pub doubts_more : (n : ℕ) → doubts (n + 1) ≡ doubts n ++ Err InDoubt ∷ []
+doubts_more zero = refl
+doubts_more (suc n) = let e : suc n + 1 ≡ suc (n + 1) = omega arith in ap doubts e ∙ ap (λ (l : List (Result Reply CallFault)). Err InDoubt ∷ l) (doubts_more n)
+
+-- the table and the opening are as they were
+record IsBack (old new : Passed) : Type 0 where
+  pub table : new.table ≡ old.table
+  pub about : new.caller.about ≡ old.caller.about
+  pub pass : new.caller.pass ≡ old.caller.pass
+
+-- a call that has no reply leaves the pass its number
+pub refused_pass : (old new : Passed) (call : Call) (fault : CallFault) → IsRefused old call new fault → new.caller.pass ≡ old.caller.pass
+refused_pass old new call Memory h = ap (λ (p : Passed). p.caller.pass) h
+refused_pass old new call LogSpent h = ap (λ (p : Passed). p.caller.pass) h
+refused_pass old new call PassClosed h = ap (λ (p : Passed). p.caller.pass) h
+refused_pass old new call InDoubt (inl h) = ap (λ (p : Passed). p.caller.pass) h
+refused_pass old new call InDoubt (inr h) = ap (λ (p : Passed). p.caller.pass) h
+
 module _ {D : Type 0} (opening : Opening D) where
   pub taken_behind : (old new : Passed) (r : Result Reply CallFault) → IsTaken opening old new r → IsBehind old new
   taken_behind old new (Ok reply) h =
       let by : IsCollected old new h.first reply = h.by in
-      subst (IsBehind old) (sym by.pass) (record { table = refl; about = refl; pending = refl; rested = λ (_ : IsRested old.caller). by.rested })
+      subst (IsBehind old) (sym by.pass) (record { table = refl; about = refl; pass = refl; pending = refl; rested = λ (_ : IsRested old.caller). by.rested })
   taken_behind old new (Err fault) h =
       let by : IsWithdrawn opening old new h.first fault = h.by in
-      subst (IsBehind old) (sym by.pass) (record { table = refl; about = refl; pending = refl; rested = λ (r : IsRested old.caller). r })
+      subst (IsBehind old) (sym by.pass) (record { table = refl; about = refl; pass = refl; pending = refl; rested = λ (r : IsRested old.caller). r })
 
   -- the state of a pass while so many of its open calls are taken in
   pub record IsReceiving (pass : Passed) (n i count : ℕ) : Type 0 where
@@ -92,17 +114,87 @@ module _ {D : Type 0} (opening : Opening D) where
     pub so_far : IsSoFar start mid calls left outcomes
     pub pass : IsPassOf opening mid
 
+  none_left : (front done left : List Call) → front ≡ done ++ left → length done ≡ length front → left ≡ []
+  none_left front done [] e n = refl
+  none_left front done (c ∷ left) e n = let long : length front ≡ length done + length (c ∷ left) = ap length e ∙ length-append done (c ∷ left) in absurd (omega arith)
+
+  is_taken_back : (old new : Passed) → IsTakenBack old new → IsBack old new
+  is_taken_back old new (inl same) = subst (IsBack old) (sym same) (record { table = refl; about = refl; pass = refl })
+  is_taken_back old new (inr taken) = subst (IsBack old) (sym taken.2) (record { table = refl; about = refl; pass = refl })
+
+  -- what is lost of a round, and what came of the rest
+  lost_more : (mid now back new : Passed) (left : List Call) (taken count : ℕ) → IsPassOf opening mid → AreAnnounced mid left now → IsTakenBack now back → new ≡ closed_now back → length left ≡ count - taken → taken < count → AreGiven opening mid left (doubts (count - taken)) new × IsPassOf opening new
+  lost_more mid now back new [] taken count is a b closed n lt = absurd (omega arith)
+  lost_more mid now back new (call ∷ calls) taken count is a b closed n lt =
+      let ahead = announced_ahead mid now (call ∷ calls) a in
+      let same = is_taken_back now back b in (
+        subst (λ (m : ℕ). AreGiven opening mid (call ∷ calls) (doubts m) new) n (all_lost opening mid now back new call calls is a b closed),
+        subst (IsPassOf opening) (sym closed) (record { table = same.table ∙ (ahead.table ∙ is.table); about = same.about ∙ (ahead.about ∙ is.about); idle = λ (e : true ≡ false). absurd (false≢true (sym e)) }),
+      )
+
+  taken_pass : (old new : Passed) (rs : List (Result Reply CallFault)) → AreTaken opening old rs new → new.caller.pass ≡ old.caller.pass
+  taken_pass old new [] t = ap (λ (p : Passed). p.caller.pass) t
+  taken_pass old new (r ∷ rs) t = taken_pass t.0 new rs t.2 ∙ (taken_behind old t.0 r t.1).pass
+
+  -- a round leaves the pass its number
+  pub ended_pass : (old new : Passed) (before after : List (Result Reply CallFault)) (count : ℕ) → AreEnded opening old new before after count → new.caller.pass ≡ old.caller.pass
+  ended_pass old new before after count e = ⊎_elim
+      (λ (t : (e.taken ≡ count) × (new ≡ e.mid) × (after ≡ e.between)). ap (λ (p : Passed). p.caller.pass) t.1)
+      (λ (t : (e.taken < count) × AreLost e.mid new e.between after e.taken count). ap (λ (p : Passed). p.caller.pass) t.1.closed ∙ (is_taken_back e.mid t.1.mid t.1.back).pass)
+      e.ends ∙ taken_pass old e.mid e.received.came e.received.taken
+
+  -- what came of all calls of a round
+  record IsRoundEnded (mid new : Passed) (front : List Call) (before after : List (Result Reply CallFault)) : Type 0 where
+    pub came : List (Result Reply CallFault)
+    pub outcomes_are : after ≡ before ++ came
+    pub given : AreGiven opening mid front came new
+    pub pass : IsPassOf opening new
+
+  round_ends : (mid now new : Passed) (front : List Call) (came before after : List (Result Reply CallFault)) (count : ℕ) (e : AreEnded opening now new before after count) (done : AreDone opening mid front came e.mid) (r : AreReceived opening now e.mid before e.between e.taken) → length front ≡ count → length came ≡ e.taken → e.between ≡ before ++ came → IsRoundEnded mid new front before after
+  round_ends mid now new front came before after count e done r many taken are = ⊎_elim
+      (λ (t : (e.taken ≡ count) × (new ≡ e.mid) × (after ≡ e.between)).
+      let all : length done.done ≡ length front = done.counted ∙ (taken ∙ (t.0 ∙ sym many)) in
+      let none = none_left front done.done done.left done.calls_are all in
+      let same : e.mid ≡ done.mid = subst (λ (l : List Call). AreAnnounced done.mid l e.mid) none done.announced in
+      let fronts : done.done ≡ front = sym (append-nil done.done) ∙ (ap (λ (l : List Call). done.done ++ l) (sym none) ∙ sym done.calls_are) in
+      record {
+        came = came;
+        outcomes_are = t.2 ∙ are;
+        given = subst (λ (z : List Call × Passed). AreGiven opening mid z.0 came z.1) (λ i. (fronts i, (sym same ∙ sym t.1) i)) done.given;
+        pass = subst (IsPassOf opening) (sym same ∙ sym t.1) done.pass;
+      })
+      (λ (t : (e.taken < count) × AreLost e.mid new e.between after e.taken count).
+      let l = t.1 in
+      let lt = t.0 in
+      let long : length front ≡ length done.done + length done.left = ap length done.calls_are ∙ length-append done.done done.left in
+      let counted = done.counted in
+      let left : length done.left ≡ count - e.taken = omega arith in
+      let lost = lost_more done.mid e.mid l.mid new done.left e.taken count done.pass done.announced l.back l.closed left lt in
+      record {
+        came = came ++ doubts (count - e.taken);
+        outcomes_are = l.outcomes_are ∙ (ap (λ (x : List (Result Reply CallFault)). x ++ doubts (count - e.taken)) are ∙ append_assoc before came (doubts (count - e.taken)));
+        given = subst (λ (x : List Call). AreGiven opening mid x (came ++ doubts (count - e.taken)) new) (sym done.calls_are) (given_append opening false mid done.mid new done.done done.left came (doubts (count - e.taken)) done.given lost.0);
+        pass = lost.1;
+      })
+      e.ends
+
   -- some calls more at once
-  pub round_more : (start mid now new : Passed) (calls left rest : List Call) (first count : ℕ) (before after : List (Result Reply CallFault)) → IsSoFar start mid calls left before → IsPassOf opening mid → AreSomeOpen mid now left rest first count → AreReceived opening now new before after count → IsGoing start new calls rest after
-  round_more start mid now new calls left rest first count before after so_far is h came =
-      let done = all_given opening mid now new h.front came.came is h.rested h.announced came.taken (came.counted ∙ sym h.counted) in
+  pub round_more : (start mid now new : Passed) (calls left rest : List Call) (first count : ℕ) (before after : List (Result Reply CallFault)) → IsSoFar start mid calls left before → IsPassOf opening mid → AreSomeOpen mid now left rest first count → AreEnded opening now new before after count → IsGoing start new calls rest after
+  round_more start mid now new calls left rest first count before after so_far is h e =
+      let r = e.received in
+      let few : length r.came ≤ length h.front = ⊎_elim
+      (λ (t : (e.taken ≡ count) × (new ≡ e.mid) × (after ≡ e.between)). let one = t.0 in let two = r.counted in let three = h.counted in omega arith)
+      (λ (t : (e.taken < count) × AreLost e.mid new e.between after e.taken count). let one = t.0 in let two = r.counted in let three = h.counted in omega arith)
+      e.ends in
+      let done = some_given opening mid now e.mid h.front r.came is h.rested h.announced r.taken few in
+      let ended = round_ends mid now new h.front r.came before after count e done r h.counted r.counted r.outcomes_are in
       record {
         so_far = record {
           done = so_far.done ++ h.front;
           calls_are = so_far.calls_are ∙ ap (λ (l : List Call). so_far.done ++ l) h.calls_are ∙ sym (append_assoc so_far.done h.front rest);
-          given = subst (λ (l : List (Result Reply CallFault)). AreGiven opening start (so_far.done ++ h.front) l new) (sym came.outcomes_are) (given_append opening start mid new so_far.done h.front before came.came so_far.given done.given);
+          given = subst (λ (l : List (Result Reply CallFault)). AreGiven opening start (so_far.done ++ h.front) l new) (sym ended.outcomes_are) (given_append opening false start mid new so_far.done h.front before ended.came so_far.given ended.given);
         };
-        pass = done.pass;
+        pass = ended.pass;
       }
 
   -- one call more, which is refused
@@ -111,7 +203,7 @@ module _ {D : Type 0} (opening : Opening D) where
     so_far = record {
       done = so_far.done ++ h.call ∷ [];
       calls_are = so_far.calls_are ∙ ap (λ (l : List Call). so_far.done ++ l) h.calls_are ∙ sym (append_assoc so_far.done (h.call ∷ []) rest);
-      given = subst (λ (l : List (Result Reply CallFault)). AreGiven opening start (so_far.done ++ h.call ∷ []) l new) (sym is) (given_append opening start mid new so_far.done (h.call ∷ []) before (Err fault ∷ []) so_far.given (new, h.given, refl));
+      given = subst (λ (l : List (Result Reply CallFault)). AreGiven opening start (so_far.done ++ h.call ∷ []) l new) (sym is) (given_append opening false start mid new so_far.done (h.call ∷ []) before (Err fault ∷ []) so_far.given (new, h.given, refl));
     };
     pass = h.pass;
   }

@@ -1,7 +1,5 @@
 -- Calls of a pass that are announced one after another, and whose answers are taken in together.
-use Rattle.std.specs.Prelude.{◌≡◌, ◌≢◌, ℕ, ◌+◌, List, [], ◌∷◌, ◌++◌, Some, false, length, Result, Ok, Err, slice_get}
-use Rattle.std.specs.declared.alloc.Global.{Global}
-use Rattle.std.specs.declared.collections.VecDeque.{VecDeque}
+use Rattle.std.specs.Prelude.{◌≡◌, ◌≢◌, ◌⊎◌, ℕ, zero, suc, ◌+◌, ◌-◌, ◌<◌, List, [], ◌∷◌, ◌++◌, Some, false, length, Result, Ok, Err, slice_get}
 use Rattle.atomic_table.specs.Seated.{TableId}
 use Rattle.accept.specs.Calls.{AreNumbers}
 use Rattle.accept.specs.declared.call.Call.{Call}
@@ -11,21 +9,19 @@ use Rattle.accept.specs.declared.history.Item.{Item}
 use Rattle.history.specs.declared.views.About.{About}
 use Rattle.history.specs.declared.views.Caller.{Caller}
 use Rattle.history.specs.Histories.{IsLegalAt, IsByPasses, IsFirst, asks_on, shard_in, step_of}
-use Rattle.history.specs.Plays.{seen_at, ask_of, before_of, announce_to, withdraw_to, collect_to, Extends, IsRested}
+use Rattle.history.specs.Plays.{seen_at, ask_of, before_of, withdraw_to, collect_to, Extends, IsRested}
 use Rattle.history.specs.Handles.{Passed, is_closed, asks_of}
 use Rattle.shard.specs.declared.fault.ApplyFault.{ApplyFault}
 use Rattle.shard.specs.declared.fault.ApplyFault.TheVariants.{GenerationSpent}
 use Rattle.shard.specs.declared.front.Job.{Job}
 use Rattle.shard.specs.Jobs.{tickets_of}
-use Rattle.lanes.specs.Lanes.{IsBatch}
-use Rattle.lanes.specs.Openings.{Opening, HasSpentLog}
+use Rattle.owners.specs.declared.ways.Way.{Way}
+use Rattle.owners.specs.Calls.{IsBatch}
+use Rattle.owners.specs.Openings.{Opening, HasSpentLog}
 use Rattle.ingester.specs.declared.fault.CallFault.{CallFault}
+use Rattle.ingester.specs.declared.fault.CallFault.TheVariants.{InDoubt}
 use Rattle.ingester.specs.Faults.{fault_of}
-use Rattle.ingester.specs.Calls.{IsPassOf, IsGiven}
-
--- the pass with its next call announced
-abbrev pub with_next : Passed → Call → Passed
-with_next pass call = record pass { caller = announce_to pass.caller (pass.caller.last + 1) call }
+use Rattle.ingester.specs.Calls.{IsPassOf, IsGiven, with_next, closed_now}
 
 -- the calls were announced one after another
 abbrev pub AreAnnounced : Passed → List Call → Passed → Type 0
@@ -37,12 +33,16 @@ pub record IsBatchOf (table : TableId) (about : About) (k : ℕ) (c : Caller) (j
   pub batch : IsBatch table about k c.pass jobs
   pub asks : asks_of (tickets_of jobs) ≡ asks_on about k c.pending
 
--- for each shard the jobs of a pass's open calls there
-abbrev pub AreBatchesOf : TableId → About → Caller → List (VecDeque Job Global) → Type 0
-AreBatchesOf table about c batches = (k : ℕ) (jobs : VecDeque Job Global) → slice_get batches k ≡ Some jobs
-    → IsBatchOf table about k c jobs.items
+-- in the letter to each shard are the jobs of a pass's open calls there
+abbrev pub AreBatchesOf : TableId → About → Caller → List Way → Type 0
+AreBatchesOf table about c ways = (k : ℕ) (way : Way) → slice_get ways k ≡ Some way
+    → IsBatchOf table about k c way.letter.jobs.items
 
--- the first of the calls was announced, under this number, and its job stands behind the others of its shard
+-- each number is below n
+abbrev pub AreBelow : ℕ → List ℕ → Type 0
+AreBelow n numbers = (k number : ℕ) → slice_get numbers k ≡ Some number → number < n
+
+-- the first of the calls was announced, under this number, and its job stands after the others of its shard
 pub record IsJoined (table : TableId) (old new : Passed) (calls left : List Call) (jobs now : List Job)
     (number : ℕ) : Type 0 where
   pub call : Call
@@ -124,13 +124,40 @@ AreTaken opening old [] new = new ≡ old
 AreTaken opening old (outcome ∷ outcomes) new = (mid : Passed) × IsTaken opening old mid outcome
     × AreTaken opening mid outcomes new
 
--- so many open calls, from the first on, were taken in, and this came of them
+-- this number of open calls, from the first on, were taken in, and this came of them
 pub record AreReceived {D : Type 0} (opening : Opening D) (old new : Passed)
     (before after : List (Result Reply CallFault)) (count : ℕ) : Type 0 where
   pub came : List (Result Reply CallFault)
   pub outcomes_are : after ≡ before ++ came
   pub counted : length came ≡ count
   pub taken : AreTaken opening old came new
+
+-- the first open call was taken back, or none was
+abbrev pub IsTakenBack : Passed → Passed → Type 0
+IsTakenBack old new = (new ≡ old)
+    ⊎ ((first : Ask) × IsFirst first old.caller.pending × (new ≡ record old { caller = withdraw_to old.caller first.number }))
+
+-- outcomes that are in doubt
+abbrev pub doubts : ℕ → List (Result Reply CallFault)
+doubts zero = []
+doubts (suc n) = Err InDoubt ∷ doubts n
+
+-- the open calls of a pass are lost, of a round those from one on: the first may have come back, and the pass is closed
+pub record AreLost (old new : Passed) (before after : List (Result Reply CallFault)) (from count : ℕ) : Type 0 where
+  pub mid : Passed
+  pub back : IsTakenBack old mid
+  pub closed : new ≡ closed_now mid
+  pub outcomes_are : after ≡ before ++ doubts (count - from)
+
+-- this came of the open calls of a round: all were taken in, or some, and the others were lost
+pub record AreEnded {D : Type 0} (opening : Opening D) (old new : Passed)
+    (before after : List (Result Reply CallFault)) (count : ℕ) : Type 0 where
+  pub mid : Passed
+  pub between : List (Result Reply CallFault)
+  pub taken : ℕ
+  pub received : AreReceived opening old mid before between taken
+  pub ends : ((taken ≡ count) × (new ≡ mid) × (after ≡ between))
+      ⊎ ((taken < count) × AreLost mid new between after taken count)
 
 -- the first of the calls was refused
 pub record IsNextRefused {D : Type 0} (opening : Opening D) (old new : Passed) (calls left : List Call)

@@ -1,5 +1,5 @@
 -- What a call, a look and a meeting leave of what passes know.
-use Rattle.std.specs.Prelude.{◌≡◌, ◌≢◌, ◌↔◌, ℕ, ◌+◌, true, List, [], ◌∷◌, ◌++◌, Result, IfOk, IfErr}
+use Rattle.std.specs.Prelude.{◌≡◌, ◌≢◌, ◌⊎◌, ◌↔◌, ℕ, ◌+◌, Bool, true, false, List, [], ◌∷◌, ◌++◌, Result, Ok, Err, IfOk, IfErr}
 use Rattle.std.specs.Result.{IsErrOf}
 use Rattle.accept.specs.declared.call.Call.{Call}
 use Rattle.accept.specs.declared.call.Reply.{Reply}
@@ -9,14 +9,14 @@ use Rattle.history.specs.Histories.{IsLegalAt, IsByPasses, shard_in, step_of}
 use Rattle.history.specs.Plays.{seen_at, ask_of, announce_to, collect_to, Extends}
 use Rattle.history.specs.Handles.{Passed, is_closed}
 use Rattle.ingester.specs.declared.fault.CallFault.{CallFault}
-use Rattle.ingester.specs.declared.fault.CallFault.TheVariants.{PassClosed, LogSpent}
-use Rattle.lanes.specs.Openings.{Opening, HasSpentLog}
+use Rattle.ingester.specs.declared.fault.CallFault.TheVariants.{Memory, PassClosed, LogSpent, InDoubt}
+use Rattle.owners.specs.Openings.{Opening, HasSpentLog}
 
--- the pass is of this opening, and waits for no answer
+-- The pass is of this opening, and waits for no answer. One that was closed may have calls whose answers are lost.
 pub record IsPassOf {D : Type 0} (opening : Opening D) (pass : Passed) : Type 0 where
   pub table : pass.table ≡ opening.table
   pub about : pass.caller.about ≡ opening.about
-  pub idle : pass.caller.pending ≡ []
+  pub idle : pass.closed ≡ false → pass.caller.pending ≡ []
 
 -- the step of the next call of a pass
 abbrev pub next_step : Caller → Call → Reply → Step
@@ -53,23 +53,57 @@ without_next pass = record pass {
   };
 }
 
--- The call has no step. A closed pass is as it was; else one number is used up, and the rest is as it was.
-abbrev pub IsRefused : Passed → Passed → CallFault → Type 0
-IsRefused old new PassClosed = new ≡ old
-IsRefused old new fault = new ≡ without_next old
+-- the pass with its next call announced
+abbrev pub with_next : Passed → Call → Passed
+with_next pass call = record pass { caller = announce_to pass.caller (pass.caller.last + 1) call }
+
+-- the pass announces no call any more
+abbrev pub closed_now : Passed → Passed
+closed_now pass = record pass { closed = true }
+
+-- The call is in doubt. It was not made and its number is used up, or it stays open and may have its step. The pass is
+-- closed, and else as it was.
+abbrev pub IsLost : Passed → Call → Passed → Type 0
+IsLost old call new = (new ≡ closed_now (without_next old)) ⊎ (new ≡ closed_now (with_next old call))
+
+-- The call has no reply. A closed pass is as it was; else one number is used up, and the rest is as it was.
+abbrev pub IsRefused : Passed → Call → Passed → CallFault → Type 0
+IsRefused old call new Memory = new ≡ without_next old
+IsRefused old call new LogSpent = new ≡ without_next old
+IsRefused old call new PassClosed = new ≡ old
+IsRefused old call new InDoubt = IsLost old call new
 
 -- this came of the next call of a pass: from what the pass knew to what it knows then
 pub record IsGiven {D : Type 0} (opening : Opening D) (old : Passed) (call : Call) (outcome : Result Reply CallFault)
     (new : Passed) : Type 0 where
   pub answered : IfOk outcome (λ reply. IsAnswered old new call reply)
-  pub refused : IfErr outcome (λ fault. IsRefused old new fault)
+  pub refused : IfErr outcome (λ fault. IsRefused old call new fault)
   pub closed : IsErrOf outcome PassClosed ↔ (is_closed old ≡ true)
   pub spent : IsErrOf outcome LogSpent → HasSpentLog opening (shard_for old.caller call) call
 
+-- whether the call is in doubt
+abbrev pub is_doubt : Result Reply CallFault → Bool
+is_doubt (Ok reply) = false
+is_doubt (Err Memory) = false
+is_doubt (Err LogSpent) = false
+is_doubt (Err PassClosed) = false
+is_doubt (Err InDoubt) = true
+
+-- This came of a call of a pass. Where the one before it is in doubt, this one was announced too, and may be lost with it:
+-- then it stays open.
+abbrev pub IsGivenAfter : {D : Type 0} → Bool → Opening D → Passed → Call → Result Reply CallFault → Passed → Type 0
+IsGivenAfter false opening old call outcome new = IsGiven opening old call outcome new
+IsGivenAfter true opening old call outcome new = IsGiven opening old call outcome new
+    ⊎ ((outcome ≡ Err InDoubt) × (new ≡ with_next old call))
+
+abbrev pub AreGivenAfter : {D : Type 0} → Bool → Opening D → Passed → List Call → List (Result Reply CallFault) → Passed
+    → Type 0
+AreGivenAfter lost opening old [] [] new = new ≡ old
+AreGivenAfter lost opening old [] (r ∷ rs) new = ⊥
+AreGivenAfter lost opening old (call ∷ calls) [] new = ⊥
+AreGivenAfter lost opening old (call ∷ calls) (r ∷ rs) new = (mid : Passed) × IsGivenAfter lost opening old call r mid
+    × AreGivenAfter (is_doubt r) opening mid calls rs new
+
 -- this came of the calls, made one after another
 abbrev pub AreGiven : {D : Type 0} → Opening D → Passed → List Call → List (Result Reply CallFault) → Passed → Type 0
-AreGiven opening old [] [] new = new ≡ old
-AreGiven opening old [] (r ∷ rs) new = ⊥
-AreGiven opening old (call ∷ calls) [] new = ⊥
-AreGiven opening old (call ∷ calls) (r ∷ rs) new = (mid : Passed) × IsGiven opening old call r mid
-    × AreGiven opening mid calls rs new
+AreGiven opening old calls outcomes new = AreGivenAfter false opening old calls outcomes new

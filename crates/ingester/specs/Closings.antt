@@ -13,7 +13,7 @@ use Rattle.history.specs.Histories.{IsBeginning, IsLegalAt, IsByPasses, doubt_of
 use Rattle.history.specs.Plays.{seen_at, HasStepsOf}
 use Rattle.history.specs.Handles.{Booked, Passed}
 use Rattle.shard.specs.Shards.{Sharded}
-use Rattle.lanes.specs.Openings.{Opening}
+use Rattle.owners.specs.Openings.{Opening}
 
 -- what close leaves: the opening, the passes that were handed in, and how many shards are left
 pub record Handed (D : Type 0) : Type 0 where

@@ -87,6 +87,7 @@ module _ {D : Type 0} (sight : D → Sight) (follows : D → Type 0) where
   abbrev pub IsUnmade : ℕ → List (List D) → List (List D) → OpenFault → Type 0
   IsUnmade count all backs (faults.Refused shard fault) = IsFirstRefused count shard fault all backs
   IsUnmade count all backs faults.Memory = (backs ≡ all) ⊎ AreReturned all backs
+  IsUnmade count all backs faults.Thread = backs ≡ all
 
   -- the next shard is opened
   pub record IsNextOpened (whose : Owner) (capacity : ℕ) (slots_old slots_new : List (List D))

@@ -5,3 +5,5 @@ pub mod Closings
 pub mod Findings
 pub mod Makings
 pub mod Batches
+pub mod Parts
+pub mod Settling

@@ -1,13 +1,13 @@
 -- What an ingester is, and the passes of its opening.
 use Rattle.std.specs.Prelude.{◌≡◌, ℕ, ◌≤◌, List, Some, length, slice_get}
 use Rattle.atomic_table.specs.Seated.{TableId}
-use Rattle.history.specs.Handles.{Booked, Passed, fresh_pass}
-use Rattle.lanes.specs.Openings.{Opening}
+use Rattle.history.specs.Handles.{Passed, fresh_pass}
+use Rattle.owners.specs.Openings.{Opening}
 
 -- so many shards, with histories in this table
-pub record IsOpening (table : TableId) (first : Booked) (count : ℕ) : Type 0 where
-  pub same_table : first.table ≡ table
-  pub shards : first.about.shards ≡ count
+pub record IsOpening {D : Type 0} (table : TableId) (opening : Opening D) (count : ℕ) : Type 0 where
+  pub same_table : opening.table ≡ table
+  pub shards : opening.about.shards ≡ count
   pub some_shard : 1 ≤ count
   pub few : count ≤ 64
 

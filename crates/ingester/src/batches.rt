@@ -1,11 +1,14 @@
 //! Many calls of a pass at once.
-ghost use Rattle.std.specs.Prelude.{◌≡◌, ◌+◌, ◌^◌, ◌<◌, ◌≤◌, [], All, length, vec_len};
+ghost use Rattle.std.specs.Prelude.{◌≡◌, ◌+◌, ◌^◌, ◌<◌, ◌≤◌, [], None, All, length, IfSome};
 ghost use Rattle.std.specs.VecDeque.{deque_len, deque_capacity};
 ghost use Rattle.accept.specs.Calls.{AreNumbers};
 ghost use Rattle.history.specs.Plays.{IsRested};
 ghost use Rattle.history.specs.Histories.{IsFirstNumber};
+ghost use Rattle.owners.specs.Calls.{IsDue, number_in};
+ghost use Rattle.owners.specs.Openings.{home_of};
+ghost use Rattle.owners.specs.Ways.{IsWay, AreWays, AreReady, AreIdleWays};
 ghost use Rattle.ingester.specs.Calls.{IsPassOf, AreGiven};
-ghost use Rattle.ingester.specs.Batches.{AreBatchesOf, AreNumbered, IsTaken, AreReceived, IsNextRefused};
+ghost use Rattle.ingester.specs.Batches.{AreBatchesOf, AreBelow, AreNumbered, IsTaken, IsTakenBack, AreReceived, AreLost, AreEnded, IsNextRefused};
 
 use crate::announcing::Round;
 use crate::fault::CallFault;
@@ -13,28 +16,45 @@ use crate::opened::Ingester;
 use accept::{Call, Reply};
 use disk::Disk;
 use history::Pass;
+use owners::{Way, clear_letters, receive_letters, send_letters};
 use shard::Settled;
 use std::alloc::Global;
 use std::collections::VecDeque;
 use std::sync::Wait;
 
 impl<D: Disk + Drop> Ingester<D> {
-    // Waits for what became of the first open call of a pass, which has this number, and takes it in.
-    fn receive_next<R: Wait>(
+    // Takes in what became of the first open call of a pass, which has this number, where that is next in the letter.
+    fn receive_next(
         &self,
-        rt: &R,
-        alloc: Global,
         pass: &mut Pass,
+        way: &mut Way,
+        shard: usize,
         number: u64,
-    ) -> Result<Reply, CallFault>
+    ) -> Option<Result<Reply, CallFault>>
         requires table { pass.old.table ≡ self.now.table }
         requires about { pass.old.caller.about ≡ self.now.about }
+        requires way { IsWay (home_of self.now) pass.old.caller.pass shard way.old }
         requires number { IsFirstNumber number pass.old.caller.pending }
         requires rested { IsRested pass.old.caller }
-        ensures taken { IsTaken self.now pass.old pass.new result }
+        ensures taken { IfSome result (IsTaken self.now pass.old pass.new) }
+        ensures none { result ≡ None → pass.new ≡ pass.old }
+        ensures way { IsWay (home_of self.now) pass.old.caller.pass shard way.new }
     {
         let own = pass.number();
-        match self.lanes.receive(rt, alloc, own, number) {
+        let settled = way.take(&self.home, own, shard, number)?;
+        Some(self.take_in(pass, settled))
+    }
+
+    // Takes in what became of the first open call of a pass.
+    fn take_in(&self, pass: &mut Pass, settled: Settled) -> Result<Reply, CallFault>
+        requires table { pass.old.table ≡ self.now.table }
+        requires about { pass.old.caller.about ≡ self.now.about }
+        requires due { IsDue (home_of self.now) pass.old.caller.pass settled }
+        requires number { IsFirstNumber (number_in settled) pass.old.caller.pending }
+        requires rested { IsRested pass.old.caller }
+        ensures { IsTaken self.now pass.old pass.new result }
+    {
+        match settled {
             Settled::Answered(reply, receipt) => {
                 self.history.collect(pass, receipt);
                 Ok(reply)
@@ -46,65 +66,128 @@ impl<D: Disk + Drop> Ingester<D> {
         }
     }
 
-    // Waits for what became of the open calls of a pass, so many from the one with this number on, and takes it in.
-    fn receive_all<R: Wait>(
+    // Takes in what became of the open calls of a pass, up to the first whose answer is lost. Says of how many.
+    fn receive_all(
         &self,
-        rt: &R,
-        alloc: Global,
         pass: &mut Pass,
-        first: u64,
-        count: usize,
+        ways: &mut Vec<Way>,
+        round: &Round,
+        outcomes: &mut VecDeque<Result<Reply, CallFault>>,
+    ) -> usize
+        requires table { pass.old.table ≡ self.now.table }
+        requires about { pass.old.caller.about ≡ self.now.about }
+        requires ways { AreWays (home_of self.now) pass.old.caller.pass ways.old.items }
+        requires shards { AreBelow (length ways.old.items) round.now.shards }
+        requires rested { IsRested pass.old.caller }
+        requires numbers { AreNumbered round.now.first pass.old.caller.pending }
+        requires count { (length pass.old.caller.pending ≡ round.now.count) × (round.now.count ≤ 64) }
+        requires fits { round.now.first + round.now.count ≤ 2 ^ 64 }
+        requires room { deque_len outcomes.old + round.now.count ≤ deque_capacity outcomes.old }
+        ensures received { AreReceived self.now pass.old pass.new outcomes.old.items outcomes.new.items result }
+        ensures some { result ≤ round.now.count }
+        ensures ways { AreWays (home_of self.now) pass.old.caller.pass ways.new.items }
+        ensures same { (length ways.new.items ≡ length ways.old.items) × (pass.new.table ≡ pass.old.table)
+            × (pass.new.caller.about ≡ pass.old.caller.about) × (pass.new.caller.pass ≡ pass.old.caller.pass) }
+        ensures left { AreNumbered (round.now.first + result) pass.new.caller.pending
+            × (length pass.new.caller.pending + result ≡ round.now.count) × IsRested pass.new.caller }
+        ensures len { deque_len outcomes.new ≡ deque_len outcomes.old + result }
+        ensures capacity { deque_capacity outcomes.new ≡ deque_capacity outcomes.old }
+    {
+        for i in 0..round.count {
+            let shard = round.shards[i];
+            match self.receive_next(pass, &mut ways[shard], shard, round.first + i as u64) {
+                Some(came) => outcomes.push_back_reserved(came),
+                None => return i,
+            }
+        }
+        round.count
+    }
+
+    // Takes back the first open call of a pass, which has this number, where it was not sent.
+    fn take_back(&self, pass: &mut Pass, way: &mut Way, shard: usize, number: u64)
+        requires table { pass.old.table ≡ self.now.table }
+        requires about { pass.old.caller.about ≡ self.now.about }
+        requires way { IsWay (home_of self.now) pass.old.caller.pass shard way.old }
+        requires number { IsFirstNumber number pass.old.caller.pending }
+        ensures back { IsTakenBack pass.old pass.new }
+        ensures way { IsWay (home_of self.now) pass.old.caller.pass shard way.new }
+    {
+        let own = pass.number();
+        let Some(ticket) = way.take_back(&self.home, own, shard) else {
+            return;
+        };
+        if ticket.number() == number {
+            self.history.withdraw(pass, ticket);
+        }
+    }
+
+    // The open calls of a pass from this one of a round on are lost: the pass is closed, and they are in doubt.
+    fn lose(
+        &self,
+        pass: &mut Pass,
+        ways: &mut Vec<Way>,
+        round: &Round,
+        from: usize,
         outcomes: &mut VecDeque<Result<Reply, CallFault>>,
     )
         requires table { pass.old.table ≡ self.now.table }
         requires about { pass.old.caller.about ≡ self.now.about }
-        requires rested { IsRested pass.old.caller }
-        requires numbers { AreNumbered first pass.old.caller.pending }
-        requires count { length pass.old.caller.pending ≡ count }
-        requires fits { first + count ≤ 2 ^ 64 }
-        requires room { deque_len outcomes.old + count ≤ deque_capacity outcomes.old }
-        ensures received { AreReceived self.now pass.old pass.new outcomes.old.items outcomes.new.items count }
-        ensures len { deque_len outcomes.new ≡ deque_len outcomes.old + count }
+        requires ways { AreWays (home_of self.now) pass.old.caller.pass ways.old.items }
+        requires shards { AreBelow (length ways.old.items) round.now.shards }
+        requires from { (from < round.now.count) × (round.now.count ≤ 64) }
+        requires numbers { AreNumbered (round.now.first + from) pass.old.caller.pending
+            × (length pass.old.caller.pending + from ≡ round.now.count) }
+        requires fits { round.now.first + round.now.count ≤ 2 ^ 64 }
+        requires room { deque_len outcomes.old + round.now.count ≤ deque_capacity outcomes.old + from }
+        ensures lost { AreLost pass.old pass.new outcomes.old.items outcomes.new.items from round.now.count }
+        ensures ways { AreWays (home_of self.now) pass.old.caller.pass ways.new.items }
+        ensures same { length ways.new.items ≡ length ways.old.items }
+        ensures len { deque_len outcomes.new + from ≡ deque_len outcomes.old + round.now.count }
         ensures capacity { deque_capacity outcomes.new ≡ deque_capacity outcomes.old }
     {
-        for i in 0..count {
-            let came = self.receive_next(rt, alloc, pass, first + i as u64);
-            outcomes.push_back_reserved(came);
+        let shard = round.shards[from];
+        self.take_back(pass, &mut ways[shard], shard, round.first + from as u64);
+        pass.close();
+        for _ in from..round.count {
+            outcomes.push_back_reserved(Err(CallFault::InDoubt));
         }
     }
 
-    // Puts announced calls into the lanes, and waits for what became of them.
+    // Sends the letters with announced calls, and waits for what became of them.
     fn make_round<R: Wait>(
         &self,
         rt: &R,
         alloc: Global,
         pass: &mut Pass,
+        ways: &mut Vec<Way>,
         round: Round,
         outcomes: &mut VecDeque<Result<Reply, CallFault>>,
     )
         requires table { pass.old.table ≡ self.now.table }
         requires about { pass.old.caller.about ≡ self.now.about }
-        requires own { (round.pass ≡ pass.old.caller.pass) × (round.pass < self.now.about.passes) }
+        requires own { round.pass ≡ pass.old.caller.pass }
         requires rested { IsRested pass.old.caller }
         requires numbers { AreNumbered round.first pass.old.caller.pending }
         requires count { (length pass.old.caller.pending ≡ round.count) × (round.count ≤ 64) }
         requires fits { round.first + round.count ≤ 2 ^ 64 }
-        requires batches { (vec_len round.batches ≡ self.now.about.shards)
-            × AreBatchesOf self.now.table self.now.about pass.old.caller round.batches.items }
+        requires batches { AreBatchesOf self.now.table self.now.about pass.old.caller ways.old.items }
+        requires ready { AreReady (home_of self.now) pass.old.caller.pass ways.old.items }
+        requires shards { (length ways.old.items ≡ self.now.about.shards)
+            × AreBelow self.now.about.shards round.shards }
         requires room { deque_len outcomes.old + round.count ≤ deque_capacity outcomes.old }
-        ensures received { AreReceived self.now
-            pass.old pass.new outcomes.old.items outcomes.new.items round.count }
+        ensures ended { AreEnded self.now pass.old pass.new outcomes.old.items outcomes.new.items round.count }
+        ensures ways { AreIdleWays (home_of self.now) pass.old.caller.pass ways.new.items
+            × (length ways.new.items ≡ length ways.old.items) }
         ensures len { deque_len outcomes.new ≡ deque_len outcomes.old + round.count }
         ensures capacity { deque_capacity outcomes.new ≡ deque_capacity outcomes.old }
     {
-        let Round {
-            pass: own,
-            batches,
-            first,
-            count,
-        } = round;
-        self.lanes.post(rt, alloc, own, first, count, batches);
-        self.receive_all(rt, alloc, pass, first, count, outcomes);
+        send_letters(rt, alloc, &self.home, round.pass, ways);
+        receive_letters(rt, &self.home, round.pass, ways);
+        let received = self.receive_all(pass, ways, &round, outcomes);
+        if received < round.count {
+            self.lose(pass, ways, &round, received, outcomes);
+        }
+        clear_letters(&self.home, round.pass, ways);
     }
 
     // Refuses the first of the calls: for want of memory, or since the pass is closed.
@@ -118,6 +201,9 @@ impl<D: Disk + Drop> Ingester<D> {
         let Some(call) = calls.pop_front() else {
             unreachable!()
         };
+        if pass.is_closed() {
+            return CallFault::PassClosed;
+        }
         match self.history.announce(pass, &call) {
             Ok(ticket) => {
                 self.history.withdraw(pass, ticket);
@@ -127,13 +213,52 @@ impl<D: Disk + Drop> Ingester<D> {
         }
     }
 
+    // Makes calls of a pass by its ways to the owners.
+    fn call_by<R: Wait>(
+        &self,
+        rt: &R,
+        alloc: Global,
+        pass: &mut Pass,
+        ways: &mut Vec<Way>,
+        calls: &mut VecDeque<Call>,
+        outcomes: &mut VecDeque<Result<Reply, CallFault>>,
+    )
+        requires pass { IsPassOf self.now pass.old }
+        requires ways { AreIdleWays (home_of self.now) pass.old.caller.pass ways.old.items
+            × (length ways.old.items ≡ self.now.about.shards) }
+        requires few { deque_len calls.old ≤ 64 }
+        requires numbers { All AreNumbers calls.old.items }
+        requires empty { outcomes.old.items ≡ [] }
+        requires room { deque_len calls.old ≤ deque_capacity outcomes.old }
+        ensures pass { IsPassOf self.now pass.new }
+        ensures ways { AreIdleWays (home_of self.now) pass.old.caller.pass ways.new.items
+            × (length ways.new.items ≡ self.now.about.shards) }
+        ensures given { AreGiven self.now pass.old calls.old.items outcomes.new.items pass.new }
+        ensures taken { calls.new.items ≡ [] }
+        ensures lens { (deque_len calls.new ≡ 0) × (deque_len outcomes.new ≡ deque_len calls.old) }
+        ensures capacities { (deque_capacity calls.new ≡ deque_capacity calls.old)
+            × (deque_capacity outcomes.new ≡ deque_capacity outcomes.old) }
+    {
+        let mut was_refused = false;
+        while !calls.is_empty() {
+            match self.announce_some(pass, calls, ways, was_refused) {
+                Some(round) => self.make_round(rt, alloc, pass, ways, round, outcomes),
+                None => {
+                    was_refused = true;
+                    let fault = self.refuse_next(pass, calls);
+                    outcomes.push_back_reserved(Err(fault));
+                }
+            }
+        }
+    }
+
     /// Makes up to 64 calls of a pass, as if by `call` one after another in their order: of each comes what would come
-    /// then. They are all on their way before the answer to any is waited for, and those to one shard are written
-    /// together. The calls are taken out of `calls`, and what came of each is put into `outcomes`, which has room for
-    /// them.
+    /// then. All are sent before the answer to any is waited for, and those to one shard are written together. The calls
+    /// are taken out of `calls`, and what came of each is put into `outcomes`, which has room for them.
     ///
-    /// A call that is refused for want of memory, or since the log is spent, takes those with it that stand behind it
-    /// at its shard: they are refused for want of memory. One that could not even be announced takes all behind it.
+    /// A call that is refused for want of memory, or since the log is spent, takes those with it that come after it at its
+    /// shard: they are refused for want of memory. One that could not even be announced takes all after it. Where an owner
+    /// has ended, a call that was sent to it is in doubt, and so is each that was announced after it; the pass is closed.
     pub fn call_all<R: Wait>(
         &self,
         rt: &R,
@@ -154,29 +279,8 @@ impl<D: Disk + Drop> Ingester<D> {
         ensures capacities { (deque_capacity calls.new ≡ deque_capacity calls.old)
             × (deque_capacity outcomes.new ≡ deque_capacity outcomes.old) }
     {
-        let mut was_refused = false;
-        while !calls.is_empty() {
-            match self.announce_some(alloc, pass, calls, was_refused) {
-                Some(round) => self.make_round(rt, alloc, pass, round, outcomes),
-                None => {
-                    was_refused = true;
-                    let fault = self.refuse_next(pass, calls);
-                    outcomes.push_back_reserved(Err(fault));
-                }
-            }
-        }
-    }
-
-    /// Helps at a shard: makes calls that wait there, where no other thread does. A thread that calls it again and
-    /// again helps the calls of one body to several shards to be written side by side; nothing depends on it.
-    pub fn assist<R: Wait>(&self, rt: &R, alloc: Global, shard: u32)
-        requires shard { shard < self.now.about.shards }
-    {
-        self.lanes.assist(rt, alloc, shard as usize);
-    }
-
-    /// Rings the bells of all assistants: each that waits, or waits next, goes on.
-    pub fn wake_assistants(&self) {
-        self.lanes.wake_assistants();
+        let (mut ways, grip) = self.rows.take(rt, pass.number());
+        self.call_by(rt, alloc, pass, &mut ways, calls, outcomes);
+        self.rows.give(ways, grip);
     }
 }

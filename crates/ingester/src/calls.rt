@@ -7,9 +7,11 @@ ghost use Rattle.accept.specs.Histories.{key_of};
 ghost use Rattle.history.specs.Histories.{IsBeginning, IsLegalAt, IsByPasses, shard_in, step_of};
 ghost use Rattle.history.specs.Plays.{seen_at, look_to, HasStepsOf};
 ghost use Rattle.history.specs.Handles.{is_closed, with_seen, HaveMet};
-ghost use Rattle.lanes.specs.Openings.{HasSpentLog};
+ghost use Rattle.owners.specs.Calls.{IsWaiting};
+ghost use Rattle.owners.specs.Openings.{HasSpentLog, home_of};
+ghost use Rattle.owners.specs.Ways.{IsCame};
 ghost use Rattle.ingester.specs.Calls.{IsPassOf, IsAnswered, IsRefused, shard_for};
-ghost use Rattle.shard.specs.declared.fault.ApplyFault.TheVariants as causes;
+ghost use Rattle.ingester.specs.Settling.{IsOpenWith, IsCameOf};
 ghost use Rattle.ingester.specs.declared.fault.CallFault.TheVariants as faults;
 
 use crate::fault::CallFault;
@@ -18,11 +20,13 @@ use accept::{Call, Reply};
 use disk::Disk;
 use history::Pass;
 use labels::shard_of;
+use owners::Came;
 use shard::{Job, Settled};
 use std::alloc::Global;
+use std::snapshot::Snapshot;
 use std::sync::Wait;
 
-// The number of the shard that a call belongs to, among so many.
+// The number of the shard that a call belongs to, among `shards`.
 pub(crate) fn shard_number(call: &Call, shards: u32) -> usize
     requires some { 1 ≤ shards }
     requires few { shards ≤ 64 }
@@ -32,13 +36,71 @@ pub(crate) fn shard_number(call: &Call, shards: u32) -> usize
 }
 
 impl<D: Disk + Drop> Ingester<D> {
-    /// Makes a call. It waits for the calls to the shard of its key alone: those that wait there together are written
-    /// at once, by the thread of one of them.
+    // Sends a call of a pass, its only open one, to the owner of its shard, and waits for what comes of it.
+    fn send<R: Wait>(&self, rt: &R, alloc: Global, pass: usize, shard: usize, job: Job) -> Came
+        requires shard { shard < self.now.about.shards }
+        requires job { IsWaiting self.now.table self.now.about shard job }
+        requires alone { job.ticket.before ≡ [] }
+        requires pass { job.ticket.ask.pass ≡ pass }
+        ensures { IsCame (home_of self.now) job result }
+    {
+        let (mut ways, grip) = self.rows.take(rt, pass);
+        let came = ways[shard].call(rt, alloc, &self.home, pass, shard, job);
+        self.rows.give(ways, grip);
+        came
+    }
+
+    // Takes in what came of the only open call of a pass. `before` is the pass before that was announced.
+    fn settle(
+        &self,
+        before: &Snapshot<Pass>,
+        call: &Snapshot<Call>,
+        pass: &mut Pass,
+        came: Came,
+    ) -> Result<Reply, CallFault>
+        requires pass { (pass.old.table ≡ self.now.table) × (pass.old.caller.about ≡ self.now.about) }
+        requires opened { IsOpenWith before.now.value call.now.value pass.old }
+        requires asking { before.now.value.closed ≡ false }
+        requires came { IsCameOf (home_of self.now) pass.old came }
+        ensures pass { IsPassOf self.now pass.new }
+        ensures answered { IfOk result (λ reply. IsAnswered before.now.value pass.new call.now.value reply) }
+        ensures refused { IfErr result (λ fault. IsRefused before.now.value call.now.value pass.new fault) }
+        ensures not_closed { IsErrOf result faults.PassClosed → ⊥ }
+        ensures spent { IsErrOf result faults.LogSpent
+            → HasSpentLog self.now (shard_for before.now.value.caller call.now.value) call.now.value }
+    {
+        let _ = before;
+        let _ = call;
+        let history = &self.history;
+        match came {
+            Came::Settled(Settled::Answered(reply, receipt)) => {
+                history.collect(pass, receipt);
+                Ok(reply)
+            }
+            Came::Settled(Settled::Refused(fault, ticket)) => {
+                history.withdraw(pass, ticket);
+                Err(CallFault::from(fault))
+            }
+            Came::SentBack(ticket) => {
+                history.withdraw(pass, ticket);
+                pass.close();
+                Err(CallFault::InDoubt)
+            }
+            Came::Lost => {
+                pass.close();
+                Err(CallFault::InDoubt)
+            }
+        }
+    }
+
+    /// Makes a call. It waits for the owner of its key's shard alone, which writes the calls that have come to it
+    /// together at once.
     ///
     /// # Errors
     ///
     /// `Memory`; `PassClosed` exactly for a pass that is closed; `LogSpent`, for a call that writes and a log that was
-    /// opened at generation 2^63 - 2 - 2^56 for each pass or later. Then the call has no step.
+    /// opened at generation 2^63 - 2 - 2^56 for each pass or later. Then the call has no step. `InDoubt`: the owner has
+    /// ended, the call may have its step or not, and the pass is closed.
     pub fn call<R: Wait>(
         &self,
         rt: &R,
@@ -50,23 +112,20 @@ impl<D: Disk + Drop> Ingester<D> {
         requires numbers { AreNumbers call }
         ensures pass { IsPassOf self.now pass.new }
         ensures answered { IfOk result (λ reply. IsAnswered pass.old pass.new call reply) }
-        ensures refused { IfErr result (λ fault. IsRefused pass.old pass.new fault) }
+        ensures refused { IfErr result (λ fault. IsRefused pass.old call pass.new fault) }
         ensures closed { IsErrOf result faults.PassClosed ↔ (is_closed pass.old ≡ true) }
         ensures spent { IsErrOf result faults.LogSpent → HasSpentLog self.now (shard_for pass.old.caller call) call }
     {
+        if pass.is_closed() {
+            return Err(CallFault::PassClosed);
+        }
         let shard = shard_number(&call, self.count);
         let own = pass.number();
+        let before = Snapshot::of(pass);
+        let asked = Snapshot::of(&call);
         let ticket = self.history.announce(pass, &call)?;
-        match self.lanes.make(rt, alloc, shard, own, Job { ticket, call }) {
-            Settled::Answered(reply, receipt) => {
-                self.history.collect(pass, receipt);
-                Ok(reply)
-            }
-            Settled::Refused(fault, ticket) => {
-                self.history.withdraw(pass, ticket);
-                Err(CallFault::from(fault))
-            }
-        }
+        let came = self.send(rt, alloc, own, shard, Job { ticket, call });
+        self.settle(&before, &asked, pass, came)
     }
 
     /// How many shards there are.
@@ -107,18 +166,24 @@ impl<D: Disk + Drop> Ingester<D> {
         self.history.meet(one, two);
     }
 
-    /// How many streams a shard has, once no call is on it. For people: nothing is claimed of it.
-    pub fn stream_count<R: Wait>(&self, rt: &R, shard: u32) -> usize
+    /// How many streams a shard had when it was opened. For people: nothing is claimed of it.
+    pub fn stream_count(&self, shard: u32) -> usize
         requires shard { shard < self.now.about.shards }
     {
-        self.lanes.stream_count(rt, shard as usize)
+        match self.sizes.get(shard as usize) {
+            Some(size) => size.streams,
+            None => 0,
+        }
     }
 
-    /// How many bytes the segment in use of a shard has, once no call is on it, 0 where there is none. For people:
-    /// nothing is claimed of it.
-    pub fn segment_size<R: Wait>(&self, rt: &R, shard: u32) -> u64
+    /// How many bytes the segment in use of a shard had when it was opened, 0 where there was none. For people: nothing
+    /// is claimed of it.
+    pub fn segment_size(&self, shard: u32) -> u64
         requires shard { shard < self.now.about.shards }
     {
-        self.lanes.segment_size(rt, shard as usize)
+        match self.sizes.get(shard as usize) {
+            Some(size) => size.bytes,
+            None => 0,
+        }
     }
 }

@@ -1,26 +1,28 @@
 //! The end of an ingester.
 ghost use Rattle.std.specs.Prelude.{◌≡◌, ℕ, ◌<◌, ◌+◌, List, Some, length, slice_get, vec_len, IfSome, MatchOption};
 ghost use Rattle.history.specs.Handles.{Passed};
+ghost use Rattle.owners.specs.Homes.{Homed};
+ghost use Rattle.owners.specs.Ways.{AreIdleWays};
 ghost use Rattle.ingester.specs.Calls.{IsPassOf};
 ghost use Rattle.ingester.specs.Closings.{IsHandedOut, AreComparedTo};
 
 use crate::opened::Ingester;
 use disk::Disk;
 use history::Pass;
-use lanes::Origin;
+use owners::{Origin, Way, take_shard};
 use shard::Shard;
 use std::marker::Model;
 use std::sync::Wait;
 
 /// What an ingester leaves: its shards, and the passes that were handed in.
 #[derive(Drop)]
-pub struct Closed<D: Disk> {
+pub struct Closed<D: Disk + Drop> {
     shards: Vec<Shard<D>>,
     passes: Vec<Pass>,
     origin: Origin<D>,
 }
 
-impl<D: Disk> Model for Closed<D> {
+impl<D: Disk + Drop> Model for Closed<D> {
     ghost use Rattle.std.specs.Coded.{codes};
     ghost use Rattle.accept.specs.contracts.image.Image as image;
     ghost use Rattle.ingester.specs.Closings.{Handed};
@@ -30,17 +32,15 @@ impl<D: Disk> Model for Closed<D> {
     ghost coded = { Prim.hlevel (codes, image.the_row.coded) };
 
     ghost use Rattle.std.specs.Prelude.{length};
-    ghost use Rattle.lanes.specs.Openings.{opening_of};
     ghost use Rattle.ingester.specs.Closings.{AreLast};
 
     ghost view = { λ c. record {
-      opening = opening_of c.origin.first.value c.origin.logs.value.items;
+      opening = c.origin;
       passes = c.passes.items;
       left = length c.shards.items;
     } };
 
-    ghost invariant = { λ c. AreLast
-        (opening_of c.origin.first.value c.origin.logs.value.items) c.passes.items c.shards.items };
+    ghost invariant = { λ c. AreLast c.origin c.passes.items c.shards.items };
 }
 
 impl<D: Disk + Drop> Closed<D> {
@@ -77,8 +77,17 @@ fn compare<D: Disk + Drop>(shard: &mut Shard<D>, passes: &mut [Pass])
     }
 }
 
+// Sends the last order to each owner, by the ways of a pass.
+fn end_all<R: Wait>(rt: &R, ways: &mut Vec<Way>)
+    requires { (home : Homed) × (p : ℕ) × AreIdleWays home p ways.old.items }
+{
+    for shard in 0..ways.len() {
+        ways[shard].end(rt);
+    }
+}
+
 impl<D: Disk + Drop> Ingester<D> {
-    /// Takes each shard out of its lock, once no call is on it, and ends.
+    /// Ends each owner, once it has answered all calls that came before, and takes its shard back.
     pub fn close<R: Wait>(self, rt: &R, passes: Vec<Pass>) -> Closed<D>
         requires some { 0 < vec_len passes }
         requires passes { (i : ℕ) (pass : Passed) → slice_get passes.items i ≡ Some pass → IsPassOf self pass }
@@ -86,15 +95,21 @@ impl<D: Disk + Drop> Ingester<D> {
     {
         let Ingester {
             history: _history,
-            lanes,
+            rows,
+            backs,
             room,
+            sizes: _sizes,
             count,
             origin,
+            home: _home,
         } = self;
         let mut passes = passes;
+        let mut ways = rows.take_out(rt, passes[0].number());
+        end_all(rt, &mut ways);
+        let mut backs = backs.take_out(rt, 0);
         let mut shards = room.take_out(rt, 0);
         for number in 0..count as usize {
-            let mut shard = lanes.take_out(rt, number);
+            let mut shard = take_shard(rt, &origin, number, &mut backs[number]);
             compare(&mut shard, passes.as_mut_slice());
             shards.push_reserved(shard);
         }

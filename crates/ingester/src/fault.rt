@@ -1,4 +1,4 @@
-//! Why a call has no step.
+//! Why a call has no reply.
 ghost use Rattle.std.specs.Prelude.{◌≡◌};
 ghost use Rattle.shard.specs.declared.fault.ApplyFault.{ApplyFault};
 ghost use Rattle.ingester.specs.declared.fault.CallFault.TheVariants as faults;
@@ -8,7 +8,7 @@ use history::PassSpent;
 use shard::ApplyFault;
 use thiserror::Error;
 
-/// Why a call has no step. What its pass has seen is as it was.
+/// Why a call has no reply. What its pass has seen is as it was.
 #[derive(Clone, Copy, Debug, Drop, PartialEq, Eq, Error)]
 pub enum CallFault {
     /// The allocator gave no memory.
@@ -20,6 +20,9 @@ pub enum CallFault {
     /// The shard's log has used its last generation, 2^63 - 1, and the call needs another.
     #[error("log spent")]
     LogSpent,
+    /// The owner of the shard has ended. The call may have its step or not, and the pass is closed.
+    #[error("call in doubt")]
+    InDoubt,
 }
 
 impl From<PassSpent> for CallFault {

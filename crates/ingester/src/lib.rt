@@ -1,5 +1,5 @@
-//! Calls over many shards: up to 64 shards, each with its log under a lock of its own, called by up to 64 passes; how
-//! they are opened, and what closing hands out.
+//! Calls over many shards: up to 64 shards, each owned by a thread, called by up to 64 passes; how they are opened, and
+//! what closing hands out.
 #![tactic(auto)]
 
 mod announcing;

@@ -1,19 +1,17 @@
-//! How shards are made of opened logs, and put under their locks.
+//! How shards are made of opened logs.
 ghost use Rattle.std.specs.Prelude.{◌≡◌, ◌+◌, ◌<◌, ◌≤◌, ◌++◌, [], map, vec_len, IfOk, OnErr};
+ghost use Rattle.std.specs.Vec.{vec_capacity};
 ghost use Rattle.std.specs.VecDeque.{deque_len, deque_capacity};
 ghost use Rattle.wal.specs.Opening.{disks};
-ghost use Rattle.history.specs.Handles.{fresh_books};
 ghost use Rattle.keyed.specs.Grips.{count_of, key_of};
-ghost use Rattle.lanes.specs.Openings.{opening_of};
 ghost use Rattle.ingester.specs.Makings.{AreGround, AreMade};
 
 use crate::opening::{give_back, make_one, put_front, return_shards};
-use crate::places::ListLocks;
+use crate::places::{ListLocks, Size};
 use accept::{Image, Limits};
 use disk::Disk;
 use history::Book;
 use keyed::Locks;
-use lanes::{Lanes, Origin};
 use shard::Shard;
 use std::alloc::{AllocError, Global};
 use std::collections::VecDeque;
@@ -36,7 +34,7 @@ pub(crate) fn reserve_room<D: Disk + Drop>(
 }
 
 // Makes the shard of each log, image and book. Without memory all slots are put back.
-fn make_shards<D: Disk + Drop>(
+pub(crate) fn make_shards<D: Disk + Drop>(
     alloc: Global,
     slots: &mut VecDeque<[D; 2]>,
     mut shards: VecDeque<Option<Shard<D>>>,
@@ -70,36 +68,25 @@ fn make_shards<D: Disk + Drop>(
     Ok(shards.into_vec())
 }
 
-// Puts the shards of these logs, images and books behind lanes. Without memory all slots are put back.
-pub(crate) fn lock_shards<D: Disk + Drop>(
-    alloc: Global,
-    slots: &mut VecDeque<[D; 2]>,
-    shards: VecDeque<Option<Shard<D>>>,
-    logs: Vec<Wal<D>>,
-    images: Vec<Image>,
-    books: Vec<Book>,
-    limits: Limits,
-    passes: usize,
-    origin: &Origin<D>,
-) -> Result<Lanes<D>, AllocError>
-    requires ground { AreGround D.sight D.follows limits logs.items images.items books.items }
-    requires lens { (vec_len images ≡ vec_len logs) × (vec_len books ≡ vec_len logs) }
-    requires shards { (shards.items ≡ []) × (deque_len shards ≡ 0) × (vec_len logs ≤ deque_capacity shards) }
-    requires slots { vec_len logs + deque_len slots.old ≤ deque_capacity slots.old }
-    requires count { origin.now.first.value.about.shards ≡ vec_len logs }
-    requires passes { origin.now.first.value.about.passes ≡ passes }
-    requires logs { origin.now.logs.value.items ≡ logs.items }
-    requires books { books.items
-        ≡ fresh_books origin.now.first.value.table origin.now.first.value.about (vec_len logs) }
-    ensures lanes { IfOk result (λ lanes. lanes ≡ opening_of origin.now.first.value origin.now.logs.value.items) }
-    ensures unmade { OnErr result (slots.new.items ≡ map disks logs.items ++ slots.old.items) }
+// Notes what each shard has, in a list with room for all.
+pub(crate) fn sizes_of<D: Disk + Drop>(
+    mut sizes: Vec<Size>,
+    shards: &Vec<Option<Shard<D>>>,
+) -> Vec<Size>
+    requires { (vec_len sizes ≡ 0) × (vec_len shards.now ≤ vec_capacity sizes) }
 {
-    let made = make_shards(alloc, slots, shards, logs, images, books, limits)?;
-    match Lanes::new(alloc, made, passes, origin) {
-        Ok(lanes) => Ok(lanes),
-        Err(made) => {
-            return_shards(slots, made);
-            Err(AllocError)
-        }
+    for place in shards.iter() {
+        let size = match place {
+            Some(shard) => Size {
+                streams: shard.stream_count(),
+                bytes: shard.segment_size(),
+            },
+            None => Size {
+                streams: 0,
+                bytes: 0,
+            },
+        };
+        sizes.push_reserved(size);
     }
+    sizes
 }

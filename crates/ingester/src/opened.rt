@@ -3,68 +3,86 @@ ghost use Rattle.std.specs.Prelude.{◌≡◌, ◌<◌, ◌≤◌, ◌^◌, vec_
 ghost use Rattle.std.specs.VecDeque.{deque_len, deque_capacity};
 ghost use Rattle.accept.specs.OneStream.{AreLimits};
 ghost use Rattle.history.specs.Handles.{about_of};
+ghost use Rattle.owners.specs.Owners.{AreEnds};
+ghost use Rattle.owners.specs.Places.{AreShardsOf};
 ghost use Rattle.ingester.specs.Openings.{AreFresh};
 ghost use Rattle.ingester.specs.Findings.{AreOpenedFrom, IsUnmade};
 
-use crate::locking::{lock_shards, reserve_room};
+use crate::locking::{make_shards, reserve_room, sizes_of};
 use crate::opening::{give_back, open_logs};
-use crate::places::ListLocks;
+use crate::places::{ListLocks, Size};
 use crate::refusal::OpenFault;
 use accept::Limits;
 use disk::Disk;
 use history::{History, Pass};
-use lanes::{Lanes, Origin};
+use owners::{Backs, Ends, Home, Origin, Plan, Rows, Team, hand_all, make_plan};
+use shard::Shard;
 use std::alloc::Global;
 use std::collections::VecDeque;
 use std::marker::Model;
-use std::snapshot::Snapshot;
+use std::sync::Wait;
+use std::thread::Threads;
 
-/// Up to 64 shards, each with its streams, its log and its history. Contracts see the table of the histories, what was
-/// opened, and each shard's log as it was then.
+/// Up to 64 shards, each with its streams, its log and its history in a thread of its own. Contracts see the table of the
+/// histories, what was opened, and each shard's log as it was then.
 #[derive(Drop)]
-pub struct Ingester<D: Disk> {
+pub struct Ingester<D: Disk + Drop> {
     pub(crate) history: History,
-    pub(crate) lanes: Lanes<D>,
+    pub(crate) rows: Rows,
+    pub(crate) backs: Backs<D>,
     pub(crate) room: ListLocks<D>,
+    pub(crate) sizes: Vec<Size>,
     pub(crate) count: u32,
     pub(crate) origin: Origin<D>,
+    pub(crate) home: Home,
 }
 
-impl<D: Disk> Model for Ingester<D> {
+impl<D: Disk + Drop> Model for Ingester<D> {
     ghost use Rattle.std.specs.Coded.{codes};
     ghost use Rattle.accept.specs.contracts.image.Image as image;
-    ghost use Rattle.lanes.specs.Openings.{Opening};
+    ghost use Rattle.owners.specs.Openings.{Opening};
 
     ghost Value = { Opening D };
 
     ghost coded = { Prim.hlevel (codes, image.the_row.coded) };
 
-    ghost use Rattle.std.specs.Prelude.{◌≡◌};
-    ghost use Rattle.keyed.specs.Grips.{count_of, key_of};
-    ghost use Rattle.lanes.specs.Openings.{opening_of};
-    ghost use Rattle.ingester.specs.Openings.{IsOpening};
+    ghost use Rattle.ingester.specs.Parts.{HasParts};
 
-    ghost view = { λ i. opening_of i.origin.first.value i.origin.logs.value.items };
+    ghost view = { λ i. i.origin };
 
-    ghost invariant = { λ i. IsOpening i.history i.origin.first.value i.count
-        × (i.lanes ≡ opening_of i.origin.first.value i.origin.logs.value.items)
-        × (count_of i.room ≡ 1) × (key_of i.room ≡ i.count) };
+    ghost invariant = { λ i. HasParts i.history i.rows i.backs i.room i.count i.origin i.home };
+}
+
+// What was opened, before its shards have owners.
+pub(crate) struct Opened<D: Disk + Drop> {
+    pub(crate) ingester: Ingester<D>,
+    pub(crate) passes: Vec<Pass>,
+    pub(crate) shards: Vec<Option<Shard<D>>>,
+    pub(crate) ends: VecDeque<Ends<D>>,
 }
 
 impl<D: Disk + Drop> Ingester<D> {
-    /// Opens a shard over each pair of slots, with so many passes, 1 to 64. `capacity` is how many bytes a segment may
-    /// have, at most 2^30. What the slots hold is the base of the shard's history; nothing is written.
+    /// Opens a shard over each pair of slots, with 1 to 64 passes, and starts a thread for each shard that owns it.
+    /// `handle` is what these threads wait by. `capacity` is how many bytes a segment may have, at most 2^30. What the
+    /// slots hold is the base of the shard's history; nothing is written.
     ///
     /// # Errors
     ///
-    /// The first shard that is refused, and why, or want of memory. All slots come back in their order.
-    pub fn open(
+    /// The first shard that is refused, and why; want of memory; or a thread that could not be started, before any slot
+    /// was read. All slots come back in their order, and the threads that were started have ended.
+    pub fn open<R, H>(
+        rt: &R,
+        handle: H,
         alloc: Global,
         slots: Vec<[D; 2]>,
         passes: u32,
         limits: Limits,
         capacity: u64,
     ) -> Result<(Ingester<D>, Vec<Pass>), (OpenFault, Vec<[D; 2]>)>
+    where
+        D: Send + 'static,
+        R: Threads + Wait,
+        H: Wait + Copy + Send + 'static,
         requires slots { (0 < vec_len slots) × (vec_len slots ≤ 64) }
         requires passes { (0 < passes) × (passes ≤ 64) }
         requires limits { AreLimits limits }
@@ -76,12 +94,42 @@ impl<D: Disk + Drop> Ingester<D> {
         ensures passes { IfOk result (λ it. AreFresh it.0 passes it.1.items) }
         ensures unmade { IfErr result (λ e. IsUnmade D.sight D.follows (vec_len slots) slots.items e.1.items e.0) }
     {
+        let team = match Team::start(rt, handle, alloc, slots.len()) {
+            Ok(team) => team,
+            Err(fault) => return Err((OpenFault::from(fault), slots)),
+        };
         let mut slots = VecDeque::from_vec(slots);
         match open_all(alloc, &mut slots, passes, limits, capacity) {
-            Ok(opened) => Ok(opened),
-            Err(fault) => Err((fault, slots.into_vec())),
+            Ok(opened) => Ok(begin(rt, alloc, opened, team)),
+            Err(fault) => {
+                team.end(rt);
+                Err((fault, slots.into_vec()))
+            }
         }
     }
+}
+
+// Hands the shards to the threads that own them from then on.
+fn begin<D: Disk + Drop, R: Wait>(
+    rt: &R,
+    alloc: Global,
+    opened: Opened<D>,
+    team: Team<D>,
+) -> (Ingester<D>, Vec<Pass>)
+    requires shards { AreShardsOf opened.ingester opened.shards.items }
+    requires ends { AreEnds opened.ingester opened.ends.items }
+    requires count { deque_len opened.ends ≡ vec_len opened.shards }
+    ensures ingester { result.0 ≡ opened.ingester }
+    ensures passes { result.1.items ≡ opened.passes.items }
+{
+    let Opened {
+        ingester,
+        passes,
+        shards,
+        ends,
+    } = opened;
+    hand_all(rt, alloc, team, &ingester.origin, shards, ends);
+    (ingester, passes)
 }
 
 // Opens all slots. Where that is refused, they are put back.
@@ -91,23 +139,27 @@ fn open_all<D: Disk + Drop>(
     passes: u32,
     limits: Limits,
     capacity: u64,
-) -> Result<(Ingester<D>, Vec<Pass>), OpenFault>
+) -> Result<Opened<D>, OpenFault>
     requires slots { (0 < deque_len slots.old) × (deque_len slots.old ≤ 64)
         × (deque_len slots.old ≤ deque_capacity slots.old) }
     requires passes { (0 < passes) × (passes ≤ 64) }
     requires limits { AreLimits limits }
     requires capacity { capacity ≤ 2 ^ 30 }
     ensures found { IfOk result (λ it.
-        AreOpenedFrom D.sight D.follows (deque_len slots.old) capacity 0 slots.old.items it.0.logs it.0.about.bases) }
-    ensures about { IfOk result (λ it. it.0.about ≡ about_of it.0.about.bases passes limits capacity) }
-    ensures shards { IfOk result (λ it. it.0.about.shards ≡ deque_len slots.old) }
-    ensures passes { IfOk result (λ it. AreFresh it.0 passes it.1.items) }
+        AreOpenedFrom D.sight D.follows (deque_len slots.old) capacity 0 slots.old.items it.ingester.logs
+        it.ingester.about.bases) }
+    ensures about { IfOk result (λ it. it.ingester.about ≡ about_of it.ingester.about.bases passes limits capacity) }
+    ensures shards { IfOk result (λ it. it.ingester.about.shards ≡ deque_len slots.old) }
+    ensures passes { IfOk result (λ it. AreFresh it.ingester passes it.passes.items) }
+    ensures ready { IfOk result (λ it. AreShardsOf it.ingester it.shards.items
+        × AreEnds it.ingester it.ends.items × (deque_len it.ends ≡ vec_len it.shards)) }
     ensures unmade { IfErr result (λ fault.
         IsUnmade D.sight D.follows (deque_len slots.old) slots.old.items slots.new.items fault) }
 {
     let count = slots.len();
     let room = reserve_room(alloc, count)?;
     let shards = VecDeque::with_capacity(alloc, count)?;
+    let sizes = Vec::with_capacity(alloc, count)?;
     let mut logs = Vec::with_capacity(alloc, count)?;
     let mut images = Vec::with_capacity(alloc, count)?;
     let count = count as u32;
@@ -118,29 +170,34 @@ fn open_all<D: Disk + Drop>(
         give_back(slots, &mut logs);
         return Err(OpenFault::Memory);
     };
-    let origin = Origin {
-        first: Snapshot::of(&books[0]),
-        logs: Snapshot::of(&logs),
-    };
-    let Ok(lanes) = lock_shards(
-        alloc,
-        slots,
-        shards,
-        logs,
-        images,
-        books,
-        limits,
-        passes as usize,
-        &origin,
-    ) else {
+    let Ok(plan) = make_plan(alloc, &books[0], &logs, passes as usize) else {
+        give_back(slots, &mut logs);
         return Err(OpenFault::Memory);
     };
+    let Ok(shards) = make_shards(alloc, slots, shards, logs, images, books, limits) else {
+        return Err(OpenFault::Memory);
+    };
+    let Plan {
+        origin,
+        home,
+        rows,
+        backs,
+        ends,
+    } = plan;
     let ingester = Ingester {
         history,
-        lanes,
+        rows,
+        backs,
         room,
+        sizes: sizes_of(sizes, &shards),
         count,
         origin,
+        home,
     };
-    Ok((ingester, dealt))
+    Ok(Opened {
+        ingester,
+        passes: dealt,
+        shards,
+        ends,
+    })
 }

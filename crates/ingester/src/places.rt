@@ -3,7 +3,7 @@
 use keyed::{Fits, Locks};
 use shard::Shard;
 
-/// A list with room for so many.
+/// A list with room for that many.
 pub(crate) struct HasRoom;
 
 impl<T> Fits<Vec<T>, usize> for HasRoom {
@@ -15,3 +15,10 @@ impl<T> Fits<Vec<T>, usize> for HasRoom {
 
 /// The room for the shards that `close` takes out, taken at the opening.
 pub(crate) type ListLocks<D> = Locks<Vec<Shard<D>>, usize, HasRoom>;
+
+/// What a shard had when it was opened.
+#[derive(Clone, Copy, Debug)]
+pub(crate) struct Size {
+    pub(crate) streams: usize,
+    pub(crate) bytes: u64,
+}

@@ -1,7 +1,9 @@
 //! Why slots are not opened.
 ghost use Rattle.std.specs.Prelude.{◌≡◌};
 ghost use Rattle.ingester.specs.declared.refusal.OpenFault.TheVariants as faults;
+ghost use Rattle.ingester.specs.Faults.{cause_of};
 
+use owners::StartFault;
 use std::alloc::AllocError;
 use thiserror::Error;
 
@@ -19,6 +21,9 @@ pub enum OpenFault {
     /// The allocator gave no memory.
     #[error("out of memory")]
     Memory,
+    /// A thread that owns a shard could not be started.
+    #[error("thread not started")]
+    Thread,
 }
 
 impl From<AllocError> for OpenFault {
@@ -26,5 +31,16 @@ impl From<AllocError> for OpenFault {
 
     fn from(_refused: AllocError) -> OpenFault {
         OpenFault::Memory
+    }
+}
+
+impl From<StartFault> for OpenFault {
+    ghost from_gives = { λ cause fault. fault ≡ cause_of cause };
+
+    fn from(cause: StartFault) -> OpenFault {
+        match cause {
+            StartFault::Memory => OpenFault::Memory,
+            StartFault::Thread => OpenFault::Thread,
+        }
     }
 }

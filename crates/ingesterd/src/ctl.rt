@@ -3,7 +3,7 @@ ghost use Rattle.std.specs.Prelude.{◌≡◌, ◌↔◌, ◌≤◌, ◌^◌, If
 ghost use Rattle.words.specs.Words.{GiveCall, GivesCapacity};
 
 use crate::body::{read_body, write_answer};
-use crate::opening::open_for_one;
+use crate::opening::{close_for_one, open_for_one};
 use crate::setting::capacity_by;
 use crate::stopped::Stopped;
 use front::{Answer, Status, answer};
@@ -12,6 +12,7 @@ use std::alloc::Global;
 use std::fs::{File, Files};
 use std::io::{Read, Write};
 use std::sync::Wait;
+use std::thread::Threads;
 use words::{CallWords, call_in};
 
 /// Runs `ingestctl push|read|trim DIR SHARDS TENANT NOW` on the body that is read from `input`, and gives its exit
@@ -20,7 +21,7 @@ use words::{CallWords, call_in};
 /// The slots of DIR are opened, which no server may have open meanwhile; the answer's status, a newline and its body
 /// are written. Status 0: answered 200 or 204. 1: answered otherwise, or a fault while running. 2: wrong words, or a
 /// wrong setting. 3: a refused opening. A fault stands on one line of `errors`.
-pub fn run_ctl<R: Files<File = File> + Wait, I: Read, W: Write, E: Write>(
+pub fn run_ctl<R, I: Read, W: Write, E: Write>(
     rt: &R,
     alloc: Global,
     words: &[String],
@@ -29,6 +30,8 @@ pub fn run_ctl<R: Files<File = File> + Wait, I: Read, W: Write, E: Write>(
     output: &mut W,
     errors: &mut E,
 ) -> u8
+where
+    R: Files<File = File> + Threads + Wait + Copy + Send + 'static,
     ensures status { result ≤ 3 }
     ensures usage { (result ≡ 2) ↔ (¬ (GiveCall words.now × GivesCapacity (option_map (λ s. s.now) setting.entry))) }
 {
@@ -52,7 +55,7 @@ pub fn run_ctl<R: Files<File = File> + Wait, I: Read, W: Write, E: Write>(
 }
 
 // The exit status of an answer that was written.
-fn call_and_print<R: Files<File = File> + Wait, I: Read, W: Write>(
+fn call_and_print<R, I: Read, W: Write>(
     rt: &R,
     alloc: Global,
     words: CallWords<'_>,
@@ -60,6 +63,8 @@ fn call_and_print<R: Files<File = File> + Wait, I: Read, W: Write>(
     input: &mut I,
     output: &mut W,
 ) -> Result<u8, Stopped>
+where
+    R: Files<File = File> + Threads + Wait + Copy + Send + 'static,
     requires { capacity ≤ 2 ^ 30 }
     ensures { IfOk result (λ status. status ≤ 1) }
 {
@@ -71,14 +76,16 @@ fn call_and_print<R: Files<File = File> + Wait, I: Read, W: Write>(
     }
 }
 
-// Opens the slots of the folder, and makes the calls of the body.
-fn call_folder<R: Files<File = File> + Wait, I: Read>(
+// Opens the slots of the folder, makes the calls of the body, and closes the slots.
+fn call_folder<R, I: Read>(
     rt: &R,
     alloc: Global,
     words: CallWords<'_>,
     capacity: u64,
     input: &mut I,
 ) -> Result<Answer, Stopped>
+where
+    R: Files<File = File> + Threads + Wait + Copy + Send + 'static,
     requires { capacity ≤ 2 ^ 30 }
 {
     let CallWords {
@@ -91,8 +98,10 @@ fn call_folder<R: Files<File = File> + Wait, I: Read>(
     let tenant = tenant?;
     let body = read_body(alloc, input)?;
     let slots = open_slots(rt, alloc, folder, shards, None)?;
-    let (ingester, mut pass) = open_for_one(alloc, slots, capacity)?;
-    match answer(rt, alloc, &ingester, &mut pass, now, route, &tenant, &body) {
+    let (ingester, mut pass) = open_for_one(rt, alloc, slots, capacity)?;
+    let answered = answer(rt, alloc, &ingester, &mut pass, now, route, &tenant, &body);
+    close_for_one(rt, alloc, ingester, pass);
+    match answered {
         Ok(answer) => Ok(answer),
         Err(_) => Err(Stopped::Memory),
     }

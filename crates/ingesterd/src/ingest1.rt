@@ -4,7 +4,7 @@ ghost use Rattle.ingester.specs.Calls.{IsPassOf};
 ghost use Rattle.words.specs.Words.{GiveClock};
 
 use crate::body::{read_body, write_answer, write_bytes};
-use crate::opening::open_for_one;
+use crate::opening::{close_for_one, open_for_one};
 use crate::stopped::Stopped;
 use accept::Call;
 use disk::{Disk, MemDisk};
@@ -16,6 +16,7 @@ use pushjson::{PushFault, RawBatch, read_push};
 use std::alloc::Global;
 use std::io::{Read, Write};
 use std::sync::Wait;
+use std::thread::Threads;
 use words::{CAPACITY, clock_in};
 
 /// Whose streams they are.
@@ -37,7 +38,7 @@ const CALLS: u64 = 65_536;
 /// order, the body of a read of all its entries and a newline. A body refused at its form writes status, newline and
 /// text, and no more. Status 0: an answer was written, whatever its own status. 1: a fault while running. 2: wrong
 /// words. 3: a refused opening. A fault stands on one line of `errors`.
-pub fn run_ingest1<R: Wait, I: Read, W: Write, E: Write>(
+pub fn run_ingest1<R, I: Read, W: Write, E: Write>(
     rt: &R,
     alloc: Global,
     words: &[String],
@@ -45,6 +46,8 @@ pub fn run_ingest1<R: Wait, I: Read, W: Write, E: Write>(
     output: &mut W,
     errors: &mut E,
 ) -> u8
+where
+    R: Threads + Wait + Copy + Send + 'static,
     ensures status { result ≤ 3 }
     ensures usage { (result ≡ 2) ↔ (¬ GiveClock words.now) }
 {
@@ -59,37 +62,50 @@ pub fn run_ingest1<R: Wait, I: Read, W: Write, E: Write>(
     0
 }
 
-fn push_and_read<R: Wait, I: Read, W: Write>(
+// Opens an empty shard, pushes what is read to it, reads it back, and closes the shard.
+fn push_and_read<R, I: Read, W: Write>(
     rt: &R,
     alloc: Global,
     now: u64,
     input: &mut I,
     output: &mut W,
 ) -> Result<(), Stopped>
+where
+    R: Threads + Wait + Copy + Send + 'static,
     requires { now < 2 ^ 63 }
 {
     let body = read_body(alloc, input)?;
+    let (ingester, mut pass) = open_for_one(rt, alloc, empty_slots(alloc)?, CAPACITY)?;
+    let done = push_body(rt, alloc, &ingester, &mut pass, now, &body, output);
+    close_for_one(rt, alloc, ingester, pass);
+    done
+}
+
+// Pushes a body, and reads it back.
+fn push_body<D: Disk + Drop, R: Wait, W: Write>(
+    rt: &R,
+    alloc: Global,
+    ingester: &Ingester<D>,
+    pass: &mut Pass,
+    now: u64,
+    body: &[u8],
+    output: &mut W,
+) -> Result<(), Stopped>
+    requires pass { IsPassOf ingester.now pass.old }
+    requires clock { now < 2 ^ 63 }
+    ensures { IsPassOf ingester.now pass.new }
+{
     let Ok(tenant) = Tenant::new(alloc, TENANT) else {
         return Err(Stopped::Memory);
     };
-    let (ingester, mut pass) = open_for_one(alloc, empty_slots(alloc)?, CAPACITY)?;
-    let Ok(pushed) = answer(
-        rt,
-        alloc,
-        &ingester,
-        &mut pass,
-        now,
-        Route::Push,
-        &tenant,
-        &body,
-    ) else {
+    let Ok(pushed) = answer(rt, alloc, ingester, pass, now, Route::Push, &tenant, body) else {
         return Err(Stopped::Memory);
     };
     write_answer(alloc, output, &pushed)?;
     if pushed.status == Status::InternalServerError {
         return Ok(());
     }
-    read_back(rt, alloc, &ingester, &mut pass, &body, output)
+    read_back(rt, alloc, ingester, pass, body, output)
 }
 
 // The two empty slots of one shard.
@@ -113,6 +129,7 @@ fn read_back<D: Disk + Drop, R: Wait, W: Write>(
     output: &mut W,
 ) -> Result<(), Stopped>
     requires { IsPassOf ingester.now pass.old }
+    ensures { IsPassOf ingester.now pass.new }
 {
     let batches = match read_push(alloc, body) {
         Ok(batches) => batches,

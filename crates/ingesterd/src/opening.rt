@@ -1,4 +1,4 @@
-//! Shards that programs open.
+//! Shards that programs open and close.
 ghost use Rattle.std.specs.Prelude.{◌≡◌, ◌<◌, ◌≤◌, ◌^◌, ℕ, Some, slice_get, vec_len, IfOk};
 ghost use Rattle.history.specs.Handles.{Passed};
 ghost use Rattle.ingester.specs.Calls.{IsPassOf};
@@ -9,15 +9,21 @@ use disk::Disk;
 use history::Pass;
 use ingester::Ingester;
 use std::alloc::Global;
+use std::sync::Wait;
+use std::thread::Threads;
 
-/// Opens shards over these slots under the profile's limits, with so many passes, 1 to 64. `capacity` is how many bytes
-/// a segment may have, at most 2^30.
-pub fn open_shards<D: Disk + Drop>(
+/// Opens shards over these slots under the profile's limits, with 1 to 64 passes, and starts a thread for each shard
+/// that owns it. `capacity` is how many bytes a segment may have, at most 2^30.
+pub fn open_shards<D, R>(
+    rt: &R,
     alloc: Global,
     slots: Vec<[D; 2]>,
     passes: u32,
     capacity: u64,
 ) -> Result<(Ingester<D>, Vec<Pass>), Stopped>
+where
+    D: Disk + Drop + Send + 'static,
+    R: Threads + Wait + Copy + Send + 'static,
     requires slots { (0 < vec_len slots) × (vec_len slots ≤ 64) }
     requires passes { (0 < passes) × (passes ≤ 64) }
     requires capacity { capacity ≤ 2 ^ 30 }
@@ -25,26 +31,56 @@ pub fn open_shards<D: Disk + Drop>(
     ensures passes { IfOk result (λ it. (p : ℕ) (pass : Passed) → slice_get it.1.items p ≡ Some pass
         → IsPassOf it.0 pass) }
 {
-    match Ingester::open(alloc, slots, passes, Limits::PROFILE, capacity) {
+    match Ingester::open(rt, *rt, alloc, slots, passes, Limits::PROFILE, capacity) {
         Ok(opened) => Ok(opened),
         Err(refusal) => Err(Stopped::Opening(refusal.0)),
     }
 }
 
 /// Opens shards over these slots, with one pass.
-pub fn open_for_one<D: Disk + Drop>(
+pub fn open_for_one<D, R>(
+    rt: &R,
     alloc: Global,
     slots: Vec<[D; 2]>,
     capacity: u64,
 ) -> Result<(Ingester<D>, Pass), Stopped>
+where
+    D: Disk + Drop + Send + 'static,
+    R: Threads + Wait + Copy + Send + 'static,
     requires slots { (0 < vec_len slots) × (vec_len slots ≤ 64) }
     requires capacity { capacity ≤ 2 ^ 30 }
     ensures capacity { IfOk result (λ it. it.0.about.capacity ≡ capacity) }
     ensures pass { IfOk result (λ it. IsPassOf it.0 it.1) }
 {
-    let (ingester, mut passes) = open_shards(alloc, slots, 1, capacity)?;
+    let (ingester, mut passes) = open_shards(rt, alloc, slots, 1, capacity)?;
     match passes.pop() {
         Some(pass) => Ok((ingester, pass)),
         None => Err(Stopped::Memory),
+    }
+}
+
+/// Closes shards by passes that are left of them, and their slots. Where no pass is left, the threads of the shards end
+/// by themselves, a little later.
+pub fn close_shards<D: Disk + Drop, R: Wait>(rt: &R, ingester: Ingester<D>, passes: Vec<Pass>)
+    requires passes { (p : ℕ) (pass : Passed) → slice_get passes.items p ≡ Some pass → IsPassOf ingester pass }
+{
+    if !passes.is_empty() {
+        drop(ingester.close(rt, passes));
+    }
+}
+
+/// Closes shards by their one pass, and their slots. Where there is no memory for that, the threads of the shards end
+/// by themselves, a little later.
+pub fn close_for_one<D: Disk + Drop, R: Wait>(
+    rt: &R,
+    alloc: Global,
+    ingester: Ingester<D>,
+    pass: Pass,
+)
+    requires pass { IsPassOf ingester pass }
+{
+    let mut passes = Vec::new(alloc);
+    if passes.push(pass).is_ok() {
+        close_shards(rt, ingester, passes);
     }
 }

@@ -4,13 +4,12 @@ use disk::Disk;
 use ingester::Ingester;
 use std::io::{Stderr, Write};
 use std::rt::Clock;
-use std::sync::Wait;
 use std::time::{Duration, Instant};
 
 /// Says of each shard that was just opened how many streams it has, and how many bytes they were replayed from: those
 /// of the segment in use, without what may stand behind it in its slot. Then how long it took since the start, 0 where
 /// the system has no clock that doesn't go back.
-pub fn say_replayed<D: Disk + Drop, R: Clock + Wait>(
+pub fn say_replayed<D: Disk + Drop, R: Clock>(
     rt: &R,
     ingester: &Ingester<D>,
     start: Option<Instant>,
@@ -22,8 +21,8 @@ pub fn say_replayed<D: Disk + Drop, R: Clock + Wait>(
     };
     let shards = ingester.shards();
     for shard in 0..shards {
-        let streams = ingester.stream_count(rt, shard);
-        let bytes = ingester.segment_size(rt, shard);
+        let streams = ingester.stream_count(shard);
+        let bytes = ingester.segment_size(shard);
         let _ = writeln!(
             terminal,
             "shard {shard:02}: {streams} streams, {bytes} bytes"

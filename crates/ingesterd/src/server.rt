@@ -6,7 +6,7 @@ ghost use Rattle.words.specs.Words.{GiveServer, GivesCapacity};
 
 use crate::clock::SystemClock;
 use crate::connections::Connections;
-use crate::opening::open_shards;
+use crate::opening::{close_shards, open_shards};
 use crate::replayed::say_replayed;
 use crate::setting::capacity_by;
 use crate::stopped::Stopped;
@@ -29,10 +29,11 @@ use workers::serve_listener;
 /// says of a slot's capacity.
 ///
 /// The slots of DIR are opened and replayed, the port of 127.0.0.1 is listened on (0: any that is free), `ready <port>`
-/// is written, and each connection is served by one of WORKERS threads. After CONNECTIONS connections, where given, it
-/// ends with status 0, as it does where no worker is left; else it goes on. A connection that fails costs no more than
-/// itself (`serve_listener`). Status 1: a fault while running. 2: wrong words, or a wrong setting. 3: a refused
-/// opening. A fault stands on one line of `errors`, and a shard that stops answering has one in `marks`, where they are
+/// is written, and each connection is served by one of WORKERS threads; a further thread owns each shard. After
+/// CONNECTIONS connections, where given, its shards are closed and it ends with status 0, as it does where no worker is
+/// left; else it goes on. A connection that fails costs no more than itself (`serve_listener`). Status 1: a fault while
+/// running. 2: wrong words, or a wrong setting. 3: a refused opening, also where the thread of a shard could not be
+/// started. A fault stands on one line of `errors`, and a shard that stops answering has one in `marks`, where they are
 /// given. Where `marks` are a terminal, what was replayed is said there before `ready` is: a line for each shard, one
 /// for all.
 pub fn run_server<R, W: Write, E: Write>(
@@ -46,7 +47,7 @@ pub fn run_server<R, W: Write, E: Write>(
 ) -> u8
 where
     R: Files<File = File> + Net<Listener = TcpListener, Stream = TcpStream>,
-    R: Clock + Threads + Wait + Sync,
+    R: Clock + Threads + Wait + Copy + Send + Sync + 'static,
     ensures status { result ≤ 3 }
     ensures usage { (result ≡ 2) ↔ (¬ (GiveServer words.now × GivesCapacity (option_map (λ s. s.now) setting.entry))) }
 {
@@ -67,7 +68,7 @@ where
     0
 }
 
-// Opens the folder, and serves.
+// Opens the folder, serves, and closes it.
 fn serve_folder<R, W: Write>(
     rt: &R,
     alloc: Global,
@@ -78,19 +79,21 @@ fn serve_folder<R, W: Write>(
 ) -> Result<(), Stopped>
 where
     R: Files<File = File> + Net<Listener = TcpListener, Stream = TcpStream>,
-    R: Clock + Threads + Wait + Sync,
+    R: Clock + Threads + Wait + Copy + Send + Sync + 'static,
     requires { capacity ≤ 2 ^ 30 }
 {
     let slots = open_slots(rt, alloc, words.folder, words.shards, marks)?;
     let start = Instant::now(rt).ok();
-    let (ingester, passes) = open_shards(alloc, slots, words.workers, capacity)?;
+    let (ingester, passes) = open_shards(rt, alloc, slots, words.workers, capacity)?;
     if let Some(terminal) = terminal_in(marks) {
         say_replayed(rt, &ingester, start, terminal);
     }
-    serve_port(rt, alloc, words, &ingester, passes, output)
+    let (passes, served) = serve_port(rt, alloc, words, &ingester, passes, output);
+    close_shards(rt, ingester, passes);
+    served
 }
 
-// Opens the port, says which it is, and serves.
+// Opens the port, says which it is, and serves. Gives passes that are left.
 fn serve_port<D, R, W: Write>(
     rt: &R,
     alloc: Global,
@@ -98,31 +101,70 @@ fn serve_port<D, R, W: Write>(
     ingester: &Ingester<D>,
     passes: Vec<Pass>,
     output: &mut W,
-) -> Result<(), Stopped>
+) -> (Vec<Pass>, Result<(), Stopped>)
 where
     D: Disk + Drop + Send,
     R: Net<Listener = TcpListener, Stream = TcpStream> + Clock + Threads + Wait + Sync,
     requires passes { (i : ℕ) (pass : Passed) → slice_get passes.items i ≡ Some pass → IsPassOf ingester.now pass }
+    ensures passes { (i : ℕ) (pass : Passed) → slice_get result.0.items i ≡ Some pass → IsPassOf ingester.now pass }
 {
-    let address = SocketAddr::new(IpAddr::V4(Ipv4Addr::LOCALHOST), words.port);
+    let servers = match make_servers(rt, alloc, passes.len()) {
+        Ok(servers) => servers,
+        Err(stopped) => return (passes, Err(stopped)),
+    };
+    let listener = match listen(rt, words.port, output) {
+        Ok(listener) => listener,
+        Err(stopped) => return (passes, Err(stopped)),
+    };
+    let connections = words.connections.unwrap_or(u64::MAX);
+    let (passes, served) = serve_listener(
+        rt,
+        alloc,
+        ingester,
+        passes,
+        servers,
+        &listener,
+        connections,
+    );
+    let served = match served {
+        Ok(()) => Ok(()),
+        Err(fault) => Err(Stopped::Serving(fault)),
+    };
+    (passes, served)
+}
+
+// What each of `count` workers serves connections by.
+fn make_servers<'a, R: Clock>(
+    rt: &'a R,
+    alloc: Global,
+    count: usize,
+) -> Result<Vec<Connections<SystemClock<'a, R>>>, Stopped> {
+    let mut servers = Vec::with_capacity(alloc, count)?;
+    for _ in 0..count {
+        let server = Connections::new(SystemClock::new(rt));
+        if servers.push(server).is_err() {
+            return Err(Stopped::Memory);
+        }
+    }
+    Ok(servers)
+}
+
+// Opens the port, and says which it is.
+fn listen<R: Net<Listener = TcpListener, Stream = TcpStream>, W: Write>(
+    rt: &R,
+    port: u16,
+    output: &mut W,
+) -> Result<TcpListener, Stopped> {
+    let address = SocketAddr::new(IpAddr::V4(Ipv4Addr::LOCALHOST), port);
     let Ok(listener) = TcpListener::bind(rt, address) else {
         return Err(Stopped::Listen);
     };
     let Ok(bound) = listener.local_addr() else {
         return Err(Stopped::Listen);
     };
-    let mut servers = Vec::with_capacity(alloc, passes.len())?;
-    for _ in 0..passes.len() {
-        let server = Connections::new(SystemClock::new(rt));
-        if servers.push(server).is_err() {
-            return Err(Stopped::Memory);
-        }
-    }
     let port = bound.port();
     if writeln!(output, "ready {port}").is_err() || output.flush().is_err() {
         return Err(Stopped::Output);
     }
-    let connections = words.connections.unwrap_or(u64::MAX);
-    serve_listener(rt, alloc, ingester, passes, servers, &listener, connections)?;
-    Ok(())
+    Ok(listener)
 }

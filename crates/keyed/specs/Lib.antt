@@ -1,3 +1,4 @@
 pub mod Rule
 pub mod Grips
-pub mod Bells
+pub mod Bindings
+pub mod Queues

@@ -1,11 +1,15 @@
-//! One lock for each of a list of values, and bells that threads wait at.
-//! The locks have a key, which may name a table: what a value under lock `k` meets may speak of the key and of `k`.
+//! One lock for each of a list of values, and queues between threads. Both have a key: what a value under lock `k`, or a
+//! message of the queue with number `k`, meets may speak of the key and of `k`.
 #![tactic(auto)]
 
-mod bells;
+mod binding;
+mod ends;
 mod locks;
+mod queues;
 mod rule;
 
-pub use bells::Bells;
+pub use binding::{Binding, Binds};
+pub use ends::{QueueReceiver, QueueSender};
 pub use locks::{Grip, Locks};
+pub use queues::queue;
 pub use rule::{Fits, Hold, Under};

@@ -59,7 +59,7 @@ struct Case {
 pub fn take_row<R>(rt: &R, alloc: Global, row: &Row<'_>, said: &mut String) -> Result<()>
 where
     R: Files<File = File> + Net<Listener = TcpListener, Stream = TcpStream>,
-    R: Clock + Threads + Wait + Sync + AllocGlobal,
+    R: Clock + Threads + Wait + Copy + Send + Sync + AllocGlobal + 'static,
 {
     let _ = fs::remove_dir_all(rt, FOLDER);
     let mut case = Case {
@@ -79,7 +79,7 @@ where
 fn take_lines<R>(rt: &R, row: &Row<'_>, case: &mut Case, said: &mut String) -> Result<()>
 where
     R: Files<File = File> + Net<Listener = TcpListener, Stream = TcpStream>,
-    R: Clock + Threads + Wait + Sync + AllocGlobal,
+    R: Clock + Threads + Wait + Copy + Send + Sync + AllocGlobal + 'static,
 {
     let name = row.name;
     for line in row.given.iter() {
@@ -104,7 +104,7 @@ impl Case {
     fn take_line<R>(&mut self, rt: &R, word: &str, rest: &str, said: &mut String) -> Result<()>
     where
         R: Files<File = File> + Net<Listener = TcpListener, Stream = TcpStream>,
-        R: Clock + Threads + Wait + Sync + AllocGlobal,
+        R: Clock + Threads + Wait + Copy + Send + Sync + AllocGlobal + 'static,
     {
         match word {
             "place" | "clock" | "server" | "call" | "split" => self.take_words(word, rest, said),
@@ -233,7 +233,7 @@ impl Case {
     fn take_run<R>(&self, rt: &R, name: &str, line: &str, said: &mut String) -> Result<()>
     where
         R: Files<File = File> + Net<Listener = TcpListener, Stream = TcpStream>,
-        R: Clock + Threads + Wait + Sync,
+        R: Clock + Threads + Wait + Copy + Send + Sync + 'static,
     {
         let words = self.words(line)?;
         let launch = self.launch_of(name, &words)?;
@@ -245,7 +245,7 @@ impl Case {
     fn take_each<R>(&self, rt: &R, line: &str, said: &mut String) -> Result<()>
     where
         R: Files<File = File> + Net<Listener = TcpListener, Stream = TcpStream>,
-        R: Clock + Threads + Wait + Sync,
+        R: Clock + Threads + Wait + Copy + Send + Sync + 'static,
     {
         let (stream, rest) = word_of(line);
         let (first, rest) = number_of(rest)?;
@@ -266,7 +266,7 @@ impl Case {
     ) -> Result<()>
     where
         R: Files<File = File> + Net<Listener = TcpListener, Stream = TcpStream>,
-        R: Clock + Threads + Wait + Sync,
+        R: Clock + Threads + Wait + Copy + Send + Sync + 'static,
     {
         let whole = run(rt, self.alloc, launch, self.limits);
         let mut repeats = Repeats::new(self.alloc);

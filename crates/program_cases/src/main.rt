@@ -29,7 +29,7 @@ fn main(rt: HostRuntime) -> Result<()> {
 fn judge_file<R>(rt: &R, file: &str, tally: &mut Tally) -> Result<()>
 where
     R: Files<File = File> + Net<Listener = TcpListener, Stream = TcpStream>,
-    R: Print + Clock + Threads + Wait + Sync + AllocGlobal,
+    R: Print + Clock + Threads + Wait + Copy + Send + Sync + AllocGlobal + 'static,
 {
     let text = fs::read_to_string(rt, file)?;
     for row in rows_of(rt.alloc(), text.as_str())?.iter() {
@@ -41,7 +41,7 @@ where
 fn judge_row<R>(rt: &R, row: &Row<'_>, tally: &mut Tally) -> Result<()>
 where
     R: Files<File = File> + Net<Listener = TcpListener, Stream = TcpStream>,
-    R: Print + Clock + Threads + Wait + Sync + AllocGlobal,
+    R: Print + Clock + Threads + Wait + Copy + Send + Sync + AllocGlobal + 'static,
 {
     let mut said = String::new(rt.alloc());
     take_row(rt, rt.alloc(), row, &mut said)?;

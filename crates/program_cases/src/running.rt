@@ -71,7 +71,7 @@ pub struct Launch<'a> {
 pub fn run<R>(rt: &R, alloc: Global, launch: Launch<'_>, limits: Limits) -> Ended
 where
     R: Files<File = File> + Net<Listener = TcpListener, Stream = TcpStream>,
-    R: Clock + Threads + Wait + Sync,
+    R: Clock + Threads + Wait + Copy + Send + Sync + 'static,
 {
     let (words, setting) = (launch.words, launch.setting);
     let mut input = Source::new(launch.input, limits.input);

@@ -11,6 +11,7 @@ use ingester::{Closed, Ingester};
 use pushes::{LINES, is_stored, push_of};
 use std::alloc::{AllocError, Global};
 use std::sync::Wait;
+use std::thread::Threads;
 
 /// How many shards the ingester has.
 const SHARDS: u32 = 2;
@@ -31,14 +32,19 @@ const STREAMS: u64 = 8;
 const TIMES: u32 = 10;
 
 /// Makes all calls of an ingester over empty slots, and closes it.
-pub fn run<R: Print + Wait + AllocGlobal>(rt: &R) -> Result<()> {
-    let (ingester, mut passes) = open(rt.alloc())?;
+pub fn run<R>(rt: &R) -> Result<()>
+where
+    R: Print + Threads + Wait + AllocGlobal + Copy + Send + 'static,
+{
+    let (ingester, mut passes) = open(rt, rt.alloc())?;
     make_all(rt, &ingester, &mut passes)?;
     take(rt, &mut ingester.close(rt, passes))
 }
 
 /// An ingester over empty slots, and its passes.
-fn open(alloc: Global) -> Result<(Ingester<MemDisk>, Vec<Pass>)>
+fn open<R>(rt: &R, alloc: Global) -> Result<(Ingester<MemDisk>, Vec<Pass>)>
+where
+    R: Threads + Wait + Copy + Send + 'static,
     ensures passes { IfOk result (λ it. (p : ℕ) (pass : Passed) → slice_get it.1.items p ≡ Some pass
         → IsPassOf it.0 pass) }
     ensures shards { IfOk result (λ it. it.0.about.shards ≡ 2) }
@@ -46,7 +52,7 @@ fn open(alloc: Global) -> Result<(Ingester<MemDisk>, Vec<Pass>)>
     let mut slots = Vec::new(alloc);
     slots.push([slot(alloc)?, slot(alloc)?])?;
     slots.push([slot(alloc)?, slot(alloc)?])?;
-    match Ingester::open(alloc, slots, PASSES, Limits::PROFILE, CAPACITY) {
+    match Ingester::open(rt, *rt, alloc, slots, PASSES, Limits::PROFILE, CAPACITY) {
         Ok(opened) => Ok(opened),
         Err(refusal) => Err(refusal.0.into()),
     }

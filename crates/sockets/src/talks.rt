@@ -4,6 +4,7 @@ ghost use Rattle.ingester.specs.Calls.{IsPassOf};
 
 use accept::Limits;
 use disk::{Gate, GateDisk, MemDisk};
+use history::Pass;
 use ingester::Ingester;
 use ingesterd::{Connections, SystemClock, run_ctl, run_server};
 use std::alloc::Global;
@@ -201,7 +202,8 @@ fn read(alloc: Global) -> Result<String, Fail> {
     post(alloc, "/ingester/v1/read", READ)
 }
 
-/// What a client is answered while so many workers serve so many connections over these slots.
+/// What a client is answered while workers serve connections over these slots. The workers' passes come back, and the
+/// slots are closed.
 fn talk_and_serve<R>(
     rt: &R,
     alloc: Global,
@@ -212,7 +214,8 @@ fn talk_and_serve<R>(
     talk: Talk<'_>,
 ) -> Result<String, Fail>
 where
-    R: Net<Listener = TcpListener, Stream = TcpStream> + Threads + Wait + rt::Clock + Sync,
+    R: Net<Listener = TcpListener, Stream = TcpStream> + Threads + Wait + rt::Clock,
+    R: Copy + Send + Sync + 'static,
     requires slots { (0 < vec_len slots) × (vec_len slots ≤ 64) }
     requires workers { (0 < workers) × (workers ≤ 64) }
 {
@@ -222,7 +225,7 @@ where
         address: listener.local_addr()?,
         talk,
     };
-    let opened = Ingester::open(alloc, slots, workers, Limits::PROFILE, CAPACITY);
+    let opened = Ingester::open(rt, *rt, alloc, slots, workers, Limits::PROFILE, CAPACITY);
     let Ok((ingester, passes)) = opened else {
         return Err(Fail::from("slots are refused"));
     };
@@ -230,14 +233,20 @@ where
     for _ in 0..workers {
         servers.push(Connections::new(Standing))?;
     }
-    let ingester = &ingester;
-    let (told, served) = join(
+    let lent = &ingester;
+    let (told, (passes, served)) = join(
         rt,
         move || answers_of(client).ok(),
-        move || -> Result<(), WorkersFault>
-            requires { (i : ℕ) (pass : Passed) → slice_get passes.items i ≡ Some pass → IsPassOf ingester.now pass }
-        { serve_listener(rt, alloc, ingester, passes, servers, listener, connections) },
+        move || -> (Vec<Pass>, Result<(), WorkersFault>)
+            requires { (i : ℕ) (pass : Passed) → slice_get passes.items i ≡ Some pass → IsPassOf lent.now pass }
+            ensures { (i : ℕ) (pass : Passed) → slice_get result.0.items i ≡ Some pass
+                → IsPassOf lent.entry.now pass }
+        { serve_listener(rt, alloc, lent, passes, servers, listener, connections) },
     );
+    if passes.len() != workers as usize {
+        return Err(Fail::from("a pass is lost"));
+    }
+    drop(ingester.close(rt, passes));
     if served.is_err() {
         return Err(Fail::from("not served"));
     }
@@ -357,7 +366,7 @@ fn words_of(alloc: Global, line: &str) -> Result<Vec<String>, Fail> {
 fn run_and_ask<R>(rt: &R, alloc: Global, port: u16, talk: Talk<'_>) -> Result<(String, Ended), Fail>
 where
     R: Files<File = File> + Net<Listener = TcpListener, Stream = TcpStream>,
-    R: Threads + Wait + rt::Clock + Sync,
+    R: Threads + Wait + rt::Clock + Copy + Send + Sync + 'static,
 {
     let client = Client {
         rt,
@@ -382,12 +391,10 @@ where
 }
 
 /// What `ingestctl` does by the words of this line, with no server.
-fn run_line<R: Files<File = File> + Wait>(
-    rt: &R,
-    alloc: Global,
-    line: &str,
-    body: &str,
-) -> Result<Ended, Fail> {
+fn run_line<R>(rt: &R, alloc: Global, line: &str, body: &str) -> Result<Ended, Fail>
+where
+    R: Files<File = File> + Threads + Wait + Copy + Send + 'static,
+{
     let words = words_of(alloc, line)?;
     let (mut output, mut errors) = (Vec::new(alloc), Vec::new(alloc));
     let mut input = body.as_bytes();

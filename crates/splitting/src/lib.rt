@@ -3,6 +3,7 @@
 
 mod announced;
 mod asked;
+mod beside;
 mod found;
 mod program;
 mod said;

@@ -5,6 +5,7 @@ ghost use Rattle.splitting.specs.Words.{GiveSplit};
 
 use crate::announced::{Side, announce};
 use crate::asked::split_in;
+use crate::beside::{give_name, unfinished, unopened};
 use crate::found::{has_slots, shards_in};
 use crate::said::SplitWords;
 use crate::stopped::Stopped;
@@ -20,11 +21,13 @@ use words::capacity_in;
 ///
 /// The streams of the slots of OLD, which no server may have open meanwhile, are written into slots of COUNT shards in
 /// NEW, each to the shard of its key among COUNT, and `split <m> to <n>` is written: m is the number of shards of which
-/// OLD has slots. No slot of OLD is written. NEW is made where it is missing; one that has slots is refused, and so is
-/// OLD, by whatever path. Status 0: the split is on the disk. 1: no shards, a missing slot, a NEW with slots, no room
-/// in a new shard, or a fault while running. 2: wrong words, or a wrong setting. 3: what the old slots hold is refused.
-/// After a status other than 0 the slots that it made in NEW are to be given up. A fault stands on one line of
-/// `errors`. Where `marks` are a terminal, it is said there which shard is read or written.
+/// OLD has slots. No slot of OLD is written. A missing NEW is written under the name `NEW.unfinished-1`, or with a greater
+/// number, and gets its own at the end, so that it is there whole or not at all; one that is there is written in place. One
+/// that has slots is refused, and so is OLD, by whatever path. Status 0: the split is on the disk. 1: no shards, a missing
+/// slot, a NEW with slots, no room in a new shard, or a fault while running. 2: wrong words, or a wrong setting. 3: what the
+/// old slots hold is refused. After a status other than 0 what it made is to be given up. A fault stands on one line of
+/// `errors`. Where `marks` are a terminal, it is said there which shard is read or written, and before that of a NEW that is
+/// there that it may have to be given up.
 pub fn run_walsplit<R: Files<File = File>, W: Write, E: Write>(
     rt: &R,
     alloc: Global,
@@ -93,12 +96,35 @@ fn split_folder<R: Files<File = File>>(
         return Err(Stopped::HasSlots(new_folder.to_string(alloc)?));
     }
     let terminal = terminal_in(marks);
+    let unfinished = unfinished(rt, alloc, new_folder)?;
+    let folder = match &unfinished {
+        Some(path) => path.as_str(),
+        None => {
+            warn(terminal, new_folder);
+            new_folder
+        }
+    };
     let old = open_slots(rt, alloc, old_folder, old_shards, None)?;
     let old = announce(alloc, old, Side::Old, terminal)?;
-    let new = open_slots(rt, alloc, new_folder, shards, None)?;
-    let new = announce(alloc, new, Side::New, terminal)?;
-    match split(alloc, old, new, capacity) {
-        Ok(_slots) => Ok(old_shards),
-        Err((fault, _slots)) => Err(Stopped::Split(fault)),
+    let new = match open_slots(rt, alloc, folder, shards, None) {
+        Ok(new) => announce(alloc, new, Side::New, terminal)?,
+        Err(fault) => return Err(unopened(alloc, fault, folder, new_folder)?),
+    };
+    if let Err((fault, _slots)) = split(alloc, old, new, capacity) {
+        return Err(Stopped::Split(fault));
+    }
+    if let Some(path) = &unfinished {
+        give_name(rt, alloc, path.as_str(), new_folder)?;
+    }
+    Ok(old_shards)
+}
+
+// Of a folder that is there nothing tells later whether it is whole.
+fn warn(terminal: Option<Stderr>, folder: &str) {
+    if let Some(mut terminal) = terminal {
+        let _ = writeln!(
+            terminal,
+            "{folder} is written in place: an unfinished one is to be given up"
+        );
     }
 }

@@ -1,7 +1,7 @@
 -- What a look at the first shard asks for.
 use Rattle.std.specs.Prelude.{◌<◌}
 use Rattle.history.specs.Handles.{Passed}
-use Rattle.lanes.specs.Openings.{Opening}
+use Rattle.owners.specs.Openings.{Opening}
 use Rattle.ingester.specs.Calls.{IsPassOf}
 
 -- the pass is of this opening, which has a shard

@@ -228,13 +228,12 @@ fn slot_lengths<R: Wait>(
 
 /// A push, and while it is written another one, a read that is to find both, and a third: whether all was so, and the
 /// lengths of the slots. Each comes so many milliseconds after the one before it.
-fn three_while_written<R: Threads + Wait + Clock + Sync>(
-    rt: &R,
-    alloc: Global,
-    time: u64,
-) -> Result<(bool, [u64; 2]), Fail> {
+fn three_while_written<R>(rt: &R, alloc: Global, time: u64) -> Result<(bool, [u64; 2]), Fail>
+where
+    R: Threads + Wait + Clock + Copy + Send + Sync + 'static,
+{
     let gate = Gate::new(alloc)?;
-    let (ingester, mut passes) = open(alloc, slots_of_one(alloc, &gate)?, 5)?;
+    let (ingester, mut passes) = open(rt, alloc, slots_of_one(alloc, &gate)?, 5)?;
     let turn = |number: u64, task: Task| Turn {
         after: time.saturating_mul(number),
         task,
@@ -270,7 +269,7 @@ fn gate_three_calls_in_one_group(rt: HostRuntime) -> Result<(), Fail> {
 fn four_threads_push_to_one_stream(rt: HostRuntime) -> Result<(), Fail> {
     let alloc = rt.alloc();
     let free = Gate::new(alloc)?;
-    let (ingester, mut passes) = open(alloc, slots_of_one(alloc, &free)?, 5)?;
+    let (ingester, mut passes) = open(&rt, alloc, slots_of_one(alloc, &free)?, 5)?;
     let turn = |first: u64| Turn {
         after: 0,
         task: Task::Push(pushes(first, 50)),

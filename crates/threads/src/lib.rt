@@ -1,4 +1,4 @@
-//! Tests over threads and gates: locks, histories, disks and shards, each called by several threads at once.
+//! Tests over threads and gates: locks, queues, histories, disks and shards, each called by several threads at once.
 #![tactic(auto)]
 
 #[cfg(test)]
@@ -11,5 +11,7 @@ mod locks;
 mod meetings;
 #[cfg(test)]
 mod open_calls;
+#[cfg(test)]
+mod queues;
 #[cfg(test)]
 mod shards;

@@ -94,18 +94,21 @@ fn slots_of_two(alloc: Global, gate: &Gate) -> Result<Vec<[Slot; 2]>, Fail>
     Ok(slots)
 }
 
-pub(crate) fn open(
+pub(crate) fn open<R>(
+    rt: &R,
     alloc: Global,
     slots: Vec<[Slot; 2]>,
     passes: u32,
 ) -> Result<(Ingester<Slot>, Vec<Pass>), Fail>
+where
+    R: Threads + Wait + Copy + Send + 'static,
     requires slots { (0 < vec_len slots) × (vec_len slots ≤ 64) }
     requires passes { (0 < passes) × (passes ≤ 64) }
     ensures passes { IfOk result (λ it. (p : ℕ) (pass : Passed) → slice_get it.1.items p ≡ Some pass
         → IsPassOf it.0 pass) }
     ensures shards { IfOk result (λ it. it.0.about.shards ≡ vec_len slots) }
 {
-    match Ingester::open(alloc, slots, passes, Limits::PROFILE, CAPACITY) {
+    match Ingester::open(rt, *rt, alloc, slots, passes, Limits::PROFILE, CAPACITY) {
         Ok(opened) => Ok(opened),
         Err(_) => Err(Fail::from("slots are refused")),
     }
@@ -124,15 +127,18 @@ pub(crate) fn last_of(ingester: &Ingester<Slot>, passes: &mut Vec<Pass>) -> Resu
 }
 
 /// Opens these slots with three passes.
-fn open_three(
+fn open_three<R>(
+    rt: &R,
     alloc: Global,
     slots: Vec<[Slot; 2]>,
 ) -> Result<(Ingester<Slot>, Pass, Pass, Pass), Fail>
+where
+    R: Threads + Wait + Copy + Send + 'static,
     requires { (0 < vec_len slots) × (vec_len slots ≤ 64) }
     ensures passes { IfOk result (λ it. IsPassOf it.0 it.1 × IsPassOf it.0 it.2 × IsPassOf it.0 it.3) }
     ensures shards { IfOk result (λ it. it.0.about.shards ≡ vec_len slots) }
 {
-    let (ingester, mut passes) = open(alloc, slots, 3)?;
+    let (ingester, mut passes) = open(rt, alloc, slots, 3)?;
     let three = last_of(&ingester, &mut passes)?;
     let two = last_of(&ingester, &mut passes)?;
     let one = last_of(&ingester, &mut passes)?;
@@ -347,7 +353,7 @@ fn lengths(ingester: &Ingester<Slot>, pass: &mut Pass) -> (u64, u64)
 fn gate_two_shards(rt: HostRuntime) -> Result<(), Fail> {
     let alloc = rt.alloc();
     let gate = Gate::new(alloc)?;
-    let (ingester, one, two, mut three) = open_three(alloc, slots_of_two(alloc, &gate)?)?;
+    let (ingester, one, two, mut three) = open_three(&rt, alloc, slots_of_two(alloc, &gate)?)?;
     gate.close();
     let (mut two, seen) = push_together(&rt, alloc, &gate, &ingester, one, HELD, two, Some(FREE))?;
     assert_eq!(rt; seen, 0);
@@ -365,7 +371,7 @@ fn gate_two_shards(rt: HostRuntime) -> Result<(), Fail> {
 fn gate_look_while_held(rt: HostRuntime) -> Result<(), Fail> {
     let alloc = rt.alloc();
     let gate = Gate::new(alloc)?;
-    let (ingester, one, two, _) = open_three(alloc, slots_of_two(alloc, &gate)?)?;
+    let (ingester, one, two, _) = open_three(&rt, alloc, slots_of_two(alloc, &gate)?)?;
     gate.close();
     let (mut two, seen) = push_together(&rt, alloc, &gate, &ingester, one, HELD, two, None)?;
     assert_eq!(rt; (seen, ingester.look(&mut two, 0)), (0, 1));
@@ -376,7 +382,7 @@ fn gate_look_while_held(rt: HostRuntime) -> Result<(), Fail> {
 fn two_threads_push_to_one_stream(rt: HostRuntime) -> Result<(), Fail> {
     let alloc = rt.alloc();
     let free = Gate::new(alloc)?;
-    let (ingester, one, two, _) = open_three(alloc, slots_of_one(alloc, &free)?)?;
+    let (ingester, one, two, _) = open_three(&rt, alloc, slots_of_one(alloc, &free)?)?;
     let first = Pushes {
         value: "1",
         first: 1_000,

@@ -1,1 +1,2 @@
+mod Crews
 mod Sent

@@ -1,4 +1,4 @@
--- What a worker or an assistant is given may go to its thread.
+-- What a worker is given may go to its thread.
 use denote.RattleType.{RattleType}
 use denote.Param.Send.{IsSend, IsSync, AllSend, recorded_send, struct_send, sendable}
 use denote.Ref.{NamedLft}
@@ -10,7 +10,6 @@ use Rattle.crossbeam_channel.proofs.channel.Receiver.TheSendSync as receiver
 use Rattle.disk.specs.declared.device.Disk as disk
 use Rattle.history.proofs.handles.Pass.TheSendSync as pass
 use Rattle.ingester.proofs.Sent.{ingester_sync}
-use Rattle.workers.specs.contracts.assisting.Assistant as assistant
 use Rattle.workers.specs.contracts.serving.Worker as worker
 
 fields_send : (κ : NamedLft) (D S R : RattleType) (g : disk.Ghosts D.Denot) → IsSend D → IsSend S → IsSync R → AllSend (declared.fields (worker.the_type κ D S R g))
@@ -20,11 +19,3 @@ fields_send κ D S R g d s r = let i = ingester_sync D g d in
 pub worker_send : (κ : NamedLft) (D S R : RattleType) (g : disk.Ghosts D.Denot) → IsSend D → IsSend S → IsSync R → IsSend (worker.the_row κ D S R g)
 worker_send κ D S R g d s r = let T = worker.the_type κ D S R g in
     recorded_send (Struct (declared.shape T)) T.D T.to T.to_one (struct_send (declared.shape T) (fields_send κ D S R g d s r))
-
-assistant_fields_send : (κ : NamedLft) (D R : RattleType) (g : disk.Ghosts D.Denot) → IsSend D → IsSync R → AllSend (declared.fields (assistant.the_type κ D R g))
-assistant_fields_send κ D R g s r = let i = ingester_sync D g s in
-    (search (r, sendable), (search sendable, (search (i, sendable), (search sendable, (search (receiver.the_send, send, sync, frees, sendable) depth 20, tt)))))
-
-pub assistant_send : (κ : NamedLft) (D R : RattleType) (g : disk.Ghosts D.Denot) → IsSend D → IsSync R → IsSend (assistant.the_row κ D R g)
-assistant_send κ D R g s r = let T = assistant.the_type κ D R g in
-    recorded_send (Struct (declared.shape T)) T.D T.to T.to_one (struct_send (declared.shape T) (assistant_fields_send κ D R g s r))

@@ -1,8 +1,7 @@
-//! The threads of a server: one accepts the connections that come to a listener, workers with a pass each serve them,
-//! and one at each shard helps these.
+//! The threads that serve a listener: one accepts the connections that come to it, and workers with a pass each serve
+//! them.
 #![tactic(auto)]
 
-mod assisting;
 mod fault;
 mod serving;
 

@@ -1,9 +1,8 @@
 //! The server's loop: one acceptor, and workers with a pass each.
-ghost use Rattle.std.specs.Prelude.{◌≡◌, ℕ, Some, slice_get};
+ghost use Rattle.std.specs.Prelude.{◌≡◌, ℕ, Some, All, slice_get, IfOk};
 ghost use Rattle.history.specs.Handles.{Passed};
 ghost use Rattle.ingester.specs.Calls.{IsPassOf};
 
-use crate::assisting::{end_assistants, start_assistants};
 use crate::fault::WorkersFault;
 use crossbeam_channel::{Receiver, Sender, bounded};
 use disk::Disk;
@@ -12,8 +11,9 @@ use ingester::Ingester;
 use std::alloc::Global;
 use std::net::{TcpListener, TcpStream};
 use std::rt;
+use std::snapshot::Snapshot;
 use std::sync::Wait;
-use std::thread::{self, Scope, Threads};
+use std::thread::{self, Promise, PromisedHandle, Scope, Threads};
 use std::time::Duration;
 
 /// For how many seconds a connection may send nothing, or take nothing, before it is closed.
@@ -26,7 +26,7 @@ const WAITING: usize = 64;
 const PAUSE_MILLIS: u64 = 10;
 
 /// What a worker serves connections by. It stands above this crate, which needs no more of it.
-pub trait Serve<D: Disk> {
+pub trait Serve<D: Disk + Drop> {
     /// Serves a connection until it ends. Whatever goes wrong with it, the worker takes the next.
     fn serve<R: Wait>(
         &mut self,
@@ -50,7 +50,7 @@ fn limit_waits(stream: &TcpStream) {
 
 // What a worker's thread is given.
 #[derive(Drop)]
-struct Worker<'a, D: Disk, S, R> {
+struct Worker<'a, D: Disk + Drop, S, R> {
     rt: &'a R,
     alloc: Global,
     ingester: &'a Ingester<D>,
@@ -59,9 +59,28 @@ struct Worker<'a, D: Disk, S, R> {
     streams: Receiver<TcpStream>,
 }
 
-// Serves connections until no more come, or the pass is closed.
-fn work<D: Disk + Drop, S: Serve<D> + Drop, R: Wait>(worker: Worker<D, S, R>)
+// What a worker hands back is a pass of its ingester.
+#[derive(Drop)]
+struct OfIngester<D: Disk + Drop>(Snapshot<Ingester<D>>);
+
+impl<D: Disk + Drop> Promise<Pass> for OfIngester<D> {
+    ghost kept_by = { λ promise pass. IsPassOf promise.0.value pass };
+}
+
+// A worker's thread.
+type Thread<D> = PromisedHandle<Pass, OfIngester<D>>;
+
+// The passes that no worker has, and the workers' threads.
+#[derive(Drop)]
+struct Crew<D: Disk + Drop> {
+    passes: Vec<Pass>,
+    threads: Vec<Thread<D>>,
+}
+
+// Serves connections until no more come, or the pass is closed. Gives the pass back.
+fn work<D: Disk + Drop, S: Serve<D> + Drop, R: Wait>(worker: Worker<D, S, R>) -> Pass
     requires { IsPassOf worker.ingester.now worker.pass }
+    ensures { IsPassOf worker.entry.ingester.now result }
 {
     let Worker {
         rt,
@@ -78,9 +97,10 @@ fn work<D: Disk + Drop, S: Serve<D> + Drop, R: Wait>(worker: Worker<D, S, R>)
             break;
         }
     }
+    pass
 }
 
-// Hands each connection that comes to the workers, so many at most, until no worker is left. Where none can be
+// Hands each connection that comes to the workers, at most `connections`, until no worker is left. Where none can be
 // accepted, as for want of file descriptors, it waits a little in place of asking at once again.
 fn accept<R: Wait + rt::Clock>(
     rt: &R,
@@ -105,29 +125,32 @@ fn accept<R: Wait + rt::Clock>(
 fn start<'s, E, D, S, R>(
     scope: &'s Scope<'s, E>,
     worker: Worker<'s, D, S, R>,
-) -> Result<(), WorkersFault>
+) -> Result<Thread<D>, WorkersFault>
 where
     D: Disk + Drop + Send + 's,
     S: Serve<D> + Drop + Send + 's,
     R: Threads + Wait + Sync,
     requires pass { IsPassOf worker.ingester.now worker.pass }
+    ensures promise { IfOk result (λ thread. thread.promise.0.value ≡ worker.entry.ingester.now) }
 {
-    let run = move || -> ()
+    let promise = OfIngester(Snapshot::of(worker.ingester));
+    let run = move || -> Pass
         requires { IsPassOf worker.ingester.now worker.pass }
+        ensures { IsPassOf worker.entry.ingester.now result }
     { work(worker) };
-    match scope.spawn(run) {
-        Ok(_handle) => Ok(()),
+    match scope.spawn_with(promise, run) {
+        Ok(thread) => Ok(thread),
         Err(_) => Err(WorkersFault::Thread),
     }
 }
 
-// Starts a worker for each pass.
+// Starts a worker for each pass, and puts its thread among the others. Passes for which none was started are left.
 fn start_all<'s, E, D, S, R>(
     scope: &'s Scope<'s, E>,
     rt: &'s R,
     alloc: Global,
     ingester: &'s Ingester<D>,
-    mut passes: Vec<Pass>,
+    crew: &mut Crew<D>,
     mut servers: Vec<S>,
     streams: Receiver<TcpStream>,
 ) -> Result<(), WorkersFault>
@@ -135,13 +158,18 @@ where
     D: Disk + Drop + Send + 's,
     S: Serve<D> + Drop + Send + 's,
     R: Threads + Wait + Sync,
-    requires passes { (i : ℕ) (pass : Passed) → slice_get passes.items i ≡ Some pass → IsPassOf ingester.now pass }
+    requires passes { (i : ℕ) (pass : Passed) → slice_get crew.old.passes.items i ≡ Some pass
+        → IsPassOf ingester.now pass }
+    requires threads { All (λ thread. thread.promise.0.value ≡ ingester.now) crew.old.threads.items }
+    ensures passes { (i : ℕ) (pass : Passed) → slice_get crew.new.passes.items i ≡ Some pass
+        → IsPassOf ingester.now pass }
+    ensures threads { All (λ thread. thread.promise.0.value ≡ ingester.now) crew.new.threads.items }
 {
-    while let Some(pass) = passes.pop() {
-        let Some(server) = servers.pop() else {
+    while let Some(server) = servers.pop() {
+        let streams = streams.clone()?;
+        let Some(pass) = crew.passes.pop() else {
             break;
         };
-        let streams = streams.clone()?;
         let worker = Worker {
             rt,
             alloc,
@@ -150,49 +178,42 @@ where
             server,
             streams,
         };
-        start(scope, worker)?;
+        let thread = start(scope, worker)?;
+        if crew.threads.push(thread).is_err() {
+            return Err(WorkersFault::Memory);
+        }
     }
     Ok(())
 }
 
-// Serves connections by workers, and hands those that come to them.
-fn serve_by_workers<D, S, R>(
-    rt: &R,
-    alloc: Global,
-    ingester: &Ingester<D>,
-    passes: Vec<Pass>,
-    servers: Vec<S>,
-    listener: &TcpListener,
-    connections: u64,
-) -> Result<(), WorkersFault>
-where
-    D: Disk + Drop + Send,
-    S: Serve<D> + Drop + Send,
-    R: Threads + Wait + rt::Clock + Sync,
-    requires passes { (i : ℕ) (pass : Passed) → slice_get passes.items i ≡ Some pass → IsPassOf ingester.now pass }
+// Waits until all workers have ended. Gives all passes.
+fn join_all<D: Disk + Drop, R: Threads>(rt: &R, ingester: &Ingester<D>, crew: Crew<D>) -> Vec<Pass>
+    requires passes { (i : ℕ) (pass : Passed) → slice_get crew.passes.items i ≡ Some pass
+        → IsPassOf ingester.now pass }
+    requires threads { All (λ thread. thread.promise.0.value ≡ ingester.now) crew.threads.items }
+    ensures passes { (i : ℕ) (pass : Passed) → slice_get result.items i ≡ Some pass → IsPassOf ingester.now pass }
 {
-    let (sender, receiver) = bounded(alloc, WAITING)?;
-    thread::scope(
-        thread::scope_env(),
-        rt,
-        |scope| -> Result<(), WorkersFault>
-            requires { (i : ℕ) (pass : Passed) → slice_get passes.items i ≡ Some pass → IsPassOf ingester.now pass }
-        {
-            start_all(scope, rt, alloc, ingester, passes, servers, receiver)?;
-            accept(rt, listener, connections, sender);
-            Ok(())
-        },
-    )
+    let _ = ingester;
+    let Crew {
+        mut passes,
+        mut threads,
+    } = crew;
+    while let Some(thread) = threads.pop() {
+        let pass = thread.join(rt);
+        let _ = passes.push(pass);
+    }
+    passes
 }
 
-/// Serves the connections that come to a listener, so many at most: one thread accepts them, and for each pass a
-/// worker serves one after another by what it is given. At each shard a further thread helps them.
+/// Serves the connections that come to a listener, at most `connections`: one thread accepts them, and for each pass a
+/// worker serves one after another by what it is given. Gives the passes back once all workers have ended; after an
+/// error one of them may be lacking.
 ///
-/// It ends when so many connections have come and each has ended; or, where no worker is left, since a pass is closed
-/// when its numbers are used up, with the next connection that comes; or at once, with an error, where there is no
-/// memory or a thread cannot be started. A connection that fails, or does nothing for 60 seconds, is closed, and its
-/// worker takes the next; what it was answered stands. A connection that could not be accepted is not counted, and
-/// costs 10 milliseconds.
+/// It ends when that many connections have come and each has ended; or, where no worker is left, since a pass is closed
+/// when its numbers are used up or a call of it is in doubt, with the next connection that comes; or at once, with an
+/// error, where there is no memory or a thread cannot be started. A connection that fails, or does nothing for 60
+/// seconds, is closed, and its worker takes the next; what it was answered stands. A connection that could not be
+/// accepted is not counted, and costs 10 milliseconds.
 pub fn serve_listener<D, S, R>(
     rt: &R,
     alloc: Global,
@@ -201,34 +222,35 @@ pub fn serve_listener<D, S, R>(
     servers: Vec<S>,
     listener: &TcpListener,
     connections: u64,
-) -> Result<(), WorkersFault>
+) -> (Vec<Pass>, Result<(), WorkersFault>)
 where
     D: Disk + Drop + Send,
     S: Serve<D> + Drop + Send,
     R: Threads + Wait + rt::Clock + Sync,
     requires passes { (i : ℕ) (pass : Passed) → slice_get passes.items i ≡ Some pass → IsPassOf ingester.now pass }
+    ensures passes { (i : ℕ) (pass : Passed) → slice_get result.0.items i ≡ Some pass
+        → IsPassOf ingester.now pass }
 {
-    let (running, ended) = bounded(alloc, 1)?;
+    let Ok((sender, receiver)) = bounded(alloc, WAITING) else {
+        return (passes, Err(WorkersFault::Memory));
+    };
     thread::scope(
         thread::scope_env(),
         rt,
-        |scope| -> Result<(), WorkersFault>
+        |scope| -> (Vec<Pass>, Result<(), WorkersFault>)
             requires { (i : ℕ) (pass : Passed) → slice_get passes.items i ≡ Some pass → IsPassOf ingester.now pass }
+            ensures { (i : ℕ) (pass : Passed) → slice_get result.0.items i ≡ Some pass
+                → IsPassOf ingester.entry.now pass }
         {
-            let served = match start_assistants(scope, rt, alloc, ingester, ended) {
-                Ok(()) => serve_by_workers(
-                    rt,
-                    alloc,
-                    ingester,
-                    passes,
-                    servers,
-                    listener,
-                    connections,
-                ),
-                Err(fault) => Err(fault),
-            };
-            end_assistants(ingester, running);
-            served
+            let threads = Vec::new(alloc);
+            let mut crew = Crew { passes, threads };
+            let started = start_all(scope, rt, alloc, ingester, &mut crew, servers, receiver);
+            if started.is_ok() {
+                accept(rt, listener, connections, sender);
+            } else {
+                drop(sender);
+            }
+            (join_all(rt, ingester, crew), started)
         },
     )
 }

@@ -3,4 +3,4 @@ use Rattle.ingester.proofs.Listing.{each_front}
 use Rattle.bench_calls.proofs.served.open.Goals as goal
 
 pub returns-in-Some : goal.returns-in-Some
-returns-in-Some g = (each_front (IsPassOf g.in_ok-ingester.ingester) _ g.pop.new.self.items g.in-Some.pass g.in-Some.ensures.items g.in_ok-ingester.ensures).1
+returns-in-Some g c = (each_front (IsPassOf c.in_ok-ingester.ingester) _ c.pop.new.self.items c.in-Some.pass c.in-Some.ensures.items c.in_ok-ingester.ensures).1

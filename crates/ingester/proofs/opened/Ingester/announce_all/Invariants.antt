@@ -2,14 +2,17 @@ use Rattle.std.proofs.Common.{◌≡◌, ◌+◌, ◌^◌, ◌<◌, ◌≤◌, l
 use Rattle.std.specs.Prelude.{All}
 use Rattle.std.specs.VecDeque.{deque_len, deque_capacity}
 use Rattle.accept.specs.Calls.{AreNumbers}
-use Rattle.ingester.specs.Batches.{AreBatchesOf, AreSomeOpen}
+use Rattle.owners.specs.Openings.{home_of}
+use Rattle.owners.specs.Ways.{AreReady}
+use Rattle.ingester.specs.Batches.{AreBatchesOf, AreBelow, AreSomeOpen}
 use Rattle.ingester.proofs.opened.Ingester.announce_all.Given as goal
 
-abbrev pub invariant-loop-count : goal.invariant-loop-count
-invariant-loop-count g l = record {
+abbrev pub invariant-loop-shard : goal.invariant-loop-shard
+invariant-loop-shard g l = record {
   some : AreSomeOpen l.fn.pass l.pass l.fn.calls.items l.calls.items l.first l.count;
-  shards : length l.batches ≡ l.self.about.shards;
-  batches : AreBatchesOf l.self.table l.self.about l.pass.caller l.batches;
+  ways : length l.ways.items ≡ l.self.about.shards;
+  batches : AreBatchesOf l.self.table l.self.about l.pass.caller l.ways.items;
+  ready : AreReady (home_of l.self) l.fn.pass.caller.pass l.ways.items;
   positive : 0 < l.count;
   waiting : length l.pass.caller.pending ≡ l.count;
   calls : deque_len l.calls + l.count ≡ deque_len l.fn.calls;
@@ -18,9 +21,12 @@ invariant-loop-count g l = record {
   fits : l.first + l.count ≤ 2 ^ 64;
   table : l.pass.table ≡ l.self.table;
   about : l.pass.caller.about ≡ l.self.about;
+  pass : l.pass.caller.pass ≡ l.fn.pass.caller.pass;
   number : l.pass.caller.pass < l.self.about.passes;
   numbers : All AreNumbers l.calls.items;
+  below : AreBelow l.self.about.shards l.shards;
+  places : length l.shards ≡ 64;
 }
 
-abbrev pub decreases-loop-count : goal.decreases-loop-count
-decreases-loop-count g l = deque_len l.calls
+abbrev pub decreases-loop-shard : goal.decreases-loop-shard
+decreases-loop-shard g l = deque_len l.calls

@@ -1,16 +1,62 @@
-use Rattle.std.proofs.Common.{◌≡◌, ◌<◌, ap, sym, ◌∙◌, length, get_or, arith}
-use Rattle.ingester.proofs.Batching.{batches_after}
+use Rattle.std.proofs.Common.{◌≡◌, ◌<◌, ap, sym, subst, ◌∙◌, length, arith}
+use Rattle.history.specs.Handles.{Passed}
+use Rattle.owners.specs.Openings.{home_of}
+use Rattle.ingester.specs.Batches.{AreBatchesOf}
+use Rattle.std.specs.Prelude.{slice_set}
+use Rattle.ingester.proofs.Batching.{batches_joined, batches_alike, ready_still}
 use Rattle.ingester.proofs.opened.Ingester.announce_next.Goals as goal
+
+pub returns-in_err-number-clause-batches : goal.returns-in_err-number-clause-batches
+returns-in_err-number-clause-batches g c =
+    let now = c.args.self.now in
+    let k = c.shard_number-shard.result in
+    let items = c.args.ways.now.items in
+    let was = c.index_mut.result.now in
+    let shards : now.about.shards ≡ c.self.inside.count = ap (λ o. o.about.shards) (sym c.self.view_is) ∙ c.self.invariant.is_opening.shards in
+    let some = c.self.invariant.is_opening.some_shard in
+    let long = c.requires.count in
+    let routes = c.shard_number-shard.ensures in
+    let within : k < length items = omega arith in
+    let none = c.in_err-number.ensures.not in
+    subst (λ (p : Passed). AreBatchesOf now.table now.about p.caller (slice_set items k c.join.new.way)) (sym none.0)
+    (batches_alike now.table now.about c.args.pass.now.caller items k was c.join.new.way within c.index_mut.ensures.value none.2 c.requires.batches)
+
+pub returns-in_err-number-clause-ready : goal.returns-in_err-number-clause-ready
+returns-in_err-number-clause-ready g c =
+    let now = c.args.self.now in
+    let k = c.shard_number-shard.result in
+    let items = c.args.ways.now.items in
+    let was = c.index_mut.result.now in
+    let shards : now.about.shards ≡ c.self.inside.count = ap (λ o. o.about.shards) (sym c.self.view_is) ∙ c.self.invariant.is_opening.shards in
+    let some = c.self.invariant.is_opening.some_shard in
+    let long = c.requires.count in
+    let routes = c.shard_number-shard.ensures in
+    let within : k < length items = omega arith in
+    ready_still (home_of now) c.args.pass.now.caller.pass items k was c.join.new.way within c.index_mut.ensures.value c.in_err-number.ensures.rest c.requires.ready
 
 pub returns-clause-batches : goal.returns-clause-batches
 returns-clause-batches g c =
     let now = c.args.self.now in
-    let shards : now.about.shards ≡ c.self.inside.count = ap (λ o. o.about.shards) (sym c.self.view_is) ∙ c.self.invariant.0.shards in
     let k = c.shard_number-shard.result in
-    let some = c.self.invariant.0.some_shard in
+    let items = c.args.ways.now.items in
+    let was = c.index_mut.result.now in
+    let shards : now.about.shards ≡ c.self.inside.count = ap (λ o. o.about.shards) (sym c.self.view_is) ∙ c.self.invariant.is_opening.shards in
+    let some = c.self.invariant.is_opening.some_shard in
     let long = c.requires.count in
     let routes = c.shard_number-shard.ensures in
-    let within : k < length c.args.batches.now = omega arith in
-    let was = get_or c.args.batches.now k c.index-batches-shard.result in
-    batches_after now.table now.about c.args.pass.now c.join.new.pass c.args.calls.now.items c.join.new.calls.items c.args.batches.now k c.self.inside.count was c.join.new.batch c.in_ok-front.field-0.now c.join.result _ _
-    c.requires.about c.requires.pass shards c.in_ok-front.ensures.lookup routes within (ap (get_or c.args.batches.now k) c.index-batches-shard.is) c.requires.batches c.join.ensures.joined c.join.ensures.not
+    let within : k < length items = omega arith in
+    batches_joined now.table now.about c.args.pass.now c.join.new.pass c.args.calls.now.items c.join.new.calls.items items k c.self.inside.count c.in_ok-number.number was c.join.new.way c.in_ok-front.field-0.now
+    c.requires.about c.requires.pass shards c.in_ok-front.ensures.lookup routes within c.index_mut.ensures.value c.requires.batches c.in_ok-number.ensures.joined
+
+pub returns-clause-ready : goal.returns-clause-ready
+returns-clause-ready g c =
+    let now = c.args.self.now in
+    let k = c.shard_number-shard.result in
+    let items = c.args.ways.now.items in
+    let was = c.index_mut.result.now in
+    let shards : now.about.shards ≡ c.self.inside.count = ap (λ o. o.about.shards) (sym c.self.view_is) ∙ c.self.invariant.is_opening.shards in
+    let some = c.self.invariant.is_opening.some_shard in
+    let long = c.requires.count in
+    let routes = c.shard_number-shard.ensures in
+    let within : k < length items = omega arith in
+    ready_still (home_of now) c.args.pass.now.caller.pass items k was c.join.new.way within c.index_mut.ensures.value c.in_ok-number.ensures.rest c.requires.ready

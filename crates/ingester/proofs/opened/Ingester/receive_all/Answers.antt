@@ -1,23 +1,60 @@
-use Rattle.std.proofs.Common.{◌∙◌, arith}
+use Rattle.std.proofs.Common.{rules, ◌<◌, length, length-set, sym, ap, ◌∙◌, subst, arith}
+use Rattle.std.specs.Prelude.{Some, slice_index_or}
+use Rattle.std.proofs.lemmas.Option.{slice_get-get_or}
+use Rattle.owners.specs.Openings.{home_of}
+use Rattle.owners.specs.Ways.{IsWay}
+use Rattle.owners.proofs.Each.{ways_set}
+use Rattle.ingester.proofs.Batching.{below_at}
 use Rattle.ingester.proofs.Receiving.{taken_behind, receiving_more, received_more}
 use Rattle.ingester.proofs.opened.Ingester.receive_all.Goals as goal
+
+pub receive_next-requires-clause-way : goal.receive_next-requires-clause-way
+receive_next-requires-clause-way g c =
+    let inv = c.loop-i.invariant in
+    let home = home_of c.args.self.now in
+    let items = c.loop-i.ways.items in
+    let k = slice_index_or c.args.round.now.shards c.loop-i.i 0 in
+    let within : c.loop-i.i < length c.args.round.now.shards = search rules in
+    let low = below_at (length c.args.ways.now.items) c.args.round.now.shards c.loop-i.i c.requires.shards within in
+    let lt : k < length items = subst (λ n. k < n) (sym inv.long) low in
+    subst (λ p. IsWay home p k c.index_mut.result.now) (sym inv.pass) (inv.ways k c.index_mut.result.now (slice_get-get_or items k c.index_mut.result.now lt ∙ ap Some (sym c.index_mut.ensures.value)))
+
+pub returns-in-None-clause-ways : goal.returns-in-None-clause-ways
+returns-in-None-clause-ways g c =
+    let inv = c.loop-i.invariant in
+    let home = home_of c.args.self.now in
+    let items = c.loop-i.ways.items in
+    let k = slice_index_or c.args.round.now.shards c.loop-i.i 0 in
+    let within : c.loop-i.i < length c.args.round.now.shards = search rules in
+    let low = below_at (length c.args.ways.now.items) c.args.round.now.shards c.loop-i.i c.requires.shards within in
+    let lt : k < length items = subst (λ n. k < n) (sym inv.long) low in
+    ways_set (IsWay home c.args.pass.now.caller.pass) items k c.receive_next.new.way lt inv.ways (subst (λ p. IsWay home p k c.receive_next.new.way) inv.pass c.in-None.ensures.way)
 
 pub loop-i-preserved : goal.loop-i-preserved
 loop-i-preserved g c =
     let inv = c.loop-i.invariant in
     let now = c.args.self.now in
     let was = c.loop-i.pass in
-    let new = c.receive_next-came.new.pass in
-    let taken = c.receive_next-came.ensures.taken in
-    let behind = taken_behind now was new c.receive_next-came.result taken in
-    let more = receiving_more now was new c.args.first c.loop-i.i c.args.count behind inv.numbers inv.waiting (omega arith) in
+    let new = c.receive_next.new.pass in
+    let home = home_of now in
+    let items = c.loop-i.ways.items in
+    let k = slice_index_or c.args.round.now.shards c.loop-i.i 0 in
+    let within : c.loop-i.i < length c.args.round.now.shards = search rules in
+    let low = below_at (length c.args.ways.now.items) c.args.round.now.shards c.loop-i.i c.requires.shards within in
+    let lt : k < length items = subst (λ n. k < n) (sym inv.long) low in
+    let taken = c.in-Some.ensures.taken in
+    let behind = taken_behind now was new c.in-Some.came taken in
+    let more = receiving_more now was new c.args.round.now.first c.loop-i.i c.args.round.now.count behind inv.numbers inv.waiting (omega arith) in
     record {
-      received = received_more now c.args.pass.now was new c.args.outcomes.now.items c.loop-i.outcomes.items c.push_back_reserved.new.self.items c.loop-i.i c.receive_next-came.result inv.received c.push_back_reserved.ensures.items taken;
+      received = received_more now c.args.pass.now was new c.args.outcomes.now.items c.loop-i.outcomes.items c.push_back_reserved.new.self.items c.loop-i.i c.in-Some.came inv.received c.push_back_reserved.ensures.items taken;
       numbers = more.numbers;
       waiting = more.waiting;
       rested = behind.rested inv.rested;
       table = behind.table ∙ inv.table;
       about = behind.about ∙ inv.about;
+      pass = behind.pass ∙ inv.pass;
+      ways = ways_set (IsWay home c.args.pass.now.caller.pass) items k c.receive_next.new.way lt inv.ways (subst (λ p. IsWay home p k c.receive_next.new.way) inv.pass c.in-Some.ensures.way);
+      long = length-set items k c.receive_next.new.way ∙ inv.long;
       len = let had = inv.len in let long = c.push_back_reserved.ensures.len in omega arith;
       capacity = c.push_back_reserved.ensures.capacity ∙ inv.capacity;
     }

@@ -1,0 +1,40 @@
+//! `answer_cases FILE..`: serves connections over a list of what comes of their calls, as the rows of the files say,
+//! and prints each row that comes out otherwise.
+#![tactic(auto)]
+
+mod listed;
+mod plan;
+mod script;
+mod serving;
+
+use crate::plan::Plan;
+use anyhow::{Result, anyhow};
+use rows::{Tally, rows_of};
+use std::rt::{Env, Files};
+use std::sync::Wait;
+use std::{env, fs};
+
+fn main(rt: HostRuntime) -> Result<()> {
+    let mut tally = Tally::new();
+    for file in env::args(&rt)?.skip(1) {
+        take_file(&rt, file.as_str(), &mut tally)?;
+    }
+    tally.end(&rt)
+}
+
+fn take_file<R: Files + Print + Wait + AllocGlobal>(
+    rt: &R,
+    file: &str,
+    tally: &mut Tally,
+) -> Result<()> {
+    let alloc = rt.alloc();
+    let text = fs::read_to_string(rt, file)?;
+    for row in rows_of(alloc, text.as_str())?.iter() {
+        let mut said = String::new(alloc);
+        Plan::read(alloc, &row.given)
+            .and_then(|plan| serving::serve_plan(rt, alloc, &plan, &mut said))
+            .map_err(|error| anyhow!("{}: {error}", row.name))?;
+        tally.judge(rt, row, said.as_str())?;
+    }
+    Ok(())
+}

@@ -1,0 +1,47 @@
+use crate::script::Told;
+use anyhow::{Result, anyhow};
+use rows::word_of;
+use std::alloc::Global;
+use wire::Connection;
+
+/// What a row asks for: what comes of the calls, and a connection.
+#[derive(Drop)]
+pub struct Plan {
+    /// What comes of the first calls. Those after them are stored.
+    pub list: Vec<Told>,
+    /// What comes of a call and all after it, where the connection is served again for each of its calls.
+    pub at_each: Option<Told>,
+    pub connection: Connection,
+}
+
+impl Plan {
+    /// Reads the lines of a row.
+    ///
+    /// # Errors
+    /// A line that is none of a row; want of memory.
+    pub fn read(alloc: Global, lines: &[&str]) -> Result<Plan> {
+        let mut plan = Plan {
+            list: Vec::new(alloc),
+            at_each: None,
+            connection: Connection::new(alloc),
+        };
+        for line in lines {
+            plan.take_line(line)
+                .map_err(|error| anyhow!("{line}: {error}"))?;
+        }
+        Ok(plan)
+    }
+
+    fn take_line(&mut self, line: &str) -> Result<()> {
+        match word_of(line) {
+            ("comes", names) => {
+                for name in names.split(' ') {
+                    self.list.push(Told::find(name)?)?;
+                }
+            }
+            ("at_each", name) => self.at_each = Some(Told::find(name)?),
+            _ => self.connection.take_line(line)?,
+        }
+        Ok(())
+    }
+}

@@ -1,0 +1,107 @@
+-- From how the calls of a request went to its answer.
+use Rattle.std.proofs.Common.{◌≡◌, ℕ, ◌+◌, ◌<◌, ◌≤◌, ◌^◌, All, sum_by, List, [], ◌∷◌, map, length, Some, Result, Ok, Err, refl, sym, ap, ap₂, ◌∙◌, subst, inr, arith}
+use Rattle.accept.specs.declared.call.Call.{Call}
+use Rattle.accept.specs.declared.call.Reply.{Reply}
+use Rattle.pushjson.specs.declared.fault.PushFault.{PushFault}
+use Rattle.pushjson.specs.declared.fault.PushFault.TheVariants.{NotJson, WrongShape, BadTime, TooManyEntries, Memory}
+use Rattle.pushjson.specs.declared.push.RawBatch.{RawBatch}
+use Rattle.requests.specs.Answers.{failure_body}
+use Rattle.requests.specs.declared.answer.Answer.{Answer}
+use Rattle.requests.specs.declared.failure.Failure.{Failure}
+use Rattle.requests.specs.declared.failure.Failure.TheVariants.{OutOfMemory}
+use Rattle.requests.specs.declared.status.Status.TheVariants.{InternalServerError}
+use Rattle.requests.specs.declared.route.Route.{Route}
+use Rattle.requests.specs.declared.route.Route.TheVariants.{Push, Read, Trim}
+use Rattle.answering.specs.declared.calling.Asked.{Asked}
+use Rattle.answering.specs.declared.calling.Came.{Came}
+use Rattle.answering.specs.declared.calling.Came.TheVariants as cames
+use Rattle.answering.specs.declared.responding.Halt.{Halt}
+use Rattle.answering.specs.declared.responding.Halt.TheVariants.{Failed, GivenUp}
+use Rattle.answering.specs.Asking.{AsksFor, IsCallOf, IsLawful, asked_push, one_of}
+use Rattle.pushjson.specs.Bodies.{Stream, batch_of, entry_of, entry_count}
+use Rattle.std.proofs.lemmas.List.{length-map}
+use Rattle.std.proofs.lemmas.List.Sums.{sum_by-cons, get_or-le-sum_by}
+use Rattle.answering.specs.Courses.{Course, Unread, Whole, Broken, fault_failure, StreamEnds}
+use Rattle.answering.specs.Parts.{BodyIsRefused, StreamIsAnswered, OneIsAnswered, BodyIsAnswered}
+use Rattle.answering.specs.Replies.{one_status, one_text}
+use Rattle.answering.specs.Showing.{Shows}
+use Rattle.answering.specs.Responses.{RequestEnds, cames_status, cames_text, status_for, text_for, failure_in, fault_status, fault_text}
+
+-- it asks for one stream
+abbrev pub IsOfOne : Route → Type 0
+IsOfOne Push = ⊥
+IsOfOne Read = Unit {0}
+IsOfOne Trim = Unit {0}
+
+shows_one : (route : Route) → IsOfOne route → (came : Came) (answer : Answer) → Shows (one_status came) (one_text came) answer → Shows (cames_status route (came ∷ [])) (cames_text route (came ∷ [])) answer
+shows_one Push never came answer shows = absurd never
+shows_one Read single came answer shows = shows
+shows_one Trim single came answer shows = shows
+
+module _ {H : Type 0} (gives : H → Call → Result Reply Failure → H → Type 0) (now : ℕ) (tenant body : List ℕ) where
+  pub refused : (route : Route) (h : H) (fault : PushFault) (result : Result Answer Halt) → AsksFor route now body (Err fault) → BodyIsRefused fault result → RequestEnds gives route now tenant body h result h
+  refused route h fault (Ok answer) asks (none, shows) = (Unread fault, record { asked = Err fault; asks = asks; goes = (refl, refl) }, none, shows)
+  refused route h fault (Err (Failed failure)) asks some = (Unread fault, record { asked = Err fault; asks = asks; goes = (refl, refl) }, some)
+  refused route h fault (Err GivenUp) asks none = record { asked = Err fault; asks = asks; left = (none, refl) }
+
+  -- a read or a trim
+  pub one : (route : Route) → IsOfOne route → (h h' : H) (asked : Result Asked PushFault) (result : Result Answer Halt) → AsksFor route now body (one_of asked) → OneIsAnswered gives tenant h asked result h' → RequestEnds gives route now tenant body h result h'
+  one route single h h' (Err fault) result asks (is, same) = subst (λ k. RequestEnds gives route now tenant body h result k) (sym same) (refused route h fault result asks is)
+  one route single h h' (Ok asked) (Ok answer) asks (came, comes, whole, shows) =
+      (Whole (came ∷ []), record { asked = Ok (asked ∷ []); asks = asks; goes = (asked ∷ [], refl, (h', comes, refl), whole) }, refl, shows_one route single came answer shows)
+  one route single h h' (Ok asked) (Err (Failed failure)) asks (cames, ends) = (Broken cames failure, record { asked = Ok (asked ∷ []); asks = asks; goes = (asked ∷ [], refl, ends) }, refl)
+  one route single h h' (Ok asked) (Err GivenUp) asks stops = record { asked = Ok (asked ∷ []); asks = asks; left = stops }
+
+  pub push : (h h' : H) (all : List Asked) (result : Result Answer Halt) → AsksFor Push now body (Ok all) → BodyIsAnswered gives tenant h all result h' → RequestEnds gives Push now tenant body h result h'
+  push h h' all (Ok answer) asks (cames, each, whole, shows) = (Whole cames, record { asked = Ok all; asks = asks; goes = (all, refl, each, whole) }, refl, shows)
+  push h h' all (Err (Failed failure)) asks (cames, ends) = (Broken cames failure, record { asked = Ok all; asks = asks; goes = (all, refl, ends) }, refl)
+  push h h' all (Err GivenUp) asks stops = record { asked = Ok all; asks = asks; left = stops }
+
+-- a failure is answered by 500 and its text
+fault_is_500 : (fault : PushFault) (failure : Failure) → fault_failure fault ≡ Some failure → (InternalServerError ≡ fault_status fault) × (failure_body failure ≡ fault_text fault)
+fault_is_500 NotJson failure e = absurd (cc)
+fault_is_500 WrongShape failure e = absurd (cc)
+fault_is_500 (BadTime i j) failure e = absurd (cc)
+fault_is_500 TooManyEntries failure e = absurd (cc)
+fault_is_500 Memory failure e = let same : OutOfMemory ≡ failure = cc in (refl, ap failure_body (sym same))
+
+pub is_500 : (route : Route) (course : Course) (failure : Failure) → failure_in course ≡ Some failure → (InternalServerError ≡ status_for route course) × (failure_body failure ≡ text_for route course)
+is_500 route (Unread fault) failure e = fault_is_500 fault failure e
+is_500 route (Whole cames) failure e = absurd (cc)
+is_500 route (Broken cames other) failure e = let same : other ≡ failure = cc in (refl, ap failure_body (sym same))
+
+module _ {H : Type 0} (gives : H → Call → Result Reply Failure → H → Type 0) (tenant : List ℕ) (h : H) (asked : Asked) where
+  -- the one call of a read or a trim failed
+  pub fails : (h' : H) (call : Call) (failure : Failure) → IsCallOf tenant asked call → gives h call (Err failure) h' → StreamEnds gives tenant h asked (Err failure) h'
+  fails h' call failure is given = (
+    cames.Failed failure ∷ [],
+    inr (record { done = asked ∷ []; more = []; split = refl; each = (h', (call, is, given), refl); fails = refl; few = omega arith }),
+  )
+
+  -- there was no memory for its answer
+  pub leaves : (h' : H) (came : Came) → StreamEnds gives tenant h asked (Ok came) h' → StreamIsAnswered gives tenant h asked (Err GivenUp) h'
+  leaves h' came (comes, whole) = record {
+    done = asked ∷ [];
+    more = [];
+    cames = [];
+    last = came;
+    behind = [];
+    split = refl;
+    each = (h', comes, refl);
+    whole = whole;
+    few = omega arith;
+  }
+
+counted : (streams : List Stream) → sum_by (λ b. length b.entries) (map batch_of streams) ≡ entry_count streams
+counted [] = refl
+counted (s ∷ streams) =
+    sum_by-cons (λ b. let b' : RawBatch = b in length b'.entries) (batch_of s) (map batch_of streams)
+    ∙ ap₂ ◌+◌ (length-map s.values entry_of) (counted streams) ∙ sym (sum_by-cons (λ s'. let t : Stream = s' in length t.values) s streams)
+
+-- what a push may be made of
+pub lawful : (now : ℕ) (batches : List RawBatch) (streams : List Stream) → now < 2 ^ 63 → All (λ b. All (λ e. e.time < 2 ^ 63) b.entries) batches
+    → entry_count streams ≤ 10000 → batches ≡ map batch_of streams → All (λ b. IsLawful (asked_push now b).want) batches
+lawful now batches streams clock range few is k d within =
+    let here = get_or-le-sum_by (λ b. let b' : RawBatch = b in length b'.entries) batches k d within in
+    let all = ap (sum_by (λ b. let b' : RawBatch = b in length b'.entries)) is ∙ counted streams in
+    (clock, range k d within, omega (arith, here, all, few))

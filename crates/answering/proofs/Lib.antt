@@ -1,0 +1,7 @@
+pub mod Bodies
+pub mod Going
+pub mod Noting
+pub mod Objects
+pub mod Pushing
+pub mod Stepping
+pub mod Turning

@@ -1,0 +1,41 @@
+-- Lines that follow one another.
+use Rattle.std.proofs.Common.{◌≡◌, ℕ, suc, ◌+◌, ◌<◌, Bool, ◌||◌, List, [], ◌∷◌, ◌++◌, length, get_or, drop, Result, Ok, Err, OnOk, sym, ap, ◌∙◌, append_assoc, add-one, add-zero, zero-add, drop-cons, arith}
+use Rattle.std.proofs.Math.Bool.{or_assoc, or-false}
+use Rattle.std.proofs.lemmas.List.{append-nil}
+use Rattle.std.specs.List.{list_any}
+use Rattle.accept.specs.declared.outcome.Outcome.{Outcome}
+use Rattle.answering.specs.declared.calling.Came.{Came}
+use Rattle.answering.specs.declared.lines.PushLines.{PushLines}
+use Rattle.answering.specs.Lines.{outcome_line, outcome_lines, came_lines, lines_from, has_no_room, is_unavailable}
+use Rattle.answering.specs.Telling.{Tells}
+
+-- one outcome more is written
+pub one_more : (text whole : List ℕ) (i k : ℕ) (os : List Outcome) (o : Outcome) → k < length os → o ≡ get_or os k o → text ++ outcome_lines i k (drop k os) ≡ whole
+    → (text ++ outcome_line i k o) ++ outcome_lines i (k + 1) (drop (k + 1) os) ≡ whole
+one_more text whole i k os o within is so_far =
+    let cut : drop k os ≡ o ∷ drop (k + 1) os = rw add-one (drop-cons os k o within ∙ ap (λ x. x ∷ drop (suc k) os) (sym is)) in
+    append_assoc text (outcome_line i k o) (outcome_lines i (k + 1) (drop (k + 1) os)) ∙ ap (λ l. text ++ outcome_lines i k l) (sym cut) ∙ so_far
+
+-- one stream more
+pub lines_push : (i : ℕ) (cs : List Came) (c : Came) → lines_from i (cs ++ c ∷ []) ≡ lines_from i cs ++ came_lines (i + length cs) c
+lines_push i [] c = append-nil (came_lines i c) ∙ ap (λ k. came_lines k c) (sym (add-zero i))
+lines_push i (d ∷ cs) c =
+    let count : (i + 1) + length cs ≡ i + suc (length cs) = omega arith in
+    ap (λ l. came_lines i d ++ l) (lines_push (i + 1) cs c) ∙ sym (append_assoc (came_lines i d) (lines_from (i + 1) cs) (came_lines ((i + 1) + length cs) c))
+    ∙ ap (λ k. (came_lines i d ++ lines_from (i + 1) cs) ++ came_lines k c) count
+
+pub any_push : {A : Type 0} (p : A → Bool) (xs : List A) (x : A) → list_any p (xs ++ x ∷ []) ≡ (list_any p xs || p x)
+any_push p [] x = or-false (p x)
+any_push p (y ∷ ys) x = ap (λ b. p y || b) (any_push p ys x) ∙ sym (or_assoc (p y) (list_any p ys) (p x))
+
+pub on_ok : {E : Type 0} (r : Result (Unit {0}) E) (P Q : Type 0) → (P → Q) → OnOk r P → OnOk r Q
+on_ok (Ok u) P Q f p = f p
+on_ok (Err e) P Q f p = tt
+
+pub noted : (cames : List Came) (c : Came) (stream : ℕ) (old new : PushLines) → Tells cames old → stream ≡ length cames → new.text.items ≡ old.text.items ++ came_lines stream c
+    → new.no_room ≡ (old.no_room || has_no_room c) → new.unavailable ≡ (old.unavailable || is_unavailable c) → Tells (cames ++ c ∷ []) new
+noted cames c stream old new tells count text no_room unavailable = record {
+  text = text ∙ ap (λ l. l ++ came_lines stream c) tells.text ∙ ap (λ k. lines_from 0 cames ++ came_lines k c) (count ∙ sym (zero-add (length cames))) ∙ sym (lines_push 0 cames c);
+  no_room = no_room ∙ ap (λ b. b || has_no_room c) tells.no_room ∙ sym (any_push has_no_room cames c);
+  unavailable = unavailable ∙ ap (λ b. b || is_unavailable c) tells.unavailable ∙ sym (any_push is_unavailable cames c);
+}

@@ -1,0 +1,13 @@
+pub mod Asking
+pub mod Calls
+pub mod Courses
+pub mod Lines
+pub mod Parts
+pub mod Replies
+pub mod Responses
+pub mod Serving
+pub mod Showing
+pub mod Steps
+pub mod Telling
+pub mod Turns
+pub mod Windows

@@ -1,0 +1,79 @@
+ghost use Rattle.std.specs.Prelude.{◌≡◌, ◌≤◌, [], All, Result, map};
+ghost use Rattle.std.specs.VecDeque.{deque_len, deque_capacity};
+ghost use Rattle.accept.specs.Calls.{AreNumbers};
+ghost use Rattle.accept.specs.declared.call.Call.{Call};
+ghost use Rattle.accept.specs.declared.call.Reply.{Reply};
+ghost use Rattle.requests.specs.declared.failure.Failure.{Failure};
+ghost use Rattle.answering.specs.Calls.{AreGiven};
+
+use accept::{Call, Reply};
+use requests::Failure;
+use std::alloc::Global;
+use std::collections::VecDeque;
+use std::sync::Wait;
+
+/// What makes the calls of requests.
+pub trait Calls {
+    /// What a caller keeps from call to call.
+    type Pass;
+
+    /// What came of one call of several.
+    type Outcome: Drop;
+
+    /// By this pass calls may be made.
+    ghost is_ready: { Self → Self.Pass → Type 0 };
+
+    /// From what a pass knew, a call and what came of it, to what the pass knows then. A call has a reply, or it fails,
+    /// and its request is answered by a status 500.
+    ghost gives: { Self → Self.Pass → Call → Result Reply Failure → Self.Pass → Type 0 };
+
+    /// What came of a call, by its outcome.
+    ghost told: { Self.Outcome → Result Reply Failure };
+
+    /// Makes a call.
+    ///
+    /// # Errors
+    ///
+    /// Why the request that asks for it ends.
+    fn call<R: Wait>(
+        &self,
+        rt: &R,
+        alloc: Global,
+        pass: &mut Self::Pass,
+        call: Call,
+    ) -> Result<Reply, Failure>
+        requires ready { is_ready self.now pass.old }
+        requires numbers { AreNumbers call }
+        ensures ready { is_ready self.now pass.new }
+        ensures gives { gives self.now pass.old call result pass.new };
+
+    /// Makes up to 64 calls, as if by `call` one after another in their order. They are taken out of `calls`, and the
+    /// outcome of each is put into `outcomes`, which has room for them.
+    fn call_all<R: Wait>(
+        &self,
+        rt: &R,
+        alloc: Global,
+        pass: &mut Self::Pass,
+        calls: &mut VecDeque<Call>,
+        outcomes: &mut VecDeque<Self::Outcome>,
+    )
+        requires ready { is_ready self.now pass.old }
+        requires few { deque_len calls.old ≤ 64 }
+        requires numbers { All AreNumbers calls.old.items }
+        requires empty { outcomes.old.items ≡ [] }
+        requires room { deque_len calls.old ≤ deque_capacity outcomes.old }
+        ensures ready { is_ready self.now pass.new }
+        ensures given { AreGiven (gives self.now) pass.old calls.old.items (map told outcomes.new.items) pass.new }
+        ensures taken { calls.new.items ≡ [] }
+        ensures lens { (deque_len calls.new ≡ 0) × (deque_len outcomes.new ≡ deque_len calls.old) }
+        ensures capacities { (deque_capacity calls.new ≡ deque_capacity calls.old)
+            × (deque_capacity outcomes.new ≡ deque_capacity outcomes.old) };
+
+    /// What came of a call.
+    ///
+    /// # Errors
+    ///
+    /// Why the request that asks for it ends.
+    fn told(outcome: Self::Outcome) -> Result<Reply, Failure>
+        ensures { result ≡ told outcome };
+}

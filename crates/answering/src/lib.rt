@@ -1,0 +1,19 @@
+//! HTTP/1.1 over what makes calls: from the bytes of a connection to calls, and from their replies to bytes.
+#![tactic(auto)]
+
+mod calling;
+mod calls;
+mod clock;
+mod lines;
+mod replies;
+mod responding;
+mod serving;
+mod taking;
+mod window;
+
+pub use calls::Calls;
+pub use clock::Clock;
+pub use replies::answer_of_read;
+pub use requests::{Answer, Failure, Route, ServeFault, Served, Status};
+pub use responding::answer;
+pub use serving::serve;

@@ -1,0 +1,229 @@
+//! The lines of the answer to a push.
+ghost use Rattle.std.specs.Prelude.{◌≡◌, ◌++◌, [], List, decimal, OnOk, codes};
+ghost use Rattle.answering.specs.Lines.{label_words, stream_line, entry_front, entry_line, newline, outcome_line, outcome_lines, reply_lines, reply_has_no_room, reply_is_unavailable, worst_status, push_status, lines_from};
+ghost use Rattle.answering.specs.Showing.{Shows};
+ghost use Rattle.answering.specs.Telling.{Tells, NotesNext};
+ghost use Rattle.answering.specs.declared.calling.Came.{Came};
+
+use crate::calling::Came;
+use accept::{Outcome, Reply};
+use labels::LabelFault;
+use requests::{Answer, Status};
+use std::alloc::{AllocError, Global};
+use std::io::Write;
+
+/// What is answered to a push while its streams are taken: a line for each refusal, in the order of the
+/// body, with streams and entries counted from 0.
+#[derive(Debug, Drop)]
+pub(crate) struct PushLines {
+    text: Vec<u8>,
+    no_room: bool,
+    unavailable: bool,
+}
+
+pub(crate) fn push_number(text: &mut Vec<u8>, number: u64) -> Result<(), AllocError>
+    ensures { OnOk result (text.new.items ≡ text.old.items ++ decimal number) }
+{
+    write!(text, "{number}").map_err(|_| AllocError)
+}
+
+fn label_words(fault: LabelFault) -> &'static [u8]
+    ensures { result.now ≡ label_words fault }
+{
+    match fault {
+        LabelFault::NoLabels => b"no labels",
+        LabelFault::TooManyLabels => b"more than 15 labels",
+        LabelFault::BadName => b"bad label name",
+        LabelFault::NameTooLong => b"label name too long",
+        LabelFault::EmptyValue => b"empty label value",
+        LabelFault::ValueTooLong => b"label value too long",
+        LabelFault::NameTwice => b"label name twice",
+        LabelFault::NotCanonical => b"labels are not in canonical form",
+        LabelFault::BadTenant => b"bad tenant",
+        LabelFault::Memory => b"out of memory",
+    }
+}
+
+#[tactic(auto, unfolding(crate::specs::Lines::stream_line))]
+fn push_stream_line(text: &mut Vec<u8>, stream: usize, words: &[u8]) -> Result<(), AllocError>
+    ensures { OnOk result (text.new.items ≡ text.old.items ++ stream_line stream words.now) }
+{
+    text.extend_from_slice(b"stream ")?;
+    push_number(text, stream as u64)?;
+    text.extend_from_slice(b": ")?;
+    text.extend_from_slice(words)?;
+    text.extend_from_slice(b"\n")
+}
+
+#[tactic(auto, unfolding(crate::specs::Lines::entry_front))]
+fn push_entry_front(text: &mut Vec<u8>, stream: usize, entry: usize) -> Result<(), AllocError>
+    ensures { OnOk result (text.new.items ≡ text.old.items ++ entry_front stream entry) }
+{
+    text.extend_from_slice(b"stream ")?;
+    push_number(text, stream as u64)?;
+    text.extend_from_slice(b" entry ")?;
+    push_number(text, entry as u64)?;
+    text.extend_from_slice(b": ")
+}
+
+fn push_entry_line(
+    text: &mut Vec<u8>,
+    stream: usize,
+    entry: usize,
+    words: &[u8],
+) -> Result<(), AllocError>
+    ensures { OnOk result (text.new.items ≡ text.old.items ++ entry_line stream entry words.now) }
+{
+    push_entry_front(text, stream, entry)?;
+    text.extend_from_slice(words)?;
+    text.extend_from_slice(b"\n")
+}
+
+fn push_far_behind(
+    text: &mut Vec<u8>,
+    stream: usize,
+    entry: usize,
+    oldest: u64,
+) -> Result<(), AllocError>
+    ensures { OnOk result (text.new.items ≡ text.old.items ++ entry_front stream entry
+        ++ codes "too far behind, oldest accepted is " ++ decimal oldest ++ newline) }
+{
+    push_entry_front(text, stream, entry)?;
+    text.extend_from_slice(b"too far behind, oldest accepted is ")?;
+    push_number(text, oldest)?;
+    text.extend_from_slice(b"\n")
+}
+
+fn push_outcome(
+    text: &mut Vec<u8>,
+    stream: usize,
+    entry: usize,
+    outcome: Outcome,
+) -> Result<(), AllocError>
+    ensures { OnOk result (text.new.items ≡ text.old.items ++ outcome_line stream entry outcome) }
+{
+    match outcome {
+        Outcome::TooLong => push_entry_line(text, stream, entry, b"line too long"),
+        Outcome::BadMetadata => push_entry_line(text, stream, entry, b"bad metadata"),
+        Outcome::TooOld => push_entry_line(text, stream, entry, b"too old"),
+        Outcome::TooNew => push_entry_line(text, stream, entry, b"too new"),
+        Outcome::TooFarBehind { oldest } => push_far_behind(text, stream, entry, oldest),
+        Outcome::Repeat | Outcome::Stored => Ok(()),
+    }
+}
+
+fn push_outcomes(text: &mut Vec<u8>, stream: usize, outcomes: &[Outcome]) -> Result<(), AllocError>
+    ensures { OnOk result (text.new.items ≡ text.old.items ++ outcome_lines stream 0 outcomes.now) }
+{
+    let mut entry = 0;
+    for outcome in outcomes {
+        push_outcome(text, stream, entry, *outcome)?;
+        entry += 1;
+    }
+    Ok(())
+}
+
+fn push_reply(text: &mut Vec<u8>, stream: usize, reply: &Reply) -> Result<(), AllocError>
+    ensures { OnOk result (text.new.items ≡ text.old.items ++ reply_lines stream reply.now) }
+{
+    match reply {
+        Reply::Verdict(outcomes) => push_outcomes(text, stream, outcomes.as_slice()),
+        Reply::NoRoom => push_stream_line(text, stream, b"no room"),
+        Reply::Unavailable => push_stream_line(text, stream, b"unavailable"),
+        Reply::Entries(_) | Reply::Trimmed(_) | Reply::TrimTooNew | Reply::NoStream => Ok(()),
+    }
+}
+
+fn has_no_room(reply: &Reply) -> bool
+    ensures { result ≡ reply_has_no_room reply.now }
+{
+    match reply {
+        Reply::NoRoom => true,
+        Reply::Verdict(_)
+        | Reply::Entries(_)
+        | Reply::Trimmed(_)
+        | Reply::TrimTooNew
+        | Reply::NoStream
+        | Reply::Unavailable => false,
+    }
+}
+
+fn is_unavailable(reply: &Reply) -> bool
+    ensures { result ≡ reply_is_unavailable reply.now }
+{
+    match reply {
+        Reply::Unavailable => true,
+        Reply::Verdict(_)
+        | Reply::Entries(_)
+        | Reply::Trimmed(_)
+        | Reply::TrimTooNew
+        | Reply::NoStream
+        | Reply::NoRoom => false,
+    }
+}
+
+fn worst_status(unavailable: bool, no_room: bool, lines: &[u8]) -> Status
+    ensures { result ≡ worst_status unavailable no_room lines.now }
+{
+    if unavailable {
+        return Status::ServiceUnavailable;
+    }
+    if no_room {
+        return Status::InsufficientStorage;
+    }
+    if lines.is_empty() {
+        Status::NoContent
+    } else {
+        Status::BadRequest
+    }
+}
+
+impl PushLines {
+    /// The answer before the first stream. It takes no memory.
+    pub(crate) fn new(alloc: Global) -> PushLines
+        ensures { Tells [] result }
+    {
+        PushLines {
+            text: Vec::new(alloc),
+            no_room: false,
+            unavailable: false,
+        }
+    }
+
+    /// Takes in what came of the next stream, which has this place in the body.
+    pub(crate) fn note(&mut self, stream: usize, came: &Came) -> Result<(), AllocError>
+        ensures { NotesNext stream came.now self.old self.new result }
+    {
+        match came {
+            Came::Refused(fault) => {
+                push_stream_line(&mut self.text, stream, label_words(*fault))
+            }
+            Came::Replied(reply) => self.note_reply(stream, reply),
+            Came::Failed(_) => Ok(()),
+        }
+    }
+
+    /// Takes in the reply to the call on the next stream.
+    pub(crate) fn note_reply(&mut self, stream: usize, reply: &Reply) -> Result<(), AllocError>
+        ensures { NotesNext stream (Came.Replied reply.now) self.old self.new result }
+    {
+        self.no_room |= has_no_room(reply);
+        self.unavailable |= is_unavailable(reply);
+        push_reply(&mut self.text, stream, reply)
+    }
+
+    /// The answer after the last stream.
+    pub(crate) fn into_answer(self) -> Answer
+        ensures { (cames : List Came) → Tells cames self → Shows (push_status cames) (lines_from 0 cames) result }
+    {
+        let PushLines {
+            text,
+            no_room,
+            unavailable,
+        } = self;
+        Answer {
+            status: worst_status(unavailable, no_room, text.as_slice()),
+            body: text,
+        }
+    }
+}

@@ -1,0 +1,284 @@
+//! The answer to a request behind its head: its body, its calls in body order, status and body of its answer.
+ghost use Rattle.std.specs.Prelude.{◌≡◌, ◌<◌, ◌≤◌, ◌^◌, ℕ, List, All, IfOk, map, min, sum_by, length};
+ghost use Rattle.std.specs.VecDeque.{deque_len};
+ghost use Rattle.accept.specs.OneStream.{AreTimes};
+ghost use Rattle.requests.specs.Answers.{failure_body};
+ghost use Rattle.answering.specs.Asking.{AsksFor, IsLawful, asked_push, one_of};
+ghost use Rattle.answering.specs.Parts.{BodyIsRefused, StreamIsAnswered, OneIsAnswered, BodyIsAnswered};
+ghost use Rattle.answering.specs.Responses.{RequestIsAnswered, RequestEnds, bad_time_text};
+ghost use Rattle.answering.specs.Showing.{Shows};
+ghost use Rattle.answering.specs.Windows.{AreKeyed, AreOfStreams, IsEmpty};
+ghost use Rattle.answering.specs.declared.responding.Halt.TheVariants.{Failed, GivenUp};
+
+use crate::calling::{Asked, Keyed, Want, take_stream};
+use crate::calls::Calls;
+use crate::lines::{PushLines, push_number};
+use crate::replies::{answer_of_came, answer_of_text};
+use crate::taking::keyed_of_all;
+use crate::window::Window;
+use labels::Tenant;
+use pushjson::{PushFault, RawBatch, RawRead, RawTrim, read_push, read_query, read_trim};
+use requests::{Answer, Failure, Route, ServeFault, Status};
+use std::alloc::{AllocError, Global};
+use std::collections::VecDeque;
+use std::sync::Wait;
+
+/// Why a request has no answer of its own.
+#[derive(Clone, Copy, Debug)]
+pub(crate) enum Halt {
+    /// Its calls ended at a failure, which is answered by a status 500.
+    Failed(Failure),
+    /// There was no memory for its answer.
+    GivenUp,
+}
+
+impl From<Failure> for Halt {
+    ghost from_gives = { λ failure halt. halt ≡ Failed failure };
+
+    fn from(failure: Failure) -> Halt {
+        Halt::Failed(failure)
+    }
+}
+
+impl From<AllocError> for Halt {
+    ghost from_gives = { λ _ halt. halt ≡ GivenUp };
+
+    fn from(_refused: AllocError) -> Halt {
+        Halt::GivenUp
+    }
+}
+
+fn answer_of_bad_time(alloc: Global, stream: usize, entry: usize) -> Result<Answer, AllocError>
+    ensures { IfOk result (λ answer. Shows Status.BadRequest (bad_time_text stream entry) answer) }
+{
+    let mut body = Vec::new(alloc);
+    body.extend_from_slice(b"bad time at stream ")?;
+    push_number(&mut body, stream as u64)?;
+    body.extend_from_slice(b" entry ")?;
+    push_number(&mut body, entry as u64)?;
+    Ok(Answer {
+        status: Status::BadRequest,
+        body,
+    })
+}
+
+/// The answer to a body that is refused at its form.
+fn refuse(alloc: Global, fault: PushFault) -> Result<Answer, Halt>
+    ensures { BodyIsRefused fault result }
+{
+    let answer = match fault {
+        PushFault::NotJson => answer_of_text(alloc, Status::BadRequest, b"body is not JSON"),
+        PushFault::WrongShape => answer_of_text(alloc, Status::BadRequest, b"wrong shape"),
+        PushFault::BadTime { stream, entry } => answer_of_bad_time(alloc, stream, entry),
+        PushFault::TooManyEntries => answer_of_text(
+            alloc,
+            Status::BadRequest,
+            b"more than 10000 entries",
+        ),
+        PushFault::Memory => return Err(Halt::Failed(Failure::OutOfMemory)),
+    };
+    Ok(answer?)
+}
+
+/// Makes the calls of the streams of a push in windows, in body order.
+fn take_windows<S: Calls, R: Wait>(
+    rt: &R,
+    alloc: Global,
+    service: &S,
+    pass: &mut S::Pass,
+    mut keyed: VecDeque<Keyed>,
+    mut window: Window<S::Outcome>,
+) -> Result<Answer, Halt>
+    requires pass { S.is_ready service.now pass.old }
+    requires keyed { AreOfStreams keyed.items }
+    requires empty { IsEmpty window }
+    requires room { window.size ≡ min 64 (deque_len keyed) }
+    ensures pass { S.is_ready service.now pass.new }
+    ensures goes { (tenant : List ℕ) (all : List Asked) → AreKeyed tenant all keyed.items
+        → BodyIsAnswered (S.gives service.now) tenant pass.old all result pass.new }
+{
+    let mut lines = PushLines::new(alloc);
+    let mut stream = 0;
+    while !keyed.is_empty() {
+        stream = window.take(rt, alloc, service, pass, &mut keyed, stream, &mut lines)?;
+    }
+    Ok(lines.into_answer())
+}
+
+/// Reads the labels of all streams of a push, and then makes their calls.
+fn push_streams<S: Calls, R: Wait>(
+    rt: &R,
+    alloc: Global,
+    service: &S,
+    pass: &mut S::Pass,
+    tenant: &Tenant,
+    now: u64,
+    batches: Vec<RawBatch>,
+) -> Result<Answer, Halt>
+    requires pass { S.is_ready service.now pass.old }
+    requires lawful { All (λ b. IsLawful (asked_push now b).want) batches.items }
+    ensures pass { S.is_ready service.now pass.new }
+    ensures goes { BodyIsAnswered (S.gives service.now) tenant.now pass.old (map (asked_push now) batches.items) result
+        pass.new }
+{
+    let keyed = keyed_of_all(alloc, tenant, now, batches)?;
+    let Ok(window) = Window::new(alloc, keyed.len()) else {
+        return Err(Halt::Failed(Failure::OutOfMemory));
+    };
+    take_windows(rt, alloc, service, pass, keyed, window)
+}
+
+/// Makes the call of the one stream of a read or a trim.
+fn take_one<S: Calls, R: Wait>(
+    rt: &R,
+    alloc: Global,
+    service: &S,
+    pass: &mut S::Pass,
+    tenant: &Tenant,
+    asked: Asked,
+) -> Result<Answer, Halt>
+    requires pass { S.is_ready service.now pass.old }
+    requires lawful { IsLawful asked.want }
+    ensures pass { S.is_ready service.now pass.new }
+    ensures goes { StreamIsAnswered (S.gives service.now) tenant.now pass.old asked result pass.new }
+{
+    let came = take_stream(rt, alloc, service, pass, tenant, asked)?;
+    Ok(answer_of_came(alloc, came)?)
+}
+
+fn push<S: Calls, R: Wait>(
+    rt: &R,
+    alloc: Global,
+    service: &S,
+    pass: &mut S::Pass,
+    now: u64,
+    tenant: &Tenant,
+    body: &[u8],
+) -> Result<Answer, Halt>
+    requires pass { S.is_ready service.now pass.old }
+    requires clock { now < 2 ^ 63 }
+    ensures pass { S.is_ready service.now pass.new }
+    ensures responds { RequestEnds (S.gives service.now) Route.Push now tenant.now body.now pass.old result pass.new }
+{
+    match read_push(alloc, body) {
+        Ok(batches) => push_streams(rt, alloc, service, pass, tenant, now, batches),
+        Err(fault) => refuse(alloc, fault),
+    }
+}
+
+// What the body of a read asks for.
+fn asked_by_read(alloc: Global, body: &[u8]) -> Result<Asked, PushFault>
+    ensures asks { (now : ℕ) → AsksFor Route.Read now body.now (one_of result) }
+    ensures lawful { IfOk result (λ asked. IsLawful asked.want) }
+{
+    match read_query(alloc, body) {
+        Ok(RawRead { pairs, from, to }) => {
+            let want = Want::Read { from, to };
+            Ok(Asked { pairs, want })
+        }
+        Err(fault) => Err(fault),
+    }
+}
+
+// What the body of a trim asks for.
+fn asked_by_trim(alloc: Global, body: &[u8]) -> Result<Asked, PushFault>
+    ensures asks { (now : ℕ) → AsksFor Route.Trim now body.now (one_of result) }
+    ensures lawful { IfOk result (λ asked. IsLawful asked.want) }
+{
+    match read_trim(alloc, body) {
+        Ok(RawTrim { pairs, bound }) => {
+            let want = Want::Trim { bound };
+            Ok(Asked { pairs, want })
+        }
+        Err(fault) => Err(fault),
+    }
+}
+
+/// The answer to a read or a trim, whose body asks for this.
+fn answer_one<S: Calls, R: Wait>(
+    rt: &R,
+    alloc: Global,
+    service: &S,
+    pass: &mut S::Pass,
+    tenant: &Tenant,
+    asked: Result<Asked, PushFault>,
+) -> Result<Answer, Halt>
+    requires pass { S.is_ready service.now pass.old }
+    requires lawful { IfOk asked (λ one. IsLawful one.want) }
+    ensures pass { S.is_ready service.now pass.new }
+    ensures goes { OneIsAnswered (S.gives service.now) tenant.now pass.old asked result pass.new }
+{
+    match asked {
+        Ok(asked) => take_one(rt, alloc, service, pass, tenant, asked),
+        Err(fault) => refuse(alloc, fault),
+    }
+}
+
+/// The answer of a request, unless it failed.
+pub(crate) fn respond<S: Calls, R: Wait>(
+    rt: &R,
+    alloc: Global,
+    service: &S,
+    pass: &mut S::Pass,
+    now: u64,
+    route: Route,
+    tenant: &Tenant,
+    body: &[u8],
+) -> Result<Answer, Halt>
+    requires pass { S.is_ready service.now pass.old }
+    requires clock { now < 2 ^ 63 }
+    ensures pass { S.is_ready service.now pass.new }
+    ensures responds { RequestEnds (S.gives service.now) route now tenant.now body.now pass.old result pass.new }
+{
+    match route {
+        Route::Push => push(rt, alloc, service, pass, now, tenant, body),
+        Route::Read => answer_one(rt, alloc, service, pass, tenant, asked_by_read(alloc, body)),
+        Route::Trim => answer_one(rt, alloc, service, pass, tenant, asked_by_trim(alloc, body)),
+    }
+}
+
+fn failure_body(failure: Failure) -> &'static [u8]
+    ensures { result.now ≡ failure_body failure }
+{
+    match failure {
+        Failure::OutOfMemory => b"out of memory",
+        Failure::PassClosed => b"pass closed",
+        Failure::InDoubt => b"call in doubt",
+        Failure::LogSpent => b"log spent",
+    }
+}
+
+/// Makes the calls that a request asks for, in the order of its body, and gives status and body of its
+/// answer. The labels of all streams of a push are read first, and then their calls are made in windows of up
+/// to 64 streams. A refused stream does not stop the rest of a push. `now` is the clock in nanoseconds, below
+/// 2^63. After an answer of status 500 no call is made after the window in which one failed; calls that were
+/// made stand.
+///
+/// # Errors
+///
+/// `Memory`, where there was none for the answer. Calls made before stand.
+pub fn answer<S: Calls, R: Wait>(
+    rt: &R,
+    alloc: Global,
+    service: &S,
+    pass: &mut S::Pass,
+    now: u64,
+    route: Route,
+    tenant: &Tenant,
+    body: &[u8],
+) -> Result<Answer, ServeFault>
+    requires pass { S.is_ready service.now pass.old }
+    requires clock { now < 2 ^ 63 }
+    ensures pass { S.is_ready service.now pass.new }
+    ensures answers { RequestIsAnswered (S.gives service.now) route now tenant.now body.now pass.old result pass.new }
+{
+    match respond(rt, alloc, service, pass, now, route, tenant, body) {
+        Ok(answer) => Ok(answer),
+        Err(Halt::Failed(failure)) => Ok(answer_of_text(
+            alloc,
+            Status::InternalServerError,
+            failure_body(failure),
+        )?),
+        Err(Halt::GivenUp) => Err(ServeFault::Memory),
+    }
+}

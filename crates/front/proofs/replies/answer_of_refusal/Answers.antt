@@ -1,6 +1,0 @@
-use Rattle.std.proofs.Common.{[], ◌∷◌, refl}
-use Rattle.front.specs.declared.calling.Came.TheVariants.{Refused}
-use Rattle.front.proofs.replies.answer_of_refusal.Goals as goal
-
-pub returns : goal.returns
-returns c = c.into_answer.ensures (Refused c.args.fault ∷ []) (c.in_ok-note.ensures [] c.new-lines.ensures refl)

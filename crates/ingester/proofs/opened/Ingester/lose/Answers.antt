@@ -1,0 +1,40 @@
+use Rattle.std.proofs.Common.{rules, ◌≡◌, ◌+◌, ◌-◌, ◌<◌, ◌++◌, ◌∷◌, [], length, sym, ap, ◌∙◌, append_assoc, arith}
+use Rattle.std.specs.Prelude.{Some, Err, slice_index_or}
+use Rattle.std.proofs.lemmas.Option.{slice_get-get_or}
+use Rattle.owners.specs.Openings.{home_of}
+use Rattle.owners.specs.Ways.{IsWay}
+use Rattle.owners.proofs.Each.{ways_set}
+use Rattle.ingester.specs.declared.fault.CallFault.TheVariants.{InDoubt}
+use Rattle.ingester.specs.Batches.{doubts}
+use Rattle.ingester.proofs.Batching.{below_at}
+use Rattle.ingester.proofs.Receiving.{doubts_more}
+use Rattle.ingester.proofs.opened.Ingester.lose.Goals as goal
+
+pub take_back-requires-clause-way : goal.take_back-requires-clause-way
+take_back-requires-clause-way g c =
+    let items = c.args.ways.now.items in
+    let k = slice_index_or c.args.round.now.shards c.args.from 0 in
+    let within : c.args.from < length c.args.round.now.shards = search rules in
+    let lt = below_at (length items) c.args.round.now.shards c.args.from c.requires.shards within in
+    c.requires.ways k c.index_mut.result.now (slice_get-get_or items k c.index_mut.result.now lt ∙ ap Some (sym c.index_mut.ensures.value))
+
+pub loop-preserved : goal.loop-preserved
+loop-preserved g c =
+    let inv = c.loop.invariant in
+    let was = c.args.outcomes.now.items in
+    let least = inv.least in
+    let next : (c.loop.counter - c.args.from) + 1 ≡ (c.loop.counter + 1) - c.args.from = omega arith in
+    record {
+      least = omega arith;
+      items = c.push_back_reserved.ensures.items ∙ (ap (λ l. l ++ Err InDoubt ∷ []) inv.items ∙ (append_assoc was (doubts (c.loop.counter - c.args.from)) (Err InDoubt ∷ []) ∙ ap (λ l. was ++ l) (sym (doubts_more (c.loop.counter - c.args.from)) ∙ ap doubts next)));
+      len = let had = inv.len in let long = c.push_back_reserved.ensures.len in omega arith;
+      capacity = c.push_back_reserved.ensures.capacity ∙ inv.capacity;
+    }
+
+pub returns-clause-ways : goal.returns-clause-ways
+returns-clause-ways g c =
+    let items = c.args.ways.now.items in
+    let k = slice_index_or c.args.round.now.shards c.args.from 0 in
+    let within : c.args.from < length c.args.round.now.shards = search rules in
+    let lt = below_at (length items) c.args.round.now.shards c.args.from c.requires.shards within in
+    ways_set (IsWay (home_of c.args.self.now) c.args.pass.now.caller.pass) items k c.take_back.new.way lt c.requires.ways c.take_back.ensures.way

@@ -1,0 +1,22 @@
+-- What comes of the only open call of a pass.
+use Rattle.std.specs.Prelude.{◌≡◌, [], false}
+use Rattle.accept.specs.declared.call.Call.{Call}
+use Rattle.history.specs.Plays.{IsRested}
+use Rattle.history.specs.Handles.{Passed}
+use Rattle.owners.specs.declared.ways.Came.{Came}
+use Rattle.owners.specs.declared.ways.Came.TheVariants.{Settled, SentBack, Lost}
+use Rattle.owners.specs.Homes.{Homed}
+use Rattle.owners.specs.Calls.{IsDue}
+use Rattle.ingester.specs.Calls.{with_next}
+
+-- a pass that waited for no answer has announced this call
+pub record IsOpenWith (before : Passed) (call : Call) (pass : Passed) : Type 0 where
+  pub idle : before.caller.pending ≡ []
+  pub rested : IsRested before.caller
+  pub is : pass ≡ with_next before call
+
+-- this came of a call of the pass
+abbrev pub IsCameOf : Homed → Passed → Came → Type 0
+IsCameOf home pass (Settled s) = IsDue home pass.caller.pass s
+IsCameOf home pass (SentBack t) = (t.table ≡ pass.table) × (t.ask.pass ≡ pass.caller.pass) × (t.doubted ≡ false)
+IsCameOf home pass Lost = Unit {0}

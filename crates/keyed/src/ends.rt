@@ -1,0 +1,84 @@
+//! The ends of queues. Each keeps its own seat at its queue.
+ghost use Rattle.crossbeam_channel.specs.Claims.{IsSeatAt};
+ghost use Rattle.crossbeam_channel.specs.Ends.{sends_on, receives_on};
+
+use crate::binding::{Binding, Binds, Gets, Same, Sends};
+use crate::rule::Fits;
+use crossbeam_channel::{Pass, RuledReceiver, RuledSender};
+use std::alloc::AllocError;
+use std::sync::Wait;
+
+/// An end of a queue that sends.
+#[derive(Drop)]
+pub struct QueueSender<T: Drop, K, P: Fits<T, K>> {
+    pub(crate) to: RuledSender<T, Binding<K>, Binds<P>>,
+    pub(crate) port: Pass<T, Binding<K>>,
+    ghost seated: { IsSeatAt (sends_on to) port },
+}
+
+/// The end of a queue that receives.
+#[derive(Drop)]
+pub struct QueueReceiver<T: Drop, K, P: Fits<T, K>> {
+    pub(crate) from: RuledReceiver<T, Binding<K>, Binds<P>>,
+    pub(crate) port: Pass<T, Binding<K>>,
+    ghost seated: { IsSeatAt (receives_on from) port },
+}
+
+impl<T: Drop, K, P: Fits<T, K>> QueueSender<T, K, P> {
+    ghost use Rattle.std.specs.Prelude.{◌≡◌, IfOk, IfErr, IfSome};
+    ghost use Rattle.keyed.specs.Bindings.{FitsBinding, IsBound};
+    ghost use Rattle.keyed.specs.Queues.{sends_to, receives_as};
+
+    /// A further end of the same queue that sends.
+    ///
+    /// # Errors
+    ///
+    /// Want of memory.
+    pub fn another(&mut self) -> Result<QueueSender<T, K, P>, AllocError>
+        requires { IsBound (sends_to self.old) }
+        ensures same { sends_to self.new ≡ sends_to self.old }
+        ensures other { IfOk result (λ other. sends_to other ≡ sends_to self.old) }
+    {
+        let to = self.to.try_clone()?;
+        let port = self.to.another::<Same>(&mut self.port);
+        Ok(QueueSender { to, port })
+    }
+
+    /// Waits until there is room, and sends a message.
+    ///
+    /// # Errors
+    ///
+    /// The message, where the other end is gone.
+    pub fn send<R: Wait>(&mut self, rt: &R, message: T) -> Result<(), T>
+        requires { FitsBinding P.fits (sends_to self.old) message }
+        ensures same { sends_to self.new ≡ sends_to self.old }
+        ensures back { IfErr result (λ back. back ≡ message) }
+    {
+        match self.to.send_as::<Sends, R>(rt, &mut self.port, message) {
+            Ok(()) => Ok(()),
+            Err(refused) => Err(refused.into_inner()),
+        }
+    }
+}
+
+impl<T: Drop, K, P: Fits<T, K>> QueueReceiver<T, K, P> {
+    ghost use Rattle.std.specs.Prelude.{◌≡◌, IfOk, IfErr, IfSome};
+    ghost use Rattle.keyed.specs.Bindings.{FitsBinding, IsBound};
+    ghost use Rattle.keyed.specs.Queues.{sends_to, receives_as};
+
+    /// Waits for a message. None comes any more once all ends that send are gone and the queue is empty.
+    pub fn receive<R: Wait>(&mut self, rt: &R) -> Option<T>
+        ensures same { receives_as self.new ≡ receives_as self.old }
+        ensures fits { IfSome result (FitsBinding P.fits (receives_as self.old)) }
+    {
+        self.from.recv_as::<Gets<P>, R>(rt, &mut self.port).ok()
+    }
+
+    /// The next message, where one is there.
+    pub fn try_receive<R: Wait>(&mut self, rt: &R) -> Option<T>
+        ensures same { receives_as self.new ≡ receives_as self.old }
+        ensures fits { IfSome result (FitsBinding P.fits (receives_as self.old)) }
+    {
+        self.from.try_recv_as::<Gets<P>, R>(rt, &mut self.port).ok()
+    }
+}

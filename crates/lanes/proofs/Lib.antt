@@ -1,4 +1,0 @@
-pub mod Posted
-pub mod Sent
-pub mod Turning
-pub mod Waiting

@@ -1,4 +1,0 @@
-pub mod Openings
-pub mod Places
-pub mod Lanes
-pub mod Queues

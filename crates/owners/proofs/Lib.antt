@@ -1,0 +1,8 @@
+pub mod Turning
+pub mod Waiting
+pub mod Each
+pub mod Desking
+pub mod Seeding
+pub mod Sent
+pub mod Loading
+pub mod Spent

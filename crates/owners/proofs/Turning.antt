@@ -1,0 +1,264 @@
+-- What a turn leaves: the shard of its lock, what came of its calls, and calls for the next turn.
+use Rattle.std.proofs.Common.{◌≡◌, ◌⊎◌, ℕ, suc, ◌+◌, ◌<◌, ◌≤◌, Bool, true, false, cond, ◌==◌, List, [], ◌∷◌, ◌++◌, length, length-append, inl, inr, refl, sym, ap, ◌∙◌, subst, eq-eqb, arith}
+use Rattle.std.specs.Prelude.{Some, Result, Ok, Err, is_err, OnOk, slice_get}
+use Rattle.atomic_table.specs.Seated.{TableId}
+use Rattle.accept.specs.declared.history.Ask.{Ask}
+use Rattle.accept.specs.declared.call.Reply.{Reply}
+use Rattle.disk.specs.Sight.{Sight}
+use Rattle.wal.specs.Logs.{slots}
+use Rattle.history.specs.declared.views.About.{About}
+use Rattle.history.specs.Histories.{shard_in, step_of}
+use Rattle.history.specs.Handles.{Announced, Booked, Received, AreOf, asks_of}
+use Rattle.shard.specs.declared.fault.ApplyFault.{ApplyFault}
+use Rattle.shard.specs.declared.fault.ApplyFault.TheVariants.{Memory, GenerationSpent}
+use Rattle.shard.specs.declared.front.Ended.{Ended}
+use Rattle.shard.specs.declared.front.Job.{Job}
+use Rattle.shard.specs.declared.group.Settled.{Settled}
+use Rattle.shard.specs.declared.group.Settled.TheVariants.{Answered, Refused}
+use Rattle.shard.specs.Calls.{Writes, FitsBehind}
+use Rattle.shard.specs.Groups.{with_step, marked_by}
+use Rattle.shard.specs.Keeping.{moments}
+use Rattle.shard.specs.Jobs.{tickets_of, jobs_by, jobs_but, AreLawful, AreInPassTurn}
+use Rattle.shard.specs.Parts.{IsApplied}
+use Rattle.shard.specs.Queues.{settled_of}
+use Rattle.shard.specs.Shards.{Sharded}
+use Rattle.shard.specs.Turns.{AreReady, AreStepped, IsAlone, IsGivenBack, IsTurn, refused_of}
+use Rattle.shard.proofs.Turning.{pass_turn_more}
+use Rattle.owners.specs.Calls.{AreOpen, AreWaiting, AreOfCalls, IsFirstSpent, AreTurned, IsOfCall, IsSpentAsSaid, IsDueTo, pass_in, with_memory}
+use Rattle.owners.specs.Openings.{Opening}
+use Rattle.owners.specs.Places.{IsOf}
+
+-- Before the first turn.
+
+clash : true ≡ false → ⊥
+clash e = cc
+
+-- where there was memory
+pub had_memory : {T E P : Type 0} (r : Result T E) → is_err r ≡ false → OnOk r P → P
+had_memory (Ok x) e h = h
+had_memory (Err y) e h = absurd (clash e)
+
+module _ (table : TableId) (about : About) where
+  pub waiting_open : (k : ℕ) (jobs : List Job) → AreWaiting table about k jobs → AreOpen table about (tickets_of jobs)
+  waiting_open k [] h = tt
+  waiting_open k (j ∷ jobs) h = (h.0.ticket, waiting_open k jobs h.1)
+
+  module _ (book : Booked) (same_table : book.table ≡ table) (same_about : book.about ≡ about) where
+    are_of : (jobs : List Job) → AreWaiting table about book.shard jobs → AreOf book (tickets_of jobs)
+    are_of [] h = tt
+    are_of (j ∷ jobs) h = (h.0.ticket.same_table ∙ sym same_table, ap (λ (a : About). shard_in a j.ticket.ask) same_about ∙ h.0.shard, are_of jobs h.1)
+
+    are_lawful : (jobs : List Job) → AreWaiting table about book.shard jobs → AreLawful book.about book.shard jobs
+    are_lawful [] h = tt
+    are_lawful (j ∷ jobs) h = (ap (λ (a : About). shard_in a j.ticket.ask) same_about ∙ h.0.shard, h.0.call, h.0.numbers, are_lawful jobs h.1)
+
+    -- calls that wait at the shard may be made
+    pub waiting_ready : (jobs : List Job) → AreWaiting table about book.shard jobs → AreInPassTurn [] [] (tickets_of jobs) → AreReady book jobs
+    waiting_ready jobs h turn = record { of_book = are_of jobs h; lawful = are_lawful jobs h; turn = pass_turn_more [] book.items [] (tickets_of jobs) turn }
+
+  -- Tickets among others.
+
+  open_front : (xs ys : List Announced) → AreOpen table about (xs ++ ys) → AreOpen table about xs
+  open_front [] ys h = tt
+  open_front (x ∷ xs) ys h = (h.0, open_front xs ys h.1)
+
+  open_back : (xs ys : List Announced) → AreOpen table about (xs ++ ys) → AreOpen table about ys
+  open_back [] ys h = h
+  open_back (x ∷ xs) ys h = open_back xs ys h.1
+
+  open_by : (p : ℕ) (jobs : List Job) → AreOpen table about (tickets_of jobs) → AreOpen table about (tickets_of (jobs_by p jobs))
+  open_by p [] h = tt
+  open_by p (j ∷ jobs) h = pick (open_by p jobs h.1) (p == j.ticket.ask.pass)
+    where
+      pick : AreOpen table about (tickets_of (jobs_by p jobs)) → (b : Bool) → AreOpen table about (tickets_of (cond b (j ∷ jobs_by p jobs) (jobs_by p jobs)))
+      pick behind true = (h.0, behind)
+      pick behind false = behind
+
+  open_but : (p : ℕ) (jobs : List Job) → AreOpen table about (tickets_of jobs) → AreOpen table about (tickets_of (jobs_but p jobs))
+  open_but p [] h = tt
+  open_but p (j ∷ jobs) h = pick (open_but p jobs h.1) (p == j.ticket.ask.pass)
+    where
+      pick : AreOpen table about (tickets_of (jobs_but p jobs)) → (b : Bool) → AreOpen table about (tickets_of (cond b (jobs_but p jobs) (j ∷ jobs_but p jobs)))
+      pick behind true = behind
+      pick behind false = (h.0, behind)
+
+length_but : (p : ℕ) (jobs : List Job) → length (jobs_but p jobs) ≤ length jobs
+length_but p [] = omega arith
+length_but p (j ∷ jobs) = pick (length_but p jobs) (p == j.ticket.ask.pass)
+  where
+    pick : length (jobs_but p jobs) ≤ length jobs → (b : Bool) → length (cond b (jobs_but p jobs) (j ∷ jobs_but p jobs)) ≤ length (j ∷ jobs)
+    pick few true = omega arith
+    pick few false = omega arith
+
+by_first : (j : Job) (jobs : List Job) → jobs_by j.ticket.ask.pass (j ∷ jobs) ≡ j ∷ jobs_by j.ticket.ask.pass jobs
+by_first j jobs = let p = j.ticket.ask.pass in ap (λ (b : Bool). cond b (j ∷ jobs_by p jobs) (jobs_by p jobs)) (eq-eqb p p refl)
+
+but_first : (j : Job) (jobs : List Job) → jobs_but j.ticket.ask.pass (j ∷ jobs) ≡ jobs_but j.ticket.ask.pass jobs
+but_first j jobs = let p = j.ticket.ask.pass in ap (λ (b : Bool). cond b (jobs_but p jobs) (j ∷ jobs_but p jobs)) (eq-eqb p p refl)
+
+length_tickets : (jobs : List Job) → length (tickets_of jobs) ≡ length jobs
+length_tickets [] = refl
+length_tickets (j ∷ jobs) = ap suc (length_tickets jobs)
+
+-- What came of calls.
+
+module _ {D : Type 0} (opening : Opening D) where
+  settled_calls : (ts : List Announced) (moment : ℕ × ℕ) → AreOpen opening.table opening.about ts → (book : Booked) → AreTurned opening (settled_of book ts moment)
+  settled_calls [] moment h book = (tt, tt)
+  settled_calls (t ∷ ts) moment h book = (((h.0.pass, (h.0.same_table, refl)), (settled_calls ts moment h.1 (with_step book t.ask)).0), tt)
+
+  refused_calls : (fault : ApplyFault) (ts : List Announced) → AreOpen opening.table opening.about ts → AreOfCalls opening (refused_of fault ts)
+  refused_calls fault [] h = tt
+  refused_calls fault (t ∷ ts) h = ((h.0.pass, (h.0.same_table, h.0.sure)), refused_calls fault ts h.1)
+
+  -- what came of the last one
+  pub record IsLastTurned (front : List Settled) (last : Settled) : Type 0 where
+    pub front_turned : AreTurned opening front
+    pub pass : pass_in last < opening.about.passes
+    pub call : IsOfCall opening.table last
+    pub spent : front ≡ [] → IsSpentAsSaid opening last
+
+  calls_front : (front : List Settled) (last : Settled) → AreOfCalls opening (front ++ last ∷ []) → AreOfCalls opening front × (pass_in last < opening.about.passes) × IsOfCall opening.table last
+  calls_front [] last h = (tt, h.0.0, h.0.1)
+  calls_front (s ∷ front) last h = let r = calls_front front last h.1 in ((h.0, r.0), r.1, r.2)
+
+  spent_front : (front : List Settled) (last : Settled) → IsFirstSpent opening (front ++ last ∷ []) → IsFirstSpent opening front
+  spent_front [] last h = tt
+  spent_front (s ∷ front) last h = h
+
+  spent_last : (front : List Settled) (last : Settled) → IsFirstSpent opening (front ++ last ∷ []) → front ≡ [] → IsSpentAsSaid opening last
+  spent_last front last h none = subst (λ (l : List Settled). IsFirstSpent opening (l ++ last ∷ [])) none h
+
+  pub last_turned : (all front : List Settled) (last : Settled) → all ≡ front ++ last ∷ [] → AreTurned opening all → IsLastTurned front last
+  last_turned all front last e h =
+      let here = subst (AreTurned opening) e h in
+      let r = calls_front front last here.0 in
+      record { front_turned = (r.0, spent_front front last here.1); pass = r.1; call = r.2; spent = spent_last front last here.1 }
+
+  -- where there was no memory, no generation is wanted
+  pub memory_pass : (s : Settled) → pass_in (with_memory s) ≡ pass_in s
+  memory_pass (Answered reply receipt) = refl
+  memory_pass (Refused fault t) = refl
+
+  pub memory_call : (s : Settled) → IsOfCall opening.table s → IsOfCall opening.table (with_memory s)
+  memory_call (Answered reply receipt) h = h
+  memory_call (Refused fault t) h = h
+
+  pub memory_spent : (s : Settled) → IsSpentAsSaid opening (with_memory s)
+  memory_spent (Answered reply receipt) = tt
+  memory_spent (Refused fault t) = λ (e : Memory ≡ GenerationSpent). absurd (clash e)
+    where
+      clash : Memory ≡ GenerationSpent → ⊥
+      clash e = cc
+
+  -- the last one as it is told to its pass
+  abbrev pub IsTold : List Settled → Settled → Settled → Type 0
+  IsTold front last told = ((front ≡ []) × (told ≡ last)) ⊎ (told ≡ with_memory last)
+
+  pub told_pass : (front : List Settled) (last told : Settled) → IsTold front last told → pass_in told ≡ pass_in last
+  told_pass front last told (inl same) = ap pass_in same.1
+  told_pass front last told (inr less) = ap pass_in less ∙ memory_pass last
+
+  pub told_due : (front : List Settled) (last told : Settled) (p : ℕ) → IsLastTurned front last → IsTold front last told → p ≡ pass_in told → IsDueTo opening p told
+  told_due front last told p h (inl same) is = subst (λ (s : Settled). IsDueTo opening p s) (sym same.1) (record { pass = ap pass_in (sym same.1) ∙ sym is; call = h.call; spent = h.spent same.0 })
+  told_due front last told p h (inr less) is = subst (λ (s : Settled). IsDueTo opening p s) (sym less) (record { pass = ap pass_in (sym less) ∙ sym is; call = memory_call last h.call; spent = memory_spent last })
+
+-- A turn.
+
+module _ {D : Type 0} (sight : D → Sight) (follows : D → Type 0) (opening : Opening D) (old new : Sharded D) (jobs rest : List Job) (was now : List Settled) (ended : Ended) where
+  abbrev Opens : List Job → Type 0
+  Opens l = AreOpen opening.table opening.about (tickets_of l)
+
+  record IsSame : Type 0 where
+    pub table : new.book.table ≡ old.book.table
+    pub about : new.book.about ≡ old.book.about
+    pub shard : new.book.shard ≡ old.book.shard
+    pub opened : new.opened ≡ old.opened
+
+  stepped_same : (ts : List Announced) → AreStepped sight old new ts was now → new.opened ≡ old.opened → IsSame
+  stepped_same ts (inl made) opened = record { table = ap (λ (b : Booked). b.table) made.1; about = ap (λ (b : Booked). b.about) made.1; shard = ap (λ (b : Booked). b.shard) made.1; opened = opened }
+  stepped_same ts (inr lost) opened = record { table = ap (λ (b : Booked). b.table) lost.1; about = ap (λ (b : Booked). b.about) lost.1; shard = ap (λ (b : Booked). b.shard) lost.1; opened = opened }
+
+  alone_same : (t : Announced) (reply : Reply) (receipt : Received) → IsApplied sight follows old new t reply receipt → IsSame
+  alone_same t reply receipt h = elim h.step [
+    | inl m ↦ record { table = ap (λ (b : Booked). b.table) m.book; about = ap (λ (b : Booked). b.about) m.book; shard = ap (λ (b : Booked). b.shard) m.book; opened = h.opened }
+    | inr l ↦ record { table = ap (λ (b : Booked). b.table) l.book; about = ap (λ (b : Booked). b.about) l.book; shard = ap (λ (b : Booked). b.shard) l.book; opened = h.opened }
+  ]
+
+  turn_same : IsTurn sight follows old new jobs rest was now ended → IsSame
+  turn_same (inl h) = stepped_same h.front h.applied.stepped h.applied.opened
+  turn_same (inr (inl h)) = alone_same h.job.ticket h.reply h.receipt h.applied
+  turn_same (inr (inr h)) = let e = h.same in
+      record { table = ap (λ (s : Sharded D). s.book.table) e; about = ap (λ (s : Sharded D). s.book.about) e; shard = ap (λ (s : Sharded D). s.book.shard) e; opened = ap (λ (s : Sharded D). s.opened) e }
+
+  -- the shard is that of its lock
+  pub turn_of : (k : ℕ) → IsTurn sight follows old new jobs rest was now ended → IsOf opening k old → IsOf opening k new
+  turn_of k h is = let s = turn_same h in record { table = s.table ∙ is.table; about = s.about ∙ is.about; number = s.shard ∙ is.number; opened = is.opened ∙ ap Some (sym s.opened) }
+
+  -- the calls that are left are open
+  pub turn_open : IsTurn sight follows old new jobs rest was now ended → Opens jobs → Opens rest
+  turn_open (inl h) o = open_back opening.table opening.about h.front (tickets_of rest) (subst (AreOpen opening.table opening.about) h.split o)
+  turn_open (inr (inl h)) o = (subst Opens h.split o).1
+  turn_open (inr (inr h)) o = subst Opens (sym h.rest_is) (open_but opening.table opening.about h.job.ticket.ask.pass jobs o)
+
+  -- and fewer
+  pub turn_fewer : IsTurn sight follows old new jobs rest was now ended → length rest < length jobs
+  turn_fewer (inl h) =
+      let some = h.some in
+      let all : length jobs ≡ length h.front + length rest = sym (length_tickets jobs) ∙ ap length h.split ∙ length-append h.front (tickets_of rest) ∙ ap (λ n. length h.front + n) (length_tickets rest) in
+      omega arith
+  turn_fewer (inr (inl h)) = let all : length jobs ≡ length (h.job ∷ rest) = ap length h.split in omega arith
+  turn_fewer (inr (inr h)) =
+      let p = h.job.ticket.ask.pass in
+      let left : length rest ≡ length (jobs_but p h.others) = ap length (h.rest_is ∙ ap (jobs_but p) h.split ∙ but_first h.job h.others) in
+      let few = length_but p h.others in
+      let all : length jobs ≡ length (h.job ∷ h.others) = ap length h.split in
+      omega arith
+
+  stepped_turned : (front : List Announced) → AreOpen opening.table opening.about front → was ≡ [] → AreStepped sight old new front was now → AreTurned opening now
+  stepped_turned front o none (inl made) = let more = settled_of old.book front (moments (slots sight new.log)) in
+      subst (AreTurned opening) (sym (made.2 ∙ ap (λ (l : List Settled). l ++ more) none)) (settled_calls opening front (moments (slots sight new.log)) o old.book)
+  stepped_turned front o none (inr lost) = let marked = marked_by old.book (asks_of front) in let more = settled_of marked front (moments (slots sight new.log)) in
+      subst (AreTurned opening) (sym (lost.2 ∙ ap (λ (l : List Settled). l ++ more) none)) (settled_calls opening front (moments (slots sight new.log)) o marked)
+
+  alone_turned : Opens jobs → was ≡ [] → IsAlone sight follows old new jobs rest was now ended → AreTurned opening now
+  alone_turned o none h =
+      let mine = (subst Opens h.split o).0 in
+      let is = h.applied.receipt_is in
+      let ask = ap (λ (r : Received). r.step.ask) is in
+      subst (AreTurned opening) (sym (h.settled ∙ ap (λ (l : List Settled). l ++ Answered h.reply h.receipt ∷ []) none)) (
+        (
+          (
+            subst (λ (a : Ask). a.pass < opening.about.passes) (sym ask) mine.pass,
+            (ap (λ (r : Received). r.table) is ∙ mine.same_table, ap (λ (r : Received). r.step) is ∙ ap (λ (a : Ask). step_of a h.reply) (sym ask)),
+          ),
+          tt,
+        ),
+        tt,
+      )
+
+  back_turned : (k : ℕ) → IsOf opening k old → AreReady old.book jobs → Opens jobs → was ≡ [] → IsGivenBack old new jobs rest was now ended → AreTurned opening now
+  back_turned k is ready o none h =
+      let p = h.job.ticket.ask.pass in
+      let by : jobs_by p jobs ≡ h.job ∷ jobs_by p h.others = ap (jobs_by p) h.split ∙ by_first h.job h.others in
+      let all = subst Opens by (open_by opening.table opening.about p jobs o) in
+      let ready' = subst (AreReady old.book) h.split ready in
+      subst (AreTurned opening) (sym (h.settled ∙ (λ i. none i ++ refused_of h.fault (tickets_of (by i))))) (
+        refused_calls opening h.fault (tickets_of (h.job ∷ jobs_by p h.others)) all,
+        λ (cause : h.fault ≡ GenerationSpent). record {
+          shard = old;
+          about = is.about;
+          number = sym ready'.of_book.1 ∙ ap (λ (a : About). shard_in a h.job.ticket.ask) is.about;
+          opened = subst (λ (n : ℕ). slice_get opening.logs n ≡ Some old.opened) (sym is.number ∙ sym ready'.of_book.1 ∙ ap (λ (a : About). shard_in a h.job.ticket.ask) is.about) is.opened;
+          last = (h.spent cause).0;
+          writes = subst (λ c. Writes old.book c) (sym ready'.lawful.1) (h.spent cause).1;
+          full = subst (λ c. ¬ FitsBehind old.log old.book c) (sym ready'.lawful.1) (h.spent cause).2;
+          late = h.late cause;
+        },
+      )
+
+  -- what came of the calls
+  pub turn_turned : (k : ℕ) → IsTurn sight follows old new jobs rest was now ended → IsOf opening k old → AreReady old.book jobs → Opens jobs → was ≡ [] → AreTurned opening now
+  turn_turned k (inl h) is ready o none = stepped_turned h.front (open_front opening.table opening.about h.front (tickets_of rest) (subst (AreOpen opening.table opening.about) h.split o)) none h.applied.stepped
+  turn_turned k (inr (inl h)) is ready o none = alone_turned o none h
+  turn_turned k (inr (inr h)) is ready o none = back_turned k is ready o none h

@@ -1,0 +1,35 @@
+use Rattle.std.proofs.Common.{rules, ◌≡◌, ◌+◌, ◌≤◌, ◌∷◌, [], length, length-append, sym, ap, ◌∙◌, subst}
+use Rattle.std.specs.Prelude.{Some}
+use Rattle.std.specs.VecDeque.{deque_len}
+use Rattle.keyed.proofs.Filling.{fit_more}
+use Rattle.owners.specs.Homes.{Homed}
+use Rattle.owners.specs.Seeds.{IsSeed, IsRow, AreRows}
+use Rattle.owners.proofs.Each.{each_next}
+use Rattle.owners.proofs.rows.make_rows.Goals as goal
+
+pub loop-shard-preserved : goal.loop-shard-preserved
+loop-shard-preserved c =
+    let inv = c.loop-shard.invariant in
+    record {
+      seeds = each_next (IsSeed c.args.home.now 0) c.loop-shard.seeds.items c.push_back_reserved.new.self.items c.in_ok-make_seed.field-0 c.loop-shard.shard inv.len c.push_back_reserved.ensures.items inv.seeds c.in_ok-make_seed.ensures.seed;
+      len = ap length c.push_back_reserved.ensures.items ∙ (length-append c.loop-shard.seeds.items (c.in_ok-make_seed.field-0 ∷ []) ∙ ap (λ n. n + 1) inv.len);
+      room = subst (λ n. c.args.shards ≤ n) (sym c.push_back_reserved.ensures.capacity) inv.room;
+    }
+
+pub loop-pass-preserved : goal.loop-pass-preserved
+loop-pass-preserved c =
+    let inv = c.loop-pass.invariant in
+    let made = c.in_ok-make_row.ensures in
+    let home = c.args.home.now in
+    let old = inv.len in
+    let long-old : deque_len c.loop-pass.seeds ≡ c.args.shards = search (rules, old) in
+    let long : length c.make_row.new.seeds.items ≡ length c.loop-pass.seeds.items = search (rules, made.len) in
+    record {
+      seeds = made.seeds;
+      len = long ∙ inv.len;
+      rows = subst (AreRows home c.args.shards) (sym c.push_reserved.ensures.items)
+          (fit_more (λ (h : Homed) p row. IsRow h c.args.shards p row.items) home c.loop-pass.rows.items c.in_ok-make_row.field-0 inv.rows
+          (subst (λ n. IsRow home n (length c.loop-pass.rows.items) c.in_ok-make_row.field-0.items) long-old (subst (λ p. IsRow home (deque_len c.loop-pass.seeds) p c.in_ok-make_row.field-0.items) (sym inv.count) made.row)));
+      count = ap length c.push_reserved.ensures.items ∙ (length-append c.loop-pass.rows.items (Some c.in_ok-make_row.field-0 ∷ []) ∙ ap (λ n. n + 1) inv.count);
+      room = subst (λ n. c.args.passes ≤ n) (sym c.push_reserved.ensures.capacity) inv.room;
+    }

@@ -1,0 +1,33 @@
+use Rattle.std.proofs.Common.{rules, ◌<◌, vec_len, length, sym, ap, subst, ◌∙◌}
+use Rattle.std.specs.Prelude.{Some}
+use Rattle.std.proofs.lemmas.Option.{slice_get-get_or}
+use Rattle.owners.specs.Ways.{IsWay, AreWays}
+use Rattle.owners.proofs.Each.{ways_set}
+use Rattle.owners.proofs.several.receive_letters.Goals as goal
+use Rattle.owners.proofs.several.receive_letters.Goals.{then-index, else-index}
+
+pub receive-requires : goal.receive-requires
+receive-requires g c =
+    let items = c.loop-shard.ways.items in
+    let k = c.loop-shard.shard in
+    let lt : k < length items = search rules in
+    c.loop-shard.invariant.ways k c.index_mut.result.now (slice_get-get_or items k c.index_mut.result.now lt ∙ ap Some (sym c.index_mut.ensures.value))
+
+pub loop-shard-preserved : goal.loop-shard-preserved
+loop-shard-preserved g c =
+    let inv = c.loop-shard.invariant in
+    let items = c.loop-shard.ways.items in
+    let k = c.loop-shard.shard in
+    let lt : k < length items = search rules in
+    let home = c.args.home.now in
+    let p = c.args.pass in
+    elim c.if-index.branch [
+      | then-index w ↦ record {
+        len = ap vec_len w.ways-is ∙ inv.len;
+        ways = subst (λ v. AreWays home p v.items) (sym w.ways-is) (ways_set (IsWay home p) items k w.receive.new.self lt inv.ways w.receive.ensures);
+      }
+      | else-index w ↦ record {
+        len = ap vec_len w.ways-is ∙ inv.len;
+        ways = subst (λ v. AreWays home p v.items) (sym w.ways-is) inv.ways;
+      }
+    ]

@@ -1,0 +1,37 @@
+-- An opening without its disks, and a log that is spent.
+use Rattle.std.specs.Prelude.{◌≡◌, ℕ, ◌+◌, ◌-◌, ◌*◌, ◌^◌, ◌<◌, ◌≤◌, List, Some, slice_get}
+use Rattle.atomic_table.specs.Seated.{TableId}
+use Rattle.accept.specs.declared.call.Call.{Call}
+use Rattle.segment.specs.declared.version.Version.{Version}
+use Rattle.segment.specs.Versions.{latest}
+use Rattle.history.specs.declared.views.About.{About}
+use Rattle.history.specs.Handles.{Booked}
+use Rattle.history.specs.Histories.{bound}
+use Rattle.streams.specs.Changes.{change_of}
+use Rattle.shard.specs.Calls.{Writes, block_length, answer_in}
+
+-- the table of the histories, what was opened, and each log's generation then
+pub record Homed : Type 0 where
+  pub table : TableId
+  pub about : About
+  pub generations : List ℕ
+
+abbrev pub home_with : Booked → List ℕ → Homed
+home_with first generations = record { table = first.table; about = first.about; generations = generations }
+
+-- The call writes, and its change does not fit behind a segment of the last generation, after a history of shard k. The
+-- log of the shard was opened so late that a history may have rolled it there.
+pub record NeedsGeneration (home : Homed) (k : ℕ) (call : Call) : Type 0 where
+  pub book : Booked
+  pub about : book.about ≡ home.about
+  pub number : book.shard ≡ k
+  pub version : Version
+  pub generation : ℕ
+  pub end : ℕ
+  pub cap : ℕ
+  pub opened : ℕ
+  pub opened_is : slice_get home.generations k ≡ Some opened
+  pub last : 2 ^ 63 - 1 ≤ generation
+  pub writes : Writes book call
+  pub full : ¬ ((0 < generation) × (version ≡ latest) × (end + 1 + block_length (change_of call (answer_in book call)) ≤ cap))
+  pub late : 2 ^ 63 - 1 ≤ opened + (book.about.passes * bound + 1)

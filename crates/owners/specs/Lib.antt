@@ -1,0 +1,12 @@
+pub mod Homes
+pub mod Openings
+pub mod Places
+pub mod Lists
+pub mod Calls
+pub mod Letters
+pub mod Desks
+pub mod Bonds
+pub mod Owners
+pub mod Ways
+pub mod Seeds
+pub mod Plans

@@ -1,0 +1,34 @@
+-- What the thread of a shard has.
+use Rattle.std.specs.Prelude.{◌≡◌, ℕ, List}
+use Rattle.std.specs.VecDeque.{deque_len}
+use Rattle.keyed.specs.Queues.{sends_to, receives_as}
+use Rattle.keyed.specs.declared.binding.Binding.TheVariants.{Bound}
+use Rattle.shard.specs.Shards.{Sharded}
+use Rattle.owners.specs.Openings.{Opening, home_of}
+use Rattle.owners.specs.Places.{IsOf}
+use Rattle.owners.specs.declared.owning.Ends.{Ends}
+use Rattle.owners.specs.Desks.{IsDesk}
+use Rattle.owners.specs.Lists.{AreEach}
+use Rattle.owners.specs.Bonds.{AreBoundFrom}
+
+-- the ends of shard k of the opening, and its desk, on which no call is
+pub record HasEnds {D : Type 0} (k : ℕ) (ends : Ends D) : Type 0 where
+  pub same_home : ends.home ≡ home_of ends.origin
+  pub gets : receives_as ends.orders ≡ Bound ends.home k
+  pub sends : AreBoundFrom ends.home ends.answers.items
+  pub returns : sends_to ends.back ≡ Bound ends.origin k
+  pub at_desk : IsDesk ends.home k ends.desk
+  pub idle : deque_len ends.desk.jobs ≡ 0
+
+-- the same, of this opening
+abbrev pub HasEndsOf : {D : Type 0} → Opening D → ℕ → Ends D → Type 0
+HasEndsOf opening k ends = HasEnds k ends × (ends.origin ≡ opening)
+
+-- so has each shard, by its number
+abbrev pub AreEnds : {D : Type 0} → Opening D → List (Ends D) → Type 0
+AreEnds opening = AreEach (HasEndsOf opening) 0
+
+-- the same, and the shard is that of the opening
+pub record IsOwner {D : Type 0} (k : ℕ) (state : Sharded D) (ends : Ends D) : Type 0 where
+  pub has_ends : HasEnds k ends
+  pub is_of : IsOf ends.origin k state

@@ -1,0 +1,31 @@
+-- The ends of an opening's queues, before the owners and the passes have them.
+use Rattle.std.specs.Prelude.{◌≡◌, ℕ, List, Option, length}
+use Rattle.std.specs.declared.alloc.Global.{Global}
+use Rattle.std.specs.declared.vec.Vec.{Vec}
+use Rattle.keyed.specs.Queues.{sends_to, receives_as}
+use Rattle.keyed.specs.declared.binding.Binding.TheVariants.{Bound}
+use Rattle.owners.specs.Homes.{Homed}
+use Rattle.owners.specs.declared.rows.Seed.{Seed}
+use Rattle.owners.specs.declared.ways.Way.{Way}
+use Rattle.owners.specs.Lists.{AreEach}
+use Rattle.owners.specs.Bonds.{AreBoundFrom}
+use Rattle.keyed.specs.Grips.{AllFit}
+use Rattle.owners.specs.Ways.{AreIdleWays}
+
+-- the ends of shard k, with those of the first p passes
+pub record IsSeed (home : Homed) (p k : ℕ) (seed : Seed) : Type 0 where
+  pub orders : sends_to seed.orders ≡ Bound home k
+  pub gets : receives_as seed.gets ≡ Bound home k
+  pub answers : AreBoundFrom home seed.answers.items
+  pub count : length seed.answers.items ≡ p
+
+abbrev pub AreSeeds : Homed → ℕ → List Seed → Type 0
+AreSeeds home p = AreEach (IsSeed home p) 0
+
+-- the ways of a pass to each shard, on which no call is
+abbrev pub IsRow : Homed → ℕ → ℕ → List Way → Type 0
+IsRow home count p ways = AreIdleWays home p ways × (length ways ≡ count)
+
+-- the row of each pass
+abbrev pub AreRows : Homed → ℕ → List (Option (Vec Way Global)) → Type 0
+AreRows home count rows = AllFit {K = Homed} (λ h p row. IsRow h count p row.items) home rows

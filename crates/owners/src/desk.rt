@@ -1,0 +1,82 @@
+//! What an owner works with.
+ghost use Rattle.std.specs.Prelude.{◌≡◌, ◌+◌, ◌≤◌, ◌<◌, [], ◌++◌, Some, None, vec_len, slice_index_or, slice_set};
+ghost use Rattle.std.specs.VecDeque.{deque_len, deque_capacity};
+ghost use Rattle.owners.specs.Desks.{ArePlaces};
+ghost use Rattle.owners.specs.Calls.{IsDue, pass_in};
+
+use crate::letters::Letter;
+use crate::places::Home;
+use shard::{Job, Settled};
+use std::collections::VecDeque;
+use std::mem;
+
+/// The letters of the passes whose calls are made, each at the place of its pass; the calls; and what became of them.
+/// It keeps its memory from group to group.
+#[derive(Drop)]
+pub struct Desk {
+    /// A place for the letter of each pass.
+    pub letters: Vec<Option<Letter>>,
+    /// The calls of all letters.
+    pub jobs: VecDeque<Job>,
+    /// What became of calls.
+    pub settled: Vec<Settled>,
+}
+
+// The number of the pass whose call it was.
+pub(crate) fn pass_of(settled: &Settled) -> usize
+    ensures { result ≡ pass_in settled.now }
+{
+    match settled {
+        Settled::Answered(_, receipt) => receipt.pass(),
+        Settled::Refused(_, ticket) => ticket.pass(),
+    }
+}
+
+// Takes out what lies at a place.
+pub(crate) fn take_at(places: &mut Vec<Option<Letter>>, at: usize) -> Option<Letter>
+    requires { at < vec_len places.old }
+    ensures value { result ≡ slice_index_or places.old.items at None }
+    ensures after { places.new.items ≡ slice_set places.old.items at None }
+    ensures len { vec_len places.new ≡ vec_len places.old }
+{
+    mem::replace(&mut places[at], None)
+}
+
+// Puts a letter at its place.
+pub(crate) fn put_at(places: &mut Vec<Option<Letter>>, at: usize, letter: Letter)
+    requires { at < vec_len places.old }
+    ensures { places.new.items ≡ slice_set places.old.items at (Some letter) }
+{
+    places[at] = Some(letter);
+}
+
+// Puts what became of a call into the letter of its pass. Where that is not there, or has no room, it is dropped.
+pub(crate) fn put(home: &Home, places: &mut Vec<Option<Letter>>, came: Settled)
+    requires places { ArePlaces home.now places.old.items }
+    requires due { IsDue home.now (pass_in came) came }
+    ensures { ArePlaces home.now places.new.items }
+{
+    let _ = home;
+    let pass = pass_of(&came);
+    if pass >= places.len() {
+        return;
+    }
+    let Some(mut letter) = take_at(places, pass) else {
+        return;
+    };
+    let _ = letter.settled.push_back(came);
+    put_at(places, pass, letter);
+}
+
+// Moves all calls of one list to the end of another.
+pub(crate) fn move_jobs(from: &mut VecDeque<Job>, to: &mut VecDeque<Job>)
+    requires { deque_len to.old + deque_len from.old ≤ deque_capacity to.old }
+    ensures items { to.new.items ≡ to.old.items ++ from.old.items }
+    ensures len { deque_len to.new ≡ deque_len to.old + deque_len from.old }
+    ensures capacity { deque_capacity to.new ≡ deque_capacity to.old }
+    ensures none { from.new.items ≡ [] }
+{
+    while let Some(job) = from.pop_front() {
+        to.push_back_reserved(job);
+    }
+}

@@ -1,0 +1,83 @@
+//! How shards are handed to their owners, and given back.
+ghost use Rattle.std.specs.Prelude.{◌≡◌, ℕ, vec_len, length};
+ghost use Rattle.std.specs.VecDeque.{deque_len};
+ghost use Rattle.keyed.specs.Queues.{receives_as, sends_to};
+ghost use Rattle.keyed.specs.declared.binding.Binding.TheVariants.{Bound};
+ghost use Rattle.owners.specs.Owners.{AreEnds};
+ghost use Rattle.owners.specs.Homes.{Homed};
+ghost use Rattle.owners.specs.Places.{IsOf, AreShardsOf};
+
+use crate::letters::Order;
+use crate::owning::{BackIn, Ends, Owner};
+use crate::places::Origin;
+use crate::team::Team;
+use crate::ways::Way;
+use disk::Disk;
+use shard::Shard;
+use std::alloc::Global;
+use std::collections::VecDeque;
+use std::sync::Wait;
+
+/// Hands each shard of an opening to a thread of the team, with what it works by.
+pub fn hand_all<D: Disk + Drop, R: Wait>(
+    rt: &R,
+    alloc: Global,
+    mut team: Team<D>,
+    origin: &Origin<D>,
+    shards: Vec<Option<Shard<D>>>,
+    mut all_ends: VecDeque<Ends<D>>,
+)
+    requires shards { AreShardsOf origin.now shards.items }
+    requires ends { AreEnds origin.now all_ends.items }
+    requires count { deque_len all_ends ≡ vec_len shards }
+{
+    let _ = origin;
+    let mut shards = VecDeque::from_vec(shards);
+    for number in 0..all_ends.len() {
+        let Some(ends) = all_ends.pop_front() else {
+            unreachable!()
+        };
+        let Some(place) = shards.pop_front() else {
+            unreachable!()
+        };
+        let Some(state) = place else { unreachable!() };
+        let owner = Owner {
+            alloc,
+            number,
+            state,
+            ends,
+        };
+        team.hand_over(rt, owner);
+    }
+}
+
+impl Way {
+    /// Sends the owner the last order.
+    pub fn end<R: Wait>(&mut self, rt: &R)
+        requires { (home : Homed) × (k : ℕ) × (sends_to self.old.orders ≡ Bound home k) }
+        ensures same { sends_to self.new.orders ≡ sends_to self.old.orders }
+    {
+        let _gone = self.orders.send(rt, Order::End);
+    }
+}
+
+/// Waits until the shard comes back by this end.
+pub fn take_shard<D: Disk + Drop, R: Wait>(
+    rt: &R,
+    origin: &Origin<D>,
+    number: usize,
+    back: &mut BackIn<D>,
+) -> Shard<D>
+    requires { receives_as back.old ≡ Bound origin.now number }
+    ensures shard { IsOf origin.now number result }
+    ensures same { receives_as back.new ≡ receives_as back.old }
+{
+    let _ = origin;
+    let _ = number;
+    for _ in rt.forever() {
+        if let Some(shard) = back.receive(rt) {
+            return shard;
+        }
+    }
+    unreachable!()
+}

@@ -1,0 +1,28 @@
+//! The threads that own an opening's shards, one for each, and the queues by which the calls of passes reach them.
+//!
+//! A pass puts its calls on a shard into a letter and sends it to the owner; the owner makes the calls of all letters
+//! that have come as one group, and sends each letter back with what became of its calls.
+#![tactic(auto)]
+
+mod desk;
+mod handing;
+mod letters;
+mod making;
+mod owning;
+mod places;
+mod plan;
+mod rows;
+mod sending;
+mod several;
+mod taking;
+mod team;
+mod ways;
+
+pub use handing::{hand_all, take_shard};
+pub use letters::{Answers, AnswersIn, ForPass, ForShard, Letter, Order, Orders, OrdersIn};
+pub use owning::{Back, BackIn, Ends, Owner, own};
+pub use places::{Home, OfOpening, Origin};
+pub use plan::{Backs, OfPass, OfShards, Plan, Rows, make_plan};
+pub use several::{clear_letters, receive_letters, send_letters};
+pub use team::{StartFault, Team};
+pub use ways::{Came, Way};

@@ -1,0 +1,135 @@
+//! Several calls of a pass at once: those to one shard go in one letter, and what became of each is taken out of it.
+ghost use Rattle.std.specs.Prelude.{◌≡◌, IfSome, vec_len};
+ghost use Rattle.owners.specs.Calls.{IsOpen, IsDue, number_in};
+ghost use Rattle.owners.specs.Ways.{IsWay, IsLoaded, IsIdleWay, AreWays, AreLoaded, AreIdleWays};
+
+use crate::letters::Order;
+use crate::places::Home;
+use crate::ways::{Way, blank};
+use history::Ticket;
+use shard::{Job, Settled};
+use std::alloc::Global;
+use std::mem;
+use std::sync::Wait;
+
+// The number of the call.
+fn number_of(settled: &Settled) -> u64
+    ensures { result ≡ number_in settled.now }
+{
+    match settled {
+        Settled::Answered(_, receipt) => receipt.number(),
+        Settled::Refused(_, ticket) => ticket.number(),
+    }
+}
+
+impl Way {
+    // Sends the letter. Where the owner has ended it stays here, with its calls.
+    fn send<R: Wait>(&mut self, rt: &R, alloc: Global, home: &Home, pass: usize, shard: usize)
+        requires { IsLoaded home.now pass shard self.old }
+        ensures { IsWay home.now pass shard self.new }
+    {
+        let _ = home;
+        let _ = shard;
+        let letter = mem::replace(&mut self.letter, blank(alloc, pass));
+        match self.orders.send(rt, Order::Make(letter)) {
+            Ok(()) => self.is_out = true,
+            Err(Order::Make(letter)) => self.letter = letter,
+            Err(Order::End) => unreachable!(),
+        }
+    }
+
+    // Waits for the letter that is out. None comes where the owner has ended.
+    fn receive<R: Wait>(&mut self, rt: &R, home: &Home, pass: usize, shard: usize)
+        requires { IsWay home.now pass shard self.old }
+        ensures { IsWay home.now pass shard self.new }
+    {
+        let _ = home;
+        let _ = pass;
+        let _ = shard;
+        self.is_out = false;
+        if let Some(letter) = self.answers.receive(rt) {
+            self.letter = letter;
+        }
+    }
+
+    /// Takes out what became of the call of this number, where that comes next.
+    pub fn take(&mut self, home: &Home, pass: usize, shard: usize, number: u64) -> Option<Settled>
+        requires { IsWay home.now pass shard self.old }
+        ensures way { IsWay home.now pass shard self.new }
+        ensures due { IfSome result (IsDue home.now pass) }
+        ensures number { IfSome result (λ settled. number_in settled ≡ number) }
+    {
+        let _ = home;
+        let _ = pass;
+        let _ = shard;
+        let next = self.letter.settled.front()?;
+        if number_of(next) != number {
+            return None;
+        }
+        self.letter.settled.pop_front()
+    }
+
+    // Drops what is left in the letter.
+    fn clear(&mut self, home: &Home, pass: usize, shard: usize)
+        requires { IsWay home.now pass shard self.old }
+        ensures { IsIdleWay home.now pass shard self.new }
+    {
+        let _ = home;
+        let _ = pass;
+        let _ = shard;
+        self.letter.jobs.clear();
+        self.letter.settled.clear();
+    }
+
+    /// Takes out the ticket of the first call in a letter that was not sent, and drops the others.
+    pub fn take_back(&mut self, home: &Home, pass: usize, shard: usize) -> Option<Ticket>
+        requires { IsWay home.now pass shard self.old }
+        ensures way { IsWay home.now pass shard self.new }
+        ensures ticket { IfSome result (λ ticket. IsOpen home.now.table home.now.about ticket
+            × (ticket.ask.pass ≡ pass)) }
+    {
+        let _ = home;
+        let _ = pass;
+        let _ = shard;
+        let Job { ticket, call: _ } = self.letter.jobs.pop_front()?;
+        self.letter.jobs.clear();
+        Some(ticket)
+    }
+}
+
+/// Sends each letter that has calls to the owner of its shard.
+pub fn send_letters<R: Wait>(rt: &R, alloc: Global, home: &Home, pass: usize, ways: &mut Vec<Way>)
+    requires { AreLoaded home.now pass ways.old.items }
+    ensures ways { AreWays home.now pass ways.new.items }
+    ensures len { vec_len ways.new ≡ vec_len ways.old }
+{
+    for shard in 0..ways.len() {
+        if !ways[shard].letter.jobs.is_empty() {
+            ways[shard].send(rt, alloc, home, pass, shard);
+        }
+    }
+}
+
+/// Waits for each letter that was sent.
+pub fn receive_letters<R: Wait>(rt: &R, home: &Home, pass: usize, ways: &mut Vec<Way>)
+    requires { AreWays home.now pass ways.old.items }
+    ensures ways { AreWays home.now pass ways.new.items }
+    ensures len { vec_len ways.new ≡ vec_len ways.old }
+{
+    for shard in 0..ways.len() {
+        if ways[shard].is_out {
+            ways[shard].receive(rt, home, pass, shard);
+        }
+    }
+}
+
+/// Drops what is left in the letters.
+pub fn clear_letters(home: &Home, pass: usize, ways: &mut Vec<Way>)
+    requires { AreWays home.now pass ways.old.items }
+    ensures ways { AreIdleWays home.now pass ways.new.items }
+    ensures len { vec_len ways.new ≡ vec_len ways.old }
+{
+    for shard in 0..ways.len() {
+        ways[shard].clear(home, pass, shard);
+    }
+}

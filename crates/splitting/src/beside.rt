@@ -1,0 +1,100 @@
+//! A folder that gets its name once it is whole.
+
+use crate::stopped::Stopped;
+use slots::SlotsFault;
+use std::alloc::Global;
+use std::fs::{self, File, Files};
+use std::path::Path;
+
+/// How many folders of splits that didn't end may lie beside one.
+const MAX_UNFINISHED: u32 = 99;
+
+/// The path of a folder beside one that isn't there, which isn't there either: `<folder>.unfinished-1` and so on. `None`
+/// where the folder is there, or has no name of its own.
+///
+/// # Errors
+///
+/// Whether a folder is there can't be told, 99 of splits that didn't end are there, or want of memory.
+pub fn unfinished<R: Files>(
+    rt: &R,
+    alloc: Global,
+    folder: &str,
+) -> Result<Option<String>, Stopped> {
+    if is_there(rt, alloc, folder)? || !has_name(folder) {
+        return Ok(None);
+    }
+    let name = folder.trim_end_matches('/');
+    for number in 1..=MAX_UNFINISHED {
+        let path = format!(in alloc; "{name}.unfinished-{number}")?;
+        if !is_there(rt, alloc, path.as_str())? {
+            return Ok(Some(path));
+        }
+    }
+    Err(refused(alloc, folder)?)
+}
+
+/// Gives a folder its name, which survives a crash.
+///
+/// # Errors
+///
+/// The name is taken meanwhile, the system refuses it, or want of memory.
+pub fn give_name<R: Files<File = File>>(
+    rt: &R,
+    alloc: Global,
+    unfinished: &str,
+    folder: &str,
+) -> Result<(), Stopped> {
+    let name = folder.trim_end_matches('/');
+    let above = match Path::new(name).parent() {
+        Some(path) if !path.as_str().is_empty() => path,
+        _ => Path::new("."),
+    };
+    let named = fs::rename(rt, unfinished, name)
+        .and_then(|()| File::open(rt, above.as_str()))
+        .and_then(|above| above.sync_all());
+    match named {
+        Ok(()) => Ok(()),
+        Err(_) => Err(refused(alloc, folder)?),
+    }
+}
+
+/// Why the slots of an unfinished folder are not opened: that it can't be made is said of the folder whose name it is to
+/// get.
+///
+/// # Errors
+///
+/// Want of memory.
+pub fn unopened(
+    alloc: Global,
+    fault: SlotsFault,
+    unfinished: &str,
+    folder: &str,
+) -> Result<Stopped, Stopped> {
+    let is_folder = match &fault {
+        SlotsFault::Path(path) => path.as_str() == unfinished,
+        SlotsFault::Memory => false,
+    };
+    if is_folder {
+        refused(alloc, folder)
+    } else {
+        Ok(Stopped::Slots(fault))
+    }
+}
+
+// Whether a path ends in a name that a folder may be given.
+fn has_name(folder: &str) -> bool {
+    let name = folder.trim_end_matches('/');
+    !name.is_empty() && !name.ends_with("/.") && !name.ends_with("/..")
+}
+
+fn is_there<R: Files>(rt: &R, alloc: Global, path: &str) -> Result<bool, Stopped> {
+    match fs::exists(rt, path) {
+        Ok(is_there) => Ok(is_there),
+        Err(_) => Err(refused(alloc, path)?),
+    }
+}
+
+fn refused(alloc: Global, path: &str) -> Result<Stopped, Stopped> {
+    let path = path.to_string(alloc)?;
+    Ok(Stopped::Slots(SlotsFault::Path(path)))
+}
