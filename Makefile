@@ -4,94 +4,106 @@ RT ?= rt
 SHARDS ?= 16
 WORKERS ?= 64
 
-.PHONY: run demo sample test edits faults check fmt bench kill failed-disk roll-time deb deb-check edge-check drain-check pictures
+.PHONY: help run demo sample test edits faults check check-docs fmt bench kill failed-disk roll-time deb deb-check \
+	edge-check drain-check pictures deb-lint metrics-check metrics-cost fill-check split-check
 
-# (jemalloc where it is installed, else an allocator of the C library whose threads keep more freed pieces at hand: README
-# says what a push takes by each)
+help: ## prints this
+	@sed -nE 's/^([a-z][a-z-]*):.*## (.*)/\1\t\2/p' Makefile | while IFS='	' read -r name words; do \
+		printf '  make %-13s %s\n' "$$name" "$$words"; done
+
+# (jemalloc where it is installed, else the C library's with threads that keep more freed pieces at hand:
+# docs/BENCHMARKS.md says what a push takes by each)
 JEMALLOC = $(firstword $(wildcard /usr/lib/*/libjemalloc.so.2))
 TUNED = $(if $(JEMALLOC),LD_PRELOAD=$(JEMALLOC),GLIBC_TUNABLES=glibc.malloc.tcache_count=1000)
 
-# the main job: the server, with its log in the folder data
-run:
+run: ## the server on port 3100, with its log in ./data (SHARDS=16 WORKERS=64)
 	@RT='$(RT)' tests/build server
 	@deploy/fill-slots "$(CURDIR)/data" $(SHARDS) || true
 	@$(TUNED) exec crates/server/out/server "$(CURDIR)/data" 3100 $(SHARDS) $(WORKERS)
 
-# pushes a line to the server, and reads it back
-demo:
+demo: ## in another shell: pushes a line to that server, and reads it back
 	@tests/demo 3100
 
-# kills a server in the middle of pushes, reads and trims, and reads all back, as often as asked: make kill [CYCLES=100]
-kill:
+kill: ## kills a server in the middle of pushes, reads and trims, and reads all back (CYCLES=100)
 	@RT='$(RT)' tests/build server
 	@tests/kill_in_the_middle $(CYCLES)
 
-# a server whose disk fails while it serves says so, once for each shard
-failed-disk:
+failed-disk: ## a server whose disk fails while it serves says so, once for each shard
 	@RT='$(RT)' tests/build server
 	@tests/failed_disk
 
-# how long a push takes that begins the next segment of a full shard, at capacities in MiB: make roll-time [MIB="64 1024"]
-roll-time:
+roll-time: ## how long a push takes that begins the next segment of a full shard (MIB="64 1024")
 	@RT='$(RT)' tests/build server
 	@tests/roll_time $(MIB)
 
-# the Debian package of the programs, in deploy/out
-deb:
+deb: ## the Debian package, in deploy/out
 	@RT='$(RT)' tests/build server ingestctl ingest1 walcat walsplit
 	@deploy/deb
 
-# the package on a fresh machine of Debian's systemd in a folder: installed, used, removed (as root, seven minutes)
-deb-check:
+deb-check: ## the package on a fresh machine of Debian's systemd in a folder (as root, seven minutes)
 	@RT='$(RT)' tests/build server ingestctl ingest1 walcat walsplit
 	@tests/deb_check "$$(deploy/deb)"
 
-# deploy/nginx.conf in nginx before two servers: slow clients, a killed server, sizes, lies
-edge-check:
+edge-check: ## deploy/nginx.conf in nginx before two servers: slow clients, a killed server, sizes, lies
 	@RT='$(RT)' tests/build server
 	@tests/edge_check
 
-# deploy/drain over a server under load, killed ten times
-drain-check:
+drain-check: ## deploy/drain over a server under load, killed ten times
 	@RT='$(RT)' tests/build server walcat
 	@tests/drain_check
 
-# the pictures of docs/pictures, by Graphviz
-pictures:
-	@dot -Tsvg -o docs/pictures/push.svg docs/pictures/push.dot
+pictures: ## draws the pictures and figures of the documents (graphviz, gnuplot-nox)
+	@for it in push threads memory; do dot -Tsvg -o docs/pictures/$$it.svg docs/pictures/$$it.dot; done
 	@docs/pictures/slots.py | dot -Tsvg -o docs/pictures/slots.svg
+	@docs/figures/plot
 
-# one push body, judged on an empty shard in memory and read back
-sample:
+sample: ## judges a push body on an empty shard in memory, and reads it back
 	@RT='$(RT)' tests/build ingest1
 	@crates/ingest1/out/ingest1 20 < crates/ingest1/stdin
 
-# the merge gate: every proof from nothing, the edits that must fail, the tests, the stored runs, and refused memory
-test:
+test: ## the merge gate: every proof from nothing, edits, tests, cases, refused memory, documents
 	@RT='$(RT)' tests/gate
 
-# the wrong bodies, with those that the gate tries: make edits [CRATES="labels accept"] [JOBS=2]
-edits:
+edits: ## tries all wrong bodies, and prints the goal that each leaves open (CRATES="labels accept" JOBS=2)
 	@RT='$(RT)' tests/edits $(if $(JOBS),--jobs $(JOBS)) $(CRATES)
 
-# hostile use: bytes cut and changed anywhere, memory refused at each request, files and clients that fail. Each says how many
-# cases it had and how many differ from what the definitions ask for
-faults:
+faults: ## hostile bytes, refused memory, bad files, slow clients, held to the definitions (some minutes)
 	@RT='$(RT)' tests/build bench ingest1 call_cases quiet_calls ingestctl server walcat walsplit
-	@failed=0; for it in judge_rows mutations 'each_allocation_fails bench ingest1 call_cases quiet_calls ingestctl server' hostile_files hostile_clients; do \
+	@failed=0; for it in judge_rows mutations 'each_allocation_fails bench ingest1 call_cases quiet_calls ingestctl server' refused_threads hostile_files hostile_clients; do \
 		tests/$$it || failed=1; done; exit $$failed
 
-# every crate, lowest first, over the work of earlier checks
-check:
+check: ## proves every crate, lowest first, over the work of earlier checks
 	$(RT) all check
 
-fmt:
+check-docs: ## checks the documents: links, names, targets, words of programs
+	@tests/check_docs
+
+fmt: ## lays out the code of every crate
 	@for crate in crates/*/; do (cd "$$crate" && $(RT) fmt) || exit 1; done
 
 # (calls in memory that the process already has, since page faults would hide what a call costs)
-bench:
+bench: ## how fast bodies are read, calls are made, and connections are served
 	@RT='$(RT)' tests/build bench bench_streams bench_calls bench_groups
 	@cd crates/bench && out/bench time
 	@GLIBC_TUNABLES=glibc.malloc.mmap_max=0:glibc.malloc.trim_threshold=17179869184 crates/bench_streams/out/bench_streams time
 	@GLIBC_TUNABLES=glibc.malloc.mmap_max=0:glibc.malloc.trim_threshold=17179869184 crates/bench_calls/out/bench_calls time
 	@GLIBC_TUNABLES=glibc.malloc.mmap_max=0:glibc.malloc.trim_threshold=17179869184 crates/bench_groups/out/bench_groups time "$(CURDIR)"
+
+metrics-check: ## the metrics and alerts with Debian's Prometheus, over a server that fills, is drained, is killed, and has a disk that fails
+	@RT='$(RT)' tests/build server walcat
+	@tests/metrics_check
+
+metrics-cost: ## what a look for the metrics costs over 16 full shards, in 2 GiB of temporary files
+	@tests/metrics_cost
+
+fill-check: ## deploy/fill-slots under losses of power
+	@RT='$(RT)' tests/build server walcat
+	@tests/fill_check
+
+split-check: ## walsplit stopped before each call of the system that it makes
+	@RT='$(RT)' tests/build walsplit
+	@tests/split_check
+
+deb-lint: ## the Debian packages made twice, which gives the same bytes, and looked at by lintian
+	@RT='$(RT)' tests/build server ingestctl ingest1 walcat walsplit
+	@tests/deb_lint
