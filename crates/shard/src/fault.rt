@@ -4,13 +4,13 @@ ghost use Rattle.shard.specs.declared.fault.ApplyFault.TheVariants as faults;
 use std::alloc::AllocError;
 use thiserror::Error;
 
-/// Why a call has no step. Then history, streams, slots and clocks are as they were.
+/// Why a call has no step. History, streams, slots and clocks are then as they were.
 #[derive(Clone, Copy, Debug, Drop, PartialEq, Eq, Error)]
 pub enum ApplyFault {
     /// The allocator gave no memory.
     #[error("out of memory")]
     Memory,
-    /// The generations are used up: the change does not fit behind the segment in use, which has generation 2^63 - 1.
+    /// The generations are used up: the change does not fit after the segment in use, which has generation 2^63 - 1.
     #[error("generation spent")]
     GenerationSpent,
 }

@@ -1,4 +1,5 @@
-//! The slots of a folder: files that no other process has open, and what is said of them while they are used.
+//! The slots of a folder: files that no other process has open, and the lines that are written about them while they
+//! are in use.
 #![tactic(auto)]
 
 mod slots;

@@ -9,10 +9,10 @@ use std::io::{self, Stderr};
 use std::path::Path;
 use thiserror::Error;
 
-/// Why the files of slots are not opened.
+/// Why the files of slots cannot be opened.
 #[derive(Debug, Drop, Error)]
 pub enum SlotsFault {
-    /// The file or folder at this path.
+    /// The file or folder at this path cannot be opened.
     #[error("cannot open {0}")]
     Path(String),
     /// The allocator gave no memory.
@@ -26,9 +26,9 @@ impl From<AllocError> for SlotsFault {
     }
 }
 
-/// Opens the slots of so many shards, the files `shard-SS-0.wal` and `shard-SS-1.wal` of a folder. What is missing is
-/// made empty, the folder too, and each file is locked against another process. What was made survives a crash. A shard
-/// that stops answering has a line in `errors`, where they are given.
+/// Opens the slots of `shards` shards: the files `shard-SS-0.wal` and `shard-SS-1.wal` of a folder. Missing files are
+/// made empty, and so is a missing folder. Each file is locked against other processes. What was made survives a crash.
+/// A shard that stops answering writes a line to `errors`, where that is given.
 pub fn open_slots<R: Files<File = File>>(
     rt: &R,
     alloc: Global,
@@ -52,8 +52,9 @@ pub fn open_slots<R: Files<File = File>>(
     Ok(slots)
 }
 
-// Makes a folder where none is, and those above it, and syncs all that they stand in: also where each is there, since a
-// start that was killed may have made them. A folder that was there before need not let itself be opened.
+// Makes a folder and those above it, where they are missing, and syncs the folders that hold them. It syncs even where
+// all are there, since a start that was killed may have made them. It need not be possible to open a folder that was
+// there before.
 fn make_folder<R: Files<File = File>>(rt: &R, folder: &str) -> io::Result<()> {
     if folder.is_empty() {
         return Err(io::ErrorKind::NotFound.into());
@@ -83,7 +84,7 @@ fn is_folder<R: Files>(rt: &R, path: &str) -> bool {
     }
 }
 
-// A path as the system reads it: above a name alone is the folder where the program runs.
+// A path as the system reads it: the folder of a bare name is the folder where the program runs.
 fn name_of<'a>(path: Path<'a>) -> &'a str {
     match path.as_str() {
         "" => ".",

@@ -1,15 +1,16 @@
-//! Slots that say where their shard stops answering, and where they are long to read.
+//! Slots that write a line where their shard stops answering, and before a long read.
 
 use crate::terminal::terminal_in;
 use disk::{DeviceFault, Disk};
 use std::io::{Stderr, Write};
 
-/// Of a slot that is longer than so many bytes it is said that it is read.
+/// A slot that is longer than this, in bytes, writes a line before it is read.
 const LONG: usize = 100_000_000;
 
-/// A slot that writes a line where a device call on it fails once it was written to. From then on its shard answers
-/// nothing and makes no call on its slots, so that there is one such line for each shard. Where a terminal is given,
-/// there is also one before a read of more than 100,000,000 bytes: the log reads a slot by one call, when it is opened.
+/// A slot that writes a line where a device call on it fails after it was written to. From then on its shard answers
+/// nothing and makes no call on its slots, so there is one such line for each shard. Where a terminal is given, the
+/// slot also writes a line there before a read of more than 100,000,000 bytes: the log reads a slot by one call, when
+/// it is opened.
 #[derive(Drop)]
 pub struct Watched<D: Disk> {
     inner: D,
@@ -19,7 +20,7 @@ pub struct Watched<D: Disk> {
 }
 
 impl<D: Disk> Watched<D> {
-    /// This slot of a shard, and where its line goes, if anywhere.
+    /// This slot of a shard. Its lines go to `errors`, where that is given.
     pub fn new(inner: D, shard: u32, errors: Option<Stderr>) -> Watched<D> {
         Watched {
             inner,

@@ -10,7 +10,7 @@ use labels::shard_of;
 use segment::state_size;
 use std::alloc::{AllocError, Global};
 
-/// So many maps without a stream.
+/// `count` maps without a stream.
 fn empty_maps(alloc: Global, count: u32) -> Result<Vec<Image>, AllocError>
     ensures items { IfOk result (λ maps. maps.items ≡ replicate count finite.empty) }
     ensures len { IfOk result (λ maps. vec_len maps ≡ count) }
@@ -36,7 +36,7 @@ fn deal(old: Image, news: &mut Vec<Image>, count: u32) -> Result<(), AllocError>
     Ok(())
 }
 
-/// The streams of old shards, moved to the maps of so many new ones. No entry is copied.
+/// The streams of old shards, moved to the maps of `count` new shards. No entry is copied.
 pub(crate) fn deal_all(
     alloc: Global,
     olds: Vec<Image>,
@@ -62,7 +62,7 @@ pub(crate) fn deal_all(
 ///
 /// # Errors
 ///
-/// `NoRoom`: the first that needs more.
+/// `NoRoom`: the first map that needs more.
 pub(crate) fn test_rooms(news: &[Image], cap: u64) -> Result<(), SplitFault>
     requires few { length news.now ≤ 64 }
     requires small { AreWithin (2 ^ 40) (length news.now) news.now }

@@ -5,10 +5,10 @@ ghost use Rattle.split.specs.declared.fault.SplitFault.TheVariants as faults;
 use std::alloc::AllocError;
 use thiserror::Error;
 
-/// Why shards are not split. Shards are counted from 0, and slots are numbered 0 and 1.
+/// Why shards cannot be split. Shards are counted from 0, and slots are numbered 0 and 1.
 #[derive(Clone, Copy, Debug, Drop, PartialEq, Eq, Error)]
 pub enum SplitFault {
-    /// The log of this old shard was refused, the first that was. No new slot was touched.
+    /// The log of this old shard was refused. It is the first that was. No new slot was touched.
     #[error("shard {shard}: {fault}")]
     Old {
         /// Which old shard.
@@ -16,7 +16,7 @@ pub enum SplitFault {
         /// Why.
         fault: wal::OpenFault,
     },
-    /// This slot of a new shard holds something, the first that does. Nothing was written.
+    /// This slot of a new shard is not empty. It is the first such slot. Nothing was written.
     #[error("new shard {shard} is not empty")]
     NotEmpty {
         /// Which new shard.
@@ -24,19 +24,19 @@ pub enum SplitFault {
         /// Which of its slots.
         slot: u32,
     },
-    /// The streams of this new shard, the first such, need more room than there is. Nothing was written.
+    /// The streams of this new shard need more room than there is. It is the first such shard. Nothing was written.
     #[error("new shard {shard}: no room")]
     NoRoom {
         /// Which new shard.
         shard: u32,
     },
-    /// A device of this new shard failed. What the new slots hold is to be given up.
+    /// A device of this new shard failed. The new slots must be given up.
     #[error("new shard {shard}: device failed")]
     Device {
         /// Which new shard.
         shard: u32,
     },
-    /// The allocator gave no memory. What the new slots hold is to be given up.
+    /// The allocator gave no memory. The new slots must be given up.
     #[error("out of memory")]
     Memory,
 }

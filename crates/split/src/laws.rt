@@ -1,4 +1,4 @@
-//! Laws of streams under another number of shards. The function does nothing: its contract is the law.
+//! A law of streams under another number of shards. The function does nothing: its contract is the law.
 ghost use Rattle.std.specs.Prelude.{◌≡◌, ◌<◌, ℕ, Some};
 ghost use Rattle.std.specs.FinMap as finite;
 ghost use Rattle.labels.specs.declared.key.StreamKey.{StreamKey};
@@ -7,8 +7,8 @@ ghost use Rattle.accept.specs.declared.image.StreamImage.{StreamImage};
 ghost use Rattle.accept.specs.Rooms.{Streams};
 ghost use Rattle.split.specs.Maps.{AreApart, IsSplit};
 
-/// Streams that are split under another number of shards: each stands with what it had in the shard of its key, none
-/// is lost and none is new, and to split them again under the first number gives back what was there.
+/// A split keeps the streams: each is in the shard of its key with what it had, none is lost and none is new. To split
+/// them again under the first number gives back what was there.
 pub fn split_keeps_streams()
     ensures kept { (n m : ℕ) (olds news : ℕ → Streams) → 0 < m → AreApart n olds → IsSplit n m olds news
         → (s : ℕ) (k : StreamKey) (x : StreamImage) → s < n → finite.get (olds s) k ≡ Some x

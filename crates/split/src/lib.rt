@@ -1,5 +1,5 @@
-//! The streams of shards under another number of shards: read from the slots of the old shards, and written into
-//! empty slots of new ones.
+//! The streams of shards under another number of shards: they are read from the slots of the old shards, and written
+//! into empty slots of new ones.
 #![tactic(auto)]
 
 mod dealing;

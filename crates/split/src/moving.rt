@@ -1,9 +1,9 @@
-//! Values that are taken out of a list and put back to their places.
+//! Values that are taken out of a list and put back in their places.
 ghost use Rattle.std.specs.Prelude.{◌≡◌, ◌<◌, ◌+◌, ℕ, List, length, set, slice_index_or, vec_len};
 ghost use Rattle.std.specs.List.{swap_remove};
 ghost use Rattle.std.specs.Vec.{vec_capacity};
 
-/// Takes a value out of a list. Until it is put back the last one stands in its place.
+/// Takes a value out of a list. Until it is put back, the last value is in its place.
 pub(crate) fn take<T>(list: &mut Vec<T>, place: usize) -> T
     requires { place < vec_len list.old }
     ensures value { (d : T) → result ≡ slice_index_or list.old.items place d }
@@ -14,7 +14,7 @@ pub(crate) fn take<T>(list: &mut Vec<T>, place: usize) -> T
     list.swap_remove(place)
 }
 
-/// Puts a value back to the place that it, or another one, was taken from.
+/// Puts a value back in the place from which it, or another value, was taken.
 pub(crate) fn put<T>(list: &mut Vec<T>, place: usize, value: T)
     requires place { place < vec_len list.old + 1 }
     requires room { vec_len list.old < vec_capacity list.old }

@@ -39,7 +39,7 @@ fn read_pair<D: Disk>(
     }
 }
 
-/// Reads the slots of a shard in their place.
+/// Reads the slots of a shard, which stay in their place.
 fn read_at<D: Disk>(
     alloc: Global,
     old: &mut Vec<[D; 2]>,

@@ -1,4 +1,4 @@
-//! Shards of one number made into shards of another.
+//! Shards split into another number of shards.
 ghost use Rattle.std.specs.Prelude.{◌≡◌, ◌<◌, ◌≤◌, ◌^◌, IfOk, IfErr, OnOk, vec_len};
 ghost use Rattle.split.specs.Splits.{back, EachPair, IsBefore, IsAtRest, AreSplit, IsCause};
 
@@ -10,7 +10,7 @@ use crate::testing::test_all;
 use disk::Disk;
 use std::alloc::Global;
 
-/// Pairs of slots, one a shard in their order, slot 0 first.
+/// Pairs of slots, one for each shard in order, slot 0 first.
 #[derive(Drop)]
 pub struct Slots<D> {
     /// Those of the old shards.
@@ -19,19 +19,18 @@ pub struct Slots<D> {
     pub new: Vec<[D; 2]>,
 }
 
-/// Splits the streams that the slots of old shards hold among new shards: each goes to the shard of its key among the
-/// new number. There are 1 to 64 old shards, and 1 to 64 new ones. A segment may have `cap` bytes, at most 2^30.
-///
+/// Splits the streams of old shards among new shards: each goes to the shard of its key under the new number. There are
+/// 1 to 64 old shards, and 1 to 64 new ones. A segment may have `cap` bytes, at most 2^30.
 /// The old slots are synced and read, shard 0 first, and never written. The new slots have to be empty. Once the
-/// streams of each new shard are known to have room, generation 1 is started in slot 1 of each, shard 0 first, also
-/// where it has no stream. All maps are in memory at once. All slots come back.
-///
+/// The old slots are synced and read, shard 0 first, and never written. The new slots have to be empty. Once the
+/// streams of each new shard are known to have room, generation 1 is started in slot 1 of each, shard 0 first, even for
+/// a shard without streams. All maps are in memory at once. All slots come back.
 /// # Errors
 ///
-/// `Old`: the first old shard whose slots are refused. `NotEmpty`: the first slot of a new shard that holds something.
-/// `NoRoom`: the first new shard whose streams need more room than `cap`. Up to there nothing was written. `Device`: a
-/// device of a new shard failed. `Memory`: want of memory, but for the opening of an old shard. After any fault what
-/// the new slots hold is to be given up.
+/// `Old`: the first old shard whose slots are refused. `NotEmpty`: the first slot of a new shard that is not empty.
+/// `NoRoom`: the first new shard whose streams need more room than `cap`. In these cases nothing was written. `Device`:
+/// a device of a new shard failed. `Memory`: want of memory, other than at the opening of an old shard. After any fault
+/// the new slots must be given up.
 pub fn split<D: Disk>(
     alloc: Global,
     old: Vec<[D; 2]>,
@@ -42,7 +41,7 @@ pub fn split<D: Disk>(
     requires new { (0 < vec_len new) × (vec_len new ≤ 64) }
     requires cap { cap ≤ 2 ^ 30 }
     ensures lengths { (vec_len (back result).old ≡ vec_len old) × (vec_len (back result).new ≡ vec_len new) }
-    // Of the old slots a crash at each moment leaves only what it could have left at the start.
+    // A crash at any moment leaves of the old slots only what it could have left at the start.
     ensures old_rests { EachPair (λ _. IsAtRest D.sight D.follows) old.items (back result).old.items }
     ensures new_before { EachPair (λ _. IsBefore D.sight D.follows) new.items (back result).new.items }
     ensures split { IfOk result (λ it.

@@ -45,7 +45,7 @@ fn test_pair<D: Disk>(given: [D; 2], shard: u32) -> (Result<(), SplitFault>, [D;
     (tested, [first, second])
 }
 
-/// Tests the slots of a shard in their place.
+/// Tests the slots of a shard, which stay in their place.
 fn test_at<D: Disk>(new: &mut Vec<[D; 2]>, shard: u32) -> Result<(), SplitFault>
     requires { shard < vec_len new.old }
     ensures set { new.new.items ≡ set new.old.items shard (pair_at new.new.items shard) }
@@ -66,7 +66,7 @@ fn test_at<D: Disk>(new: &mut Vec<[D; 2]>, shard: u32) -> Result<(), SplitFault>
 ///
 /// # Errors
 ///
-/// `NotEmpty`: the first slot that holds something; `Device`.
+/// `NotEmpty`: the first slot that is not empty; `Device`.
 pub(crate) fn test_all<D: Disk>(new: &mut Vec<[D; 2]>) -> Result<(), SplitFault>
     requires few { vec_len new.old ≤ 64 }
     ensures len { vec_len new.new ≡ vec_len new.old }

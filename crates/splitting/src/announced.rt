@@ -5,7 +5,7 @@ use disk::{DeviceFault, Disk};
 use std::alloc::{AllocError, Global};
 use std::io::{Stderr, Write};
 
-/// A slot that writes a line to a terminal before its first read, and another one before its first write, where one is
+/// A slot that writes a line to a terminal before its first read, and another before its first write, where lines are
 /// given for that.
 #[derive(Drop)]
 pub struct Announced<D: Disk> {
@@ -15,16 +15,16 @@ pub struct Announced<D: Disk> {
     writing: Option<Stderr>,
 }
 
-/// Whose slots they are.
+/// Whether slots are of old or of new shards.
 #[derive(Clone, Copy)]
 pub enum Side {
-    /// Those of old shards, of which slot 0 says that it is read: the log reads it before slot 1.
+    /// Of old shards. Slot 0 says that they are read: the log reads it before slot 1.
     Old,
-    /// Those of new shards, of which slot 1 says that it is written: slot 0 stays empty.
+    /// Of new shards. Slot 1 says that they are written: slot 0 stays empty.
     New,
 }
 
-/// These slots, which say at a terminal, where one is given, which shard is worked on: one line a shard.
+/// These slots, which say at a terminal, where one is given, which shard is being worked on: one line for each shard.
 pub fn announce<D: Disk + Drop>(
     alloc: Global,
     slots: Vec<[D; 2]>,

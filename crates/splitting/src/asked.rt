@@ -9,7 +9,7 @@ use pushjson::time_of;
 /// The greatest number of shards.
 const MAX_SHARDS: u64 = 64;
 
-/// What the words of `walsplit` say; `None` where they are not such words.
+/// What the words of `walsplit` say: `None` where they are not such words.
 pub fn split_in(words: &[String]) -> Option<SplitWords<'_>>
     ensures given { MatchOption result (¬ GiveSplit words.now) (λ _. GiveSplit words.now) }
     ensures says { IfSome result (SaysSplit words.now) }

@@ -6,15 +6,15 @@ use std::alloc::Global;
 use std::fs::{self, File, Files};
 use std::path::Path;
 
-/// How many folders of splits that didn't end may lie beside one.
+/// How many folders of unfinished splits there may be for one name.
 const MAX_UNFINISHED: u32 = 99;
 
-/// The path of a folder beside one that isn't there, which isn't there either: `<folder>.unfinished-1` and so on. `None`
-/// where the folder is there, or has no name of its own.
+/// For a folder that does not exist, the path of another one next to it that does not exist either:
+/// `<folder>.unfinished-1` and so on. `None` where the folder exists, or has no name of its own.
 ///
 /// # Errors
 ///
-/// Whether a folder is there can't be told, 99 of splits that didn't end are there, or want of memory.
+/// It cannot be found out whether a folder exists, there are 99 unfinished splits, or memory is wanting.
 pub fn unfinished<R: Files>(
     rt: &R,
     alloc: Global,
@@ -37,7 +37,7 @@ pub fn unfinished<R: Files>(
 ///
 /// # Errors
 ///
-/// The name is taken meanwhile, the system refuses it, or want of memory.
+/// The name was taken meanwhile, the system refuses it, or memory is wanting.
 pub fn give_name<R: Files<File = File>>(
     rt: &R,
     alloc: Global,
@@ -58,8 +58,8 @@ pub fn give_name<R: Files<File = File>>(
     }
 }
 
-/// Why the slots of an unfinished folder are not opened: that it can't be made is said of the folder whose name it is to
-/// get.
+/// Why the slots of an unfinished folder cannot be opened. Where the folder itself cannot be made, the fault names the
+/// folder whose name it is to get.
 ///
 /// # Errors
 ///

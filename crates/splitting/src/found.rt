@@ -1,4 +1,4 @@
-//! Which slots stand in a folder.
+//! Which slots a folder has.
 ghost use Rattle.std.specs.Prelude.{◌≤◌, IfOk};
 
 use crate::stopped::Stopped;
@@ -9,12 +9,12 @@ use std::fs::{self, Files};
 /// The greatest number of shards.
 const MAX_SHARDS: u32 = 64;
 
-/// The number of shards of which a folder has slots: those of shard 0, and so on without a gap.
+/// The number of shards of which a folder has slots: those of shard 0, shard 1 and so on without a gap.
 ///
 /// # Errors
 ///
-/// `NoShards`: there are none, or more than 64. `Missing`: a shard has no slot 1, or one behind the last has a slot,
-/// the first that is missing by this. `Slots`: whether a file is there can't be told, or want of memory.
+/// `NoShards`: there are none, or more than 64. `Missing`: a shard has no slot 1, or a shard after the last has a slot;
+/// it names the first missing slot. `Slots`: it cannot be found out whether a file exists, or memory is wanting.
 pub fn shards_in<R: Files>(rt: &R, alloc: Global, folder: &str) -> Result<u32, Stopped>
     ensures { IfOk result (λ shards. (1 ≤ shards) × (shards ≤ 64)) }
 {
@@ -39,7 +39,7 @@ pub fn shards_in<R: Files>(rt: &R, alloc: Global, folder: &str) -> Result<u32, S
     Ok(shards)
 }
 
-/// Whether a folder has a slot of this shard or of one behind it, up to shard 64.
+/// Whether a folder has a slot of this shard or of a later one, up to shard 64.
 pub fn has_slots<R: Files>(
     rt: &R,
     alloc: Global,
@@ -54,7 +54,7 @@ pub fn has_slots<R: Files>(
     Ok(false)
 }
 
-// How many slots 0 there are without a gap, 65 where there are more.
+// How many slots 0 there are without a gap: 65 where there are more.
 fn first_slots<R: Files>(rt: &R, alloc: Global, folder: &str) -> Result<u32, Stopped> {
     for shard in 0..=MAX_SHARDS {
         if !has_slot(rt, alloc, folder, shard, 0)? {

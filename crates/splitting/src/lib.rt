@@ -1,4 +1,4 @@
-//! Another number of shards for a folder of slots, which the program `walsplit` makes.
+//! Writes a folder of slots with another number of shards, for the program `walsplit`.
 #![tactic(auto)]
 
 mod announced;

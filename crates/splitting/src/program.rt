@@ -16,18 +16,21 @@ use std::fs::{File, Files};
 use std::io::{Stderr, Write};
 use words::capacity_in;
 
-/// Runs `walsplit OLD NEW COUNT`, and gives its exit status. `setting` is what the environment says of a slot's
-/// capacity.
+/// Runs `walsplit OLD NEW COUNT`, and gives its exit status. `setting` is the capacity of a slot by the environment.
 ///
-/// The streams of the slots of OLD, which no server may have open meanwhile, are written into slots of COUNT shards in
-/// NEW, each to the shard of its key among COUNT, and `split <m> to <n>` is written: m is the number of shards of which
-/// OLD has slots. No slot of OLD is written. A missing NEW is written under the name `NEW.unfinished-1`, or with a greater
-/// number, and gets its own at the end, so that it is there whole or not at all; one that is there is written in place. One
-/// that has slots is refused, and so is OLD, by whatever path. Status 0: the split is on the disk. 1: no shards, a missing
-/// slot, a NEW with slots, no room in a new shard, or a fault while running. 2: wrong words, or a wrong setting. 3: what the
-/// old slots hold is refused. After a status other than 0 what it made is to be given up. A fault stands on one line of
-/// `errors`. Where `marks` are a terminal, it is said there which shard is read or written, and before that of a NEW that is
-/// there that it may have to be given up.
+/// Writes the streams of the slots of OLD into slots of COUNT shards in NEW, each to the shard of its key among COUNT.
+/// No server may have OLD open meanwhile. Then it writes `split <m> to <n>`, where m is the number of shards of which
+/// OLD has slots. No slot of OLD is written.
+///
+/// A missing NEW is written under the name `NEW.unfinished-1`, or with a greater number, and gets its own name at the
+/// end. So it is there as a whole or not at all. A NEW that exists is written in place. A NEW that has slots is
+/// refused, and so is OLD itself, by any path.
+///
+/// Status 0: the split is on the disk. 1: no shards, a missing slot, a NEW with slots, no room in a new shard, or a
+/// fault while running. 2: wrong words, or a wrong setting. 3: the content of the old slots is refused. After any
+/// status but 0 what was made must be given up. A fault is one line of `errors`. Where `marks` are a terminal, lines
+/// there say which shard is read or written. Before them comes a line for a NEW that exists: it may have to be given
+/// up.
 pub fn run_walsplit<R: Files<File = File>, W: Write, E: Write>(
     rt: &R,
     alloc: Global,
@@ -76,7 +79,7 @@ fn split_and_print<R: Files<File = File>, W: Write>(
         .map_err(|_| Stopped::Output)
 }
 
-// Splits what stands in the old folder, and gives its number of shards.
+// Splits what is in the old folder, and gives its number of shards.
 fn split_folder<R: Files<File = File>>(
     rt: &R,
     alloc: Global,
@@ -119,7 +122,7 @@ fn split_folder<R: Files<File = File>>(
     Ok(old_shards)
 }
 
-// Of a folder that is there nothing tells later whether it is whole.
+// Nothing tells later whether a folder that existed is whole.
 fn warn(terminal: Option<Stderr>, folder: &str) {
     if let Some(mut terminal) = terminal {
         let _ = writeln!(
