@@ -65,7 +65,7 @@ impl Call {
         }
     }
 
-    /// A copy, for what keeps the call.
+    /// A copy, for one that keeps the call.
     pub fn copy(&self, alloc: Global) -> Result<Call, AllocError>
         ensures { IfOk result (λ call. call ≡ self.now) }
     {

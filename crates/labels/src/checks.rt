@@ -70,7 +70,7 @@ pub fn each_fault(pairs: &[(String, String)]) -> Option<LabelFault>
     None
 }
 
-/// The first fault but `NameTwice`, or none where all that is left to see is whether a name stands twice.
+/// The first fault other than `NameTwice`: `None` where it remains only to see whether a name is given twice.
 #[tactic(auto, unfolding(crate::specs::Faults::first_fault))]
 pub fn early_fault(pairs: &[(String, String)]) -> Option<LabelFault>
     ensures some { IfSome result (λ e. first_fault (map label_of pairs.now) ≡ Some e) }

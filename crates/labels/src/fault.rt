@@ -4,9 +4,9 @@ ghost use Rattle.labels.specs.declared.fault.LabelFault.TheVariants.{Memory};
 use std::alloc::AllocError;
 use thiserror::Error;
 
-/// Why a tenant or labels are refused. Of several faults the first in the order of the variants is
-/// answered, where those of one label (`BadName` to `ValueTooLong`) go label by label as given, and
-/// `NameTwice` comes behind them. `Memory` may come at any point.
+/// Why a tenant or labels are refused. Of several faults the first in the order of the variants is answered. Those of
+/// one label (`BadName` to `ValueTooLong`) are tested label by label, as given, and `NameTwice` after them. `Memory`
+/// may come at any point.
 #[derive(Clone, Copy, Debug, PartialEq, Eq, Error)]
 pub enum LabelFault {
     /// A stream needs at least one label.
@@ -21,16 +21,16 @@ pub enum LabelFault {
     /// A name of more than 1,024 bytes.
     #[error("label name too long")]
     NameTooLong,
-    /// A value without a byte.
+    /// An empty value.
     #[error("empty label value")]
     EmptyValue,
     /// A value of more than 2,048 bytes.
     #[error("label value too long")]
     ValueTooLong,
-    /// A name that stands twice.
+    /// A name that is given twice.
     #[error("label name twice")]
     NameTwice,
-    /// A text that is no label set's canonical text.
+    /// A text that is not the canonical text of a label set.
     #[error("labels are not in canonical form")]
     NotCanonical,
     /// A tenant that is not 1 to 150 ASCII letters, digits, `-` and `_`.

@@ -14,8 +14,8 @@ use std::alloc::{AllocError, Global};
 use std::cmp::Ordering;
 use std::marker::Model;
 
-/// The labels of a stream, kept as their canonical text, which contracts see: `{a="1", b="2"}`, the names in
-/// rising byte order. A label set has one such text, and no two sets share one.
+/// The labels of a stream, kept as their canonical text, which contracts see: `{a="1", b="2"}`, the names in rising
+/// byte order. A label set has one such text, and no two sets share one.
 #[derive(Debug, Drop)]
 pub struct LabelSet {
     text: String,
@@ -33,10 +33,10 @@ impl Model for LabelSet {
 }
 
 impl LabelSet {
-    /// The set of these labels, in whatever order they are given.
+    /// The set of these labels, given in any order.
     ///
-    /// A stream has 1 to 15 labels. A name is `[A-Za-z_][A-Za-z0-9_]*` of at most 1,024 bytes, a value
-    /// any text of 1 to 2,048 bytes, and no name stands twice. `LabelFault` gives the order of the faults.
+    /// A stream has 1 to 15 labels. A name is `[A-Za-z_][A-Za-z0-9_]*` of at most 1,024 bytes. A value is any text of 1
+    /// to 2,048 bytes. No name is given twice. `LabelFault` gives the order of the faults.
     pub fn new(alloc: Global, pairs: LabelPairs) -> Result<LabelSet, LabelFault>
         ensures ok { IfOk result (λ set. (first_fault pairs ≡ None) × IsTextOf set pairs) }
         ensures cause { IfErr result (λ e. (e ≡ LabelFault.Memory) ⊎ (first_fault pairs ≡ Some e)) }
@@ -45,7 +45,7 @@ impl LabelSet {
         Ok(LabelSet { text })
     }
 
-    /// The label set whose canonical text this is: `NotCanonical` exactly where it is none's.
+    /// The label set with this canonical text: `NotCanonical` exactly where there is none.
     pub fn parse_text(alloc: Global, text: &str) -> Result<LabelSet, LabelFault>
         ensures ok { IfOk result (λ set. (set ≡ text.now) × IsCanonicalText text.now) }
         ensures none { IsErrOf result LabelFault.NotCanonical ↔ ((ps : List Label) → ¬ (IsCanonical text.now ps)) }

@@ -8,7 +8,7 @@ ghost use Rattle.labels.specs.Keys.{key_cmp};
 use crate::key::StreamKey;
 use std::cmp::Ordering;
 
-/// The law that labels have one canonical text, in whatever order they are given.
+/// The law that labels have one canonical text, in any order in which they are given.
 pub fn one_text()
     ensures list { (t u : List ℕ) (ps : List Label) → IsCanonical t ps → IsCanonical u ps → t ≡ u }
     ensures set { (t u : List ℕ) (pairs others : List Label) → IsPermutation pairs others → IsTextOf t pairs

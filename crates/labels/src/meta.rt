@@ -23,7 +23,7 @@ const MAX_VALUE: usize = 1_024;
 /// Why structured metadata is refused. `Memory` may come at any point.
 #[derive(Clone, Copy, Debug, PartialEq, Eq, Error)]
 pub enum MetaFault {
-    /// A name that stands twice.
+    /// A name that is given twice.
     #[error("metadata name twice")]
     NameTwice,
     /// The allocator gave no memory.
@@ -39,11 +39,11 @@ impl From<AllocError> for MetaFault {
     }
 }
 
-/// The structured metadata of a line: names with values, any texts, the names in strictly rising byte order. Contracts
-/// see the pairs of byte lists. Without a pair it takes no memory.
+/// The structured metadata of a line: names with values, which are any texts, the names in strictly rising byte order.
+/// Contracts see the pairs of byte lists. Without a pair it takes no memory.
 #[derive(Debug, Drop)]
 pub struct Meta {
-    // (a line mostly has none, so an empty one is as small as it can be)
+    // (most lines have none, so an empty one is as small as possible)
     pairs: Option<Box<Vec<(String, String)>>>,
 }
 
@@ -97,8 +97,8 @@ impl Meta {
         Meta { pairs: None }
     }
 
-    /// The metadata of these pairs, in whatever order they are given. From Loki's documentation: structured metadata
-    /// are names with values that stand beside a line; that no name stands twice is this project's profile.
+    /// The metadata of these pairs, given in any order. From Loki's documentation: structured metadata are names with
+    /// values that come with a line. That no name is given twice is this project's profile.
     #[tactic(auto, using(crate::proofs::Metas::rise_when_below, crate::proofs::Metas::pairs_when_sorted))]
     pub fn new(alloc: Global, mut pairs: Vec<(String, String)>) -> Result<Meta, MetaFault>
         ensures pairs { IfOk result (IsPermutation (map label_of pairs.items)) }
@@ -117,7 +117,7 @@ impl Meta {
         Ok(boxed(alloc, pairs)?)
     }
 
-    /// The metadata of these pairs as they stand, `None` where a name is not above the one before it.
+    /// The metadata of these pairs as they stand: `None` where a name is not above the one before it.
     #[tactic(auto, using(crate::proofs::Metas::rise_when_below))]
     pub fn in_order(alloc: Global, pairs: Vec<(String, String)>) -> Result<Option<Meta>, AllocError>
         ensures pairs { IfOk result (λ o. MatchOption o (¬ NamesRise (map label_of pairs.items))
@@ -133,7 +133,7 @@ impl Meta {
         Ok(Some(boxed(alloc, pairs)?))
     }
 
-    /// The bytes that the pairs take in a log: their texts, each behind its length in two bytes.
+    /// The bytes that the pairs take in a log: each text, and its length in two bytes.
     pub fn room(&self) -> u64
         requires { meta_room self.now < 2 ^ 64 }
         ensures { result ≡ meta_room self.now }

@@ -3,8 +3,8 @@ ghost use Rattle.labels.specs.Labels.{label_of};
 
 use std::marker::Model;
 
-/// Names with their values, as they were given: not yet tested, in any order. Contracts see the list of
-/// pairs of byte lists.
+/// Names with their values, as they were given: not yet tested, in any order. Contracts see the list of pairs of byte
+/// lists.
 #[derive(Debug, Drop)]
 pub struct LabelPairs {
     pairs: Vec<(String, String)>,

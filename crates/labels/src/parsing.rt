@@ -18,7 +18,7 @@ fn read_character(text: &str) -> Option<(char, &str)>
     Some((character, characters.as_str()))
 }
 
-/// The character that stands behind a `\` as this one.
+/// The character that this one stands for after a `\`.
 fn unescape(character: char) -> Option<char>
     ensures some { IfSome result (λ c. escape c ≡ 92 ∷ character ∷ []) }
     ensures none { IfNone result ((c : ℕ) → escape c ≢ 92 ∷ character ∷ []) }
@@ -56,7 +56,7 @@ fn after<'a>(text: &'a str, mark: &str) -> Option<&'a str>
     text.strip_prefix(mark)
 }
 
-/// A value by its length in bytes, and what follows its closing quote. None also where it is too long.
+/// A value by its length in bytes, and what follows its closing quote. `None` also where it is too long.
 fn read_value(text: &str) -> Option<(usize, &str)>
     ensures some { IfSome result (λ r. (value : List ℕ) × IsUtf8 value × (length value ≡ r.0)
         × (text.now ≡ flat_map escape value ++ 34 ∷ r.1.now)) }
@@ -104,7 +104,7 @@ fn is_below(name: &str, next: &str) -> bool
     name < next
 }
 
-/// Whether the text ends a label set's text behind a first label of this name.
+/// Whether the text completes a label set's text, after a first label of this name.
 fn ends_set(first: &str, text: &str) -> bool
     ensures { MatchBool result (EndsSet first.now 14 text.now) (¬ (EndsSet first.now 14 text.now)) }
 {

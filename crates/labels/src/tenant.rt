@@ -13,8 +13,8 @@ use std::marker::Model;
 /// The longest tenant, in bytes.
 const MAX_TENANT: usize = 150;
 
-/// The owner of streams, as the header `X-Scope-OrgID` names it: 1 to 150 ASCII letters, digits,
-/// `-` and `_`. Contracts see its bytes.
+/// The tenant of streams, as the header `X-Scope-OrgID` names it: 1 to 150 ASCII letters, digits, `-` and `_`.
+/// Contracts see its bytes.
 #[derive(Debug, Drop)]
 pub struct Tenant {
     text: String,

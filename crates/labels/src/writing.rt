@@ -45,7 +45,7 @@ fn push_label(out: &mut String, name: &str, value: &str) -> Result<(), AllocErro
     out.push('"')
 }
 
-/// The text's length, were no byte escaped: a guess for its capacity.
+/// The length of the text if no byte were escaped: a guess for its capacity.
 fn room_for(pairs: &[(String, String)]) -> usize {
     let mut room = 0usize;
     for (name, value) in pairs {
@@ -80,7 +80,7 @@ pub fn set_text(alloc: Global, pairs: &[(String, String)]) -> Result<String, All
     Ok(out)
 }
 
-/// Sorts by name in place. That values break ties matters nowhere: labels of one name are refused.
+/// Sorts by name in place. It does not matter that values break ties: labels of one name are refused.
 pub fn sort(pairs: &mut Vec<(String, String)>)
     ensures permutation { IsPermutation pairs.old.items pairs.new.items }
     ensures len { vec_len pairs.new ≡ vec_len pairs.old }
@@ -91,7 +91,7 @@ pub fn sort(pairs: &mut Vec<(String, String)>)
     pairs.sort_unstable();
 }
 
-/// Whether each name is below the next, so that none stands twice.
+/// Whether each name is below the next, so that none is given twice.
 pub fn names_rise(pairs: &[(String, String)]) -> bool
     ensures { IsAllAdjacentAnswer (λ x y b. b
         ≡ is_lt (slice_cmp nat_cmp (string_bytes x.0) (string_bytes y.0))) pairs.now result }

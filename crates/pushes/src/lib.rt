@@ -1,4 +1,4 @@
-//! The pushes that `bench_calls` and `bench_groups` time, and what is answered to them.
+//! The pushes that `bench_calls` and `bench_groups` time, and how they are answered.
 #![tactic(auto)]
 
 ghost use Rattle.std.specs.Prelude.{◌↔◌, IsTrue};
@@ -15,7 +15,7 @@ pub const LINES: u64 = 10;
 /// How many bytes a line has.
 pub const LINE: usize = 200;
 
-/// What the clock says, and the time of the first entry: a nanosecond count of 2023.
+/// What the clock says, and the time of the first entry: in nanoseconds, a day of 2023.
 pub const START: u64 = 1_700_000_000_000_000_000;
 
 /// The key of the stream with this number.
@@ -27,7 +27,7 @@ pub fn key_of(alloc: Global, stream: u64) -> Result<StreamKey> {
     })
 }
 
-/// A push of so many lines to a stream, a nanosecond apart, behind those that it was pushed before.
+/// A push of `lines` lines to a stream, a nanosecond apart, after the lines of its earlier pushes.
 pub fn push_of(alloc: Global, stream: u64, before: u64, lines: u64) -> Result<Call> {
     let text = vec![in alloc; b'x'; LINE]?;
     let mut entries = Vec::new(alloc);
@@ -45,7 +45,7 @@ pub fn push_of(alloc: Global, stream: u64, before: u64, lines: u64) -> Result<Ca
     })
 }
 
-/// So many pushes of `LINES` lines to a stream, one behind another.
+/// `pushes` pushes of `LINES` lines to a stream, one after another.
 pub fn pushes_of(alloc: Global, stream: u64, before: u64, pushes: u64) -> Result<Vec<Call>> {
     let mut calls = Vec::new(alloc);
     for push in 0..pushes {

@@ -10,8 +10,8 @@ pub enum PushFault {
     /// A JSON text that is not a body of the kind asked for.
     #[error("wrong shape")]
     WrongShape,
-    /// A text that is no time, at a stream of the body and an entry of this stream, both counted
-    /// from 0; the first such in the body's order.
+    /// A text that is no time, at this stream of the body and this entry of the stream, both counted from 0. It is the
+    /// first such text in the body's order.
     #[error("bad time at stream {stream} entry {entry}")]
     BadTime { stream: usize, entry: usize },
     /// The streams have more than `MAX_ENTRIES` entries together.

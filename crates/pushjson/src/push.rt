@@ -19,14 +19,14 @@ pub struct RawBatch {
     pub entries: EntryList,
 }
 
-/// The batches of a push body as Loki's push API writes it in JSON: an object with the one key
-/// `streams`, an array of objects with just the keys `stream`, an object of texts, and `values`, an
-/// array of arrays of two texts, a time and a line, and at most one element more: an object of texts,
-/// the line's structured metadata, where an empty one is as none. A key that stands twice counts once,
-/// with its last value. A time is 1 to 19 decimal digits of at most 2^63 - 1, in nanoseconds since 1970.
+/// The batches of a push body, as Loki's push API writes it in JSON. The body is an object with the one key `streams`,
+/// an array of objects. Each of these has exactly the keys `stream`, an object of texts, and `values`, an array of
+/// arrays. Each of those has two texts, a time and a line, and at most one more element: an object of texts, the line's
+/// structured metadata. An empty object is the same as none. A key that is given twice counts once, with its last
+/// value. A time is 1 to 19 decimal digits of at most 2^63 - 1, in nanoseconds since 1970.
 ///
-/// From Loki's documentation: structured metadata are names with values that stand beside a line, the
-/// third element of a value. How many and how long they may be is judged later, with the line's length.
+/// From Loki's documentation: structured metadata are names with values that come with a line, the third element of a
+/// value. Their number and lengths are judged later, with the line's length.
 ///
 /// # Errors
 ///

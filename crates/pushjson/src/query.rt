@@ -8,14 +8,14 @@ use crate::time::time_of;
 use labels::LabelPairs;
 use std::alloc::Global;
 
-/// A query body: the entries of a stream with `from <= time < to` are asked for.
+/// A query body: it asks for the entries of a stream with `from <= time < to`.
 #[derive(Debug, Drop)]
 pub struct RawRead {
     /// Names and values of the stream's labels, not yet tested, in rising byte order of the names.
     pub pairs: LabelPairs,
     /// The first time, in nanoseconds since 1970: below 2^63.
     pub from: u64,
-    /// The time behind the last, in nanoseconds since 1970: below 2^63.
+    /// The first time after those asked for, in nanoseconds since 1970: below 2^63.
     pub to: u64,
 }
 
@@ -33,12 +33,12 @@ const BAD_TIME: PushFault = PushFault::BadTime {
     entry: 0,
 };
 
-/// What a query body asks for: a JSON object with just the keys `stream`, an object of texts, and
-/// `from` and `to`, texts of times as in a push body.
+/// What a query body asks for: a JSON object with exactly the keys `stream`, an object of texts, and `from` and `to`,
+/// texts of times as in a push body.
 ///
 /// # Errors
 ///
-/// See `PushFault`. A bad time is `BadTime` at 0 and 0, and there is no `TooManyEntries`.
+/// See `PushFault`. A bad time is `BadTime` at stream 0 and entry 0, and there is no `TooManyEntries`.
 pub fn read_query(alloc: Global, bytes: &[u8]) -> Result<RawRead, PushFault>
     ensures reads { ReadsQuery bytes.now result }
     ensures sorted { IfOk result (λ r. HaveRisingNames r.pairs) }
@@ -55,12 +55,12 @@ pub fn read_query(alloc: Global, bytes: &[u8]) -> Result<RawRead, PushFault>
     Ok(RawRead { pairs, from, to })
 }
 
-/// What a trim body asks for: a JSON object with just the keys `stream`, an object of texts, and
-/// `bound`, the text of a time as in a push body.
+/// What a trim body asks for: a JSON object with exactly the keys `stream`, an object of texts, and `bound`, the text
+/// of a time as in a push body.
 ///
 /// # Errors
 ///
-/// See `PushFault`. A bad time is `BadTime` at 0 and 0, and there is no `TooManyEntries`.
+/// See `PushFault`. A bad time is `BadTime` at stream 0 and entry 0, and there is no `TooManyEntries`.
 pub fn read_trim(alloc: Global, bytes: &[u8]) -> Result<RawTrim, PushFault>
     ensures reads { ReadsTrim bytes.now result }
     ensures sorted { IfOk result (λ r. HaveRisingNames r.pairs) }

@@ -1,4 +1,4 @@
-// A body's tree taken apart by value: the texts are those that the tree held.
+// Takes a body's tree apart by value: the texts are those that the tree held.
 ghost use Rattle.std.specs.Prelude.{◌≡◌, map, string_bytes, IfOk, All};
 ghost use Rattle.labels.specs.Labels.{label_of};
 ghost use Rattle.serde_json.specs.Data.{Data, string, array, object, no_members, member};
@@ -162,7 +162,7 @@ fn label_texts(alloc: Global, value: Value) -> Result<Vec<(String, String)>, Pus
     Ok(pairs)
 }
 
-// The metadata that an object of texts is.
+// The metadata in an object of texts.
 #[tactic(auto, using(crate::proofs::Trees::names_rise))]
 fn meta_in(alloc: Global, value: Value) -> Result<Meta, PushFault>
     ensures { ReadsTree (λ meta. meta) (λ ps. object (labels_tree ps)) (view value) result }

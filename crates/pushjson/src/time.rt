@@ -5,8 +5,8 @@ ghost use Rattle.pushjson.specs.Times.{IsTime};
 // The most digits that a time has.
 const MAX_DIGITS: usize = 19;
 
-/// The time that a text writes, in nanoseconds: 1 to 19 decimal digits, leading zeros among them, of a value
-/// below 2^63. `None` where it writes none.
+/// The time that a text writes, in nanoseconds: 1 to 19 decimal digits, leading zeros included, of a value below 2^63.
+/// `None` where it writes none.
 #[tactic(auto, unfolding(crate::specs::Times::IsTime))]
 pub fn time_of(text: &str) -> Option<u64>
     ensures { MatchOption result (¬ IsTime text.now) (λ time. IsTime text.now × (time ≡ digits_value 10 text.now)

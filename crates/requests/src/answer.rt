@@ -1,6 +1,6 @@
 use crate::status::Status;
 
-/// What is answered to a request.
+/// The answer to a request.
 #[derive(Debug, Drop)]
 pub struct Answer {
     pub status: Status,

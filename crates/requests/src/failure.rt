@@ -11,13 +11,13 @@ use std::io::Write;
 pub enum Failure {
     OutOfMemory,
     PassClosed,
-    /// Whether the call was made is not known.
+    /// It is not known whether the call was made.
     InDoubt,
     LogSpent,
 }
 
 impl Failure {
-    /// The whole answer, as bytes that are there already.
+    /// The whole answer, as bytes that need no memory.
     fn text(self) -> &'static [u8]
         ensures { result.now ≡ failure_bytes self }
     {
@@ -38,7 +38,7 @@ impl Failure {
 ///
 /// # Errors
 ///
-/// `Write`, with a beginning of the text out.
+/// `Write`: a beginning of the text was written.
 pub fn write_failure<W: Write>(writer: &mut W, failure: Failure) -> Result<(), ServeFault>
     ensures writes { Writes (W.contents writer.old) (W.contents writer.new) (failure_text failure) result }
     ensures fault { IfErr result (λ e. e ≡ ServeFault.Write) }

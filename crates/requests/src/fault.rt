@@ -7,7 +7,7 @@ use thiserror::Error;
 /// How a connection ended in good order.
 #[derive(Clone, Copy, Debug, PartialEq, Eq)]
 pub enum Served {
-    /// The stream ended, with no byte behind the last request.
+    /// The stream ended, with no byte after the last request.
     Ended,
     /// An answer closed it.
     Closed,

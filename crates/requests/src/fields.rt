@@ -1,4 +1,4 @@
-//! The fields of a head that the tests ask for.
+//! The fields of a head that the tests look at.
 ghost use Rattle.std.specs.Prelude.{◌≡◌, List, ℕ, [], ◌∷◌, ◌++◌, length, map, reverse, All};
 ghost use Rattle.httparse.specs.Grammar.{skip_ows, trim_ows};
 ghost use Rattle.httparse.specs.Spans.{IsHeaderWithin, header_bytes};
@@ -17,7 +17,7 @@ pub(crate) enum Found<'a> {
     Many,
 }
 
-/// Whether the words are the same but for the case of ASCII letters.
+/// Whether the words are the same, apart from the case of ASCII letters.
 pub(crate) fn is_same_word(a: &[u8], b: &[u8]) -> bool
     ensures { result ≡ is_same_word a.now b.now }
 {

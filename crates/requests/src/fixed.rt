@@ -22,13 +22,13 @@ impl Method {
     }
 }
 
-/// The answers that need no call, in the order of their tests. Those up to `BodyTooLarge` come before
-/// the body is read, and end the connection.
+/// The answers that need no call, in the order of their tests. Those up to `BodyTooLarge` come before the body is read,
+/// and end the connection.
 #[derive(Clone, Copy, Debug, PartialEq, Eq)]
 pub enum FixedAnswer {
-    /// What was read is no head, or one of more than 64 fields: 400.
+    /// What was read is no head, or a head of more than 64 fields: 400.
     BadRequest,
-    /// 16,384 bytes are still no whole head: 431.
+    /// 16,384 bytes are not yet a whole head: 431.
     HeadTooLarge,
     /// A field `Transfer-Encoding`: 501.
     TransferEncoding,
@@ -48,7 +48,7 @@ pub enum FixedAnswer {
     NoOrgId,
     /// Two of them, or no lawful tenant: 400.
     BadTenant,
-    /// A field `Content-Encoding`: 415.
+    /// Not exactly one `Content-Type`, or one other than `application/json`: 415.
     ContentEncoding,
     /// Not just one `Content-Type`, or another than `application/json`: 415.
     ContentType,
@@ -97,7 +97,7 @@ impl FixedAnswer {
         }
     }
 
-    /// Whether the connection ends behind it, whatever the request asked for.
+    /// Whether the connection ends after it, whatever the request asked for.
     pub fn always_closes(self) -> bool
         ensures { result ≡ always_closes self }
     {

@@ -15,10 +15,10 @@ pub const MAX_BODY: usize = 4_194_304;
 /// The most digits of a Content-Length.
 const MAX_DIGITS: usize = 19;
 
-/// How long a body is, or why the request is refused before it.
+/// How long a body is, or why the request is refused before its body.
 #[derive(Clone, Copy)]
 pub(crate) enum Framing {
-    /// So many bytes, at most `MAX_BODY`.
+    /// This many bytes, at most `MAX_BODY`.
     Length(usize),
     Refused(FixedAnswer),
 }

@@ -21,13 +21,13 @@ pub(crate) enum Head {
     Whole(RequestSpans),
     /// What came is no head.
     Refused,
-    /// `MAX_HEAD` bytes are still no whole head.
+    /// `MAX_HEAD` bytes are not yet a whole head.
     TooLarge,
     /// The stream ended with no byte in the buffer.
     Ended,
 }
 
-/// Reads until a whole head stands at the front of the buffer, or none can.
+/// Reads until a whole head is at the front of the buffer, or none can be.
 pub(crate) fn read_head<R: Read>(
     buffer: &mut Vec<u8>,
     reader: &mut R,

@@ -21,7 +21,7 @@ use std::marker::Model;
 pub struct Message {
     /// What it is.
     pub verdict: Verdict,
-    /// Whether it asks that the connection ends behind its answer: HTTP/1.0, or `Connection: close`.
+    /// Whether it asks that the connection ends after its answer: HTTP/1.0, or `Connection: close`.
     pub closes: bool,
     /// Where its body begins in the buffer.
     pub start: usize,
@@ -29,12 +29,12 @@ pub struct Message {
     pub end: usize,
 }
 
-/// What stands at the front of a connection's bytes.
+/// What is at the front of a connection's bytes.
 #[derive(Debug, Drop)]
 pub enum Next {
     /// A whole request.
     Whole(Message),
-    /// What is refused before a body is read, by an answer that closes.
+    /// A request that is refused before its body is read, by an answer that closes.
     Refused(FixedAnswer),
     /// Nothing: the stream ended.
     Ended,
@@ -90,8 +90,8 @@ fn read_message<R: Read>(
     }
 }
 
-/// What was read of a connection and not yet answered. It keeps its memory from request to request.
-/// Contracts see the bytes.
+/// What was read of a connection and is not yet answered. It keeps its memory from request to request. Contracts see
+/// the bytes.
 #[derive(Debug, Drop)]
 pub struct Incoming {
     buffer: Vec<u8>,
@@ -115,13 +115,13 @@ impl Incoming {
         }
     }
 
-    /// Reads until a whole request stands at the front, or none can. A body of 4 MiB takes one buffer
-    /// of that size, and is read straight into it.
+    /// Reads until a whole request is at the front, or none can be. A body of 4 MiB takes one buffer of that size, and
+    /// is read straight into it.
     ///
     /// # Errors
     ///
-    /// `CutShort` where the stream ends inside a request, `Read` where the reader fails, `Memory`.
-    /// No whole request had come then.
+    /// `CutShort` where the stream ends inside a request, `Read` where the reader fails, `Memory`. In each case no
+    /// whole request has come.
     pub fn next<R: Read>(&mut self, alloc: Global, reader: &mut R) -> Result<Next, ServeFault>
         requires { length self.old ≤ MAX_HEAD }
         ensures grows { Grows (R.remaining reader.old) (R.remaining reader.new) self.old self.new }

@@ -90,7 +90,7 @@ fn push_answer(
     text.extend_from_slice(body)
 }
 
-/// Where answers are put together, so that each goes out in one write. It keeps its memory from answer to answer.
+/// Where answers are put together, so that each is sent in one write. It keeps its memory from answer to answer.
 #[derive(Debug, Drop)]
 pub struct Outgoing {
     text: Vec<u8>,
@@ -108,7 +108,7 @@ impl Outgoing {
     ///
     /// # Errors
     ///
-    /// `Write`, with a beginning of the text out; `Memory`, with nothing out.
+    /// `Write`: a beginning of the text was written. `Memory`: nothing was written.
     pub fn answer<W: Write>(
         &mut self,
         writer: &mut W,
@@ -131,7 +131,7 @@ impl Outgoing {
         write_text(writer, self.text.as_slice())
     }
 
-    /// Writes a fixed answer to a request that asks that the connection ends, or not.
+    /// Writes a fixed answer, to a request that asks that the connection ends or to one that does not.
     ///
     /// # Errors
     ///

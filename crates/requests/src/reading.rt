@@ -29,7 +29,7 @@ fn read_some<R: Read>(reader: &mut R, space: &mut [u8]) -> Result<usize, ServeFa
     Err(ServeFault::Read)
 }
 
-/// One read of at most so many bytes, put behind those of the buffer. None only at the end.
+/// One read of at most this many bytes, added to the end of the buffer. It gives none only at the end of the stream.
 pub(crate) fn fill<R: Read>(
     buffer: &mut Vec<u8>,
     reader: &mut R,
@@ -50,7 +50,7 @@ pub(crate) fn fill<R: Read>(
     Ok(count)
 }
 
-/// Fills the space from this place to its end. Returns where it came to.
+/// Fills the space from this place to its end. Returns how far it came.
 fn fill_rest<R: Read>(
     reader: &mut R,
     space: &mut [u8],
@@ -76,7 +76,7 @@ fn fill_rest<R: Read>(
     (at, Ok(()))
 }
 
-/// Reads until the buffer has this many bytes, straight into it, unless it has them.
+/// Reads straight into the buffer until it has this many bytes.
 pub(crate) fn fill_to<R: Read>(
     buffer: &mut Vec<u8>,
     reader: &mut R,

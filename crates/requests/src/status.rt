@@ -57,7 +57,7 @@ impl Status {
         }
     }
 
-    /// The words behind the digits.
+    /// The words after the digits.
     pub fn reason(self) -> &'static [u8]
         ensures { result.now ≡ reason_of self }
     {

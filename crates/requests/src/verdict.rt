@@ -29,7 +29,7 @@ fn is_json_type(value: &[u8]) -> bool
     is_same_word(trim_spaces(before(value, b';')), b"application/json")
 }
 
-/// The tests behind the tenant's.
+/// The tests after those of the tenant.
 fn verdict_of_content(bytes: &[u8], fields: &[HeaderSpan], call: Verdict) -> Verdict
     requires { All (IsHeaderWithin (length bytes.now)) fields.now }
     ensures { result ≡ verdict_of_content call (map (header_bytes bytes.now) fields.now) }
@@ -100,7 +100,7 @@ pub(crate) fn verdict_of(
     }
 }
 
-/// Whether the connection is to end behind the answer to a request of this version and these fields.
+/// Whether the connection is to end after the answer to a request of this version and these fields.
 pub(crate) fn asks_close(bytes: &[u8], fields: &[HeaderSpan], minor: u8) -> bool
     requires { All (IsHeaderWithin (length bytes.now)) fields.now }
     ensures { result ≡ asks_close minor (map (header_bytes bytes.now) fields.now) }

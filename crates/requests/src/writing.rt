@@ -4,7 +4,7 @@ ghost use Rattle.requests.specs.Writing.{Writes};
 use crate::fault::ServeFault;
 use std::io::{ErrorKind, Write};
 
-/// Writes all the bytes, in one write where the writer takes them.
+/// Writes all the bytes, in one write where the writer takes them all.
 pub(crate) fn write_text<W: Write>(writer: &mut W, text: &[u8]) -> Result<(), ServeFault>
     ensures writes { Writes (W.contents writer.old) (W.contents writer.new) text.now result }
     ensures fault { IfErr result (λ e. e ≡ ServeFault.Write) }
