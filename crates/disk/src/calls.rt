@@ -1,6 +1,6 @@
-//! The four calls of the system on a file, each with its note. What a reader has to trust stands here: that
-//! `read_some`, `write_some`, `sync_once` and `measure` make one call of the system, and return what it answered.
-//! That they note just this is proved, and so is what it means for the file.
+//! The four calls of the system on a file, each with its note. What a reader has to trust is this: `read_some`,
+//! `write_some`, `sync_once` and `measure` each make one call of the system, and return what it answered. It is proved
+//! that they note exactly this, and what that means for the file.
 ghost use Rattle.std.specs.Prelude.{◌≡◌, ◌≤◌, ◌<◌, ◌+◌, ℕ, List, [], ◌∷◌, length, take, IfOk, OnOk, OnErr, IsErrOf};
 ghost use Rattle.std.specs.Borrow.{ftrue};
 ghost use Rattle.disk.specs.Calls.{Call, Start, Read, Wrote, Broke, Synced, Measured, Interrupted, Refused};
@@ -26,8 +26,8 @@ const INTERRUPTED: u64 = 5;
 
 const REFUSED: u64 = 6;
 
-/// The calls that were made on a file, the last first, what state the file was in before them, and what each that is
-/// a failed write leaves. It holds no byte: only clauses read it.
+/// The calls that were made on a file, the last first; the state that the file was in before them; and what each failed
+/// write leaves. It holds no byte: only clauses read it.
 #[derive(Drop)]
 pub struct Record {
     marker: PhantomData<u8>,
@@ -60,10 +60,10 @@ impl Record {
     {}
 }
 
-/// Why a read or a write gave nothing.
+/// Why a read or a write transferred nothing.
 #[derive(Clone, Copy)]
 pub enum Stop {
-    /// It did nothing, and is tried again.
+    /// It did nothing, and will be tried again.
     Interrupted,
     Failed,
 }
@@ -79,7 +79,7 @@ impl NotedFile {
     ghost use Rattle.disk.specs.Record.{HasFollowed, OnlyAsks, Goes, sight_by};
     ghost use Rattle.disk.specs.Sight.{Holds, IsSynced, Looks};
 
-    /// A file that starts so. No call was made on it.
+    /// A file in any state. No call was made on it yet.
     pub fn new(file: File) -> NotedFile
         ghost start: { Start }
         ensures { (result.noted.start ≡ start) × (result.noted.calls ≡ []) }
@@ -90,7 +90,7 @@ impl NotedFile {
         }
     }
 
-    /// Reads at a place, fewer bytes than fit if the system likes, none only at the end.
+    /// Reads at a place. The system may give fewer bytes than fit. It gives none only at the end.
     pub fn read_some(&mut self, at: u64, buf: &mut [u8]) -> Result<usize, Stop>
         ensures noted { length self.new.noted.calls ≡ length self.old.noted.calls + 1 }
         ensures ok { IfOk result (λ n.
@@ -119,7 +119,7 @@ impl NotedFile {
         }
     }
 
-    /// Writes at a place, fewer bytes than there are if the system likes, or none.
+    /// Writes at a place. The system may take fewer bytes than there are, or none.
     pub fn write_some(&mut self, at: u64, bytes: &[u8]) -> Result<usize, Stop>
         ensures noted { length self.new.noted.calls ≡ length self.old.noted.calls + 1 }
         ensures ok { IfOk result (λ n. self.new.noted.calls ≡ Wrote at n bytes.now ∷ self.old.noted.calls) }

@@ -18,17 +18,17 @@ pub(crate) fn failed(failures: &mut u64) -> DeviceFault
 
 /// A device that holds bytes, from place 0 on without a gap.
 ///
-/// What its calls say of the bytes stands under the premise that the disk has followed the model so far. That an
-/// error comes exactly where the count of failures changes stands without it. The count changes, and needn't rise,
-/// since one that a machine holds can't rise for ever.
+/// What its calls promise of the bytes holds as long as the disk has followed the model so far. That an error comes
+/// exactly where the count of failures changes holds without that premise. The count changes, and need not rise: a
+/// number that a machine holds cannot rise for ever.
 pub trait Disk {
-    /// So far this disk has followed the model.
+    /// This disk has followed the model so far.
     ghost follows: { Self → Type 0 };
 
     /// What the disk is at this moment.
     ghost sight: { Self → Sight };
 
-    /// Reads the bytes from place `at` on that fit into `buf`, and returns how many: fewer only at the end.
+    /// Reads the bytes from place `at` on that fit into `buf`, and returns how many there were: fewer only at the end.
     fn read(&mut self, at: u64, buf: &mut [u8]) -> Result<usize, DeviceFault>
         ensures before { follows self.new → follows self.old }
         ensures bytes { IfOk result (λ n. follows self.new
@@ -36,8 +36,8 @@ pub trait Disk {
         ensures looks { follows self.new → Looks (sight self.old) (sight self.new) }
         ensures counts { Counts result (sight self.old).failures (sight self.new).failures };
 
-    /// Writes over what is there, and past the end. A write that fails may have done any of it.
-    /// Of a write that begins past the end nothing is said.
+    /// Writes over what is there, and past the end. A write that fails may have done any part of it. Of a write that
+    /// begins past the end nothing is promised.
     fn write_at(&mut self, at: u64, bytes: &[u8]) -> Result<(), DeviceFault>
         ensures before { follows self.new → follows self.old }
         ensures written { OnOk result (follows self.new → at ≤ length (sight self.old).seen
@@ -46,7 +46,7 @@ pub trait Disk {
             → Writes at (length bytes.now) (sight self.old) (sight self.new) }
         ensures counts { Counts result (sight self.old).failures (sight self.new).failures };
 
-    /// After it, a crash leaves what a read gives. After one that fails, it leaves what it could before.
+    /// After a sync, a crash leaves what a read gives. After a sync that fails, it leaves what it could leave before.
     fn sync(&mut self) -> Result<(), DeviceFault>
         ensures before { follows self.new → follows self.old }
         ensures synced { OnOk result (follows self.new → IsSynced (sight self.new)) }
@@ -60,11 +60,11 @@ pub trait Disk {
         ensures looks { follows self.new → Looks (sight self.old) (sight self.new) }
         ensures counts { Counts result (sight self.old).failures (sight self.new).failures };
 
-    /// What may be left now might have been left since any earlier moment.
+    /// What a crash may leave now, it might have left since any earlier moment.
     ghost counts_now: { (disk : Self) (t : ℕ) (c : List ℕ) → follows disk
         → t ≤ (sight disk).moment → (sight disk).may_leave c → (sight disk).left_since t c };
 
-    /// Since this moment only that.
+    /// Since this moment it leaves nothing else.
     ghost only_now: { (disk : Self) (c : List ℕ) → follows disk
         → (sight disk).left_since (sight disk).moment c → (sight disk).may_leave c };
 

@@ -12,24 +12,24 @@ use std::path::Path;
 use std::rt::Files;
 use thiserror::Error;
 
-/// Why a file is not opened as a disk.
+/// Why a file cannot be opened as a disk.
 #[derive(Debug, Drop, Error)]
 pub enum FileFault {
-    /// Another process, or another disk of this one, has the file.
+    /// Another process has the file, or another disk of this process.
     #[error("the file is in use")]
     InUse,
-    /// What stands at the path is a folder, a device or the like.
+    /// The path names a folder, a device or the like.
     #[error("not a regular file")]
     NotAFile,
     #[error(transparent)]
     Io(#[from] io::Error),
 }
 
-/// A disk over a file. A short read or write is finished, and an interrupted one is tried again. Every other error
-/// of the system is a `DeviceFault`; after a failed sync nothing is assumed of what was written.
+/// A disk over a file. A short read or write is finished, and an interrupted one is tried again. Every other error of
+/// the system is a `DeviceFault`. After a failed sync nothing is assumed of what was written.
 ///
-/// It has a record of its calls, which takes no memory and which only contracts see. What `Disk` says of it stands
-/// under the premise that each recorded call answered what the model gives.
+/// It has a record of its calls. The record takes no memory, and only contracts see it. What `Disk` promises holds as
+/// long as each recorded call answered what the model gives.
 #[derive(Drop)]
 pub struct FileDisk {
     calls: NotedFile,
@@ -39,7 +39,7 @@ pub struct FileDisk {
 impl FileDisk {
     ghost use Rattle.disk.specs.FileDisk.{IsFresh};
 
-    /// A disk over a file, for all states that the file may have been in, and all that failed writes may leave.
+    /// A disk over a file, for each state that the file may be in, and all that failed writes may leave.
     pub fn new(file: LockedFile) -> FileDisk
         ghost start: { Start }
         ensures { IsFresh start result }
@@ -59,9 +59,9 @@ pub struct LockedFile {
 }
 
 impl LockedFile {
-    /// Opens the file at a path, and makes an empty one where none is. The file and its folder are synced, so that
-    /// a file that was made survives a crash. The lock keeps others out until the file is dropped: those that open
-    /// it by this call, in this process too, or that ask for the lock.
+    /// Opens the file at a path, and makes an empty one where there is none. The file and its folder are synced, so
+    /// that a new file survives a crash. The lock is held until the file is dropped. It keeps out other programs that
+    /// ask for the lock, and other calls of this function, in this process too.
     pub fn open<R: Files<File = File>>(rt: &R, path: &str) -> Result<LockedFile, FileFault> {
         let mut file = OpenOptions::new()
             .read(true)
@@ -69,7 +69,7 @@ impl LockedFile {
             .create(true)
             .truncate(false)
             .open(rt, path)?;
-        // What is meant for a standard stream that was closed must not land in the file.
+        // What is meant for a closed standard stream must not land in the file.
         if file.as_raw_fd() <= 2 {
             file = file.try_clone()?;
         }
@@ -87,7 +87,7 @@ impl LockedFile {
     }
 }
 
-// The folder in which a path's last name stands.
+// The folder of a path's last name.
 fn folder_of(path: &str) -> &str {
     match Path::new(path).parent() {
         Some(parent) if !parent.as_str().is_empty() => parent.as_str(),
@@ -152,7 +152,7 @@ impl Disk for FileDisk {
         ensures looks { FileFollows self.new → Looks (file_sight self.old) (file_sight self.new) }
         ensures counts { Counts result (file_sight self.old).failures (file_sight self.new).failures }
 
-        // It is one call of the system, and answers as that did.
+        // It is one call of the system, and answers as that call did.
         ensures ok { OnOk result (calls_on self.new ≡ Synced ∷ calls_on self.old) }
         ensures err { OnErr result (calls_on self.new ≡ Refused ∷ calls_on self.old) }
     {
@@ -168,7 +168,7 @@ impl Disk for FileDisk {
         ensures looks { FileFollows self.new → Looks (file_sight self.old) (file_sight self.new) }
         ensures counts { Counts result (file_sight self.old).failures (file_sight self.new).failures }
 
-        // It is one call of the system, and answers as that did.
+        // It is one call of the system, and answers as that call did.
         ensures ok { IfOk result (λ n. calls_on self.new ≡ Measured n ∷ calls_on self.old) }
         ensures err { OnErr result (calls_on self.new ≡ Refused ∷ calls_on self.old) }
     {

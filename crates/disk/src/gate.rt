@@ -7,7 +7,7 @@ use std::alloc::{AllocError, Global};
 use std::sync::Arc;
 use std::sync::atomic::{AtomicBool, Ordering};
 
-/// How often a sync looks at a closed gate before it fails: so many turns of so many loads.
+/// How many turns a sync waits at a closed gate before it fails. Each turn is a fixed number of loads.
 const TURNS: u32 = 10_000;
 
 const LOADS: u32 = 100_000;
@@ -26,14 +26,14 @@ impl Gate {
         })
     }
 
-    /// The same gate once more.
+    /// Another handle on the same gate.
     pub fn try_clone(&self) -> Result<Gate, AllocError> {
         Ok(Gate {
             is_open: Arc::try_clone(&self.is_open)?,
         })
     }
 
-    /// Lets syncs go on, those that are held too.
+    /// Lets syncs go on, the waiting ones too.
     pub fn open(&self) {
         self.is_open.store(true, Ordering::SeqCst);
     }
@@ -43,7 +43,7 @@ impl Gate {
         self.is_open.store(false, Ordering::SeqCst);
     }
 
-    // Waits for the gate for some turns, and says whether it was open.
+    // Waits for the gate for some turns, and says whether it opened.
     fn opens_in_time(&self) -> bool {
         for _ in 0..TURNS {
             for _ in 0..LOADS {
@@ -56,8 +56,8 @@ impl Gate {
     }
 }
 
-/// A disk whose syncs are held while a gate is closed, for tests of what other threads do meanwhile. A sync that is
-/// held for 10,000 turns, each of 100,000 loads of the gate, fails without a call on the inner disk.
+/// A disk whose syncs wait while a gate is closed, for tests of what other threads do meanwhile. A sync that waits for
+/// 10,000 turns, each of 100,000 loads of the gate, fails without a call on the inner disk.
 #[derive(Drop)]
 pub struct GateDisk<D: Disk> {
     inner: D,
@@ -68,7 +68,7 @@ pub struct GateDisk<D: Disk> {
 impl<D: Disk> GateDisk<D> {
     ghost use Rattle.disk.specs.GateDisk.{inner_of, own_failures};
 
-    /// This disk behind a gate.
+    /// This disk with a gate for its syncs.
     pub fn new(inner: D, gate: Gate) -> GateDisk<D>
         ensures inner { inner_of result ≡ inner }
         ensures failures { own_failures result ≡ 0 }

@@ -26,7 +26,7 @@ impl From<AllocError> for ImagesFault {
     }
 }
 
-// Puts a value behind these, if it isn't among them.
+// Adds a value to the end of these, unless it is among them.
 fn add(found: &mut Vec<u8>, value: u8) -> Result<(), AllocError>
     ensures same { OnOk result ((v : ℕ)
         → (Contains found.new.items v) ↔ ((Contains found.old.items v) ⊎ (value ≡ v))) }
@@ -61,7 +61,7 @@ fn mark(mask: &mut [bool], at: usize, len: usize)
     mask[at..at + len].fill(true);
 }
 
-// For each byte whether it is unsynced: past the length at the last sync, or written since.
+// For each byte, whether it is unsynced: past the length at the last sync, or written since.
 pub(crate) fn unsynced(
     alloc: Global,
     len: usize,
@@ -84,7 +84,7 @@ pub(crate) fn unsynced(
     Ok(mask)
 }
 
-// How many contents there are, of all lengths from `low` on, or none where the number doesn't fit.
+// How many contents there are, of all lengths from `low` on: `None` where the number does not fit.
 pub(crate) fn number_of(mask: &[bool], low: usize, values: &[u8]) -> Option<usize>
     requires { low ≤ length mask.now }
     ensures exact { IfSome result (λ n. (now : List ℕ)
@@ -105,7 +105,7 @@ pub(crate) fn number_of(mask: &[bool], low: usize, values: &[u8]) -> Option<usiz
     all.checked_add(fronts)
 }
 
-// The number, where it is at most the cap.
+// The number, unless it is above the cap.
 pub(crate) fn within_cap(number: Option<usize>, cap: usize) -> Result<usize, ImagesFault>
     ensures ok { IfOk result (λ n. (number ≡ Some n) × (n ≤ cap)) }
     ensures err { OnErr result (IfSome number (λ n. cap < n)) }
@@ -116,7 +116,7 @@ pub(crate) fn within_cap(number: Option<usize>, cap: usize) -> Result<usize, Ima
     }
 }
 
-// Puts a byte behind each.
+// Adds a byte to the end of each.
 fn push_to_each(fronts: &mut [Vec<u8>], byte: u8) -> Result<(), AllocError>
     ensures { OnOk result (contents fronts.new ≡ longer (contents fronts.old) (byte ∷ [])) }
 {
@@ -126,7 +126,7 @@ fn push_to_each(fronts: &mut [Vec<u8>], byte: u8) -> Result<(), AllocError>
     Ok(())
 }
 
-// Each with each of the values behind it.
+// Each of these, followed by each of the values.
 fn with_each(alloc: Global, fronts: &[Vec<u8>], values: &[u8]) -> Result<Vec<Vec<u8>>, AllocError>
     ensures { IfOk result (λ all. contents all.items ≡ longer (contents fronts.now) values.now) }
 {
@@ -141,7 +141,7 @@ fn with_each(alloc: Global, fronts: &[Vec<u8>], values: &[u8]) -> Result<Vec<Vec
     Ok(all)
 }
 
-// Puts copies behind what was found.
+// Adds copies to the end of what was found.
 fn append_copies(found: &mut Vec<Vec<u8>>, fronts: &[Vec<u8>]) -> Result<(), AllocError>
     ensures { OnOk result (contents found.new.items ≡ contents found.old.items ++ contents fronts.now) }
 {
@@ -151,7 +151,7 @@ fn append_copies(found: &mut Vec<Vec<u8>>, fronts: &[Vec<u8>]) -> Result<(), All
     Ok(())
 }
 
-// All contents of the lengths from `low` on, with these values where the mask says so. There are `number`.
+// All contents of the lengths from `low` on, with these values where the mask says so. There are `number` of them.
 pub(crate) fn all_contents(
     alloc: Global,
     now: &[u8],

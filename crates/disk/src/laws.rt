@@ -3,7 +3,7 @@ ghost use Rattle.std.specs.Prelude.{◌≡◌, ◌≤◌, ℕ, List, length};
 ghost use Rattle.disk.specs.Sight.{Torn};
 ghost use Rattle.disk.specs.State.{State, Break, act};
 
-/// A write that failed may have left whatever a torn write leaves.
+/// A write that failed may have left anything that a torn write leaves.
 pub fn failed_writes_leave_any()
     ensures { (s : State) (at n : ℕ) (c : List ℕ) → at ≤ length s.now → Torn at n s.now c
         → (left : List ℕ) × ((act s (Break at n left)).now ≡ c) }

@@ -1,8 +1,8 @@
 //! A disk, and what a crash may leave of it.
 //!
-//! Between two syncs each written range, and all past the old end, may hold any bytes after a crash. Bytes outside
-//! stay, and the length is from that at the last sync to the greatest since. After a sync a crash leaves what a
-//! read gives.
+//! Between two syncs each written range, and all bytes past the old end, may hold anything after a crash. Bytes outside
+//! stay. The length is at least that at the last sync, and at most the greatest since. After a sync a crash leaves what
+//! a read gives.
 #![tactic(auto)]
 
 mod calls;

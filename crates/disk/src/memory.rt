@@ -18,14 +18,13 @@ pub(crate) enum Step {
     Synced,
 }
 
-/// A disk in memory that follows the model always. It records each write and sync, and can list what a crash may
-/// leave.
+/// A disk in memory that always follows the model. It records each write and sync, and can list what a crash may leave.
 #[derive(Drop)]
 pub struct MemDisk {
     steps: Vec<Step>,
     written: Vec<u8>,
     bytes: Vec<u8>,
-    // How many steps stand up to the last sync, and how long the disk was then.
+    // How many steps there were up to the last sync, and how long the disk was then.
     synced_steps: usize,
     synced_len: usize,
     calls: u64,
@@ -57,8 +56,9 @@ impl MemDisk {
     ghost use Rattle.disk.specs.Images.{IsImageOf, Lists, contents};
     ghost use Rattle.disk.specs.MemDisk.{HasRoom, KeepsRoom, SameOthers, recorded, Records, RecordsNothing, state_of, IsSameDisk, WillFail, sight_at, memory_sight, calls_of};
 
-    /// An empty disk with room for `room` bytes, and for a record of `calls` writes and syncs and of `written` bytes
-    /// in all. Within these its trait calls take no memory; beyond them a refused growth is a counted failure.
+    /// An empty disk with room for `room` bytes, and for a record of `calls` writes and syncs and of `written` bytes in
+    /// all. Within these limits its trait calls take no memory. Beyond them a growth that the allocator refuses is a
+    /// counted failure.
     ///
     /// # Errors
     /// `AllocError` where that room was refused.
@@ -82,15 +82,15 @@ impl MemDisk {
         })
     }
 
-    /// How many calls of `write_at` and `sync` were made, failed ones too, up to `u64::MAX`.
+    /// How many calls of `write_at` and `sync` were made, failed ones included, up to `u64::MAX`.
     pub fn calls(&self) -> u64
         ensures { result ≡ calls_of self.now }
     {
         self.calls
     }
 
-    /// Makes the `n`th trait call from now fail, the next being 1, in place of what was asked for before. With 0 none
-    /// is to fail. A write that fails so is made all the same; of a sync that fails so nothing is done.
+    /// Makes the `n`th trait call from now fail, where the next is 1. With 0 none will fail. An earlier request is
+    /// forgotten. A write that fails so is made all the same; a sync that fails so does nothing.
     pub fn fail_at(&mut self, n: u64)
         ensures plan { (k : ℕ) → (WillFail self.new k) ↔ (k ≡ n) }
         ensures same { IsSameDisk self.old self.new }
@@ -98,8 +98,8 @@ impl MemDisk {
         self.plan = Plan::FailsIn(n);
     }
 
-    /// Makes the `n`th trait call from now and all later ones fail, the next being 1, in place of what was asked for
-    /// before. They fail as by `fail_at`.
+    /// Makes the `n`th trait call from now and all later ones fail, where the next is 1. An earlier request is
+    /// forgotten. They fail as those of `fail_at` do.
     pub fn stop_at(&mut self, n: u64)
         ensures plan { (k : ℕ) → (WillFail self.new k) ↔ (n ≤ k) }
         ensures same { IsSameDisk self.old self.new }
@@ -107,12 +107,12 @@ impl MemDisk {
         self.plan = Plan::StopsIn(n);
     }
 
-    /// Lists each content that a crash now may leave, with unsynced bytes drawn from `values`, each once. A byte is
-    /// unsynced that was written since the last sync, or stands past the length at that sync. Takes memory for what
-    /// it lists, and for a flag for each byte of the disk.
+    /// Lists each content that a crash may leave now, once, with unsynced bytes drawn from `values`. A byte is unsynced
+    /// where it was written since the last sync, or is past the length at that sync. Takes memory for the list, and for
+    /// a flag for each byte of the disk.
     ///
     /// # Errors
-    /// `TooMany` where there are more than `cap`, `Memory` where memory was refused.
+    /// `TooMany` where there are more than `cap`; `Memory` where memory was refused.
     pub fn images(
         &self,
         alloc: Global,
@@ -222,8 +222,8 @@ impl Disk for MemDisk {
             → Writes at (length bytes.now) (memory_sight self.old) (memory_sight self.new) }
         ensures counts { Counts result (memory_sight self.old).failures (memory_sight self.new).failures }
 
-        // It is recorded whether it fails or not, but where it begins past the end; for want of memory it fails, and
-        // needn't be.
+        // It is recorded whether it fails or not, except where it begins past the end. Where it fails for want of
+        // memory, it may be missing.
         ensures records { OnOk result (Records (Write at bytes.now) self.old self.new) }
         ensures records_failed { at ≤ length (memory_sight self.old).seen
             → HasRoom self.old (at + length bytes.now) 1 (length bytes.now)
@@ -231,7 +231,7 @@ impl Disk for MemDisk {
         ensures refused { length (memory_sight self.old).seen < at → RecordsNothing self.old self.new }
         ensures either { Records (Write at bytes.now) self.old self.new ⊎ RecordsNothing self.old self.new }
 
-        // It fails where that was asked for, where it begins past the end, and else only for want of memory.
+        // It fails where that was asked for and where it begins past the end, otherwise only for want of memory.
         ensures asked { WillFail self.old 1 → IsErr result }
         ensures past_end { length (memory_sight self.old).seen < at → IsErr result }
         ensures works { ¬ WillFail self.old 1 → at ≤ length (memory_sight self.old).seen
@@ -253,11 +253,11 @@ impl Disk for MemDisk {
         ensures looks { Looks (memory_sight self.old) (memory_sight self.new) }
         ensures counts { Counts result (memory_sight self.old).failures (memory_sight self.new).failures }
 
-        // It is recorded exactly where it doesn't fail.
+        // It is recorded exactly where it does not fail.
         ensures records { OnOk result (Records Sync self.old self.new) }
         ensures refused { OnErr result (RecordsNothing self.old self.new) }
 
-        // It fails where that was asked for, and else only for want of memory.
+        // It fails where that was asked for, otherwise only for want of memory.
         ensures asked { WillFail self.old 1 → IsErr result }
         ensures works { ¬ WillFail self.old 1 → HasRoom self.old 0 1 0 → IsOk result }
         ensures goes_on { GoesOn self.old self.new }

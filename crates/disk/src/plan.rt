@@ -1,10 +1,10 @@
 ghost use Rattle.std.specs.Prelude.{ℕ, ◌<◌, ◌+◌, ◌↔◌, IsTrue};
 
-/// Which of the calls to come are to fail.
+/// Which of the next calls are to fail.
 #[derive(Clone, Copy)]
 pub(crate) enum Plan {
     Works,
-    /// The one with this number, the next being 1.
+    /// The one with this number, where the next is 1.
     FailsIn(u64),
     /// The one with this number and all later ones.
     StopsIn(u64),

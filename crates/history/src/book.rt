@@ -25,7 +25,8 @@ pub trait Kept {
     ghost use Rattle.accept.specs.declared.history.Ask.{Ask};
     ghost use Rattle.history.specs.Handles.{Booked};
 
-    /// Each crash now leaves the meaning of this book's history, or of it with a beginning of these calls in doubt.
+    /// A crash now leaves the meaning of this book's history, or of that history followed by a beginning of these calls
+    /// in doubt.
     ghost kept: { Self → Booked → List Ask → Type 0 };
 
     /// What the clocks of the shard's two slots say.
@@ -35,8 +36,8 @@ pub trait Kept {
     ghost doubts: { Self → List Ask };
 }
 
-/// A shard's history: whoever has the book adds to it. Contracts see the list of its items; the program keeps their
-/// number alone, in the table.
+/// A shard's history. Who has the book adds to it. Contracts see the list of its items; the program keeps only their
+/// number, in the table.
 #[derive(Drop)]
 pub struct Book {
     pub(crate) shard: usize,
@@ -62,9 +63,9 @@ impl Model for Book {
 }
 
 impl Book {
-    /// Adds the call with its reply to the history, once the disk keeps it, and gives the reply back. Calls of a pass
-    /// to one shard go in the order in which they were announced. Of calls that were written together each is in doubt
-    /// until it is added.
+    /// Adds the call with its reply to the history, once the disk keeps it, and gives the reply back. Calls of one pass
+    /// on one shard are committed in the order in which they were announced. Of calls that were written together, each
+    /// is in doubt until it is added.
     pub fn commit<K: Kept>(&mut self, kept: &K, ticket: Ticket, reply: Reply) -> (Reply, Receipt)
         requires table { ticket.table ≡ self.old.table }
         requires shard { shard_in self.old.about ticket.ask ≡ self.old.shard }
@@ -113,7 +114,7 @@ impl Book {
         }
     }
 
-    /// Answers a call after the failure mark, which is `Unavailable` whatever it asks.
+    /// Answers a call after the failure mark: `Unavailable`, whatever the call is.
     pub fn refuse<K: Kept>(&mut self, kept: &K, ticket: Ticket) -> (Reply, Receipt)
         requires table { ticket.table ≡ self.old.table }
         requires shard { shard_in self.old.about ticket.ask ≡ self.old.shard }
@@ -134,7 +135,7 @@ impl Book {
         self.commit(kept, ticket, Reply::Unavailable)
     }
 
-    /// Adds the failure mark, with these calls in doubt. They stay open, and each call from now on is answered
+    /// Adds the failure mark, with these calls in doubt. They stay open. From now on each call is answered
     /// `Unavailable`.
     pub fn mark<K: Kept>(&mut self, kept: &K, tickets: &mut [Ticket])
         requires tickets { AreOf self.old tickets.old }
@@ -149,7 +150,7 @@ impl Book {
         shared.fetch_add::<Marks>(&mut self.seat, self.shard, 1);
     }
 
-    /// How many items the history has: at most a step under each number of each pass, and the mark.
+    /// How many items the history has: at most one step for each number of each pass, and the mark.
     pub fn len(&mut self) -> u64
         ensures book { self.new ≡ self.old }
         ensures len { result ≡ length self.old.items }
@@ -158,8 +159,8 @@ impl Book {
         self.table.shared.load::<Counts>(&mut self.seat, self.shard)
     }
 
-    /// Compares the book with a pass, and changes neither: the history begins with what the pass has seen, has just its
-    /// steps, and no steps but those of passes of the opening.
+    /// Compares the book with a pass, and changes neither. The history begins with what the pass has seen, has of the
+    /// pass exactly its steps, and has only steps of passes of the opening.
     pub fn settle(&mut self, pass: &mut Pass)
         requires table { pass.old.table ≡ self.old.table }
         ensures book { self.new ≡ self.old }
@@ -179,7 +180,7 @@ impl Book {
     }
 }
 
-// Puts the tickets' calls into the book's doubt, in their order.
+// Adds the tickets' calls to those that the book has in doubt, in their order.
 fn put_in_doubt(shared: &Steps, seat: &mut ViewSeat, tickets: &mut [Ticket])
     requires seat { seat.old.table_id ≡ shared.now.table_id }
     requires book { seat.old.me ≡ (alone (Keeps (shelf_in seat.old.me.0.role)) Nothing, []) }

@@ -8,12 +8,12 @@ use crate::table::ViewSeat;
 use std::marker::Model;
 use thiserror::Error;
 
-/// A pass announces no call any more: it was closed, or it has used the last call number, 2^56 - 1.
+/// A pass announces no more calls: it was closed, or it has used the last call number, 2^56 - 1.
 #[derive(Clone, Copy, Debug, PartialEq, Eq, Error)]
 #[error("the pass is closed")]
 pub struct PassSpent;
 
-/// One announced call without a step.
+/// An announced call that has no step yet.
 #[derive(Drop)]
 pub struct Ticket {
     pub(crate) number: u64,
@@ -93,7 +93,7 @@ impl Receipt {
     }
 }
 
-/// A caller's place at the histories of all shards. Up to 64 calls of it may be open at a time.
+/// A caller's place at the histories of all shards. It may have up to 64 open calls at a time.
 #[derive(Drop)]
 pub struct Pass {
     pub(crate) shards: usize,
@@ -125,32 +125,32 @@ impl Pass {
     /// The last number of a call.
     pub(crate) const LAST: u64 = (1 << 56) - 1;
 
-    /// How many calls may be open.
+    /// How many calls may be open at a time.
     pub(crate) const CALLS: u64 = 64;
 
-    /// Whether it announces no call any more: it was closed, or has used the last call number, 2^56 - 1.
+    /// Whether it announces no more calls: it was closed, or has used the last call number, 2^56 - 1.
     pub fn is_closed(&self) -> bool
         ensures { result ≡ is_closed self.now }
     {
         self.closed || self.last == Pass::LAST
     }
 
-    /// Whether as many calls are open as may be: 64.
+    /// Whether the most calls are open: 64.
     pub fn is_full(&self) -> bool
         ensures { result ≡ (length self.now.caller.pending == 64) }
     {
         self.calls == Pass::CALLS
     }
 
-    /// Its own number, from 0, below the number of passes of its opening.
+    /// Its number: from 0, below the number of passes of its opening.
     pub fn number(&self) -> usize
         ensures { (result ≡ self.now.caller.pass) × (result < self.now.caller.about.passes) }
     {
-        // (the words of the passes stand behind those of the shards)
+        // (the words of the passes come after those of the shards)
         self.word - self.shards
     }
 
-    // What its word is once its first open call has ended: its last number where others are open.
+    // Its word after its first open call ends: its last number, if other calls are open.
     pub(crate) fn word_behind_first(&self) -> u64
         ensures { result ≡ number_of self.now.caller.last (behind_first self.now.caller.pending) }
     {
@@ -165,7 +165,7 @@ impl Pass {
         self.last + 1
     }
 
-    /// From now on it announces no call.
+    /// From now on it announces no calls.
     pub fn close(&mut self)
         ensures { self.new ≡ record self.old { closed = true } }
     {

@@ -32,8 +32,8 @@ impl Model for History {
 }
 
 impl History {
-    /// Announces a call under the next number of the pass. Its ticket names the open calls of the pass to the same
-    /// shard that stand before it.
+    /// Announces a call under the next number of the pass. Its ticket names the earlier open calls of the pass on the
+    /// same shard.
     pub fn announce(&self, pass: &mut Pass, call: &Call) -> Result<Ticket, PassSpent>
         requires table { pass.old.table ≡ self.now }
         requires few { length pass.old.caller.pending < 64 }
@@ -104,9 +104,9 @@ impl History {
         }
     }
 
-    /// Takes the answer to the first open call in: what the pass has seen of the shard is then what it had seen, items
-    /// of others, and this step. Answers that came in another order are told apart by their numbers. The answer to the
-    /// only open call needs no look at its number.
+    /// Collects the answer to the first open call. What the pass has seen of the shard is now what it had seen before,
+    /// then items of others, then this step. Answers that came in another order are told apart by their numbers. Where
+    /// only one call is open, its number is not looked at.
     pub fn collect(&self, pass: &mut Pass, receipt: Receipt)
         requires table { (pass.old.table ≡ self.now) × (receipt.table ≡ self.now) }
         requires pass { receipt.step.ask.pass ≡ pass.old.caller.pass }
@@ -135,7 +135,7 @@ impl History {
         pass.calls -= 1;
     }
 
-    /// Takes the first open call back, which has no step and is not in doubt. Its number is not used again.
+    /// Withdraws the first open call, which has no step and is not in doubt. Its number is not used again.
     pub fn withdraw(&self, pass: &mut Pass, ticket: Ticket)
         requires table { (pass.old.table ≡ self.now) × (ticket.table ≡ self.now) }
         requires pass { (ticket.ask.pass ≡ pass.old.caller.pass) × (ticket.doubted ≡ false) }
@@ -155,8 +155,7 @@ impl History {
         pass.calls -= 1;
     }
 
-    /// Sees the history of a shard as it is, and answers its length. There are no steps but those of passes of the
-    /// opening.
+    /// Sees the history of a shard as it is now, and answers its length. Its steps are all of passes of the opening.
     pub fn observe(&self, pass: &mut Pass, shard: usize) -> u64
         requires table { pass.old.table ≡ self.now }
         requires shard { shard < pass.old.caller.about.shards }
@@ -174,7 +173,7 @@ impl History {
         self.table.shared.load::<Looks>(&mut pass.seat, shard)
     }
 
-    /// Two passes see the histories of all shards together: both then hold one and the same history of each.
+    /// Two passes see the histories of all shards together. Both then have the same history of each.
     pub fn meet(&self, one: &mut Pass, two: &mut Pass)
         requires table { (one.old.table ≡ self.now) × (two.old.table ≡ self.now) }
         ensures one { one.new ≡ record one.old { caller = with_seen one.old.caller one.new.caller.seen } }

@@ -1,4 +1,4 @@
-//! What several open calls of a pass come to.
+//! What several open calls of a pass mean.
 ghost use Rattle.std.specs.Prelude.{◌≡◌, ◌+◌, [], List, true, OnOk};
 ghost use Rattle.accept.specs.declared.history.Ask.{Ask};
 ghost use Rattle.accept.specs.declared.history.Item.{Item};
@@ -13,12 +13,12 @@ use crate::handles::{Pass, PassSpent};
 use crate::history::History;
 use accept::Call;
 
-/// Two calls to a shard with a failure mark, both open at once: each is refused in its turn, and the pass is as if the
-/// second was made after the first was answered.
+/// Two calls on a shard with a failure mark, both open at once: each is refused in its turn, and the pass is as if the
+/// second had been made after the first was answered.
 ///
 /// # Errors
 ///
-/// The pass announces no call, or none after the first, which is then taken back.
+/// The pass announces no call, or no call after the first, which is then withdrawn.
 pub fn refuse_both<K: Kept>(
     history: &History,
     book: &mut Book,

@@ -1,5 +1,5 @@
-//! One growing history for each shard, known to every pass. It stands in the proofs alone: the program keeps a counter
-//! a shard and a number a pass.
+//! One growing history for each shard, which every pass knows. It exists only in the proofs: the program keeps a
+//! counter for each shard and a number for each pass.
 #![tactic(auto)]
 
 mod book;

@@ -16,8 +16,8 @@ use std::marker::Brand;
 use std::sync::Arc;
 
 impl History {
-    /// Opens histories over these bases, one for each shard, with a book each and so many passes. All are empty.
-    /// `capacity` is how many bytes a segment may have. At an `Err` there was no memory.
+    /// Opens histories over these bases, one for each shard, with a book each and with this many passes. All are empty.
+    /// `capacity` is how many bytes a segment may have. An `Err` means that there was no memory.
     pub fn new(
         alloc: Global,
         bases: &[Image],
@@ -54,7 +54,7 @@ fn opened<J: Naming>(
     deal::<J>(alloc, bases.len(), passes)
 }
 
-// The table of an opening with so many shards and passes, all of whose books and passes are dealt.
+// The table of an opening with these numbers of shards and passes. All its books and passes are given out.
 pub(crate) fn deal<J: Naming>(
     alloc: Global,
     shards: usize,

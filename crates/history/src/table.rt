@@ -1,6 +1,5 @@
-//! The table that all threads share, its rule, and what its steps tell.
-//! Word k is the length of shard k's history. Behind the shards' words each pass has one: 0, or, while calls of it are
-//! open, the last number that it used.
+//! The table that all threads share, its rule, and what its steps tell. Word k is the length of shard k's history.
+//! After the shards' words comes one for each pass: 0, or, while calls of it are open, the last number that it used.
 
 use crate::views::{Sizes, View};
 use atomic_table::{Join, Play, Seat, Shared, Split, Table, TableRule};
@@ -24,7 +23,7 @@ pub(crate) type Steps = Shared<(), View, Sizes, Rules>;
 
 pub(crate) type ViewSeat = Seat<(), View>;
 
-/// What an opening is of. The call that opens picks it.
+/// What an opening is for. The call that opens chooses it.
 pub trait Naming {
     ghost use Rattle.history.specs.declared.views.About.{About};
 
@@ -37,7 +36,7 @@ impl Naming for Brand {
     ghost about = { no_about };
 }
 
-/// The call that is announced. The call that announces picks it.
+/// The call that is announced. The call that announces chooses it.
 pub trait Saying {
     ghost use Rattle.accept.specs.declared.call.Call.{Call};
 
@@ -50,7 +49,7 @@ impl Saying for Brand {
     ghost call = { no_ask.call };
 }
 
-/// When a step is committed: what the clocks of the shard's two slots say. The call that commits picks it.
+/// When a step is committed: what the clocks of the shard's two slots say. The call that commits chooses it.
 pub trait At {
     ghost use Rattle.std.specs.Prelude.{ℕ};
 
@@ -61,7 +60,7 @@ impl At for Brand {
     ghost moment = { (0, 0) };
 }
 
-/// The opening learns what it is of.
+/// The opening learns what it is for.
 pub struct Names<J> {
     of: PhantomData<J>,
 }
@@ -103,7 +102,7 @@ impl Play<(), View> for Marks {
     ghost then = { marked };
 }
 
-/// A pass takes its first open call back.
+/// A pass withdraws its first open call.
 pub struct Withdraws;
 
 impl Play<(), View> for Withdraws {
@@ -112,7 +111,7 @@ impl Play<(), View> for Withdraws {
     ghost then = { withdrew };
 }
 
-/// A pass takes the answer to its first open call in.
+/// A pass collects the answer to its first open call.
 pub struct Collects;
 
 impl Play<(), View> for Collects {
@@ -157,7 +156,7 @@ impl Play<(), View> for Counts {
     ghost then = { counted };
 }
 
-/// The opening gives the next book out.
+/// The opening gives out the next book.
 pub struct NextBook;
 
 impl Split<View> for NextBook {
@@ -168,7 +167,7 @@ impl Split<View> for NextBook {
     ghost right = { λ v. next_book v.role };
 }
 
-/// The opening gives the next pass out.
+/// The opening gives out the next pass.
 pub struct NextPass;
 
 impl Split<View> for NextPass {
@@ -179,7 +178,7 @@ impl Split<View> for NextPass {
     ghost right = { λ v. next_pass v.role };
 }
 
-/// The call in hand goes to a seat of its own.
+/// The call in hand goes to its own seat.
 pub struct Gives;
 
 impl Split<View> for Gives {
@@ -201,7 +200,7 @@ impl Split<View> for Leaves {
     ghost right = { visitor };
 }
 
-/// Another seat's call comes into hand.
+/// Another seat's call comes into the hand.
 pub struct Takes;
 
 impl Join<View> for Takes {

@@ -1,4 +1,4 @@
-//! What seats of the table know. Contracts and proofs alone read it: the program makes no value of a view.
+//! What seats of the table know. Only contracts and proofs read it: the program makes no value of a view.
 
 use accept::{Ask, Image, Item, Limits, Step};
 use std::collections::LinkedList;
@@ -13,19 +13,19 @@ pub struct About {
     pub limits: Limits,
     /// How many bytes a segment may have.
     pub capacity: u64,
-    /// What the opening found, a base for each shard.
+    /// What the opening found: a base for each shard.
     pub bases: LinkedList<Image>,
 }
 
 /// What a pass knows.
 pub struct Caller {
-    /// The opening that it is of.
+    /// The opening that it belongs to.
     pub about: About,
     /// Which pass it is.
     pub pass: u64,
-    /// The greatest number that it used for a call, 0 before the first.
+    /// The greatest number that it used for a call: 0 before the first.
     pub last: u64,
-    /// Of each shard the beginning of its history that the pass has seen.
+    /// For each shard, the beginning of its history that the pass has seen.
     pub seen: LinkedList<LinkedList<Item>>,
     /// The calls that were answered to it, with number and reply, in order.
     pub made: LinkedList<Step>,
@@ -37,7 +37,7 @@ pub struct Caller {
 
 /// What a book knows.
 pub struct Shelf {
-    /// The opening that it is of.
+    /// The opening that it belongs to.
     pub about: About,
     /// Which shard it keeps.
     pub shard: u64,
@@ -51,7 +51,7 @@ pub struct Shelf {
 pub enum Role {
     /// Nothing.
     Nobody,
-    /// The opening: it has the books and the passes from these numbers on.
+    /// The opening: it has still to give out the books and the passes from these numbers on.
     Opener(About, u64, u64),
     /// A shard's book.
     Keeps(Shelf),
@@ -59,14 +59,14 @@ pub enum Role {
     Calls(Caller),
 }
 
-/// What stands for a call on its way.
+/// A call on its way.
 pub enum Token {
     /// There is none.
     Nothing,
     /// An announced call that has no step, whether it is in doubt, and the calls of its pass on the same shard that
     /// were open when it was announced.
     Open(Ask, bool, LinkedList<Ask>),
-    /// A call with its step, the history up to that, and what the clocks of the shard's two slots said.
+    /// A call with its step, the history up to that step, and what the clocks of the shard's two slots said.
     Done(Step, LinkedList<Item>, (u64, u64)),
 }
 
@@ -80,7 +80,7 @@ pub struct View {
     pub hand: Token,
 }
 
-/// How many words the table has: one for each shard, and behind them one for each pass.
+/// How many words the table has: one for each shard, and after them one for each pass.
 #[derive(Clone, Copy)]
 pub struct Sizes {
     /// How many shards.

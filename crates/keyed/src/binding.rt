@@ -1,4 +1,4 @@
-//! The rule of the queues: all messages of one fit the key and the number that it is bound to.
+//! The rule of the queues: all messages of a queue fit the key and the number that it is bound to.
 
 use crate::rule::Fits;
 use crossbeam_channel::protocol::{Lesson, Outcome, Protocol, Split};
@@ -12,8 +12,8 @@ pub enum Binding<K> {
     Bound(K, u64),
 }
 
-/// The rule: the queue was just made, and is empty; or all its messages fit one key and one number, which each end
-/// knows.
+/// The rule: either the queue was just made and is empty, or all its messages fit one key and one number, which each
+/// end knows.
 pub struct Binds<P> {
     of: PhantomData<P>,
 }
@@ -27,7 +27,7 @@ impl<T, K, P: Fits<T, K>> Protocol<T, Binding<K>> for Binds<P> {
     ghost first = { Unbound };
 }
 
-/// The binding that a queue gets. The call that makes it picks it.
+/// The binding that a queue gets. The call that makes the queue chooses it.
 pub trait Names<K> {
     ghost use Rattle.keyed.specs.declared.binding.Binding.{Binding};
 
@@ -51,7 +51,7 @@ impl<K, J: Names<K>> Split<Binding<K>> for BindsBoth<J> {
     ghost right = { λ _. J.binding };
 }
 
-/// A further end knows the same.
+/// Another end knows the same.
 pub(crate) struct Same;
 
 impl<K> Split<Binding<K>> for Same {

@@ -1,4 +1,4 @@
-//! The ends of queues. Each keeps its own seat at its queue.
+//! The ends of queues. Each end keeps its own seat at its queue.
 ghost use Rattle.crossbeam_channel.specs.Claims.{IsSeatAt};
 ghost use Rattle.crossbeam_channel.specs.Ends.{sends_on, receives_on};
 
@@ -8,7 +8,7 @@ use crossbeam_channel::{Pass, RuledReceiver, RuledSender};
 use std::alloc::AllocError;
 use std::sync::Wait;
 
-/// An end of a queue that sends.
+/// The sending end of a queue.
 #[derive(Drop)]
 pub struct QueueSender<T: Drop, K, P: Fits<T, K>> {
     pub(crate) to: RuledSender<T, Binding<K>, Binds<P>>,
@@ -16,7 +16,7 @@ pub struct QueueSender<T: Drop, K, P: Fits<T, K>> {
     ghost seated: { IsSeatAt (sends_on to) port },
 }
 
-/// The end of a queue that receives.
+/// The receiving end of a queue.
 #[derive(Drop)]
 pub struct QueueReceiver<T: Drop, K, P: Fits<T, K>> {
     pub(crate) from: RuledReceiver<T, Binding<K>, Binds<P>>,
@@ -29,7 +29,7 @@ impl<T: Drop, K, P: Fits<T, K>> QueueSender<T, K, P> {
     ghost use Rattle.keyed.specs.Bindings.{FitsBinding, IsBound};
     ghost use Rattle.keyed.specs.Queues.{sends_to, receives_as};
 
-    /// A further end of the same queue that sends.
+    /// Another sending end of the same queue.
     ///
     /// # Errors
     ///
@@ -66,7 +66,7 @@ impl<T: Drop, K, P: Fits<T, K>> QueueReceiver<T, K, P> {
     ghost use Rattle.keyed.specs.Bindings.{FitsBinding, IsBound};
     ghost use Rattle.keyed.specs.Queues.{sends_to, receives_as};
 
-    /// Waits for a message. None comes any more once all ends that send are gone and the queue is empty.
+    /// Waits for a message. `None` comes once all sending ends are gone and the queue is empty.
     pub fn receive<R: Wait>(&mut self, rt: &R) -> Option<T>
         ensures same { receives_as self.new ≡ receives_as self.old }
         ensures fits { IfSome result (FitsBinding P.fits (receives_as self.old)) }
@@ -74,7 +74,7 @@ impl<T: Drop, K, P: Fits<T, K>> QueueReceiver<T, K, P> {
         self.from.recv_as::<Gets<P>, R>(rt, &mut self.port).ok()
     }
 
-    /// The next message, where one is there.
+    /// The next message, if one is there.
     pub fn try_receive<R: Wait>(&mut self, rt: &R) -> Option<T>
         ensures same { receives_as self.new ≡ receives_as self.old }
         ensures fits { IfSome result (FitsBinding P.fits (receives_as self.old)) }

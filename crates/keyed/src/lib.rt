@@ -1,5 +1,5 @@
-//! One lock for each of a list of values, and queues between threads. Both have a key: what a value under lock `k`, or a
-//! message of the queue with number `k`, meets may speak of the key and of `k`.
+//! One lock for each of a list of values, and queues between threads. Both have a key: what a value under lock `k`, or
+//! a message of the queue with number `k`, satisfies may speak of the key and of `k`.
 #![tactic(auto)]
 
 mod binding;

@@ -39,7 +39,7 @@ impl<T, K, P: Fits<T, K>> Locks<T, K, P> {
     ghost use Rattle.std.specs.Prelude.{◌≡◌, ◌<◌, ℕ, length, vec_len, IfOk, IfErr, IfSome, ◌≢◌};
     ghost use Rattle.keyed.specs.Grips.{table_of, key_of, count_of, IsGrip, AllFit};
 
-    /// A free lock for each value. Only want of memory refuses it, and then the values come back.
+    /// A free lock for each value. It is refused only for want of memory, and the values then come back.
     pub fn new(
         alloc: Global,
         values: Vec<Option<T>>,
@@ -73,7 +73,7 @@ impl<T, K, P: Fits<T, K>> Locks<T, K, P> {
         self.sleep_for(rt, number)
     }
 
-    /// Gives the value of a lock back, which frees it, and wakes a thread that sleeps until then.
+    /// Gives the value of a lock back, which frees the lock, and wakes a thread that sleeps until then.
     pub fn give(&self, value: T, grip: Grip<T, K>)
         requires grip { IsGrip (table_of self.now) (key_of self.now) grip.lock grip }
         requires value { P.fits (key_of self.now) grip.lock value }
@@ -87,7 +87,8 @@ impl<T, K, P: Fits<T, K>> Locks<T, K, P> {
         }
     }
 
-    /// Waits for the lock, and takes what it keeps for good: whoever waits for this lock from now on waits for ever.
+    /// Waits for the lock, and takes what it keeps for good: a thread that waits for this lock from now on waits for
+    /// ever.
     pub fn take_out<R: Wait>(&self, rt: &R, number: usize) -> T
         requires { number < count_of self.now }
         ensures { P.fits (key_of self.now) number result }
@@ -121,8 +122,8 @@ impl<T, K, P: Fits<T, K>> Locks<T, K, P> {
         Some((value, Grip { seat, lock: number }))
     }
 
-    // Sleeps until the lock can be taken. Others may sleep too, so its word then says so: who gives it back wakes one
-    // of them.
+    // Sleeps until the lock can be taken. Other threads may sleep too, so the lock's word then says so: the thread that
+    // gives it back wakes one of them.
     fn sleep_for<R: Wait>(&self, rt: &R, number: usize) -> (T, Grip<T, K>)
         requires { number < count_of self.now }
         ensures value { P.fits (key_of self.now) number result.0 }

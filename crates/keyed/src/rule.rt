@@ -1,15 +1,14 @@
-//! The rule of the locks, and what their steps tell.
-//! The word of a lock is 0 while it is free, 1 while it is taken, and 2 while it is taken and threads may sleep until
-//! it is given back.
+//! The rule of the locks, and what their steps tell. The word of a lock is 0 while it is free, 1 while it is taken, and
+//! 2 while it is taken and threads may sleep until it is given back.
 
 use atomic_table::{Play, TableRule};
 use std::marker::PhantomData;
 
-/// What the values under the locks meet.
+/// What the values under the locks satisfy.
 pub trait Fits<T, K> {
     ghost use Rattle.std.specs.Prelude.{ℕ};
 
-    /// What a value under the lock of this number meets, for locks with this key.
+    /// What a value under the lock with this number satisfies, for locks with this key.
     ghost fits: { K → ℕ → T → Type 0 };
 }
 
@@ -23,7 +22,7 @@ pub struct Hold<K> {
     pub lock: u64,
 }
 
-/// The rule: under each free lock lies a value that fits, and each taken lock has one holder at most.
+/// The rule: the value under each free lock fits, and each taken lock has at most one holder.
 pub struct Under<P> {
     of: PhantomData<P>,
 }

@@ -3,7 +3,7 @@
 use std::alloc::AllocError;
 use thiserror::Error;
 
-/// Why the connections of a listener are not served.
+/// Why the connections of a listener cannot be served.
 #[derive(Clone, Copy, Debug, Drop, PartialEq, Eq, Error)]
 pub enum WorkersFault {
     /// A thread could not be started.

@@ -1,5 +1,4 @@
-//! The threads that serve a listener: one accepts the connections that come to it, and workers with a pass each serve
-//! them.
+//! The threads that serve a listener: one accepts its connections, and workers with a pass each serve them.
 #![tactic(auto)]
 
 mod fault;

@@ -22,12 +22,12 @@ const IDLE_SECONDS: u64 = 60;
 /// How many connections may wait for a worker, beside those that wait for the acceptor.
 const WAITING: usize = 64;
 
-/// For how many milliseconds the acceptor waits where it could accept nothing.
+/// For how many milliseconds the acceptor waits when it could not accept a connection.
 const PAUSE_MILLIS: u64 = 10;
 
-/// What a worker serves connections by. It stands above this crate, which needs no more of it.
+/// How a worker serves connections. A higher crate implements it: this crate needs no more of it.
 pub trait Serve<D: Disk + Drop> {
-    /// Serves a connection until it ends. Whatever goes wrong with it, the worker takes the next.
+    /// Serves a connection until it ends. Whatever goes wrong with it, the worker takes the next one.
     fn serve<R: Wait>(
         &mut self,
         rt: &R,
@@ -40,7 +40,7 @@ pub trait Serve<D: Disk + Drop> {
         ensures { IsPassOf ingester.now pass.new };
 }
 
-// Has a connection closed that does nothing for long, and sent at once what is written.
+// Sets that a connection is closed that does nothing for long, and that what is written is sent at once.
 fn limit_waits(stream: &TcpStream) {
     let idle = Duration::from_secs(IDLE_SECONDS);
     let _ = stream.set_nodelay(true);
@@ -101,7 +101,7 @@ fn work<D: Disk + Drop, S: Serve<D> + Drop, R: Wait>(worker: Worker<D, S, R>) ->
 }
 
 // Hands each connection that comes to the workers, at most `connections`, until no worker is left. Where none can be
-// accepted, as for want of file descriptors, it waits a little in place of asking at once again.
+// accepted, for example for want of file descriptors, it waits a little before it tries again.
 fn accept<R: Wait + rt::Clock>(
     rt: &R,
     listener: &TcpListener,
@@ -144,7 +144,7 @@ where
     }
 }
 
-// Starts a worker for each pass, and puts its thread among the others. Passes for which none was started are left.
+// Starts a worker for each pass, and adds its thread to the others. Leaves the passes for which no worker was started.
 fn start_all<'s, E, D, S, R>(
     scope: &'s Scope<'s, E>,
     rt: &'s R,
@@ -205,15 +205,15 @@ fn join_all<D: Disk + Drop, R: Threads>(rt: &R, ingester: &Ingester<D>, crew: Cr
     passes
 }
 
-/// Serves the connections that come to a listener, at most `connections`: one thread accepts them, and for each pass a
-/// worker serves one after another by what it is given. Gives the passes back once all workers have ended; after an
-/// error one of them may be lacking.
+/// Serves the connections that come to a listener, at most `connections`. One thread accepts them. For each pass a
+/// worker serves one connection after another, with its server. Gives the passes back once all workers have ended;
+/// after an error one of them may be missing.
 ///
-/// It ends when that many connections have come and each has ended; or, where no worker is left, since a pass is closed
-/// when its numbers are used up or a call of it is in doubt, with the next connection that comes; or at once, with an
-/// error, where there is no memory or a thread cannot be started. A connection that fails, or does nothing for 60
-/// seconds, is closed, and its worker takes the next; what it was answered stands. A connection that could not be
-/// accepted is not counted, and costs 10 milliseconds.
+/// It ends when this many connections have come and each has ended. A pass is closed when its numbers are used up or a
+/// call of it is in doubt, and its worker then ends: where no worker is left, all ends with the next connection that
+/// comes. It ends at once, with an error, where there is no memory or a thread cannot be started. A connection that
+/// fails, or does nothing for 60 seconds, is closed, and its worker takes the next; what it was answered stands. A
+/// connection that could not be accepted is not counted, and costs 10 milliseconds.
 pub fn serve_listener<D, S, R>(
     rt: &R,
     alloc: Global,
