@@ -1,4 +1,4 @@
-//! What the server's workers serve connections by.
+//! How the server's workers serve connections.
 ghost use Rattle.ingester.specs.Calls.{IsPassOf};
 
 use disk::Disk;
@@ -17,7 +17,7 @@ pub struct Connections<C: Clock> {
 }
 
 impl<C: Clock> Connections<C> {
-    /// What serves connections by this clock.
+    /// Serves connections by this clock.
     pub fn new(clock: C) -> Connections<C> {
         Connections { clock }
     }

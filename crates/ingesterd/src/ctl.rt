@@ -16,11 +16,11 @@ use std::thread::Threads;
 use words::{CallWords, call_in};
 
 /// Runs `ingestctl push|read|trim DIR SHARDS TENANT NOW` on the body that is read from `input`, and gives its exit
-/// status. `setting` is what the environment says of a slot's capacity.
+/// status. `setting` is the capacity of a slot by the environment.
 ///
-/// The slots of DIR are opened, which no server may have open meanwhile; the answer's status, a newline and its body
-/// are written. Status 0: answered 200 or 204. 1: answered otherwise, or a fault while running. 2: wrong words, or a
-/// wrong setting. 3: a refused opening. A fault stands on one line of `errors`.
+/// Opens the slots of DIR, which no server may have open meanwhile, and writes the answer's status, a line feed and its
+/// body. Status 0: the answer was 200 or 204. 1: it was another, or a fault while running. 2: wrong words, or a wrong
+/// setting. 3: the opening was refused. A fault is one line of `errors`.
 pub fn run_ctl<R, I: Read, W: Write, E: Write>(
     rt: &R,
     alloc: Global,

@@ -19,10 +19,10 @@ use std::sync::Wait;
 use std::thread::Threads;
 use words::{CAPACITY, clock_in};
 
-/// Whose streams they are.
+/// The tenant of the streams.
 const TENANT: &str = "t";
 
-/// Above every time that an entry may have.
+/// Greater than each time that an entry may have.
 const END_OF_TIME: u64 = 1 << 63;
 
 /// The bytes that a disk has room for: more than the log of any body needs.
@@ -34,10 +34,10 @@ const CALLS: u64 = 65_536;
 /// Runs `ingest1 NOW` for the tenant `t` on an empty shard in memory, and gives its exit status.
 ///
 /// NOW is the clock in nanoseconds, 1 to 19 decimal digits below 2^63. The input is a push body of at most 4,194,304
-/// bytes. Written are the push's status, a newline and its body, then for each stream with lawful labels, in body
-/// order, the body of a read of all its entries and a newline. A body refused at its form writes status, newline and
-/// text, and no more. Status 0: an answer was written, whatever its own status. 1: a fault while running. 2: wrong
-/// words. 3: a refused opening. A fault stands on one line of `errors`.
+/// bytes. The program writes the push's status, a line feed and its body. Then, for each stream with lawful labels, in
+/// the order of the body, it writes the body of a read of all its entries and a line feed. For a body that is refused
+/// for its form it writes status, line feed and text, and no more. Status 0: an answer was written, whatever its own
+/// status. 1: a fault while running. 2: wrong words. 3: the opening was refused. A fault is one line of `errors`.
 pub fn run_ingest1<R, I: Read, W: Write, E: Write>(
     rt: &R,
     alloc: Global,
@@ -62,7 +62,7 @@ where
     0
 }
 
-// Opens an empty shard, pushes what is read to it, reads it back, and closes the shard.
+// Opens an empty shard, pushes the input to it, reads it back, and closes the shard.
 fn push_and_read<R, I: Read, W: Write>(
     rt: &R,
     alloc: Global,

@@ -1,4 +1,4 @@
-//! The calls behind the programs: each over its words, readers and writers, so that tests can run them.
+//! What the programs do: each as a call with its words, readers and writers, so that tests can run it.
 #![tactic(auto)]
 
 mod body;

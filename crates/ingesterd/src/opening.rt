@@ -59,8 +59,8 @@ where
     }
 }
 
-/// Closes shards by passes that are left of them, and their slots. Where no pass is left, the threads of the shards end
-/// by themselves, a little later.
+/// Closes shards and their slots by the passes that are left. Where no pass is left, the threads of the shards end by
+/// themselves, a little later.
 pub fn close_shards<D: Disk + Drop, R: Wait>(rt: &R, ingester: Ingester<D>, passes: Vec<Pass>)
     requires passes { (p : ℕ) (pass : Passed) → slice_get passes.items p ≡ Some pass → IsPassOf ingester pass }
 {
@@ -69,8 +69,8 @@ pub fn close_shards<D: Disk + Drop, R: Wait>(rt: &R, ingester: Ingester<D>, pass
     }
 }
 
-/// Closes shards by their one pass, and their slots. Where there is no memory for that, the threads of the shards end
-/// by themselves, a little later.
+/// Closes shards and their slots by their one pass. Where there is no memory for that, the threads of the shards end by
+/// themselves, a little later.
 pub fn close_for_one<D: Disk + Drop, R: Wait>(
     rt: &R,
     alloc: Global,

@@ -6,9 +6,9 @@ use std::io::{Stderr, Write};
 use std::rt::Clock;
 use std::time::{Duration, Instant};
 
-/// Says of each shard that was just opened how many streams it has, and how many bytes they were replayed from: those
-/// of the segment in use, without what may stand behind it in its slot. Then how long it took since the start, 0 where
-/// the system has no clock that doesn't go back.
+/// Says of each shard that was just opened how many streams it has, and from how many bytes they were replayed: those
+/// of the segment in use, without the bytes after it in its slot. Then it says how long the start took: 0 where the
+/// system has no clock that never goes back.
 pub fn say_replayed<D: Disk + Drop, R: Clock>(
     rt: &R,
     ingester: &Ingester<D>,

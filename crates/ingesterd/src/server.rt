@@ -25,17 +25,18 @@ use std::time::Instant;
 use words::{ServerWords, server_in};
 use workers::serve_listener;
 
-/// Runs `ingesterd DIR PORT SHARDS WORKERS [CONNECTIONS]`, and gives its exit status. `setting` is what the environment
-/// says of a slot's capacity.
+/// Runs `ingesterd DIR PORT SHARDS WORKERS [CONNECTIONS]`, and gives its exit status. `setting` is the capacity of a
+/// slot by the environment.
 ///
-/// The slots of DIR are opened and replayed, the port of 127.0.0.1 is listened on (0: any that is free), `ready <port>`
-/// is written, and each connection is served by one of WORKERS threads; a further thread owns each shard. After
-/// CONNECTIONS connections, where given, its shards are closed and it ends with status 0, as it does where no worker is
-/// left; else it goes on. A connection that fails costs no more than itself (`serve_listener`). Status 1: a fault while
-/// running. 2: wrong words, or a wrong setting. 3: a refused opening, also where the thread of a shard could not be
-/// started. A fault stands on one line of `errors`, and a shard that stops answering has one in `marks`, where they are
-/// given. Where `marks` are a terminal, what was replayed is said there before `ready` is: a line for each shard, one
-/// for all.
+/// Opens and replays the slots of DIR, listens on the port of 127.0.0.1 (0: any that is free), and writes `ready
+/// <port>`. Each connection is served by one of WORKERS threads, and each shard is owned by another thread. The server
+/// closes its shards and ends with status 0 after CONNECTIONS connections, where that is given, or when no worker is
+/// left. A connection that fails costs no more than itself (`serve_listener`).
+///
+/// Status 1: a fault while running. 2: wrong words, or a wrong setting. 3: the opening was refused, or the thread of a
+/// shard could not be started. A fault is one line of `errors`. A shard that stops answering writes one line to
+/// `marks`, where they are given. Where `marks` are a terminal, lines there say what was replayed, before `ready` is
+/// written: one for each shard, and one for all.
 pub fn run_server<R, W: Write, E: Write>(
     rt: &R,
     alloc: Global,
@@ -93,7 +94,7 @@ where
     served
 }
 
-// Opens the port, says which it is, and serves. Gives passes that are left.
+// Opens the port, says which it is, and serves. Gives the passes that are left.
 fn serve_port<D, R, W: Write>(
     rt: &R,
     alloc: Global,
@@ -133,7 +134,7 @@ where
     (passes, served)
 }
 
-// What each of `count` workers serves connections by.
+// What each of `count` workers serves connections with.
 fn make_servers<'a, R: Clock>(
     rt: &'a R,
     alloc: Global,

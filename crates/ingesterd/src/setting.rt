@@ -5,8 +5,8 @@ ghost use Rattle.words.specs.Words.{GivesCapacity, capacity_of};
 use std::io::Write;
 use words::capacity_in;
 
-/// How many bytes a slot may have by the setting. Where it is no lawful one `None`, and a line of `errors` says what
-/// is.
+/// How many bytes a slot may have by the setting. `None` where the setting is not lawful; a line of `errors` then says
+/// which settings are.
 pub fn capacity_by<E: Write>(setting: Option<&str>, errors: &mut E) -> Option<u64>
     ensures given { MatchOption result (¬ GivesCapacity (option_map (λ s. s.now) setting.entry))
         (λ _. GivesCapacity (option_map (λ s. s.now) setting.entry)) }

@@ -1,7 +1,7 @@
 use anyhow::{Result, bail};
 use std::fmt::Write;
 
-/// The number of a digit.
+/// The value of a digit.
 pub(crate) fn digit_of(digit: u8) -> Result<u8> {
     match digit {
         b'0'..=b'9' => Ok(digit.wrapping_sub(b'0')),
@@ -10,7 +10,7 @@ pub(crate) fn digit_of(digit: u8) -> Result<u8> {
     }
 }
 
-/// Appends the bytes of pairs of digits; blanks between them are skipped.
+/// Appends the bytes of pairs of digits. Blanks between them are skipped.
 ///
 /// # Errors
 /// Another character, or a digit without its second one; want of memory.

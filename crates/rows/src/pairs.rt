@@ -3,16 +3,18 @@ use anyhow::{Result, bail};
 use std::alloc::Global;
 use std::fmt::Write;
 
-/// A name or value of one character that is longer than this, in bytes, is written by how often that stands in it.
+/// A name or value that is longer than this, in bytes, and repeats one character is written as that character and a
+/// count.
 const LONG: usize = 8;
 
-/// The characters that stand as escapes in names and values.
+/// The characters that are written as escapes in names and values.
 const ESCAPED: [u8; 6] = *b" *,={}";
 
-/// The text of a word up to `{NAME=VALUE,..}` at its end, and the pairs there, in their order; none where no brace is.
+/// The text of a word up to `{NAME=VALUE,..}` at its end, and the pairs there, in their order. Without a brace there
+/// are no pairs.
 ///
-/// A name or a value is a text as [`text_of`] reads it, or `TEXT*COUNT` for a text so many times. The characters
-/// ` *,={}` stand in it as escapes.
+/// A name or a value is a text as [`text_of`] reads it, or `TEXT*COUNT` for a text COUNT times. The characters ` *,={}`
+/// are written as escapes in it.
 ///
 /// # Errors
 /// Braces around something else, and want of memory.
@@ -45,7 +47,7 @@ fn counted(alloc: Global, word: &str) -> Result<String> {
     }
 }
 
-/// Appends `{NAME=VALUE,..}`, as [`split_pairs`] reads it; nothing where there is no pair.
+/// Appends `{NAME=VALUE,..}`, as [`split_pairs`] reads it. Appends nothing where there is no pair.
 ///
 /// # Errors
 /// Want of memory.

@@ -4,11 +4,11 @@ use std::alloc::Global;
 /// One case.
 #[derive(Drop)]
 pub struct Row<'a> {
-    /// What stands behind `row `.
+    /// What follows `row `.
     pub name: &'a str,
     /// The lines that say what is done, in their order.
     pub given: Vec<&'a str>,
-    /// What must be said: each line behind `= `, with a line feed behind it.
+    /// What must be said: what follows `= ` of each line, with a line feed after it.
     pub wanted: String,
 }
 
@@ -37,7 +37,7 @@ impl<'a> Row<'a> {
 /// The rows of a text, in their order.
 ///
 /// # Errors
-/// A line outside a row, a row inside another one, a row without its end or that wants nothing, or want of memory.
+/// A line outside a row, a row inside another one, a row without its end or without wanted lines, or want of memory.
 pub fn rows_of<'a>(alloc: Global, text: &'a str) -> Result<Vec<Row<'a>>> {
     let mut rows = Vec::new(alloc);
     let mut open = None;
@@ -55,7 +55,7 @@ pub fn rows_of<'a>(alloc: Global, text: &'a str) -> Result<Vec<Row<'a>>> {
     Ok(rows)
 }
 
-/// The row that is open behind this line.
+/// The row that is open after this line.
 fn take_line<'a>(
     alloc: Global,
     rows: &mut Vec<Row<'a>>,
@@ -80,7 +80,7 @@ fn take_line<'a>(
     }
 }
 
-/// The first word of a line, and what stands behind the blank that ends it.
+/// The first word of a line, and what follows the blank after it.
 pub fn word_of(line: &str) -> (&str, &str) {
     line.split_once(' ').unwrap_or((line, ""))
 }

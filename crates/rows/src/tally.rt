@@ -5,7 +5,7 @@ use crate::row::Row;
 use anyhow::Result;
 use std::alloc::Global;
 
-/// How many rows were run, and how many of them said something else.
+/// How many rows were run, and how many of them said something wrong.
 #[derive(Clone, Copy, Debug, Drop)]
 pub struct Tally {
     rows: u64,
@@ -19,10 +19,10 @@ impl Tally {
         Tally { rows: 0, differ: 0 }
     }
 
-    /// Counts a row, and prints it where what was said isn't what must be.
+    /// Counts a row, and prints it where what was said is not what must be said.
     ///
     /// # Errors
-    /// A failing output. The row is counted all the same.
+    /// A failing output. The row is counted nevertheless.
     pub fn judge<R: Print>(&mut self, rt: &R, row: &Row<'_>, said: &str) -> Result<()>
         ensures rows { self.new.rows ≡ one_more self.old.rows }
         ensures same { said.now ≡ string_bytes row.now.wanted → self.new.differ ≡ self.old.differ }

@@ -3,16 +3,16 @@ use anyhow::{Result, anyhow, bail};
 use std::alloc::Global;
 use std::fmt::Write;
 
-/// Where a text is taken apart.
+/// Where in a text the reader is.
 #[derive(Clone, Copy, Drop)]
 enum Place {
     /// Among characters that stand for themselves.
     Plain,
-    /// Behind a backslash.
+    /// After a backslash.
     Escape,
-    /// Behind `\x`.
+    /// After `\x`.
     High,
-    /// Behind `\x` and a digit, which this is.
+    /// After `\x` and this digit.
     Low(u8),
 }
 
@@ -54,14 +54,14 @@ fn take_byte(place: Place, byte: u8, into: &mut Vec<u8>) -> Result<Place> {
 /// The text that a text with escapes stands for.
 ///
 /// # Errors
-/// Those of [`unescape`], and bytes that are no UTF-8.
+/// Those of [`unescape`], and bytes that are not UTF-8.
 pub fn text_of(alloc: Global, text: &str) -> Result<String> {
     let mut bytes = Vec::new(alloc);
     unescape(text, &mut bytes)?;
     String::from_utf8(bytes).map_err(|_| anyhow!("no UTF-8"))
 }
 
-/// The text that a text with escapes stands for, so many times.
+/// The text that a text with escapes stands for, `count` times.
 ///
 /// # Errors
 /// Those of [`text_of`].
@@ -74,7 +74,7 @@ pub fn text_times(alloc: Global, text: &str, count: u64) -> Result<String> {
     Ok(whole)
 }
 
-/// The character of which a text consists, if it is of one alone.
+/// The character that a text repeats, if it has no other.
 pub fn only_character(text: &str) -> Option<char> {
     let first = text.chars().next()?;
     text.chars()
@@ -82,8 +82,8 @@ pub fn only_character(text: &str) -> Option<char> {
         .then_some(first)
 }
 
-/// Appends a text for these bytes that [`unescape`] reads: printable characters stand for themselves where all is
-/// UTF-8, else those of ASCII do.
+/// Appends a text for these bytes that [`unescape`] reads. Where all bytes are UTF-8, printable characters stand for
+/// themselves; otherwise only those of ASCII do.
 ///
 /// # Errors
 /// Want of memory.

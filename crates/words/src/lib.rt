@@ -34,7 +34,7 @@ const LEAST_CAPACITY: u64 = 4_096;
 /// The greatest capacity that the environment may say.
 const GREATEST_CAPACITY: u64 = 1 << 30;
 
-/// The words behind the program's name: none, where one of them is no text, since such words are no program's.
+/// The words after the program's name. There are none where one of them is not text, since a program has no such words.
 pub fn words_of<R: Env + AllocGlobal>(rt: &R) -> Result<Vec<String>, AllocError> {
     match read_words(rt) {
         Ok(words) => Ok(words),
@@ -48,7 +48,7 @@ fn read_words<R: Env + AllocGlobal>(rt: &R) -> io::Result<Vec<String>> {
 }
 
 /// What the environment says of the bytes of a slot, in the variable `NEEDLEAZURE_CAPACITY`. `None` where that is not
-/// set; an empty text where it is no text, since neither is a capacity.
+/// set. An empty text where its value is not text: neither is a capacity.
 pub fn setting_of<R: Env + AllocGlobal>(rt: &R) -> Result<Option<String>, AllocError> {
     match env::var(rt, "NEEDLEAZURE_CAPACITY") {
         Ok(setting) => Ok(Some(setting)),
@@ -58,7 +58,7 @@ pub fn setting_of<R: Env + AllocGlobal>(rt: &R) -> Result<Option<String>, AllocE
     }
 }
 
-/// The place of the words `FILE SHARD COUNT`; `None` where they are not such words.
+/// The place in the words `FILE SHARD COUNT`: `None` where they are not such words.
 pub fn place_in(words: &[String]) -> Option<ShardPlace>
     ensures given { MatchOption result (¬ GiveShard words.now) (λ _. GiveShard words.now) }
     ensures says { IfSome result (SaysPlace words.now) }
@@ -84,7 +84,7 @@ fn place_of(shard: &str, count: &str) -> Option<ShardPlace>
     })
 }
 
-/// The clock that the word `NOW` gives; `None` where the words are no such word.
+/// The clock that the word `NOW` gives: `None` where the words are not one such word.
 pub fn clock_in(words: &[String]) -> Option<u64>
     ensures given { MatchOption result (¬ GiveClock words.now) (λ now. (now < 2 ^ 63) × GiveClock words.now) }
     ensures says { IfSome result (SaysClock words.now) }
@@ -107,8 +107,8 @@ fn number_in(text: &str, least: u64, most: u64) -> Option<u64>
     Some(number)
 }
 
-/// How many bytes a slot may have by what the environment says: 4,096 to 2^30, in 1 to 19 decimal digits; 67,108,864
-/// where it says nothing. `None` where it says anything else.
+/// How many bytes a slot may have by the environment: 4,096 to 2^30, in 1 to 19 decimal digits, and 67,108,864 where it
+/// says nothing. `None` where it says anything else.
 pub fn capacity_in(setting: Option<&str>) -> Option<u64>
     ensures given { MatchOption result (¬ GivesCapacity (option_map (λ s. s.now) setting.entry))
         (λ _. GivesCapacity (option_map (λ s. s.now) setting.entry)) }
@@ -121,7 +121,7 @@ pub fn capacity_in(setting: Option<&str>) -> Option<u64>
     }
 }
 
-/// The words of a server; `None` where they are not such words.
+/// The words of a server: `None` where they are not such words.
 pub fn server_in(words: &[String]) -> Option<ServerWords<'_>>
     ensures given { MatchOption result (¬ GiveServer words.now) (λ _. GiveServer words.now) }
     ensures says { IfSome result (SaysServer words.now) }
@@ -189,7 +189,7 @@ fn ending_of<'a>(
     })
 }
 
-/// The words of a call; `None` where they are not such words.
+/// The words of a call: `None` where they are not such words.
 pub fn call_in(alloc: Global, words: &[String]) -> Option<CallWords<'_>>
     ensures given { MatchOption result (¬ GiveCall words.now) (λ _. GiveCall words.now) }
     ensures says { IfSome result (SaysCall words.now) }

@@ -5,7 +5,7 @@ use labels::Tenant;
 use requests::Route;
 use std::alloc::AllocError;
 
-/// A shard, and among how many.
+/// A shard's number, and how many shards there are.
 #[derive(Clone, Copy, Debug)]
 pub struct ShardPlace {
     /// The shard's number, from 0 on.
@@ -28,7 +28,7 @@ pub struct ServerWords<'a> {
     pub shards: u32,
     /// The number of workers, 1 to 64.
     pub workers: u32,
-    /// After how many connections the server ends, where it does.
+    /// After how many connections the server ends, if it does.
     pub connections: Option<u64>,
     ghost some_shard: { 1 ≤ shards },
     ghost few_shards: { shards ≤ 64 },
@@ -45,7 +45,7 @@ pub struct CallWords<'a> {
     pub folder: &'a str,
     /// The number of shards, 1 to 64.
     pub shards: u32,
-    /// Whose streams they are, where there was memory for the name.
+    /// The tenant of the streams, where there was memory for the name.
     pub tenant: Result<Tenant, AllocError>,
     /// The clock, in nanoseconds.
     pub now: u64,
