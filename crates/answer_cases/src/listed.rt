@@ -1,4 +1,4 @@
-//! A list of what comes of calls, as what makes the calls of requests.
+//! Makes the calls of requests, with results that a list gives.
 use crate::script::Script;
 use accept::{Call, Reply};
 use answering::{Calls, Clock, Failure};
@@ -9,7 +9,7 @@ use std::sync::Wait;
 /// What the clock tells.
 const NOW: u64 = 20;
 
-/// Makes calls as a list says. Nothing is claimed of what comes of them.
+/// Makes calls as a list says. Nothing is promised of what comes of them.
 #[derive(Drop)]
 pub struct Listed;
 
@@ -52,7 +52,7 @@ impl Calls for Listed {
     }
 }
 
-/// A clock that stands.
+/// A clock that always tells the same time.
 #[derive(Drop)]
 pub struct Standing;
 

@@ -1,5 +1,5 @@
 //! `answer_cases FILE..`: serves connections over a list of what comes of their calls, as the rows of the files say,
-//! and prints each row that comes out otherwise.
+//! and prints each row that does not say what it must.
 #![tactic(auto)]
 
 mod listed;

@@ -7,9 +7,9 @@ use wire::Connection;
 /// What a row asks for: what comes of the calls, and a connection.
 #[derive(Drop)]
 pub struct Plan {
-    /// What comes of the first calls. Those after them are stored.
+    /// What comes of the first calls. Later ones are stored.
     pub list: Vec<Told>,
-    /// What comes of a call and all after it, where the connection is served again for each of its calls.
+    /// What comes of one call and all later ones. The connection is served again for each of its calls.
     pub at_each: Option<Told>,
     pub connection: Connection,
 }
@@ -18,7 +18,7 @@ impl Plan {
     /// Reads the lines of a row.
     ///
     /// # Errors
-    /// A line that is none of a row; want of memory.
+    /// A line that no row has; want of memory.
     pub fn read(alloc: Global, lines: &[&str]) -> Result<Plan> {
         let mut plan = Plan {
             list: Vec::new(alloc),

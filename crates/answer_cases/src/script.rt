@@ -7,7 +7,7 @@ use std::alloc::{AllocError, Global};
 /// What comes of a call.
 #[derive(Clone, Copy, Debug)]
 pub enum Told {
-    /// This of each entry of a push. A read finds nothing, and a trim removes nothing.
+    /// Each entry of a push has this outcome. A read finds nothing, and a trim removes nothing.
     Each(Outcome),
     NoRoom,
     Unavailable,

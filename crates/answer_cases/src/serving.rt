@@ -68,8 +68,8 @@ fn serve_connection<R: Wait>(
     Came { sink, end, made }
 }
 
-/// Serves the connection of a row, and says what was written, how it ended, and how many calls were made; then, where
-/// the row asks for it, again for each call, of which and of all after it that comes.
+/// Serves the connection of a row, and says what was written, how it ended, and how many calls were made. Where the row
+/// asks for it, serves it again for each call, where that result comes of this call and all later ones.
 ///
 /// # Errors
 /// Want of memory.

@@ -18,14 +18,14 @@ use std::time::{Duration, Instant};
 /// How often each thing is timed; the best run counts.
 const RUNS: u32 = 20;
 
-/// The time of the first entry, and the clock: a nanosecond count of 2023.
+/// The time of the first entry, and the clock: in nanoseconds, a day of 2023.
 const START: u64 = 1_700_000_000_000_000_000;
 
-/// What stands behind a line of the third body: 3 pairs of metadata, as a tracing library adds them.
+/// What follows a line of the third body: 3 pairs of metadata, as a tracing library adds them.
 const METADATA: &str =
     r#",{"level":"info","span_id":"00f067aa0ba902b7","trace_id":"4bf92f3577b34da6a3ce929d0e0e4736"}"#;
 
-/// Entries, bytes of a line, and what stands behind each, of the bodies of about 1 MB, 4 MB and 1.5 MB. A body holds at
+/// Entries, bytes of a line, and what follows each line, of the bodies of about 1 MB, 4 MB and 1.5 MB. A body holds at
 /// most 10,000 entries, so the lines of the larger one are longer.
 const BODIES: [(u64, usize, &str); 3] = [
     (4_600, 200, ""),
@@ -58,7 +58,7 @@ fn time_bodies<R: Clock + Print + AllocGlobal>(rt: &R) -> Result<()> {
     Ok(())
 }
 
-/// Calls what no other program calls yet.
+/// Makes the calls that no other program makes yet.
 fn check<R: Print + AllocGlobal>(rt: &R) -> Result<()> {
     check_labels(rt)?;
     check_bodies(rt)?;
@@ -84,7 +84,7 @@ fn bounds_of(alloc: Global) -> Result<(u64, u64)> {
     Ok((query.from, query.to))
 }
 
-/// A push body of one stream. Behind each line stands `more`.
+/// A push body of one stream. `more` follows each line.
 fn body_of(alloc: Global, entries: u64, line: usize, more: &str) -> Result<Vec<u8>> {
     let mut body = Vec::new(alloc);
     body.extend_from_slice(b"{\"streams\":[{\"stream\":{\"a\":\"1\"},\"values\":[")?;
@@ -131,7 +131,7 @@ fn time_push<R: Clock + AllocGlobal>(rt: &R, body: &[u8]) -> Result<Duration> {
     Ok(start.elapsed(rt)?)
 }
 
-/// Prints how long so many bytes took.
+/// Prints how long this many bytes took.
 fn report_speed<R: Print>(rt: &R, name: &str, size: usize, time: Duration) -> Result<()> {
     let micros = time.as_micros().max(1);
     let speed = size as u128 / micros;

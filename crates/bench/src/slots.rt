@@ -27,11 +27,11 @@ const APPEND: [u8; 24] = [
 /// The entries of a block.
 const ENTRIES: u64 = 1_000;
 
-/// A line of 200 bytes behind its length, and behind it the number of its pairs of metadata.
+/// The length of a line, the line of 200 bytes, and the number of its pairs of metadata.
 const LINE: &[u8] =
     b"\xc8\0\0\0level=info ts=2023-11-14T22:13:20Z caller=handler.go:112 method=POST path=/api/v1/orders status=201 duration=12ms bytes=482 trace=4bf92f3577b34da6a3ce929d0e0e4736 user=4711 region=eu-west-1 node=a-17 \0";
 
-/// A segment of so many blocks.
+/// A segment of `blocks` blocks.
 fn segment_of(alloc: Global, blocks: u64) -> Result<Vec<u8>> {
     let mut slot = Vec::from_slice(alloc, &FRONT)?;
     let mut time: u64 = 0;
@@ -47,7 +47,7 @@ fn segment_of(alloc: Global, blocks: u64) -> Result<Vec<u8>> {
     Ok(slot)
 }
 
-/// Prints how fast a segment of 64 MiB is read, and how fast its bytes are looked at alone.
+/// Prints how fast a segment of 64 MiB is read, and how fast its bytes alone are looked at.
 pub fn time_slot<R: Clock + Print + AllocGlobal>(rt: &R) -> Result<()> {
     report(rt, &segment_of(rt.alloc(), BLOCKS)?)
 }

@@ -1,4 +1,4 @@
-//! How many calls a second an ingester answers, by how many threads call it and how many shards it has.
+//! How many calls a second an ingester answers, by the number of threads that call it and of its shards.
 ghost use Rattle.std.specs.Prelude.{◌≡◌, ℕ, Some, slice_get, IfOk};
 ghost use Rattle.history.specs.Handles.{Passed};
 ghost use Rattle.ingester.specs.Calls.{IsPassOf};
@@ -27,7 +27,7 @@ const RUNS: u32 = 5;
 /// How many pushes all passes make together in a run.
 const PUSHES: u64 = 32_000;
 
-/// Who calls: so many passes, a thread and a stream each, over so many shards, and so many pushes a pass.
+/// Who calls: the number of passes, each with a thread and a stream, of shards, and of pushes by each pass.
 #[derive(Clone, Copy)]
 struct Load {
     passes: u32,
@@ -59,7 +59,7 @@ struct Caller<'s, 'a, R> {
     number: u32,
 }
 
-/// So many pairs of empty slots, each with room for all pushes of a run.
+/// Pairs of empty slots, one for each shard, each with room for all pushes of a run.
 fn slots_of(alloc: Global, load: Load) -> Result<Vec<[MemDisk; 2]>> {
     let pushes = load.pushes.saturating_mul(u64::from(load.passes));
     let bytes = pushes.saturating_mul(LINES * 512).saturating_add(4_096);
@@ -200,8 +200,8 @@ fn start_all<'s, 'a, E, R: Threads + Wait + Sync>(
     Ok(())
 }
 
-/// Lets a thread for each pass make its pushes: how many were stored, and how long that took, from when all were ready
-/// to when all were done.
+/// Lets a thread for each pass make its pushes: how many were stored, and how long that took, from the moment when all
+/// threads were ready to the one when all were done.
 fn push_in_threads<R: Clock + Threads + Wait + Sync>(
     rt: &R,
     alloc: Global,
@@ -237,7 +237,7 @@ fn push_in_threads<R: Clock + Threads + Wait + Sync>(
     Ok((course.stored.load(Ordering::SeqCst), start.elapsed(rt)?))
 }
 
-/// Lets the threads go once all are ready: when that was.
+/// Lets the threads go once all are ready, and says when that was.
 fn release<R: Clock + Wait>(
     rt: &R,
     load: Load,

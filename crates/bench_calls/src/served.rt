@@ -1,5 +1,5 @@
-//! How fast the requests of a connection are served over memory, beside reading the same bodies and making the same
-//! calls alone.
+//! How fast the requests of a connection are served over memory, compared with reading the same bodies and making the
+//! same calls alone.
 ghost use Rattle.std.specs.Prelude.{◌≡◌, ℕ, Some, slice_get, IfOk};
 ghost use Rattle.history.specs.Handles.{Passed};
 ghost use Rattle.accept.specs.Calls.{AreNumbers};
@@ -27,10 +27,10 @@ const RUNS: u32 = 10;
 /// How many requests a connection has, and of how many lines each: all in one stream, at times that rise.
 const LOADS: [(u64, u64); 2] = [(10_000, 10), (20, 5_000)];
 
-/// The bytes that a segment may have: more than the log of a load, so that the first call alone rolls.
+/// The bytes that a segment may have: more than the log of a load, so that only the first call rolls.
 const CAPACITY: u64 = 67_108_864;
 
-/// The bytes that a disk has room for, also in its record: more than the log of a load.
+/// The bytes for which a disk and its record have room: more than the log of a load.
 const ROOM: u64 = 33_554_432;
 
 /// The writes and syncs that a disk has room for.
@@ -46,7 +46,7 @@ struct Load {
     bodies: Vec<Vec<u8>>,
 }
 
-/// A clock that stands.
+/// A clock that always tells the same time.
 #[derive(Drop)]
 struct Standing;
 
@@ -91,7 +91,7 @@ fn body_of(alloc: Global, first: u64, entries: u64) -> Result<Vec<u8>> {
     Ok(body)
 }
 
-/// A connection of so many pushes of so many entries.
+/// A connection of `requests` pushes of `entries` entries.
 fn load_of(alloc: Global, requests: u64, entries: u64) -> Result<Load> {
     let mut bytes = Vec::new(alloc);
     let mut bodies = Vec::new(alloc);
@@ -243,8 +243,8 @@ fn time_reading<R: Clock + AllocGlobal>(rt: &R, bodies: &[Vec<u8>]) -> Result<Du
     Ok(before.elapsed(rt)?)
 }
 
-/// Reads the bodies and makes their calls, one body behind another, and gives how long the reading and how long the
-/// calls took.
+/// Reads the bodies and makes their calls, one body after another. Gives how long the reading and how long the calls
+/// took.
 fn time_bodies<R: Clock + Wait + AllocGlobal>(
     rt: &R,
     ingester: &Ingester<MemDisk>,
@@ -274,7 +274,7 @@ where
     time_bodies(rt, &ingester, &mut pass, &load.bodies)
 }
 
-/// Prints a time for so many requests with bodies of so many bytes.
+/// Prints a time for a number of requests with bodies of this many bytes in all.
 fn report<R: Print>(
     rt: &R,
     name: &str,
@@ -296,7 +296,7 @@ fn size_of_bodies(load: &Load) -> usize {
         .fold(0_usize, |size, body| size.saturating_add(body.len()))
 }
 
-/// Prints what share of the time of these parts serving takes.
+/// Prints the time of serving as a share of the time of these parts.
 fn compare<R: Print>(rt: &R, name: &str, serving: Duration, parts: [Duration; 2]) -> Result<()> {
     let [reading, calling] = parts;
     let both = reading.saturating_add(calling).as_micros().max(1);
@@ -313,7 +313,7 @@ where
     time_each(rt, &load, entries)
 }
 
-/// Prints how fast a load of requests of so many lines is served, and its parts alone.
+/// Prints how fast a load of requests of `entries` lines is served, and its parts alone.
 fn time_each<R>(rt: &R, load: &Load, entries: u64) -> Result<()>
 where
     R: Clock + Print + Threads + Wait + AllocGlobal + Copy + Send + 'static,

@@ -21,10 +21,10 @@ const RUNS: u32 = 5;
 /// How many pushes are timed in a run. They leave two thousand entries more.
 const PUSHES: u64 = 200;
 
-/// How many lines a push has at most that fills a state.
+/// The most lines of a push that fills a state.
 const BATCH: u64 = 1_000;
 
-/// What a shard keeps before the timed pushes: so many entries, in so many streams.
+/// What a shard keeps before the timed pushes: the number of its entries, and of its streams.
 #[derive(Clone, Copy)]
 struct State {
     entries: u64,
@@ -38,7 +38,7 @@ impl State {
     }
 }
 
-/// The states that are timed. The first is the one that the others are compared with.
+/// The states that are timed. The others are compared with the first.
 const STATES: [State; 5] = [
     State {
         entries: 10,
@@ -62,7 +62,7 @@ const STATES: [State; 5] = [
     },
 ];
 
-/// Opens the only shard of two empty slots of so many bytes each.
+/// Opens the only shard over two empty slots of `room` bytes each.
 fn open(alloc: Global, room: u64) -> Result<LoneShard<MemDisk>> {
     let calls = room / LINE as u64;
     let slots = [
@@ -99,7 +99,7 @@ fn fill(shard: &mut LoneShard<MemDisk>, alloc: Global, state: State) -> Result<(
     Ok(())
 }
 
-/// Makes pushes one behind another.
+/// Makes pushes one after another.
 fn push_all(shard: &mut LoneShard<MemDisk>, alloc: Global, calls: &[Call]) -> Result<()> {
     for call in calls {
         push(shard, alloc, call)?;
@@ -147,7 +147,7 @@ pub fn time<R: Clock + Print + AllocGlobal>(rt: &R) -> Result<()> {
     Ok(())
 }
 
-/// Prints how many nanoseconds a push took at a state, and how that stands to the first state.
+/// Prints how many nanoseconds a push took at a state, and compares that with the first state.
 fn report<R: Print>(rt: &R, state: State, nanos: u128, first: u128) -> Result<()> {
     let State { entries, streams } = state;
     let micros = nanos / 1_000;

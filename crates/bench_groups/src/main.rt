@@ -1,6 +1,6 @@
 //! `bench_groups time [FOLDER]` prints how many pushes a second a shard answers one by one and in groups, over disks in
-//! memory and over files; `bench_groups check [FOLDER]` makes a few of each. The files stand in a folder of their own
-//! in FOLDER, or among the temporary files.
+//! memory and over files. `bench_groups check [FOLDER]` makes a few of each. The files are in a folder of their own in
+//! FOLDER, or in that of the temporary files.
 #![tactic(auto)]
 
 mod places;

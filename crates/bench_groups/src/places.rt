@@ -7,7 +7,7 @@ use std::alloc::Global;
 use std::fs::{self, File};
 use std::rt::{Clock, Files};
 
-/// The room of a disk in memory, also in its record, in bytes: for all pushes of a run.
+/// The room of a disk in memory and of its record, in bytes: enough for all pushes of a run.
 const ROOM: u64 = 1 << 23;
 
 /// The writes and syncs that a disk in memory has room for.
@@ -30,7 +30,7 @@ impl Place<'_> {
         }
     }
 
-    /// Makes so many pushes, of a shard over empty slots.
+    /// Makes pushes to a shard over empty slots.
     pub fn run<R: Clock + Files<File = File> + AllocGlobal>(
         &self,
         rt: &R,

@@ -19,7 +19,7 @@ const CAPACITY: u64 = 1 << 29;
 pub enum Way {
     /// Each by `Shard::apply`.
     Single,
-    /// So many at a time by `Shard::apply_group`, at most 64.
+    /// This many at a time by `Shard::apply_group`, at most 64.
     Grouped(usize),
 }
 
@@ -41,7 +41,7 @@ pub struct Run {
     pub time: Duration,
 }
 
-/// Makes so many pushes, of a shard over empty slots.
+/// Makes pushes to a shard over empty slots.
 pub fn make_pushes<R: Clock + AllocGlobal, D: Disk + Drop>(
     rt: &R,
     slots: [D; 2],
@@ -52,7 +52,7 @@ pub fn make_pushes<R: Clock + AllocGlobal, D: Disk + Drop>(
     run_in(rt, slots, way, &mut VecDeque::from(calls))
 }
 
-/// Makes these calls, of which the first is not timed: the log begins its first segment for it.
+/// Makes these calls. The first is not timed: the log begins its first segment for it.
 fn run_in<R: Clock + AllocGlobal, D: Disk + Drop>(
     rt: &R,
     slots: [D; 2],
@@ -150,7 +150,7 @@ fn push<D: Disk + Drop>(alloc: Global, lone: &mut LoneShard<D>, call: &Call) -> 
     all_stored(lone.call(alloc, call)?)
 }
 
-/// All lines of the push that was answered so are stored.
+/// Checks by its reply that all lines of a push are stored.
 fn all_stored(reply: Reply) -> Result<()> {
     if !is_stored(&reply) {
         bail!("a line was not stored");
@@ -158,7 +158,7 @@ fn all_stored(reply: Reply) -> Result<()> {
     Ok(())
 }
 
-/// Makes the pushes in groups of so many: how many were stored.
+/// Makes the pushes in groups of this size: how many were stored.
 fn push_groups<D: Disk + Drop>(
     alloc: Global,
     round: &mut Round<D>,
@@ -176,7 +176,7 @@ fn push_groups<D: Disk + Drop>(
     Ok(stored)
 }
 
-/// Makes the first so many pushes as a group, by one turn. There are so many.
+/// Makes the first pushes as a group of this size, by one turn. There are that many.
 fn push_group<D: Disk + Drop>(
     alloc: Global,
     round: &mut Round<D>,

@@ -1,4 +1,4 @@
-//! `bench_streams time` prints how long calls on one stream take by how many entries it keeps: pushes in order, those
+//! `bench_streams time` prints how long calls on one stream take by how many entries it keeps: pushes in order, pushes
 //! of lines with metadata, pushes that come a second late, a read of 100 lines in its middle, and a trim of its older
 //! half. `bench_streams check` makes a few of each.
 #![tactic(auto)]

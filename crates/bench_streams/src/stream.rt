@@ -17,10 +17,10 @@ const STEP: u64 = 1_000_000;
 /// How late a late line is, in nanoseconds.
 const LATE: u64 = 1_000_000_000;
 
-/// What the clock says, in nanoseconds: all lines are within the limits then.
+/// What the clock says, in nanoseconds: all lines are then within the limits.
 const NOW: u64 = START + 1_000_000_000_000;
 
-/// The profile's limits, but that lines are accepted for two seconds alone, so that the older half may be trimmed.
+/// The profile's limits, except that lines are accepted only for two seconds, so that the older half may be trimmed.
 const LIMITS: Limits = Limits {
     half_age: 2 * LATE,
     ..Limits::PROFILE
@@ -47,7 +47,7 @@ pub struct Load {
 }
 
 impl Load {
-    /// The time behind the entries that the stream keeps.
+    /// The first time after the entries that the stream keeps.
     fn end(self) -> u64 {
         START.saturating_add(self.kept.saturating_mul(STEP))
     }
@@ -64,7 +64,7 @@ pub struct Times {
 }
 
 impl Times {
-    /// The shorter of both, each by itself.
+    /// The shorter of both times, for each of them.
     pub fn or_less(self, other: Times) -> Times {
         Times {
             in_order: self.in_order.min(other.in_order),
@@ -93,7 +93,7 @@ pub struct Run {
     pub counts: Counts,
 }
 
-/// A push of so many lines with this metadata, the first at this time, each so many nanoseconds behind the one before it.
+/// A push of several lines with this metadata, the first at this time, each `step` nanoseconds after the one before it.
 fn push_of(alloc: Global, meta: &Meta, first: u64, step: u64, lines: u64) -> Result<Call> {
     let text = vec![in alloc; b'x'; LINE]?;
     let mut entries = Vec::new(alloc);
@@ -111,7 +111,7 @@ fn push_of(alloc: Global, meta: &Meta, first: u64, step: u64, lines: u64) -> Res
     })
 }
 
-/// So many pushes of `LINES` lines with this metadata, one behind another.
+/// Several pushes of `LINES` lines with this metadata, one after another.
 fn pushes_of(alloc: Global, meta: &Meta, first: u64, step: u64, pushes: u64) -> Result<Vec<Call>> {
     let mut calls = Vec::new(alloc);
     for push in 0..pushes {
@@ -190,7 +190,7 @@ fn store_all(alloc: Global, stream: &mut StreamState, calls: Vec<Call>) -> Resul
     Ok(stored)
 }
 
-/// A stream that keeps so many entries, a step apart.
+/// A stream that keeps `kept` entries, a step apart.
 fn filled(alloc: Global, kept: u64) -> Result<StreamState> {
     let mut stream = StreamState::new(alloc);
     let none = Meta::none();
@@ -216,7 +216,7 @@ fn time_pushes<R: Clock + AllocGlobal>(
     Ok((start.elapsed(rt)?, stored))
 }
 
-/// Stores pushes in a stream that keeps so many entries.
+/// Stores pushes in a new stream that keeps entries.
 fn time_on_new<R: Clock + AllocGlobal>(
     rt: &R,
     kept: u64,

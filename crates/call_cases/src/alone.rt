@@ -43,7 +43,7 @@ pub fn say_call(
     }
 }
 
-/// The answer of the call of a line, or why it was refused.
+/// The answer to the call of a line, or why it was refused.
 pub fn answer_of(shard: &mut LoneShard<MemDisk>, alloc: Global, line: &str) -> Result<String> {
     let mut answer = String::new(alloc);
     say_call(shard, alloc, &call_of(alloc, line)?, &mut answer)?;

@@ -1,4 +1,4 @@
-//! What a crash leaves of a shard, and what becomes of a call where a device does not work.
+//! What a crash leaves of a shard, and what becomes of a call where a device fails.
 
 use crate::alone::{open_alone, pair_of};
 use crate::grouped::{Doing, answers_of};
@@ -12,22 +12,22 @@ use std::fmt;
 use std::fmt::Write;
 use wal::OpenFault;
 
-/// The most contents of a slot that are gone over.
+/// The most contents of a slot that are looked at.
 const MOST: usize = 8_192;
 
 /// More device calls than an opening with one call makes on a slot.
 const CALLS: u64 = 20;
 
-/// What becomes of a call where a slot does not work at one of its calls.
+/// What becomes of a call where one of the calls on a slot fails.
 #[derive(Clone, Copy, Debug, PartialEq, Eq)]
 enum Tried {
     /// The opening failed.
     Unopened,
-    /// The call was unavailable, and each crash leaves the streams before it.
+    /// The call was unavailable, and each crash leaves the streams as before it.
     Before,
-    /// It was unavailable, and each crash leaves the streams after it.
+    /// It was unavailable, and each crash leaves the streams as after it.
     After,
-    /// It was unavailable, and each crash leaves the streams before it or after it.
+    /// It was unavailable, and each crash leaves the streams as before it or as after it.
     Either,
     /// It was unavailable, and a crash may leave other streams.
     Another,
@@ -51,7 +51,7 @@ impl fmt::Display for Tried {
     }
 }
 
-/// What reads give of the only shard in these slots, or why they are refused.
+/// What reads give of the only shard in these slots, or why the slots are refused.
 fn found_in(alloc: Global, pair: Pair, settings: Settings, reads: &Gathered) -> Result<String> {
     match open_alone(alloc, pair, settings)? {
         Ok(mut shard) => answers_of(&mut shard, alloc, reads),
@@ -91,8 +91,8 @@ fn found_on(
     found_in(alloc, pair, settings, reads)
 }
 
-/// What a crash may leave on a disk: each content where few bytes are unsynced, else every 61st of those with 1 for
-/// each unsynced byte.
+/// What a crash may leave on a disk: each content where few bytes are unsynced, otherwise every 61st of those with 1
+/// for each unsynced byte.
 fn some_contents(alloc: Global, disk: &MemDisk) -> Result<Vec<Vec<u8>>> {
     match disk.images(alloc, &[0, 1, 127], 8) {
         Err(ImagesFault::TooMany) => {
@@ -154,7 +154,7 @@ impl Trial<'_> {
         })
     }
 
-    /// Whether slots with these bytes have the streams before the call or those after it.
+    /// Whether slots with these bytes have the streams as before the call or as after it.
     fn sight(&self, first: &[u8], second: &[u8]) -> Result<Option<Tried>> {
         let found = found_on(self.alloc, first, second, self.settings, &self.doing.reads)?;
         Ok(match found.as_str() {
@@ -164,7 +164,7 @@ impl Trial<'_> {
         })
     }
 
-    /// What becomes of the call where a slot does not work at its first call, at its second, and so on, until it is
+    /// What becomes of the call where the first call on a slot fails, where the second does, and so on, until it is
     /// answered.
     fn attempt_each(&self, pair: &mut Pair, slot: u64, way: Way) -> Result<Counted> {
         let mut all = Counted::new(self.alloc);
@@ -178,7 +178,7 @@ impl Trial<'_> {
         bail!("the call is never answered");
     }
 
-    /// Says for each slot what becomes of the call where it does not work.
+    /// Says for each slot what becomes of the call where the slot fails.
     fn say_slots(&self, pair: &mut Pair, way: Way, said: &mut String) -> Result<()> {
         for slot in 0..2 {
             write!(said, "slot {slot}: ")?;
@@ -189,14 +189,14 @@ impl Trial<'_> {
     }
 }
 
-/// Copies of slots, of which one does not work at its call of this number.
+/// Copies of slots, of which one fails at its call with this number.
 fn planned(alloc: Global, pair: &mut Pair, slot: u64, way: Way, call: u64) -> Result<Pair> {
     let mut copy = pair.copy(alloc)?;
     copy.plan(slot, way, call)?;
     Ok(copy)
 }
 
-/// Makes the calls, and says their answers: the slots after them.
+/// Makes the calls, and says their answers. Gives the slots after them.
 fn say_made(
     alloc: Global,
     pair: Pair,
@@ -210,8 +210,8 @@ fn say_made(
     }
 }
 
-/// Makes calls on copies of these slots, and says their answers; and tries them on others of which one does not work,
-/// and says for each slot what becomes of them. Gives the slots after the calls.
+/// Makes calls on copies of these slots, and says their answers. Then tries them on other copies, of which one slot
+/// fails, and says for each slot what becomes of them. Gives the slots after the calls.
 pub fn say_trials(
     alloc: Global,
     pair: &mut Pair,

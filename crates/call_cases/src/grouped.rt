@@ -15,7 +15,7 @@ use std::fmt::Write;
 pub struct Doing {
     calls: Gathered,
     is_group: bool,
-    /// The reads that tell what stands before and after.
+    /// The reads that show the streams before and after.
     pub reads: Gathered,
 }
 
@@ -41,7 +41,7 @@ impl Doing {
         })
     }
 
-    /// Makes the calls, and says their answers, of a group also its turns. Gives the shard back.
+    /// Makes the calls, and says their answers, and for a group its turns. Gives the shard back.
     pub fn make(
         &self,
         alloc: Global,

@@ -46,7 +46,7 @@ where
     tally.judge(rt, row, said.as_str())
 }
 
-/// Does what the lines of a row say, and appends what is said to that.
+/// Does what the lines of a row say, and appends what is said to it.
 fn take_row<R>(rt: &R, row: &Row<'_>, said: &mut String) -> Result<()>
 where
     R: Threads + Wait + AllocGlobal + Copy + Send + 'static,

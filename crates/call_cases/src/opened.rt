@@ -27,7 +27,7 @@ pub struct Refused {
 }
 
 impl Opened {
-    /// Opens an ingester over these slots, or their only shard without one.
+    /// Opens an ingester over these slots, or their only shard without an ingester.
     pub fn open<R>(
         rt: &R,
         alloc: Global,
@@ -61,7 +61,7 @@ impl Opened {
         }
     }
 
-    /// Makes the call of a line with each pass in its turn: their answers.
+    /// Makes the call of a line with each pass in turn: their answers.
     pub fn call_each<R: Wait>(&mut self, rt: &R, alloc: Global, line: &str) -> Result<Counted> {
         let mut answers = Counted::new(alloc);
         for _ in 0..self.passes() {
@@ -92,7 +92,8 @@ impl Opened {
         }
     }
 
-    /// Makes the calls together, a shard alone as a group, and says what became of them. Gives back what makes calls.
+    /// Makes the calls together, for a shard alone as a group, and says what became of them. Gives back what makes
+    /// calls.
     pub fn group<R: Wait>(
         self,
         rt: &R,
@@ -109,7 +110,7 @@ impl Opened {
         }
     }
 
-    /// Says how long a history is, of a shard alone also whether it has a failure mark.
+    /// Says how long a history is, and for a shard alone also whether it has a failure mark.
     pub fn look(&mut self, shard: u32, into: &mut String) -> Result<()> {
         match self {
             Opened::Alone(shard) => {
@@ -141,7 +142,7 @@ impl Opened {
         }
     }
 
-    /// What is left of each shard, the first in front.
+    /// What is left of each shard, shard 0 first.
     pub fn close<R: Wait>(self, rt: &R, alloc: Global) -> Result<Vec<Left>> {
         match self {
             Opened::Alone(shard) => Ok(vec![in alloc; left_of(shard)]?),

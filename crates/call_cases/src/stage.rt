@@ -21,7 +21,7 @@ pub struct Stage {
     settings: Settings,
     /// The slots of each shard, while nothing is opened.
     pairs: Vec<Pair>,
-    /// How many writes and syncs had been made on them at the opening.
+    /// How many writes and syncs had been made on the slots before the opening.
     before: Vec<(u64, u64)>,
     opened: Option<Opened>,
     /// The calls of the next group.
@@ -70,7 +70,7 @@ impl Stage {
         }
     }
 
-    /// `shards COUNT`: so many shards with empty slots.
+    /// `shards COUNT`: this many shards with empty slots.
     fn set_shards(&mut self, text: &str) -> Result<()> {
         let (count, _) = number_of(text)?;
         self.pairs = empty_pairs(self.alloc, count)?;
@@ -113,14 +113,14 @@ impl Stage {
         }
     }
 
-    /// Says why slots were not opened, and takes them back.
+    /// Says why slots could not be opened, and takes them back.
     fn refuse(&mut self, refused: Refused, said: &mut String) -> Result<()> {
         let Refused { why, pairs } = refused;
         said.push_str(why.as_str())?;
         self.put_back(pairs, said)
     }
 
-    /// Takes slots back that were not opened.
+    /// Takes back slots that could not be opened.
     fn put_back(&mut self, pairs: Vec<Pair>, said: &mut String) -> Result<()> {
         let mut all = Vec::new(self.alloc);
         for pair in pairs {
@@ -142,7 +142,7 @@ impl Stage {
         self.say_left(all, said)
     }
 
-    /// Says the state of each shard, and keeps its slots, all of which work.
+    /// Says the state of each shard, and keeps its slots, which all work.
     fn say_left(&mut self, all: Vec<Left>, said: &mut String) -> Result<()> {
         let count = u32::try_from(all.len())?;
         let mut states = Counted::new(self.alloc);
@@ -244,8 +244,8 @@ impl Stage {
         say_contents(self.alloc, pair, self.settings, &reads, &values, said)
     }
 
-    /// `fails CALL` and `stops CALL`: a call where each device call of it in turn fails, or all from there on; then the
-    /// call. `fails group` and `stops group`: the same of the calls that were gathered.
+    /// `fails CALL` and `stops CALL`: a call where each of its device calls in turn fails, or all from there on; then
+    /// the call itself. `fails group` and `stops group`: the same for the calls that were gathered.
     fn try_each(&mut self, way: Way, call: &str, said: &mut String) -> Result<()> {
         let doing = if call == "group" {
             Doing::group(self.alloc, self.take_gathered())?
@@ -282,7 +282,7 @@ fn calls_of(alloc: Global, pairs: &[Pair]) -> Result<Vec<(u64, u64)>> {
     Ok(calls)
 }
 
-/// The bytes of pieces with a bar between them: each a text, or `COUNT*TEXT` for the text so many times.
+/// The bytes of pieces with a bar between them: each is a text, or `COUNT*TEXT` for a text COUNT times.
 fn bytes_of(alloc: Global, text: &str) -> Result<Vec<u8>> {
     let mut bytes = Vec::new(alloc);
     for piece in text.split('|') {

@@ -160,7 +160,7 @@ impl Together {
         Ok(self.ingester.look(&mut self.pass, shard))
     }
 
-    /// What is left of each shard, the first in front.
+    /// What is left of each shard, shard 0 first.
     pub fn close<R: Wait>(self, rt: &R, alloc: Global) -> Result<Vec<Left>> {
         let mut open = self;
         let steps = open.all_steps(alloc)?;
@@ -187,7 +187,7 @@ impl Together {
     }
 }
 
-/// What is left of each shard, the first in front, with these numbers of steps.
+/// What is left of each shard, shard 0 first, with these numbers of steps.
 fn left_of(alloc: Global, closed: Closed<MemDisk>, steps: &[u64]) -> Result<Vec<Left>> {
     let mut closed = closed;
     let mut all = Vec::new(alloc);

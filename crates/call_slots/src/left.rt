@@ -20,7 +20,7 @@ pub struct Left {
 }
 
 impl Left {
-    /// Of a shard that left these slots.
+    /// What is left of a shard that gave these slots back.
     pub fn of_slots(slots: [MemDisk; 2], steps: Option<u64>, is_marked: bool) -> Left {
         Left {
             pair: Pair::of_slots(slots),
@@ -29,11 +29,11 @@ impl Left {
         }
     }
 
-    /// The state of this shard of so many: its number of steps, the segment in use, how many writes and syncs were made
+    /// The state of a shard among `count`: its number of steps, the segment in use, how many writes and syncs were made
     /// on both slots since the counts `before`, how long the slots are, and whether the history has a failure mark.
     ///
     /// # Errors
-    /// Slots that don't work, no such shard, or want of memory.
+    /// Slots that fail, no such shard, or want of memory.
     pub fn state(
         &mut self,
         alloc: Global,
@@ -65,8 +65,8 @@ impl Left {
     }
 }
 
-/// Appends ` segment GENERATION LENGTH` of the segment in use, where it is of version 1 also that, ` no segment`, or
-/// why there is none to be used.
+/// Appends ` segment GENERATION LENGTH` of the segment in use, and its version where that is 1; or ` no segment`; or
+/// why no segment can be used.
 fn write_segment(
     alloc: Global,
     pair: &mut Pair,
@@ -84,7 +84,7 @@ fn write_segment(
     }
 }
 
-/// Appends ` of version 1` where the segment of this generation is.
+/// Appends ` of version 1` where the segment of this generation has that version.
 fn write_version(alloc: Global, pair: &mut Pair, generation: u64, into: &mut String) -> Result<()> {
     let slot = pair.bytes(alloc, generation % 2)?;
     if slot.get(4) == Some(&b'1') {

@@ -1,4 +1,4 @@
-//! Slots in memory, what stands in them, and what is left of a shard.
+//! Slots in memory, what they hold, and what is left of a shard.
 #![tactic(auto)]
 
 mod left;

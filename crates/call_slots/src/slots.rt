@@ -6,10 +6,10 @@ use anyhow::{Result, bail};
 use disk::{Disk, MemDisk};
 use std::alloc::Global;
 
-/// What a device is to do at a call.
+/// What a device does at a call that is to fail.
 #[derive(Clone, Copy, Debug, PartialEq, Eq)]
 pub enum Way {
-    /// It fails that call alone.
+    /// It fails that call, and no other.
     Fails,
     /// It fails that call and all later ones.
     Stops,
@@ -39,7 +39,7 @@ impl Pair {
         })
     }
 
-    /// Slot 0, and slot 1.
+    /// The pair of slot 0 and slot 1.
     pub fn of_slots(slots: [MemDisk; 2]) -> Pair
         ensures { slots ≡ result.first ∷ result.second ∷ [] }
     {
@@ -55,7 +55,7 @@ impl Pair {
         [first, second]
     }
 
-    /// Other slots, on which is synced what a read of these gives.
+    /// Other slots. What a read of these slots gives is synced on them.
     ///
     /// # Errors
     /// A read that fails, or want of memory.
@@ -68,7 +68,7 @@ impl Pair {
         Pair::of_bytes(alloc, &first, &second)
     }
 
-    /// Puts a slot with these bytes in the place of one.
+    /// Puts a slot with these bytes in the place of another.
     ///
     /// # Errors
     /// No such slot, want of memory, or more bytes than a slot takes.
@@ -90,7 +90,7 @@ impl Pair {
     /// Writes bytes to a slot, and syncs them.
     ///
     /// # Errors
-    /// No such slot, or one that doesn't work.
+    /// No such slot, or one that fails.
     pub fn write(&mut self, slot: u64, at: u64, bytes: &[u8]) -> Result<()>
         ensures zero { slot ≡ 0 → (self.new.second ≡ self.old.second)
             × OnOk result (IsWritten at bytes.now self.old.first self.new.first) }
@@ -105,7 +105,7 @@ impl Pair {
         }
     }
 
-    /// Lets a slot not work at its call of this number, the next being 1; with 0 it works.
+    /// Makes a slot fail at its call with this number, where the next is 1. With 0 it works.
     ///
     /// # Errors
     /// No such slot.
@@ -122,7 +122,7 @@ impl Pair {
         Ok(())
     }
 
-    /// Lets both slots work.
+    /// Makes both slots work.
     pub fn mend(&mut self)
         ensures { (k : ℕ) → 0 < k → (¬ WillFail self.new.first k) × (¬ WillFail self.new.second k) }
     {
@@ -133,7 +133,7 @@ impl Pair {
     /// What a read of a slot gives.
     ///
     /// # Errors
-    /// No such slot, one that doesn't work, or want of memory.
+    /// No such slot, one that fails, or want of memory.
     pub fn bytes(&mut self, alloc: Global, slot: u64) -> Result<Vec<u8>>
         ensures zero { slot ≡ 0 → IfOk result (λ bytes. bytes.items ≡ bytes_in self.old.first) }
         ensures one { slot ≡ 1 → IfOk result (λ bytes. bytes.items ≡ bytes_in self.old.second) }

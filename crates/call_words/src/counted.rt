@@ -2,14 +2,14 @@ use anyhow::Result;
 use std::alloc::Global;
 use std::fmt::Write;
 
-/// A text, and how often it came.
+/// A text, and how often it came in a row.
 #[derive(Drop)]
 struct Text {
     text: String,
     count: u64,
 }
 
-/// Texts in their order, of which equal ones that follow one another are counted.
+/// Texts in their order. Equal ones in a row are counted.
 #[derive(Drop)]
 pub struct Counted {
     texts: Vec<Text>,
@@ -23,7 +23,7 @@ impl Counted {
         }
     }
 
-    /// Takes a text in behind the others.
+    /// Adds a text after the others.
     ///
     /// # Errors
     /// Want of memory.
@@ -37,7 +37,7 @@ impl Counted {
         Ok(())
     }
 
-    /// Appends the texts with this between them: one that came more than once as `3 times TEXT`.
+    /// Appends the texts with `between` between them. One that came more than once is written as `3 times TEXT`.
     ///
     /// # Errors
     /// Want of memory.

@@ -34,7 +34,7 @@ impl Gathered {
         Ok(gathered)
     }
 
-    /// Takes the call of a line in behind the others.
+    /// Adds the call of a line after the others.
     ///
     /// # Errors
     /// Want of memory.
@@ -42,8 +42,7 @@ impl Gathered {
         Ok(self.lines.push(format!(in alloc; "{line}")?)?)
     }
 
-    /// `FROM TO CALL`: takes the call in for each number from the first to the second, which stands in place of each
-    /// `#`.
+    /// `FROM TO CALL`: adds the call once for each number from the first to the second. The number replaces each `#`.
     ///
     /// # Errors
     /// No numbers, or want of memory.

@@ -1,4 +1,4 @@
-//! Calls, their answers, and what slots are opened with, as words of rows.
+//! Calls, their answers, and the settings with which slots are opened, as words of rows.
 #![tactic(auto)]
 
 mod calls;

@@ -3,7 +3,7 @@ use anyhow::Result;
 use rows::{escape, only_character, write_pairs};
 use std::fmt::Write;
 
-/// A line of one character that is longer than this is said by its length.
+/// A line that is longer than this and repeats one character is written by its length.
 const LONG: usize = 8;
 
 /// Appends an answer: `verdict` and the outcomes, `entries` and the entries as a push gives them, or its name.

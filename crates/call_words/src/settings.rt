@@ -2,7 +2,7 @@ use crate::calls::number_of;
 use accept::Limits;
 use anyhow::{Result, bail};
 
-/// What slots are opened with.
+/// The settings with which slots are opened.
 #[derive(Clone, Copy, Debug)]
 pub struct Settings {
     /// The limits of all calls.
@@ -21,7 +21,7 @@ impl Settings {
         passes: 1,
     };
 
-    /// Takes a line with one of the settings in: its word, and the number behind it.
+    /// Takes one of the settings from a line: its word, and the number after it.
     ///
     /// # Errors
     /// Another word, or no number.

@@ -1,5 +1,5 @@
 //! `conformance FILE..`: serves connections over ingesters in memory, as the rows of the files say, and prints each row
-//! that comes out otherwise.
+//! that does not say what it must.
 #![tactic(auto)]
 
 mod opened;
@@ -38,7 +38,7 @@ where
     Ok(())
 }
 
-/// A row whose first line is a `reply` asks for its answer, any other one for connections.
+/// A row whose first line is a `reply` asks for its answer. Any other row asks for connections.
 fn take_row<R>(rt: &R, row: &Row<'_>, said: &mut String) -> Result<()>
 where
     R: Threads + Wait + AllocGlobal + Copy + Send + 'static,

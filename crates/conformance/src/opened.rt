@@ -1,4 +1,4 @@
-//! Shards over empty slots in memory, and the one pass that calls them.
+//! Shards over empty slots in memory, and the one pass that makes calls on them.
 ghost use Rattle.std.specs.Prelude.{◌≡◌};
 ghost use Rattle.std.specs.Coded.{codes};
 ghost use Rattle.accept.specs.contracts.image.Image as image;
@@ -17,7 +17,7 @@ use std::sync::Wait;
 use std::thread::Threads;
 use wire::{Manner, Sink};
 
-/// The bytes that the slots of a shard have room for together, and twice so many in their records.
+/// The bytes for which the slots of a shard have room together. Their records have room for twice as many.
 const ROOM: u64 = 1 << 22;
 
 /// The writes and syncs that a slot has room for.
@@ -33,7 +33,7 @@ pub struct Opened {
     ghost shards: { ingester.about.shards ≡ count },
 }
 
-/// An empty slot, whose calls fail from this one on, or none at 0.
+/// An empty slot whose calls fail from this one on: none fails at 0.
 fn slot(alloc: Global, room: u64, stops: u64) -> Result<MemDisk, AllocError> {
     let mut disk = MemDisk::new(alloc, room, CALLS, room.saturating_mul(2))?;
     if stops > 0 {
@@ -42,7 +42,7 @@ fn slot(alloc: Global, room: u64, stops: u64) -> Result<MemDisk, AllocError> {
     Ok(disk)
 }
 
-/// Empty slots of so many shards. Slot 1 of the first fails from this device call on, or never at 0.
+/// Empty slots of `shards` shards. Slot 1 of the first fails from this device call on: never at 0.
 fn slots_of(alloc: Global, shards: u32, stops: u64) -> Result<Vec<[MemDisk; 2]>> {
     let room = ROOM / 2 / u64::from(shards.max(1));
     let mut slots = Vec::new(alloc);
@@ -54,10 +54,10 @@ fn slots_of(alloc: Global, shards: u32, stops: u64) -> Result<Vec<[MemDisk; 2]>>
 }
 
 impl Opened {
-    /// What a plan says of shards, slots and capacity.
+    /// Opens the shards, slots and capacity of a plan.
     ///
     /// # Errors
-    /// Other than 1 to 64 shards; want of memory; a thread that is not started.
+    /// Fewer than 1 or more than 64 shards; want of memory; a thread that could not be started.
     pub fn open<R>(rt: &R, alloc: Global, plan: &Plan) -> Result<Opened>
     where
         R: Threads + Wait + Copy + Send + 'static,

@@ -4,10 +4,10 @@ use std::alloc::Global;
 use std::mem;
 use wire::{Connection, Each};
 
-/// The bytes that a segment has where a row says nothing.
+/// The bytes that a segment may have where a row does not say.
 const WIDE: u64 = 1 << 21;
 
-/// The time where a row says nothing.
+/// The time where a row does not say.
 const TIME: u64 = 20;
 
 /// One connection.
@@ -15,10 +15,10 @@ const TIME: u64 = 20;
 pub struct Visit {
     /// What the clock tells to its first request.
     pub time: u64,
-    /// How much more it tells to each further one.
+    /// How much later each further request comes.
     pub tick: u64,
     pub connection: Connection,
-    /// Where it is run again.
+    /// The places at which it is run again.
     pub each: Option<Each>,
 }
 
@@ -47,7 +47,7 @@ impl Visit {
 #[derive(Drop)]
 pub struct Plan {
     alloc: Global,
-    /// How many bytes a segment may have; more than 2^30 are 2^30.
+    /// How many bytes a segment may have. More than 2^30 count as 2^30.
     pub capacity: u64,
     /// How many shards there are.
     pub shards: u32,
@@ -63,7 +63,7 @@ impl Plan {
     /// Reads the lines of a row.
     ///
     /// # Errors
-    /// A line that is none of a row; want of memory.
+    /// A line that no row has; want of memory.
     pub fn read(alloc: Global, lines: &[&str]) -> Result<Plan> {
         let mut plan = Plan {
             alloc,

@@ -7,8 +7,8 @@ use std::alloc::Global;
 use std::fmt::Write;
 use wire::say_lines;
 
-/// Says status and body of the answer to a read that got the reply of this line. Its entries are lines
-/// `entry TIME TEXT`, with metadata as `entry TIME TEXT{NAME=VALUE,..}`.
+/// Says status and body of the answer to a read with the reply of this line. Its entries are lines `entry TIME TEXT`,
+/// with metadata `entry TIME TEXT{NAME=VALUE,..}`.
 ///
 /// # Errors
 /// A line that is none of these; want of memory.

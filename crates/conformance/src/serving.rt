@@ -1,4 +1,4 @@
-//! The connections of a row, one behind another.
+//! The connections of a row, one after another.
 
 use crate::opened::Opened;
 use crate::plan::{Plan, Visit};
@@ -12,7 +12,7 @@ use wire::{Each, Groups};
 /// Serves the connections of a row, and says what each came to.
 ///
 /// # Errors
-/// Want of memory; a thread that is not started.
+/// Want of memory; a thread that could not be started.
 pub fn serve_plan<R>(rt: &R, alloc: Global, plan: &Plan, said: &mut String) -> Result<()>
 where
     R: Threads + Wait + Copy + Send + 'static,
@@ -35,7 +35,7 @@ fn serve_visits<R: Wait>(
     serve_visit(rt, alloc, opened, &plan.last, said)
 }
 
-/// Serves a connection, and then again at each place.
+/// Serves a connection, and then again for each place.
 fn serve_visit<R: Wait>(
     rt: &R,
     alloc: Global,

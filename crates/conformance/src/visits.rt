@@ -8,7 +8,7 @@ use std::alloc::Global;
 use std::fmt::Write;
 use wire::Sink;
 
-/// A clock that goes on by the same each time that it is asked.
+/// A clock that goes on by the same amount each time that it is asked.
 #[derive(Drop)]
 pub struct Ticking {
     time: u64,
@@ -59,7 +59,7 @@ impl Came {
     }
 
     /// How much of the whole text was written, how the connection ended, and how many steps the shards have gained
-    /// since they had so many.
+    /// since there were `before`.
     ///
     /// # Errors
     /// Want of memory.

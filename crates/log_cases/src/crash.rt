@@ -1,4 +1,4 @@
-//! What a crash may leave of a slot, and what it is opened as.
+//! What a crash may leave of a slot, and what an opening finds in it.
 use crate::drive::read_all;
 use crate::slots::{EXAMPLE, Slots, open};
 use anyhow::Result;
@@ -8,7 +8,7 @@ use rows::word_of;
 use std::alloc::Global;
 use std::fmt::Write;
 
-/// Contents that follow one another and are alike.
+/// Contents that come one after another and are alike.
 #[derive(Drop)]
 struct Alike {
     count: u64,
@@ -44,12 +44,12 @@ struct Sight<'a> {
     /// What a read gives of this slot, and of the other one.
     seen: &'a [u8],
     other: &'a [u8],
-    /// Where any byte may stand.
+    /// The place where any byte may be.
     place: usize,
 }
 
 impl Sight<'_> {
-    /// A content and what is opened of it.
+    /// A content, and what an opening finds in it.
     fn describe(&self, content: &[u8]) -> Result<String> {
         let mut text = String::new(self.alloc);
         self.compare(content, &mut text)?;
@@ -80,7 +80,7 @@ impl Sight<'_> {
         }
     }
 
-    /// Says contents, those that follow one another and are alike as one.
+    /// Says contents. Those that come one after another and are alike are said as one.
     fn say_all(&self, contents: &[Vec<u8>], said: &mut String) -> Result<()> {
         let mut open: Option<Alike> = None;
         for content in contents {
@@ -96,8 +96,9 @@ impl Sight<'_> {
 
 /// `SLOT VALUES MAX PLACE`: what a crash may leave of this slot, with unsynced bytes of these values.
 ///
-/// Of contents that follow one another and are alike it appends how many they are and how long, what byte stands at the
-/// place, whether the others are as a read gives, and what is opened, with the other slot as a read gives it.
+/// For contents that come one after another and are alike it appends how many there are and how long they are, which
+/// byte is at the place, whether the others are as a read gives, and what an opening finds, with the other slot as a
+/// read gives it.
 pub fn say_crash(alloc: Global, slots: &mut Slots, words: &str, said: &mut String) -> Result<()> {
     let (slot, rest) = word_of(words);
     let (values, rest) = word_of(rest);
@@ -135,7 +136,7 @@ fn images_of(alloc: Global, disk: &MemDisk, values: &str, max: &str) -> Result<V
     Ok(disk.images(alloc, &values, max)?)
 }
 
-/// One content more. Appends those before it where it isn't like them.
+/// Takes one more content in. Appends those before it where it is not like them.
 fn joined(open: Option<Alike>, length: usize, text: String, said: &mut String) -> Result<Alike> {
     match open {
         Some(mut alike) if alike.text.as_str() == text.as_str() => {

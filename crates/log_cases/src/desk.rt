@@ -51,7 +51,7 @@ impl Desk {
         Ok(())
     }
 
-    /// Keeps the disk over a file where it is opened, else what was kept.
+    /// Keeps the disk over a file where the file can be opened, otherwise what was kept.
     fn open_file<R: Files<File = File>>(
         &mut self,
         rt: &R,
@@ -92,7 +92,7 @@ impl Desk {
         }
     }
 
-    /// The slots of a log that isn't open: two disks on which nothing was ever written, where none were made.
+    /// The slots of a log that is not open: two disks on which nothing was ever written, where none were made.
     fn closed(&mut self, alloc: Global) -> Result<&mut Slots> {
         if self.log.is_some() {
             bail!("the log is open");
@@ -103,7 +103,7 @@ impl Desk {
         self.slots.as_mut().context("no slots")
     }
 
-    /// `SLOT BYTES`: another disk as this slot, on which these bytes are synced.
+    /// `SLOT BYTES`: another disk for this slot, on which these bytes are synced.
     fn fill(&mut self, alloc: Global, words: &str) -> Result<()> {
         let (slot, bytes) = word_of(words);
         let bytes = bytes_of(alloc, bytes)?;
@@ -164,7 +164,7 @@ impl Desk {
         say_call(log.roll(segment), said)
     }
 
-    /// Answers whether so many bytes fit, or what log it is.
+    /// Answers whether this many bytes fit, or which log it is.
     fn look(&self, word: &str, rest: &str, said: &mut String) -> Result<()> {
         let Some(log) = &self.log else {
             bail!("no log")

@@ -6,7 +6,7 @@ use rows::{word_of, write_hex};
 use std::alloc::Global;
 use std::fmt::Write;
 
-/// What the buffer of a read holds before.
+/// What the buffer of a read holds before it.
 const UNREAD: u8 = 9;
 
 /// A disk in memory or over a file.
@@ -32,7 +32,7 @@ impl Drive {
     }
 }
 
-/// What is done with a disk in memory alone, or with every disk.
+/// What is done with a disk in memory only, or with any disk.
 pub fn take_memory_word(
     alloc: Global,
     disk: &mut MemDisk,
@@ -78,7 +78,7 @@ fn say_write<D: Disk>(alloc: Global, disk: &mut D, words: &str, said: &mut Strin
     say_done(disk.write_at(at, &bytes), said)
 }
 
-/// Whether the bytes are these, and what they are where not.
+/// Whether the bytes are these, and if not what they are.
 fn say_whether(found: &[u8], wanted: &[u8], said: &mut String) -> Result<()> {
     if found == wanted {
         return Ok(writeln!(said, "the same {} bytes", found.len())?);
@@ -94,7 +94,7 @@ fn say_done(answer: Result<(), DeviceFault>, said: &mut String) -> Result<()> {
     Ok(())
 }
 
-/// `AT LENGTH`: how many bytes were read into a buffer of this length, and what it holds then.
+/// `AT LENGTH`: how many bytes were read into a buffer of this length, and what it then holds.
 fn say_read<D: Disk>(alloc: Global, disk: &mut D, words: &str, said: &mut String) -> Result<()> {
     let (at, length) = word_of(words);
     let length = usize::try_from(number_of(length)?)?;
@@ -111,7 +111,7 @@ fn say_buffer(count: usize, buffer: &[u8], said: &mut String) -> Result<()> {
     Ok(said.push('\n')?)
 }
 
-/// Six calls, and of each whether it failed: a write, a sync, the length, a read, a write, a sync.
+/// Six calls, and for each whether it failed: a write, a sync, the length, a read, a write, a sync.
 fn say_six<D: Disk>(disk: &mut D, said: &mut String) -> Result<()> {
     let mut buffer = [0];
     for failed in [
@@ -138,8 +138,8 @@ pub fn read_all<D: Disk>(alloc: Global, disk: &mut D) -> Result<Vec<u8>> {
     Ok(bytes)
 }
 
-/// `VALUES MAX` or `VALUES MAX FROM`: what a crash may leave, with unsynced bytes of these values. Of each content what
-/// stands from that place on, where all before it is as a read gives.
+/// `VALUES MAX` or `VALUES MAX FROM`: what a crash may leave, with unsynced bytes of these values. For each content it
+/// says the bytes from that place on, where all bytes before it are as a read gives.
 fn say_images(alloc: Global, disk: &mut MemDisk, words: &str, said: &mut String) -> Result<()> {
     let (values, rest) = word_of(words);
     let (max, from) = word_of(rest);
@@ -159,7 +159,7 @@ fn front_of<'a>(bytes: &'a [u8], count: &str) -> Result<&'a [u8]> {
     bytes.get(..count).context("past the end")
 }
 
-/// Says of each content what stands behind this front.
+/// Says of each content what follows this front.
 fn say_contents(found: &[Vec<u8>], front: &[u8], said: &mut String) -> Result<()> {
     writeln!(said, "{} contents", found.len())?;
     for content in found {
@@ -172,7 +172,7 @@ fn say_contents(found: &[Vec<u8>], front: &[u8], said: &mut String) -> Result<()
     Ok(())
 }
 
-/// Digits of bytes; `-` of none, `COUNT*HEX` of one that stands often.
+/// Digits of bytes: `-` where there are none, `COUNT*HEX` for a byte that is repeated.
 fn write_short(bytes: &[u8], said: &mut String) -> Result<()> {
     match bytes.first() {
         None => said.push('-')?,

@@ -1,5 +1,5 @@
-//! `log_cases FILE ..`: makes calls on disks and on logs over two of them as the rows of the files say, prints each row
-//! of which something else is said, and the counts.
+//! `log_cases FILE ..`: makes calls on disks and on logs over two of them as the rows of the files say, and prints each
+//! row that does not say what it must, and the counts.
 #![tactic(auto)]
 
 mod crash;
@@ -44,7 +44,7 @@ fn judge_row<R: Files<File = File> + Print + AllocGlobal>(
     tally.judge(rt, row, said.as_str())
 }
 
-/// Does what the lines of a row say, and appends what is said to that.
+/// Does what the lines of a row say, and appends what is said to it.
 fn take_row<R: Files<File = File> + AllocGlobal>(
     rt: &R,
     row: &Row<'_>,

@@ -10,10 +10,10 @@ use wal::Wal;
 /// The greatest capacity of a log, in bytes.
 const MAX_CAPACITY: u64 = 1 << 30;
 
-/// The shard, the number of shards and the capacity that rows open a log with where they say nothing else.
+/// The shard, the number of shards and the capacity with which rows open a log, where they say nothing else.
 pub const EXAMPLE: &str = "0 1 200";
 
-/// Slot 0 and slot 1 of a log that isn't open.
+/// Slot 0 and slot 1 of a log that is not open.
 #[derive(Drop)]
 pub struct Slots {
     pub first: MemDisk,
@@ -47,7 +47,7 @@ impl Slots {
         }
     }
 
-    /// Another disk as this slot.
+    /// Another disk for this slot.
     pub fn put(&mut self, slot: &str, disk: MemDisk) -> Result<()> {
         *self.at(slot)? = disk;
         Ok(())
@@ -64,7 +64,8 @@ pub fn synced(alloc: Global, bytes: &[u8]) -> Result<MemDisk> {
     Ok(disk)
 }
 
-/// Opens the log in two slots, of `SHARD COUNT CAPACITY`. Appends its generation and streams, or why it isn't opened.
+/// Opens the log in two slots, of `SHARD COUNT CAPACITY`. Appends its generation and streams, or why it cannot be
+/// opened.
 pub fn open(
     alloc: Global,
     slots: Slots,

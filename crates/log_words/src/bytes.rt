@@ -3,49 +3,49 @@ use anyhow::{Context, Result, bail};
 use rows::{read_hex, write_hex};
 use std::alloc::Global;
 
-/// The example: a segment of generation 1 of the only shard, whose one stream has the entry 10 x. Its closing gate
-/// stands at 81.
+/// The example: a segment of generation 1 of the only shard, whose one stream has the entry 10 x. Its closing gate is
+/// at 81.
 const SEGMENT: [u8; 82] = *b"\x01LWL2\x01\0\0\0\0\0\0\0\0\0\0\0\x01\0\0\0\x01\x37\0\0\0\
 \x03\x01\0t\x07\0\0\0{a=\"1\"}\x0a\0\0\0\0\0\0\0\
 \x0a\0\0\0\0\0\0\0\x01\0\0\0x\0\x01\0\0\0\
 \x0a\0\0\0\0\0\0\0\x01\0\0\0x\0\0";
 
-/// What an append of the entry 11 y puts behind that gate: a block without its own gate, and a closed gate.
+/// What an append of the entry 11 y writes after that gate: a block without its own gate, and a closed gate.
 const FRAME: [u8; 38] = *b"\x21\0\0\0\x01\x01\0t\x07\0\0\0{a=\"1\"}\x01\0\0\0\
 \x0b\0\0\0\0\0\0\0\x01\0\0\0y\0\0";
 
-/// The example with an entry that has the metadata k=v. Its closing gate stands at 93.
+/// The example with an entry that has the metadata k=v. Its closing gate is at 93.
 const SEGMENT_WITH_PAIR: [u8; 94] = *b"\x01LWL2\x01\0\0\0\0\0\0\0\0\0\0\0\x01\0\0\0\x01\x43\0\0\0\
 \x03\x01\0t\x07\0\0\0{a=\"1\"}\x0a\0\0\0\0\0\0\0\
 \x0a\0\0\0\0\0\0\0\x01\0\0\0x\x01\x01\0k\x01\0v\x01\0\0\0\
 \x0a\0\0\0\0\0\0\0\x01\0\0\0x\x01\x01\0k\x01\0v\0";
 
-/// What an append of that entry puts behind a gate.
+/// What an append of that entry writes after a gate.
 const FRAME_WITH_PAIR: [u8; 44] = *b"\x27\0\0\0\x01\x01\0t\x07\0\0\0{a=\"1\"}\x01\0\0\0\
 \x0a\0\0\0\0\0\0\0\x01\0\0\0x\x01\x01\0k\x01\0v\0";
 
-/// The example in version 1 of the layout, where an entry ends with its line. Its closing gate stands at 79.
+/// The example in version 1 of the layout, where an entry ends with its line. Its closing gate is at 79.
 const SEGMENT_OF_1: [u8; 80] = *b"\x01LWL1\x01\0\0\0\0\0\0\0\0\0\0\0\x01\0\0\0\x01\x35\0\0\0\
 \x03\x01\0t\x07\0\0\0{a=\"1\"}\x0a\0\0\0\0\0\0\0\
 \x0a\0\0\0\0\0\0\0\x01\0\0\0x\x01\0\0\0\
 \x0a\0\0\0\0\0\0\0\x01\0\0\0x\0";
 
-/// What an append of the entry 11 y put behind that gate.
+/// What an append of the entry 11 y wrote after that gate.
 const FRAME_OF_1: [u8; 37] = *b"\x20\0\0\0\x01\x01\0t\x07\0\0\0{a=\"1\"}\x01\0\0\0\
 \x0b\0\0\0\0\0\0\0\x01\0\0\0y\0";
 
-/// How many bytes of a slot stand on one line.
+/// How many bytes of a slot a line has.
 const LINE: usize = 32;
 
-/// The bytes that words stand for, each taken in behind those before.
+/// The bytes that words stand for, one after another.
 ///
-/// Pairs of digits are bytes; `segment` and `frame` those of the example, `segment_with_pair` and `frame_with_pair` those
-/// of the one with metadata, `segment_of_1` and `frame_of_1` those of the example in version 1; `-` none; `COUNT*HEX` the
-/// same so often. `cut:COUNT` keeps the first of what stands so far, `from:COUNT` drops them, and `at:PLACE=HEX` writes
-/// over bytes.
+/// Pairs of digits are bytes. `segment` and `frame` are those of the example, `segment_with_pair` and `frame_with_pair`
+/// those of the one with metadata, `segment_of_1` and `frame_of_1` those of the example in version 1. `-` is no bytes,
+/// and `COUNT*HEX` the same bytes COUNT times. `cut:COUNT` keeps the first COUNT bytes so far, `from:COUNT` drops them,
+/// and `at:PLACE=HEX` writes over bytes.
 ///
 /// # Errors
-/// Another word, a place that isn't there, or want of memory.
+/// Another word, a place that does not exist, or want of memory.
 pub fn bytes_of(alloc: Global, words: &str) -> Result<Vec<u8>> {
     let mut bytes = Vec::new(alloc);
     for word in words.split(' ') {

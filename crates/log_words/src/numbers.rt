@@ -5,10 +5,10 @@ ghost use Rattle.segment.specs.Segments.{IsOwner, owner_of};
 use anyhow::{Context, Result, bail};
 use rows::word_of;
 
-/// The number that a word spells.
+/// The number that a word writes.
 ///
 /// # Errors
-/// A word that is none.
+/// A word that is no number.
 pub fn number_of(word: &str) -> Result<u64>
     ensures { IfOk result (λ n. n ≡ digits_value 10 (without_leading_plus word.now)) }
 {
@@ -16,7 +16,7 @@ pub fn number_of(word: &str) -> Result<u64>
         .context(format_args!("no number: {word}"))
 }
 
-/// A shard and among how many, `SHARD COUNT`.
+/// A shard's number and how many shards there are, `SHARD COUNT`.
 ///
 /// # Errors
 /// Other words, or a count that is not 1 to 64.

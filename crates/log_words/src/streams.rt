@@ -4,7 +4,7 @@ use labels::StreamKey;
 use rows::{escape, only_character, write_pairs};
 use std::fmt::Write;
 
-/// The shortest line that is written as how often its one character stands in it.
+/// A line of at least this many bytes that repeats one character is written as that character and a count.
 const LONG: usize = 64;
 
 /// Appends a key, `TENANT LABELS`.
@@ -17,8 +17,8 @@ pub fn write_key(key: &StreamKey, into: &mut String) -> Result<()> {
     Ok(())
 }
 
-/// Appends an entry, `TIME:LINE`, or `TIME*COUNT:CHARACTER` where a long line has one character so often; behind it
-/// `{NAME=VALUE,..}` where it has metadata.
+/// Appends an entry, `TIME:LINE`, or `TIME*COUNT:CHARACTER` for a long line that repeats one character.
+/// `{NAME=VALUE,..}` follows where the entry has metadata.
 ///
 /// # Errors
 /// Want of memory.

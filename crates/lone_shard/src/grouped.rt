@@ -9,12 +9,12 @@ use shard::{ApplyFault, Ended};
 use std::alloc::Global;
 use std::collections::VecDeque;
 
-/// A turn: of how many calls, and why it ended there.
+/// A turn: how many calls it made, and why it ended.
 #[derive(Clone, Copy)]
 pub struct Turn {
     /// How many calls were made, or came back.
     pub calls: usize,
-    /// Why the front of the jobs ended.
+    /// Why the turn ended.
     pub ended: Ended,
 }
 
@@ -67,8 +67,8 @@ impl Grouped {
 }
 
 impl<D: Disk + Drop> LoneShard<D> {
-    /// Makes the calls as a group: all are jobs of the one pass, in their order, as many as may be open at a time, and
-    /// turns are taken until none is left.
+    /// Makes the calls as a group. All are jobs of the one pass, in their order, as many as may be open at a time.
+    /// Turns are taken until none is left.
     ///
     /// # Errors
     /// A number that no call may have, a closed pass, or want of memory for the group itself.

@@ -1,4 +1,4 @@
-//! A shard alone: its calls from their announcements to their answers, one by one or as a group, without an ingester.
+//! A shard alone, without an ingester: its calls from announcement to answer, one by one or as a group.
 #![tactic(auto)]
 
 mod grouped;

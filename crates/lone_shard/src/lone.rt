@@ -23,8 +23,8 @@ pub struct LoneShard<D: Disk> {
 }
 
 impl<D: Disk + Drop> LoneShard<D> {
-    /// Opens the shard in slot 0 and slot 1, with segments of at most so many bytes. A refusal says why, and gives the
-    /// slots back.
+    /// Opens the shard in slot 0 and slot 1, with segments of at most this many bytes. A refusal says why, and gives
+    /// the slots back.
     ///
     /// # Errors
     /// Limits that aren't lawful, a capacity above 2^30, or want of memory.
@@ -76,7 +76,7 @@ impl<D: Disk + Drop> LoneShard<D> {
         }
     }
 
-    /// How many steps the history has, once it was compared with what the pass has seen.
+    /// How many steps the history has. First it is compared with what the pass has seen.
     pub fn steps(&mut self) -> u64 {
         self.shard.settle(&mut self.pass);
         self.history.observe(&mut self.pass, 0)

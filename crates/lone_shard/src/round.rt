@@ -1,4 +1,4 @@
-//! Calls of the pass on their way: announced, made by turns, and taken in.
+//! Calls of the pass on their way: announced, made by turns, and collected.
 
 ghost use Rattle.std.specs.Prelude.{◌≡◌, ◌≤◌, ◌+◌, ◌↔◌, IsTrue, IsOk, IsErr, IfOk, OnOk, OnErr};
 
@@ -12,11 +12,11 @@ use std::alloc::Global;
 use std::collections::VecDeque;
 use std::marker::Model;
 
-/// How many calls a pass may have open.
+/// How many open calls a pass may have.
 pub const MOST: usize = 64;
 
-/// The shard while calls of its pass are open: announced, they are jobs; made by a turn, they are settled; and then
-/// their answers are taken in. Contracts see how many of them are jobs.
+/// The shard while calls of its pass are open. An announced call is a job, a turn makes it a settled call, and then its
+/// answer is collected. Contracts see how many of the calls are jobs.
 #[derive(Drop)]
 pub struct Round<D: Disk> {
     history: History,
@@ -41,7 +41,7 @@ impl<D: Disk + Drop> Round<D> {
     /// Begins without a call.
     ///
     /// # Errors
-    /// Want of memory. The shard is lost then.
+    /// Want of memory. The shard is then lost.
     pub fn of(alloc: Global, lone: LoneShard<D>) -> Result<Round<D>>
         ensures { IfOk result (λ round. round ≡ 0) }
     {
@@ -71,7 +71,7 @@ impl<D: Disk + Drop> Round<D> {
     /// Announces a call, as the last of the jobs.
     ///
     /// # Errors
-    /// 64 calls are jobs, one that is settled was not taken in, a number that no call may have, or a closed pass.
+    /// There are 64 jobs, a settled call is not collected yet, a number that no call may have, or a closed pass.
     pub fn announce(&mut self, call: Call) -> Result<()>
         ensures ok { OnOk result (self.new ≡ self.old + 1) }
         ensures err { OnErr result (self.new ≡ self.old) }
@@ -89,10 +89,10 @@ impl<D: Disk + Drop> Round<D> {
         Ok(())
     }
 
-    /// Announces the first of these calls, until so many are jobs, or 64.
+    /// Announces the first of these calls, until there are this many jobs, or 64.
     ///
     /// # Errors
-    /// As of `announce`. The call is lost then.
+    /// Those of `announce`. The call is then lost.
     pub fn announce_all(&mut self, calls: &mut VecDeque<Call>, most: usize) -> Result<()> {
         for _ in self.jobs.len()..most.min(MOST) {
             let Some(call) = calls.pop_front() else {
@@ -103,10 +103,10 @@ impl<D: Disk + Drop> Round<D> {
         Ok(())
     }
 
-    /// Makes a front of the jobs, by a turn of the shard: why it ends.
+    /// Makes the first of the jobs, by a turn of the shard, and says why it ends.
     ///
     /// # Errors
-    /// There is no job, a settled call was not taken in, or want of memory. Then nothing has changed.
+    /// There is no job, a settled call is not collected yet, or want of memory. Nothing has then changed.
     pub fn turn(&mut self, alloc: Global) -> Result<Ended> {
         if self.jobs.is_empty() || !self.settled.is_empty() {
             bail!("there is no call, or an answer that was not taken in");
@@ -117,7 +117,7 @@ impl<D: Disk + Drop> Round<D> {
         Ok(ended)
     }
 
-    /// Takes the first settled call in: its reply, or why it has no step.
+    /// Collects the first settled call: its reply, or why it has no step.
     pub fn take_in(&mut self) -> Option<Result<Reply, ApplyFault>>
         ensures { self.new ≡ self.old }
     {
@@ -136,10 +136,10 @@ impl<D: Disk + Drop> Round<D> {
         }
     }
 
-    /// The shard again, once all calls were taken in.
+    /// The shard again, once all calls are collected.
     ///
     /// # Errors
-    /// A call is open. The shard is lost then.
+    /// A call is open. The shard is then lost.
     pub fn end(self) -> Result<LoneShard<D>>
         ensures { IsOk result → self ≡ 0 }
     {

@@ -17,7 +17,7 @@ use std::rt::Clock;
 use std::sync::Wait;
 use std::thread::Threads;
 
-/// The folder that a row's files stand in.
+/// The folder of a row's files.
 const FOLDER: &str = "row";
 
 /// The example of the log: a segment of generation 1 of the only shard, of a state with the entry 10 x of `{a="1"}`
@@ -37,7 +37,7 @@ const EXAMPLE_OF_1: [u8; 117] = *b"\x01LWL1\x01\0\0\0\0\0\0\0\0\0\0\0\x01\0\0\0\
 \x01\x01\0t\x07\0\0\0{a=\"1\"}\x01\0\0\0\
 \x0b\0\0\0\0\0\0\0\x01\0\0\0y\0";
 
-/// What stands between the lines of a row.
+/// What a row keeps from line to line.
 #[derive(Drop)]
 struct Case {
     alloc: Global,
@@ -120,7 +120,7 @@ impl Case {
         }
     }
 
-    /// What words name.
+    /// Says what words name.
     fn take_words(&self, word: &str, rest: &str, said: &mut String) -> Result<()> {
         let words = self.words(rest)?;
         match word {
@@ -133,13 +133,14 @@ impl Case {
         }
     }
 
-    /// What the environment says from here on, nothing where there is no word, and the capacity that it gives.
+    /// Sets what the environment says from here on, nothing where there is no word, and says the capacity that it
+    /// gives.
     fn take_setting(&mut self, rest: &str, said: &mut String) -> Result<()> {
         self.setting = words_in(self.alloc, rest, 0)?.pop();
         say_capacity(self.setting.as_deref(), said)
     }
 
-    /// What is read next, and where it fails.
+    /// Sets what is read next, and where that fails.
     fn take_input(&mut self, word: &str, rest: &str) -> Result<()> {
         match word {
             "in" => unescape(rest, &mut self.input)?,
@@ -200,7 +201,7 @@ impl Case {
         Ok(())
     }
 
-    /// Says the length of a file, and whether it is what was last written to one.
+    /// Says the length of a file, and whether it is what was last written to a file.
     fn look(&self, bytes: &[u8], said: &mut String) -> Result<()> {
         let count = bytes.len();
         write!(said, "{count} bytes")?;
@@ -210,7 +211,7 @@ impl Case {
         Ok(said.push('\n')?)
     }
 
-    /// The words of a line, `PORT` among them as the port that is in use.
+    /// The words of a line, in which `PORT` stands for the port that is in use.
     fn words(&self, line: &str) -> Result<Vec<String>> {
         let port = match &self.listener {
             Some(listener) => listener.local_addr()?.port(),
@@ -240,8 +241,8 @@ impl Case {
         run(rt, self.alloc, launch, self.limits).say(said)
     }
 
-    /// Runs a program once for each place of a stream, from the first up to the last, where that stream fails: how it
-    /// ends.
+    /// Runs a program once for each place of a stream, from the first to the last, where that stream fails, and says
+    /// how it ends.
     fn take_each<R>(&self, rt: &R, line: &str, said: &mut String) -> Result<()>
     where
         R: Files<File = File> + Net<Listener = TcpListener, Stream = TcpStream>,
@@ -278,7 +279,7 @@ impl Case {
         repeats.say(said)
     }
 
-    /// The limits with this one of a stream.
+    /// The limits with this place for one stream.
     fn limits_at(&self, stream: &str, place: usize) -> Result<Limits> {
         let mut limits = self.limits;
         match stream {

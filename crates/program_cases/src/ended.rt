@@ -5,7 +5,7 @@ use rows::escape;
 use std::alloc::Global;
 use std::fmt::Write;
 
-/// From how many equal bytes on their number is said.
+/// From this many equal bytes on, their number is said.
 const MANY: usize = 64;
 
 /// What a program wrote, and its exit status.
@@ -24,14 +24,14 @@ impl Ended {
         say_lines("err", &self.errors, said)
     }
 
-    /// The same, where standard output has room for so many bytes.
+    /// The same, where standard output has room for this many bytes.
     pub fn cut(&self, alloc: Global, room: usize, whole: &Ended) -> Result<String> {
         let mut text = String::new(alloc);
         self.say_cut(room, whole, &mut text)?;
         Ok(text)
     }
 
-    /// In place of what fits, says that it is the beginning of what is written to enough room.
+    /// In place of what fits, says that it is the beginning of what is written where there is room.
     fn say_cut(&self, room: usize, whole: &Ended, said: &mut String) -> Result<()> {
         let (taken, all) = (self.output.as_slice(), whole.output.as_slice());
         if taken.len() != room || taken.len() >= all.len() || !all.starts_with(taken) {
@@ -49,7 +49,7 @@ impl Ended {
     }
 }
 
-/// Says each line of these bytes behind a word, escaped with its line feed.
+/// Says each line of these bytes after a word, escaped, with its line feed.
 fn say_lines(word: &str, bytes: &[u8], said: &mut String) -> Result<()> {
     for line in bytes.split_inclusive(|byte| *byte == b'\n') {
         write!(said, "{word} ")?;
@@ -59,7 +59,7 @@ fn say_lines(word: &str, bytes: &[u8], said: &mut String) -> Result<()> {
     Ok(())
 }
 
-/// Equal bytes that stand behind one another.
+/// Equal bytes in a row.
 #[derive(Clone, Copy, Drop)]
 struct Run {
     byte: u8,
@@ -85,7 +85,7 @@ fn say_bytes(bytes: &[u8], said: &mut String) -> Result<()> {
     escape(&plain, said)
 }
 
-/// Puts a run behind the plain bytes, or says these and then its number.
+/// Adds a run to the plain bytes, or says these and then the run's number.
 fn say_run(run: Run, plain: &mut Vec<u8>, said: &mut String) -> Result<()> {
     let Run { byte, count } = run;
     if count < MANY {

@@ -11,7 +11,7 @@ pub struct Source<'a> {
 }
 
 impl<'a> Source<'a> {
-    /// All of these bytes, or so many of them and then this fault.
+    /// All of these bytes, or the first of them and then this fault.
     pub fn new(bytes: &'a [u8], fails: Option<(usize, ErrorKind)>) -> Source<'a> {
         match fails {
             None => Source {
@@ -35,7 +35,7 @@ impl Read for Source<'_> {
     }
 }
 
-/// Takes so many bytes, and then fails.
+/// Takes a number of bytes, and then fails.
 #[derive(Drop)]
 pub struct Sink {
     taken: Vec<u8>,
@@ -43,7 +43,7 @@ pub struct Sink {
 }
 
 impl Sink {
-    /// A sink with room for so many bytes.
+    /// A sink with room for `room` bytes.
     pub fn new(alloc: Global, room: usize) -> Sink {
         Sink {
             taken: Vec::new(alloc),

@@ -4,7 +4,7 @@ use anyhow::Result;
 use std::alloc::Global;
 use std::fmt::Write;
 
-/// A text, and how often it was said behind itself.
+/// A text, and how often it was said in a row.
 #[derive(Drop)]
 pub struct Repeats {
     text: String,
@@ -19,7 +19,7 @@ impl Repeats {
         }
     }
 
-    /// Counts a text that is the one before, and else says that one and how often it came.
+    /// Counts a text that is the same as the one before. Otherwise says that one and how often it came.
     pub fn take(&mut self, text: String, said: &mut String) -> Result<()> {
         if text != self.text {
             self.say(said)?;

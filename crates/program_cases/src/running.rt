@@ -40,7 +40,7 @@ impl Program {
 /// Where the streams of a program fail.
 #[derive(Clone, Copy)]
 pub struct Limits {
-    /// Behind how many bytes the input fails, and with what.
+    /// After how many bytes the input fails, and with what.
     pub input: Option<(usize, ErrorKind)>,
     /// How many bytes standard output takes.
     pub output: usize,

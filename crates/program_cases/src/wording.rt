@@ -9,7 +9,7 @@ use std::alloc::Global;
 use std::fmt::Write;
 use words::{call_in, capacity_in, clock_in, place_in, server_in};
 
-/// The words of a line, which blanks part, each with its escapes. `''` is a word with no bytes, and `PORT` this port.
+/// The words of a line, which blanks separate, each with its escapes. `''` is an empty word, and `PORT` is this port.
 pub fn words_in(alloc: Global, line: &str, port: u16) -> Result<Vec<String>> {
     let mut words = Vec::new(alloc);
     for word in line.split_whitespace() {

@@ -1,4 +1,4 @@
-//! Pushes, looks and meetings of an ingester, and what is taken of it once it is closed.
+//! Pushes, looks and meetings of an ingester, and what is left of it once it is closed.
 ghost use Rattle.std.specs.Prelude.{◌≡◌, ◌<◌, ℕ, Some, slice_get, vec_len, IfOk, OnOk};
 ghost use Rattle.history.specs.Handles.{Passed};
 ghost use Rattle.ingester.specs.Calls.{IsPassOf};
@@ -19,13 +19,13 @@ const SHARDS: u32 = 2;
 /// How many passes it has.
 const PASSES: u32 = 2;
 
-/// The bytes that a segment may have, and that a slot has room for, also in its record: more than all pushes need.
+/// The bytes that a segment may have. A slot and its record have room for as many: more than all pushes need.
 const CAPACITY: u64 = 1 << 20;
 
 /// The writes and syncs that a slot has room for.
 const CALLS: u64 = 1 << 10;
 
-/// How many streams are pushed: enough that each shard has some.
+/// How many streams are pushed to: enough that each shard has some.
 const STREAMS: u64 = 8;
 
 /// How often a pass looks, and how often two passes meet.
@@ -107,7 +107,7 @@ fn hand_in(ingester: &Ingester<MemDisk>, passes: &mut Vec<Pass>, pass: Pass) -> 
     Ok(())
 }
 
-/// Pushes to each stream, and once more to the first one, which requests memory.
+/// Pushes to each stream, and then once more to the first one, which requests memory.
 fn push<R: Print + Wait + AllocGlobal>(
     rt: &R,
     ingester: &Ingester<MemDisk>,
@@ -127,7 +127,7 @@ fn push<R: Print + Wait + AllocGlobal>(
     made
 }
 
-/// Makes a push, of which all is stored.
+/// Makes a push whose entries are all stored.
 fn make<R: Wait + AllocGlobal>(
     rt: &R,
     ingester: &Ingester<MemDisk>,
@@ -161,7 +161,7 @@ fn look<R: Print>(rt: &R, ingester: &Ingester<MemDisk>, pass: &mut Pass) -> Resu
     Ok(())
 }
 
-/// Looks at each shard in its turn: the least that was seen of one.
+/// Looks at each shard in turn: the shortest history that was seen.
 fn look_often(ingester: &Ingester<MemDisk>, pass: &mut Pass) -> u64
     requires pass { IsPassOf ingester.now pass.old }
     requires shards { ingester.now.about.shards ≡ 2 }

@@ -5,19 +5,19 @@ use disk::MemDisk;
 use std::alloc::Global;
 use wal::Wal;
 
-/// The capacity of a segment, and the room of a slot, also in its record, in bytes.
+/// The capacity of a segment, and the room of a slot and of its record, in bytes.
 const CAPACITY: u64 = 4_096;
 
 /// The writes and syncs that a slot has room for.
 const CALLS: u64 = 64;
 
-/// What stands behind byte 0 of a segment that holds no streams, of generation 1 and of generation 2.
+/// What follows byte 0 of a segment that holds no streams, for generation 1 and for generation 2.
 const SEGMENTS: [&[u8]; 2] = [
     b"LWL2\x01\0\0\0\0\0\0\0\0\0\0\0\x01\0\0\0\x01\0\0\0\0\0",
     b"LWL2\x02\0\0\0\0\0\0\0\0\0\0\0\x01\0\0\0\x01\0\0\0\0\0",
 ];
 
-/// The frame of a block that appends an entry to a stream, with a closed gate behind it.
+/// The frame of a block that appends an entry to a stream, with a closed gate after it.
 const FRAME: &[u8] =
     b"\x21\0\0\0\x01\x01\0t\x07\0\0\0{a=\"1\"}\x01\0\0\0\x05\0\0\0\0\0\0\0\x01\0\0\0x\0\0";
 
@@ -50,7 +50,7 @@ fn roll<R: Print>(rt: &R, log: &mut Wal<MemDisk>) -> Result<()> {
     rolled
 }
 
-/// Begins each segment in its turn.
+/// Begins each segment in turn.
 fn roll_all(log: &mut Wal<MemDisk>) -> Result<()> {
     for segment in SEGMENTS {
         if segment.len() as u64 >= log.capacity() {
@@ -68,7 +68,7 @@ fn append<R: Print>(rt: &R, log: &mut Wal<MemDisk>) -> Result<()> {
     appended
 }
 
-/// Appends the block some times.
+/// Appends the block several times.
 fn append_all(log: &mut Wal<MemDisk>) -> Result<()> {
     for _ in 0..APPENDS {
         if !log.fits(FRAME.len() as u64) {

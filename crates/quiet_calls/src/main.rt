@@ -1,4 +1,4 @@
-//! `quiet_calls` makes calls that request no memory, and one that does, each kind between two lines of output.
+//! `quiet_calls` makes calls that request no memory, and one that does. Each kind stands between two lines of output.
 #![tactic(auto)]
 
 mod ingesters;

@@ -7,7 +7,7 @@ use std::alloc::Global;
 /// How many entries the stream has, at the times 1, 2 and so on.
 const ENTRIES: u64 = 10;
 
-/// Up to which times it is trimmed, one after another.
+/// The bounds of its trims, one after another.
 const BOUNDS: [u64; 3] = [3, 6, 10];
 
 /// Trims a stream of some entries a few times.

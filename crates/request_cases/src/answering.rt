@@ -1,4 +1,4 @@
-//! Answers, written one behind another.
+//! Answers, written one after another.
 use crate::case::Case;
 use crate::named::{closes, content, failure, fixed_answer, status};
 use anyhow::Result;
@@ -15,10 +15,10 @@ struct Written {
     end: Result<(), ServeFault>,
 }
 
-/// Says the bytes of the answers of a row and how the writing ended, and then what it comes to at each place.
+/// Says the bytes of the answers of a row and how the writing ended, and then the result for each place.
 ///
 /// # Errors
-/// A line that is none; want of memory.
+/// A line that is no answer; want of memory.
 pub fn answer_case(alloc: Global, case: &Case<'_>, said: &mut String) -> Result<()> {
     let whole = write_all(alloc, case, case.connection.manner)?;
     said.push_str(whole.sink.said())?;

@@ -3,11 +3,11 @@ use rows::{Row, word_of};
 use std::alloc::Global;
 use wire::{Connection, Each};
 
-/// What a row asks for: the requests of a connection, or answers where there are any.
+/// What a row asks for: the requests of a connection, or answers if there are any.
 #[derive(Drop)]
 pub struct Case<'a> {
     pub connection: Connection,
-    /// Where it is run again.
+    /// The places at which it is run again.
     pub each: Option<Each>,
     /// The lines of the answers.
     pub answers: Vec<&'a str>,
@@ -17,7 +17,7 @@ impl<'a> Case<'a> {
     /// Reads the lines of a row.
     ///
     /// # Errors
-    /// A line that is none of a row; want of memory.
+    /// A line that no row has; want of memory.
     pub fn read(alloc: Global, row: &Row<'a>) -> Result<Case<'a>> {
         let mut case = Case {
             connection: Connection::new(alloc),

@@ -1,5 +1,5 @@
 //! `request_cases FILE..`: takes requests from bytes and writes answers, as the rows of the files say, and prints each
-//! row that comes out otherwise.
+//! row that does not say what it must.
 #![tactic(auto)]
 
 mod answering;

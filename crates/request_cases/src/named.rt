@@ -43,7 +43,7 @@ pub fn failure(name: &str) -> Result<Failure> {
 /// The status of these digits.
 ///
 /// # Errors
-/// Others.
+/// Other digits.
 pub fn status(code: &str) -> Result<Status> {
     match code {
         "200" => Ok(Status::Ok),

@@ -1,4 +1,4 @@
-//! The requests of a connection, taken one behind another.
+//! The requests of a connection, taken one after another.
 use crate::case::Case;
 use anyhow::Result;
 use requests::{FixedAnswer, Incoming, Message, Method, Next, Route, Verdict};
@@ -18,7 +18,7 @@ struct Taken {
     end: String,
 }
 
-/// Says the requests of a row and how they ended, and then what they come to at each place.
+/// Says the requests of a row and how they ended, and then the result for each place.
 ///
 /// # Errors
 /// Want of memory.
@@ -60,7 +60,7 @@ impl Taken {
     }
 }
 
-/// Takes requests until none comes any more.
+/// Takes requests until no more come.
 fn take_all(alloc: Global, connection: &Connection, manner: Manner) -> Result<Taken> {
     let mut incoming = Incoming::new(alloc);
     let mut source = connection.source(manner);

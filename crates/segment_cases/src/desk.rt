@@ -19,9 +19,9 @@ pub struct Desk {
     alloc: Global,
     /// The bytes of a slot.
     slot: Vec<u8>,
-    /// Whose the next records are.
+    /// The key of the next records.
     key: Option<StreamKey>,
-    /// The records that aren't written yet.
+    /// The records that are not written yet.
     records: Vec<Record>,
 }
 
@@ -87,7 +87,7 @@ impl Desk {
         Ok(())
     }
 
-    /// Writes the records behind what the slot has.
+    /// Writes the records after what the slot has.
     fn write(&mut self, words: &str, said: &mut String) -> Result<()> {
         let (word, rest) = word_of(words);
         let records = mem::replace(&mut self.records, Vec::new(self.alloc));
@@ -115,7 +115,7 @@ impl Desk {
         }
     }
 
-    /// Answers whether the slot has just these bytes, and what it has where not.
+    /// Answers whether the slot has exactly these bytes, and if not what it has.
     fn say_whether(&self, words: &str, said: &mut String) -> Result<()> {
         if self.slot == bytes_of(self.alloc, words)? {
             writeln!(said, "the same {} bytes", self.slot.len())?;

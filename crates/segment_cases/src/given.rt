@@ -17,8 +17,8 @@ pub fn key_of(alloc: Global, words: &str) -> Result<StreamKey> {
     })
 }
 
-/// The entry of `TIME:LINE`, or of `TIME*COUNT:LINE` with the line so often, and with the metadata of `{NAME=VALUE,..}`
-/// behind it.
+/// The entry of `TIME:LINE`, or of `TIME*COUNT:LINE` with the line COUNT times. The metadata of `{NAME=VALUE,..}` may
+/// follow.
 fn entry_of(alloc: Global, word: &str) -> Result<Entry> {
     let (time, text) = word.split_once(':').context("no entry")?;
     let (text, pairs) = split_pairs(alloc, text)?;

@@ -1,5 +1,5 @@
-//! `segment_cases FILE ..`: writes and reads segments as the rows of the files say, prints each row of which something
-//! else is said, and the counts.
+//! `segment_cases FILE ..`: writes and reads segments as the rows of the files say, prints each row that does not say
+//! what it must, and the counts.
 #![tactic(auto)]
 
 mod desk;
@@ -44,7 +44,7 @@ fn judge_row<R: Print + AllocGlobal>(rt: &R, row: &Row<'_>, tally: &mut Tally) -
     tally.judge(rt, row, said.as_str())
 }
 
-/// Does what the lines of a row say, and appends what is said to that.
+/// Does what the lines of a row say, and appends what is said to it.
 fn take_row(alloc: Global, row: &Row<'_>, said: &mut String) -> Result<()> {
     let mut desk = Desk::new(alloc);
     for line in &row.given {

@@ -1,4 +1,4 @@
-//! What is read of a slot.
+//! What a slot is read as.
 use crate::shown::Shown;
 use accept::EntryList;
 use anyhow::Result;

@@ -6,7 +6,7 @@ use std::alloc::Global;
 use std::fmt::Write;
 use std::mem;
 
-/// Places that read alike, and how many were read.
+/// Places that give the same result, and how many there were.
 #[derive(Drop)]
 struct Runs {
     first: usize,
@@ -44,7 +44,7 @@ impl Runs {
         Ok(())
     }
 
-    /// Appends the places that read alike.
+    /// Appends the places that give the same result.
     fn end_run(&mut self, said: &mut String) -> Result<()> {
         let (first, last) = (self.first, self.last);
         match self.open.take() {
@@ -55,7 +55,7 @@ impl Runs {
         Ok(())
     }
 
-    /// Appends how many were read, and how many of them judged alike.
+    /// Appends how many were read, and how many of them were judged the same.
     fn end(&self, said: &mut String) -> Result<()> {
         let (read, alike) = (self.read, self.alike);
         writeln!(said, "{read} read, {alike} judged alike")?;
@@ -88,7 +88,7 @@ pub fn say_each(alloc: Global, slot: &mut [u8], words: &str, said: &mut String) 
     runs.end(said)
 }
 
-/// Sets a byte, and gives the one that stood there.
+/// Sets a byte, and gives the one that was there.
 fn changed(slot: &mut [u8], place: usize, byte: u8) -> u8 {
     match slot.get_mut(place) {
         Some(at) => mem::replace(at, byte),

@@ -1,4 +1,4 @@
-//! Whether the metadata of records is such as a line may have, as it has to be where they are written.
+//! Whether the metadata of records keeps the limits of a line's, as it has to before they are written.
 ghost use Rattle.std.specs.Prelude.{IsTrue};
 ghost use Rattle.std.specs.List.{AllByRecursion};
 ghost use Rattle.segment.specs.Spelling.{AreShort, IsShortRecord};
@@ -13,7 +13,7 @@ fn are_short(entries: &[Entry]) -> bool
     entries.iter().all(|entry| entry.meta.is_short())
 }
 
-/// Whether the metadata of a record's entries is.
+/// Whether the metadata of a record's entries does.
 pub fn is_short(one: &Record) -> bool
     ensures { IsTrue result → IsShortRecord one.now }
 {
@@ -29,14 +29,14 @@ pub fn is_short(one: &Record) -> bool
     }
 }
 
-/// Whether that of all records is.
+/// Whether that of all records does.
 pub fn are_all_short(records: &[Record]) -> bool
     ensures { IsTrue result → AllByRecursion IsShortRecord records.now }
 {
     records.iter().all(|one| is_short(one))
 }
 
-/// Whether that of what all streams have is.
+/// Whether that of all streams does.
 pub fn is_short_image(image: &Image) -> bool
     ensures { IsTrue result → AllByRecursion IsShortRecord (states_of image.now) }
 {

@@ -1,7 +1,7 @@
 use segment::{Header, Version};
 use std::fmt;
 
-/// A header as rows say it: its version, where that isn't 1, and its generation.
+/// A header as rows say it: its version, unless that is 1, and its generation.
 #[derive(Clone, Copy, Debug)]
 pub struct Shown(pub Header);
 

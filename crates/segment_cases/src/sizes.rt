@@ -12,7 +12,7 @@ use accept::{Entry, Image};
 use labels::{Meta, StreamKey};
 use segment::Record;
 
-/// Fewer bytes than so many are small.
+/// Fewer bytes than this are small.
 pub const MANY: usize = 1 << 30;
 
 #[tactic(auto, using(segment::proofs::Lengths::lengths))]
@@ -100,7 +100,7 @@ fn payload_size(records: &[Record]) -> Option<usize>
     Some(size)
 }
 
-/// Whether records are small all together.
+/// Whether all records together are small.
 pub fn are_small(records: &[Record]) -> bool
     ensures { IsTrue result → length (payload latest records.now) < 2 ^ 30 }
 {

@@ -6,7 +6,7 @@ use segment::Record;
 use std::alloc::Global;
 use std::fmt::Write;
 
-/// The state of a stream that was trimmed under this half-age. Appends what is answered, and what the stream has then.
+/// Trims the state of a stream under this half-age. Appends what is answered, and what the stream then has.
 pub fn trimmed(
     alloc: Global,
     record: Record,

@@ -25,7 +25,7 @@ pub fn put_records(records: &[Record], slot: &mut Vec<u8>) -> Result<()> {
     Ok(())
 }
 
-/// Writes one block of all records, each of which is added from its parts, and answers what sizes were announced.
+/// Writes one block of all records. Each is added from its parts. Answers the sizes that were announced.
 pub fn put_parts(records: &[Record], slot: &mut Vec<u8>, said: &mut String) -> Result<()> {
     let at = slot.len();
     open_block(slot)?;

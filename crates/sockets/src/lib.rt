@@ -1,4 +1,4 @@
-//! Tests over sockets: the server's loop, and the server over a folder, with clients in threads of their own.
+//! Tests over sockets: the server's loop, and the server over a folder, with clients in their own threads.
 #![tactic(auto)]
 
 #[cfg(test)]

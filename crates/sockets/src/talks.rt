@@ -27,7 +27,7 @@ const SAMPLE: &str = r#"{"streams":[{"stream":{"a":"1"},"values":[["10","x"]]}]}
 /// A body that reads what the sample pushes.
 const READ: &str = r#"{"stream":{"a":"1"},"from":"0","to":"100"}"#;
 
-/// A slot in memory, whose syncs a gate can hold.
+/// A slot in memory. A gate can hold its syncs.
 type Slot = GateDisk<MemDisk>;
 
 /// A body that reads all of the sample's stream.
@@ -39,7 +39,7 @@ const LOST: &str = r#"{"streams":[{"stream":{"a":"1"},"values":[["11","y"]]}]}"#
 /// A body that pushes 11 y to a stream of another shard, where there are two.
 const OTHER: &str = r#"{"streams":[{"stream":{"a":"2"},"values":[["11","y"]]}]}"#;
 
-/// A time that has passed, in nanoseconds; one of microseconds isn't above it for long.
+/// A time in the past, in nanoseconds. In microseconds it would soon be in the past as well.
 const YEAR_2023: u64 = 1_700_000_000_000_000_000;
 
 const NO_CONTENT: &str = "HTTP/1.1 204 No Content\r\n\r\n";
@@ -48,7 +48,7 @@ const NO_CONTENT: &str = "HTTP/1.1 204 No Content\r\n\r\n";
 const X_ALONE: &str =
     "HTTP/1.1 200 OK\r\nContent-Type: application/json\r\nContent-Length: 23\r\n\r\n{\"values\":[[\"10\",\"x\"]]}";
 
-/// A clock that stands.
+/// A clock that always tells the same time.
 #[derive(Drop)]
 struct Standing;
 
@@ -63,16 +63,16 @@ impl front::Clock for Standing {
 /// What a client does.
 #[derive(Drop)]
 enum Talk<'a> {
-    /// Sends each text over a connection of its own, and waits for what is answered.
+    /// Sends each text over a connection of its own, and waits for the answer.
     Ask(&'a [&'a str]),
     /// Waits for a while and asks, again and again until it is answered.
     Insist(&'a str),
-    /// Insists on the one, finds nobody at another address of this machine, and asks the other.
+    /// Insists on the one, finds no server at another address of this machine, and asks the other.
     Confirm {
         text: &'a str,
         then: &'a str,
     },
-    /// Sends the one and leaves, and asks the other over another connection.
+    /// Sends the one and leaves. Then asks the other over another connection.
     Leave {
         cut: &'a str,
         then: &'a str,
@@ -105,7 +105,7 @@ fn send<R: Net<Listener = TcpListener, Stream = TcpStream>>(
     Ok(stream)
 }
 
-/// All that is answered, where nothing more is sent.
+/// All answers, where nothing more is sent.
 fn read_answers(alloc: Global, stream: TcpStream) -> io::Result<String> {
     stream.shutdown(Shutdown::Write)?;
     io::read_to_string(alloc, stream)
@@ -120,7 +120,7 @@ fn ask<R: Net<Listener = TcpListener, Stream = TcpStream>>(
     read_answers(alloc, send(rt, address, text)?)
 }
 
-/// For as long as another thread needs to do what it was asked for.
+/// Waits as long as another thread needs for its work.
 fn rest<R: rt::Clock>(rt: &R) {
     thread::sleep(rt, Duration::from_millis(50));
 }
@@ -140,7 +140,7 @@ fn insist<R: Net<Listener = TcpListener, Stream = TcpStream> + rt::Clock>(
     ask(rt, alloc, address, text)
 }
 
-/// All answers of a client's talk, one behind the other.
+/// All answers of a client's talk, one after another.
 fn answers_of<R: Net<Listener = TcpListener, Stream = TcpStream> + rt::Clock>(
     client: Client<R>,
 ) -> io::Result<String> {
@@ -258,7 +258,7 @@ fn listen<R: Net<Listener = TcpListener, Stream = TcpStream>>(rt: &R) -> io::Res
     TcpListener::bind(rt, SocketAddr::new(IpAddr::V4(Ipv4Addr::LOCALHOST), 0))
 }
 
-/// An empty slot behind this gate.
+/// An empty slot with this gate for its syncs.
 fn slot(alloc: Global, gate: &Gate) -> Result<Slot, Fail> {
     let disk = MemDisk::new(alloc, 8_192, 1_000, 65_536)?;
     Ok(GateDisk::new(disk, gate.try_clone()?))
@@ -274,7 +274,7 @@ fn slots_of_one(alloc: Global) -> Result<Vec<[Slot; 2]>, Fail>
     Ok(slots)
 }
 
-/// The empty slots of two shards, the first behind this gate.
+/// The empty slots of two shards. Those of the first have this gate for their syncs.
 fn slots_of_two(alloc: Global, gate: &Gate) -> Result<Vec<[Slot; 2]>, Fail>
     ensures { IfOk result (λ slots. vec_len slots ≡ 2) }
 {
@@ -346,13 +346,13 @@ struct Ended {
 }
 
 impl Ended {
-    /// Whether the program ends with status 0, and writes just this.
+    /// Whether the program ends with status 0 and writes exactly this.
     fn is(&self, output: &str) -> bool {
         self.status == 0 && self.output.as_slice() == output.as_bytes() && self.errors.is_empty()
     }
 }
 
-/// The words of a line, which spaces part.
+/// The words of a line, which spaces separate.
 fn words_of(alloc: Global, line: &str) -> Result<Vec<String>, Fail> {
     let mut words = Vec::new(alloc);
     for word in line.split_whitespace() {
@@ -361,8 +361,8 @@ fn words_of(alloc: Global, line: &str) -> Result<Vec<String>, Fail> {
     Ok(words)
 }
 
-/// The server of the folder `sockets_test` with two shards and one worker for two connections, and what is answered
-/// there.
+/// Runs the server of the folder `sockets_test` with two shards and one worker for two connections. Gives what it
+/// writes, and what it answers.
 fn run_and_ask<R>(rt: &R, alloc: Global, port: u16, talk: Talk<'_>) -> Result<(String, Ended), Fail>
 where
     R: Files<File = File> + Net<Listener = TcpListener, Stream = TcpStream>,
@@ -390,7 +390,7 @@ where
     Ok((told.ok_or("not answered")?, ended))
 }
 
-/// What `ingestctl` does by the words of this line, with no server.
+/// What `ingestctl` does with the words of this line, while there is no server.
 fn run_line<R>(rt: &R, alloc: Global, line: &str, body: &str) -> Result<Ended, Fail>
 where
     R: Files<File = File> + Threads + Wait + Copy + Send + 'static,
@@ -445,7 +445,7 @@ fn a_server_keeps_what_it_answered(rt: HostRuntime) -> Result<(), Fail> {
     Ok(())
 }
 
-/// A body that pushes so many lines of this length to the sample's stream, all of this time.
+/// A body that pushes `lines` lines of this length to the sample's stream, all of this time.
 fn lines_of(alloc: Global, time: u64, lines: u64, length: usize) -> Result<String, Fail> {
     let line = "x".repeat(alloc, length)?;
     let mut body = String::new(alloc);

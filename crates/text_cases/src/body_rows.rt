@@ -79,7 +79,7 @@ fn say_body(alloc: Global, kind: Kind, body: &[u8], said: &mut String) -> Result
     }
 }
 
-/// Reads each beginning of a body, a byte more each time, and the whole.
+/// Reads each beginning of a body, each a byte longer, and the whole body.
 fn say_cut(alloc: Global, kind: Kind, body: &[u8], said: &mut String) -> Result<()> {
     let mut counts = Counts::new(alloc);
     for end in 0..body.len() {

@@ -22,7 +22,7 @@ impl Counts {
         Ok(())
     }
 
-    /// Says each answer, which ends in a line feed, with its count, in the order of their texts.
+    /// Says each answer, which ends with a line feed, and its count, in the order of their texts.
     pub fn say(&self, said: &mut String) -> Result<()> {
         for (answer, count) in &self.answers {
             write!(said, "{count} cut: {answer}")?;

@@ -94,7 +94,7 @@ impl Made {
         Ok(())
     }
 
-    /// Parses each beginning of a text, a character more each time, and the whole.
+    /// Parses each beginning of a text, each a character longer, and the whole text.
     fn say_cut(&mut self, text: &str, said: &mut String) -> Result<()> {
         let text = self.draft.end_text(self.alloc, text)?;
         let text = text.as_str();
@@ -110,7 +110,7 @@ impl Made {
         }
     }
 
-    /// Says whether the last set's text, parsed, is that set.
+    /// Says whether the last set's text parses to that set.
     fn say_back(&self, said: &mut String) -> Result<()> {
         let Some(set) = self.sets.last() else {
             return say_nothing(said);
@@ -130,7 +130,7 @@ impl Made {
         }
     }
 
-    /// Says how many copies of all that was made are equal to their sources, and how many differ.
+    /// Says how many copies of what was made are equal to their sources, and how many are not.
     fn say_copies(&self, said: &mut String) -> Result<()> {
         let mut equal = 0_u64;
         let mut other = 0_u64;
@@ -141,7 +141,7 @@ impl Made {
         Ok(())
     }
 
-    /// Says a line for each key: how it stands to each of them.
+    /// Says a line for each key: how it compares with each of them.
     fn say_order(&self, said: &mut String) -> Result<()> {
         for one in &self.keys {
             let mut gap = "";
@@ -168,7 +168,7 @@ impl Made {
     }
 }
 
-/// Says the shard of a key among so many.
+/// Says the shard of a key among `count` shards.
 fn say_shard(key: &StreamKey, count: u32, said: &mut String) -> Result<()> {
     if count == 0 || count > 64 {
         bail!("no count of shards: {count}");
@@ -189,7 +189,7 @@ fn set_of(alloc: Global, words: &str) -> Result<Result<LabelSet, LabelFault>> {
     Ok(LabelSet::new(alloc, LabelPairs::new(pairs)))
 }
 
-/// What was made, or none where its fault was said.
+/// What was made: `None` where its fault was said.
 fn made_or_said<T: Drop>(made: Result<T, LabelFault>, said: &mut String) -> Result<Option<T>> {
     match made {
         Ok(made) => Ok(Some(made)),
@@ -209,7 +209,7 @@ fn say_parsed(alloc: Global, text: &str, said: &mut String) -> Result<()> {
     Ok(())
 }
 
-/// How often each answer comes where each beginning of a text is parsed, but the whole.
+/// How often each answer comes where each beginning of a text is parsed, other than the whole.
 fn count_cut(alloc: Global, text: &str) -> Result<Counts> {
     let mut counts = Counts::new(alloc);
     for (end, _) in text.char_indices() {
@@ -267,7 +267,7 @@ fn copy_of(key: &StreamKey) -> Result<StreamKey, AllocError>
     key.clone()
 }
 
-/// How a key stands to another one by all comparisons, which must agree.
+/// How a key compares with another by all comparisons, which must agree.
 fn sign_of(one: &StreamKey, other: &StreamKey) -> &'static str {
     match (one < other, one == other, order_of_keys(one, other)) {
         (true, false, Ordering::Less) => "<",

@@ -1,4 +1,4 @@
-//! `text_cases LABELS BODIES STREAMS`: runs the rows of three files, and prints each that says something else.
+//! `text_cases LABELS BODIES STREAMS`: runs the rows of three files, and prints each that does not say what it must.
 //!
 //! The first has rows of label texts, tenants and keys, the second of bodies of requests, the third of calls on one
 //! stream.

@@ -6,7 +6,7 @@ use rows::{split_pairs, write_pairs};
 use std::alloc::Global;
 use std::fmt::Write;
 
-/// Makes metadata of `{NAME=VALUE,..}`, in whatever order, and says it or its fault.
+/// Makes metadata of `{NAME=VALUE,..}`, given in any order, and says it or its fault.
 pub fn say_new(alloc: Global, words: &str, said: &mut String) -> Result<()> {
     match Meta::new(alloc, pairs_of(alloc, words)?) {
         Ok(meta) => say(&meta, said),
@@ -31,7 +31,7 @@ fn pairs_of(alloc: Global, words: &str) -> Result<Vec<(String, String)>> {
     Ok(pairs)
 }
 
-/// Says the pairs, or that there is none; whether a line may not have them, and whether a copy differs.
+/// Says the pairs, or that there are none; whether they break the limits of a line's; and whether a copy differs.
 fn say(meta: &Meta, said: &mut String) -> Result<()> {
     if meta.as_slice().is_empty() {
         said.push_str("none")?;

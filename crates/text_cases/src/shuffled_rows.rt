@@ -1,4 +1,4 @@
-//! Many entries with drawn times in one stream, and beside it a plain list of the same entries in the order of storing.
+//! Many entries with random times in one stream, and a plain list of the same entries in the order of storing.
 
 use crate::stream_rows::{MOST, are_times, write_entry};
 use accept::{Entry, Limits, Line, Meta, StreamState};
@@ -30,13 +30,13 @@ const LINES: u64 = 40;
 /// The most lines of a long push.
 const LONG: u64 = 700;
 
-/// Of so many pushes one is long.
+/// One in this many pushes is long.
 const LONG_EVERY: u64 = 16;
 
-/// Behind so many reads comes a trim.
+/// A trim comes after this many reads.
 const TRIM_EVERY: u64 = 10;
 
-/// Behind so many reads comes a reopening.
+/// A reopening comes after this many reads.
 const REOPEN_EVERY: u64 = 17;
 
 /// Every second range is shorter than this, in nanoseconds.
@@ -45,14 +45,14 @@ const NARROW: u64 = 9;
 /// How many times crowded entries have.
 const CROWD: u64 = 6;
 
-/// How the times of drawn entries lie, in the order of storing.
+/// The order of the random times, as entries are stored.
 #[derive(Clone, Copy, Drop)]
 pub enum Order {
     /// In no order.
     Shuffled,
     /// They never fall, and three are equal.
     Rising,
-    /// They rise, but every tenth lies anywhere before.
+    /// They rise, except that every tenth may be any earlier time.
     Late,
     /// In no order, among a few times.
     Crowded,
@@ -71,14 +71,14 @@ impl Order {
     }
 }
 
-/// Draws numbers by a linear congruence of 64 bits, the same from the same seed.
+/// Draws random numbers by a linear congruence of 64 bits. The same seed gives the same numbers.
 #[derive(Drop)]
 struct Draws {
     state: u64,
 }
 
 impl Draws {
-    /// A number below this one: 0 below 0.
+    /// A number below this bound: 0 where that is 0.
     fn below(&mut self, bound: u64) -> u64 {
         self.state = self
             .state
@@ -88,7 +88,7 @@ impl Draws {
     }
 }
 
-/// A stream and its plain list, with the draws and what was asked for.
+/// A stream and its plain list, with the random numbers and the request.
 #[derive(Drop)]
 struct Drawn {
     alloc: Global,
@@ -102,7 +102,7 @@ struct Drawn {
     plain: Vec<Entry>,
 }
 
-/// Does what `COUNT SEED RANGES` ask for, and says how much of the stream agrees with the plain list, or what differs
+/// Does what `COUNT SEED RANGES` ask for. Says how much of the stream agrees with the plain list, or what differs
 /// first.
 pub fn take_words(alloc: Global, order: Order, words: &str, said: &mut String) -> Result<()> {
     let (count, words) = word_of(words);
@@ -137,7 +137,7 @@ impl Drawn {
         Ok(())
     }
 
-    /// Stores a push of a drawn length, at most this one.
+    /// Stores a push of a random length, at most this one.
     fn push(&mut self, most: u64) -> Result<()> {
         let long = self.draws.below(LONG_EVERY) == 0;
         let lines = self.draws.below(if long { LONG } else { LINES });
@@ -147,7 +147,7 @@ impl Drawn {
         Ok(self.plain.append(&mut entries)?)
     }
 
-    /// So many entries: the line of each is its number in the order of storing.
+    /// `count` entries: the line of each is its number in the order of storing.
     fn draw_entries(&mut self, count: u64) -> Result<Vec<Entry>> {
         let mut entries = Vec::new(self.alloc);
         for _ in 0..count {
@@ -194,8 +194,8 @@ impl Drawn {
         Ok(())
     }
 
-    /// Compares the read of this number, then a trim where one is due, then the kept entries where a reopening is.
-    /// Stores a push more behind a trim and behind a reopening. Answers whether all agree.
+    /// Compares the read with this number, then a trim where one is due, then the kept entries where a reopening is
+    /// due. Stores one more push after a trim and after a reopening. Answers whether all agree.
     fn compare_step(&mut self, number: u64, said: &mut String) -> Result<bool> {
         if !self.compare_read(number, said)? {
             return Ok(false);
@@ -214,7 +214,7 @@ impl Drawn {
         Ok(true)
     }
 
-    /// Compares a read of a drawn range, every second one narrow.
+    /// Compares a read of a random range. Every second range is narrow.
     fn compare_read(&mut self, number: u64, said: &mut String) -> Result<bool> {
         let times = self.highest.saturating_add(2);
         let from = self.draws.below(times);
@@ -232,7 +232,7 @@ impl Drawn {
         Ok(same)
     }
 
-    /// Compares the trim behind the read of this number: at a drawn bound, mostly a higher one behind later reads.
+    /// Compares the trim after the read with this number. Its bound is random, and mostly higher after later reads.
     fn compare_trim(&mut self, number: u64, said: &mut String) -> Result<bool> {
         let oldest = self.highest.saturating_sub(TRIMMING.half_age);
         let most = oldest.saturating_mul(number) / self.ranges.max(1);
@@ -278,7 +278,7 @@ fn store(alloc: Global, stream: &mut StreamState, entries: &[Entry]) -> Result<(
     Ok(())
 }
 
-/// Takes a stream apart, and makes it of its parts again.
+/// Takes a stream apart, and makes it from its parts again.
 fn reopen(alloc: Global, stream: &mut StreamState) -> Result<()> {
     if !stream.is_new() {
         let image = stream.to_image(alloc)?;
@@ -312,7 +312,7 @@ fn plain_read<'a>(
     Ok(found)
 }
 
-/// Whether both lists are the same. If not, the first place where they differ is said, without the end of the line.
+/// Whether both lists are the same. If not, it says the first place where they differ, without the end of the line.
 fn are_same(alloc: Global, found: &[&Entry], wanted: &[&Entry], said: &mut String) -> Result<bool> {
     for (place, (have, want)) in found.iter().zip(wanted).enumerate() {
         if have != want {

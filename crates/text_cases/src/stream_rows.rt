@@ -12,7 +12,7 @@ use std::fmt::Write;
 /// The greatest time, and the greatest that a clock may tell.
 pub const MOST: u64 = 0x7fff_ffff_ffff_ffff;
 
-/// A stream, and the limits that its calls are under.
+/// A stream, and the limits of its calls.
 #[derive(Drop)]
 struct Opened {
     alloc: Global,
@@ -20,7 +20,7 @@ struct Opened {
     stream: StreamState,
 }
 
-/// Runs a row of calls on a stream that is new at first, under the profile's limits.
+/// Runs a row of calls on a stream. At first it is new, and has the profile's limits.
 pub fn take_row(alloc: Global, row: &Row<'_>, said: &mut String) -> Result<()> {
     let mut opened = Opened {
         alloc,
@@ -116,7 +116,7 @@ impl Opened {
         say_kept(self.alloc, stream, said)
     }
 
-    /// Takes the stream apart, and makes it of its parts again.
+    /// Takes the stream apart, and makes it from its parts again.
     fn reopen(&mut self, said: &mut String) -> Result<()> {
         if self.stream.is_new() {
             return Ok(said.push_str("a new stream has no parts\n")?);
@@ -127,7 +127,7 @@ impl Opened {
     }
 }
 
-/// The profile's limits but for those `NAME=NUMBER` of the words.
+/// The profile's limits, except those that the words give as `NAME=NUMBER`.
 fn limits_of(words: &str) -> Result<Limits> {
     let mut limits = Limits::PROFILE;
     for word in words.split_ascii_whitespace() {
@@ -151,7 +151,7 @@ fn entries_of(alloc: Global, words: &str) -> Result<Vec<Entry>> {
     Ok(entries)
 }
 
-/// The entry `TIME:LINE`, with the metadata of `{NAME=VALUE,..}` behind it.
+/// The entry `TIME:LINE`, and the metadata of `{NAME=VALUE,..}` after it.
 fn entry_of(alloc: Global, word: &str) -> Result<Entry> {
     let Some((time, text)) = word.split_once(':') else {
         bail!("no entry: {word}");
@@ -164,7 +164,7 @@ fn entry_of(alloc: Global, word: &str) -> Result<Entry> {
     })
 }
 
-/// Whether each time may be one.
+/// Whether each time is a lawful one.
 pub fn are_times(entries: &[Entry]) -> bool
     ensures { IsTrue result ↔ AreTimes entries.now }
 {
@@ -189,7 +189,7 @@ fn say_outcomes(outcomes: &[Outcome], said: &mut String) -> Result<()> {
     Ok(said.push('\n')?)
 }
 
-/// Writes an entry behind a blank.
+/// Writes a blank and an entry.
 pub fn write_entry(alloc: Global, entry: &Entry, into: &mut String) -> Result<()> {
     let time = entry.time;
     write!(into, " {time}:")?;

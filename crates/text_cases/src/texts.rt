@@ -7,7 +7,7 @@ use std::mem;
 /// The longest text that is said as it is, in bytes.
 const LONGEST: usize = 200;
 
-/// What the words `put` and `put*` have put in front of the text of the next call.
+/// What the words `put` and `put*` have put before the text of the next call.
 #[derive(Drop)]
 pub struct Draft {
     bytes: Vec<u8>,
@@ -25,7 +25,7 @@ impl Draft {
         unescape(text, &mut self.bytes)
     }
 
-    /// Puts a text as often as the number in front of it says.
+    /// Puts a text as often as the number before it says.
     pub fn put_times(&mut self, counted: &str) -> Result<()> {
         let (count, text) = word_of(counted);
         for _ in 0..count.parse::<usize>()? {
@@ -34,7 +34,7 @@ impl Draft {
         Ok(())
     }
 
-    /// What was put, with this text behind it; the draft is empty again.
+    /// What was put, followed by this text. The draft is then empty again.
     pub fn end(&mut self, alloc: Global, text: &str) -> Result<Vec<u8>> {
         self.put(text)?;
         Ok(mem::replace(&mut self.bytes, Vec::new(alloc)))
@@ -49,7 +49,7 @@ impl Draft {
     }
 }
 
-/// The text of a word: pieces between bars, each with `*COUNT` behind it where it stands so many times.
+/// The text of a word: pieces between bars. `*COUNT` follows a piece that is repeated.
 pub fn text_of_word(alloc: Global, word: &str) -> Result<String> {
     let mut text = String::new(alloc);
     for piece in word.split('|') {
@@ -80,7 +80,7 @@ pub fn write_text(text: &str, into: &mut String) -> Result<()> {
     escape(text.as_bytes(), into)
 }
 
-/// Writes a text as one word: its blanks and its `=` as escapes too.
+/// Writes a text as one word: its blanks and each `=` are escaped too.
 pub fn write_word(alloc: Global, text: &str, into: &mut String) -> Result<()> {
     if text.len() > LONGEST {
         return write_text(text, into);

@@ -1,4 +1,4 @@
-//! Disks whose syncs a gate holds, and disks that go from thread to thread.
+//! Disks with a gate for their syncs, and disks that move from thread to thread.
 use disk::{DeviceFault, Disk, FileDisk, Gate, GateDisk, LockedFile, MemDisk};
 use std::process::Abort;
 use std::test::Fail;

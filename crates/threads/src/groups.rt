@@ -1,4 +1,4 @@
-//! Calls that come to a shard while it writes: they wait, and are made and written together.
+//! Calls that come to a shard while it writes: they wait, and are then made and written together.
 ghost use Rattle.std.specs.Prelude.{◌≡◌, ℕ, Some, slice_get, IfOk, IsOk};
 ghost use Rattle.history.specs.Handles.{Passed};
 ghost use Rattle.ingester.specs.Calls.{IsPassOf};
@@ -13,20 +13,20 @@ use std::test::*;
 use std::thread::{self, Threads, join};
 use std::time::{Clock, Duration};
 
-/// How long a thread lets the one before it come to the shard, in milliseconds. Where that was too short for the
-/// threads to come in their order, all is made anew with the next time.
+/// How long a thread waits for the one before it to come to the shard, in milliseconds. Where that was too short, so
+/// that the threads came in another order, all is done again with the next time.
 const TIMES: [u64; 6] = [10, 20, 40, 80, 160, 320];
 
 /// The lengths of the slots with a segment of one push and of one block with two more. (With a block for each it would
 /// be longer.)
 const GROUPED: [u64; 2] = [0, 153];
 
-/// What a thread does at a stream.
+/// What a thread does with a stream.
 #[derive(Clone, Copy)]
 enum Task {
-    /// It makes these pushes, each of which is to be stored.
+    /// It makes these pushes, and each must be stored.
     Push(Pushes),
-    /// It reads all, and is to find these.
+    /// It reads all, and must find these.
     Read(Pushes),
 }
 
@@ -54,7 +54,7 @@ struct Opener<'a> {
     after: u64,
 }
 
-/// So many pushes from this time on.
+/// `count` pushes from this time on.
 fn pushes(first: u64, count: u64) -> Pushes {
     Pushes {
         value: "1",
@@ -63,7 +63,7 @@ fn pushes(first: u64, count: u64) -> Pushes {
     }
 }
 
-/// Does a task: whether all was as it is to be.
+/// Does a task, and says whether all was right.
 fn play<R: Wait + Clock>(part: Part<R>) -> bool
     requires { IsPassOf part.ingester.now part.pass }
 {
@@ -226,8 +226,8 @@ fn slot_lengths<R: Wait>(
     lengths_of(shard.0)
 }
 
-/// A push, and while it is written another one, a read that is to find both, and a third: whether all was so, and the
-/// lengths of the slots. Each comes so many milliseconds after the one before it.
+/// A push, and while it is written another one, a read that must find both, and a third push. Gives whether all was
+/// right, and the lengths of the slots. Each comes `time` milliseconds after the one before it.
 fn three_while_written<R>(rt: &R, alloc: Global, time: u64) -> Result<(bool, [u64; 2]), Fail>
 where
     R: Threads + Wait + Clock + Copy + Send + Sync + 'static,

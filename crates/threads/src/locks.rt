@@ -10,7 +10,7 @@ use std::thread::{Threads, join};
 use std::time::{Clock, CpuClock, Duration};
 use std::{io, thread};
 
-/// What lies under a lock: its own number, counted from the key, and how often it was taken.
+/// A value under a lock: the lock's number plus the key, and how often it was taken.
 #[derive(Drop)]
 struct Counter {
     home: u64,
@@ -42,7 +42,7 @@ fn counters(alloc: Global, count: usize) -> Option<Counters>
     Locks::new(alloc, values, &1000).ok()
 }
 
-// Counts so often under the lock.
+// Counts several times under the lock.
 fn count<R: Wait>(rt: &R, locks: &Counters, number: usize, times: u32)
     requires { number < count_of locks.now }
 {
@@ -53,7 +53,7 @@ fn count<R: Wait>(rt: &R, locks: &Counters, number: usize, times: u32)
     }
 }
 
-// Counts so often under each of the first locks.
+// Counts several times under each of the first locks.
 fn count_under_each<R: Wait>(rt: &R, locks: &Counters, first: usize, times: u32)
     requires { first ≤ count_of locks.now }
 {
@@ -64,7 +64,7 @@ fn count_under_each<R: Wait>(rt: &R, locks: &Counters, first: usize, times: u32)
     }
 }
 
-// Counts in each of so many threads, and gives their number.
+// Counts in each of several threads, and gives their number.
 fn count_in_threads<R: Wait + Threads + Sync>(
     rt: &R,
     alloc: Global,
@@ -85,7 +85,7 @@ fn count_in_threads<R: Wait + Threads + Sync>(
     Ok(counted.len())
 }
 
-// Takes the lock for that long.
+// Holds the lock for some time.
 fn hold<R: Wait + Clock>(rt: &R, locks: &Counters, number: usize, time: Duration)
     requires { number < count_of locks.now }
 {

@@ -40,7 +40,7 @@ impl Room for Brand {
     ghost table = { record { words = 0; slots = 0; views_name = 0; atom = 0; block = 0; offset = 0; slot_names = [] } };
 }
 
-/// The book of the one shard, whose log did not fail. Contracts see the length of its history.
+/// The book of the one shard, whose log has not failed. Contracts see the length of its history.
 #[derive(Drop)]
 struct Desk<J: Room> {
     book: Book,
@@ -71,7 +71,7 @@ impl<J: Room> Desk<J> {
     }
 }
 
-/// A read of no time, of the stream with this value of its one label.
+/// A read of no time range, of the stream with this value of its one label.
 pub(crate) fn read_call(alloc: Global, value: &str) -> Option<Call>
     ensures { IfSome result ReadsNothing }
 {
@@ -240,7 +240,7 @@ fn marked_shard_is_unavailable(rt: HostRuntime) -> Result<(), Fail> {
     Ok(())
 }
 
-// Announces a call, and takes it back.
+// Announces a call, and withdraws it.
 fn announce_and_withdraw(history: &History, pass: &mut Pass, call: &Call) -> Result<(), PassSpent>
     requires table { pass.old.table ≡ history.now }
     requires idle { pass.old.caller.pending ≡ [] }

@@ -1,4 +1,4 @@
-//! Two threads, each with up to 64 open calls over two shards, whose answers it takes in in their order.
+//! Two threads, each with up to 64 open calls on two shards, which it collects in their order.
 ghost use Rattle.std.specs.Prelude.{◌≡◌, ◌+◌, ◌<◌, ◌≤◌, [], length, IfOk, IfSome};
 ghost use Rattle.accept.specs.declared.call.Reply.TheVariants.{Unavailable};
 ghost use Rattle.accept.specs.declared.history.Item.TheVariants.{Answered};
@@ -39,7 +39,7 @@ impl Opening for Brand {
     ghost about = { no_about };
 }
 
-// Refuses a call to the shard of this book.
+// Refuses a call on the shard of this book.
 fn refuse_in<J: Opening>(book: &mut Book, ticket: Ticket) -> (Reply, Receipt)
     requires table { ticket.table ≡ J.table }
     requires book { IsMarkedBook J.table J.about book.old }
@@ -77,7 +77,7 @@ fn refuse<J: Opening>(
     }
 }
 
-// Opens one call more, which is refused in the book of its shard.
+// Opens one more call, which is refused in the book of its shard.
 fn open_call<J: Opening>(
     history: &History,
     zero: &mut Book,
@@ -129,7 +129,7 @@ fn open_all<J: Opening>(
     Some(())
 }
 
-// Takes the answers in, in their order, and tells the number of the last one.
+// Collects the answers in their order, and gives the number of the last one.
 fn take_in<J: Opening>(history: &History, pass: &mut Pass, answers: &mut VecDeque<Receipt>) -> u64
     requires history { history.now ≡ J.table }
     requires window { IsWindow J.table J.about pass.old answers.old.items }
@@ -181,7 +181,7 @@ impl<J: Opening> Books<J> {
     }
 }
 
-// Opens all calls and takes their answers in, again and again.
+// Opens all calls and collects their answers, again and again.
 fn rounds<J: Opening>(
     rt: &impl Wait,
     alloc: Global,

@@ -9,7 +9,7 @@ use std::sync::Wait;
 use std::test::*;
 use std::thread::{Threads, join};
 
-/// Each message is at least the key and the number of its queue together.
+/// Each message is at least the sum of the key and the number of its queue.
 struct FromKey;
 
 impl Fits<u64, u64> for FromKey {
@@ -32,7 +32,7 @@ fn numbers(alloc: Global) -> Result<(Sends, Receives), Fail>
     Ok(queue(alloc, 2, &1_000, 1)?)
 }
 
-/// Sends so many messages, from the first on. Tells how many were sent before one came back.
+/// Sends `count` messages, from the first on. Gives how many were sent before one came back.
 fn send_all<R: Wait>(rt: &R, mut sender: Sends, count: u32) -> u32
     requires { sends_to sender ≡ Bound 1000 1 }
 {
@@ -44,7 +44,7 @@ fn send_all<R: Wait>(rt: &R, mut sender: Sends, count: u32) -> u32
     count
 }
 
-/// Receives so many messages. Tells how many were the next one, before another came or none.
+/// Receives `count` messages. Gives how many were the next one, before another came or none.
 fn receive_all<R: Wait>(rt: &R, mut receiver: Receives, count: u32) -> u32
     requires { receives_as receiver ≡ Bound 1000 1 }
 {
@@ -56,7 +56,7 @@ fn receive_all<R: Wait>(rt: &R, mut receiver: Receives, count: u32) -> u32
     count
 }
 
-/// One thread sends so many, and another receives so many.
+/// One thread sends messages, and another receives them.
 fn send_and_receive<R: Wait + Threads + Sync>(
     rt: &R,
     alloc: Global,

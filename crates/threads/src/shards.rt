@@ -1,4 +1,4 @@
-//! Shards whose syncs a gate holds, called by two threads at once.
+//! Shards with a gate for their syncs, called by two threads at once.
 ghost use Rattle.std.specs.Prelude.{◌≡◌, ◌<◌, ◌≤◌, ℕ, Some, slice_get, vec_len, IfOk, IfSome};
 ghost use Rattle.history.specs.Handles.{Passed};
 ghost use Rattle.ingester.specs.Calls.{IsPassOf};
@@ -15,7 +15,7 @@ use std::test::*;
 use std::thread::{self, Threads, join};
 use std::time::{Clock, Duration};
 
-/// A slot in memory, whose syncs a gate can hold.
+/// A slot in memory. A gate can hold its syncs.
 pub(crate) type Slot = GateDisk<MemDisk>;
 
 /// How many bytes a segment may have.
@@ -68,13 +68,13 @@ fn key(alloc: Global, value: &str) -> Option<StreamKey> {
     })
 }
 
-/// An empty slot behind this gate.
+/// An empty slot with this gate for its syncs.
 fn slot(alloc: Global, gate: &Gate) -> Result<Slot, Fail> {
     let disk = MemDisk::new(alloc, 8_192, 1_000, 65_536)?;
     Ok(GateDisk::new(disk, gate.try_clone()?))
 }
 
-/// The empty slots of one shard, behind this gate.
+/// The empty slots of one shard, with this gate for their syncs.
 pub(crate) fn slots_of_one(alloc: Global, gate: &Gate) -> Result<Vec<[Slot; 2]>, Fail>
     ensures { IfOk result (λ slots. vec_len slots ≡ 1) }
 {
@@ -83,7 +83,7 @@ pub(crate) fn slots_of_one(alloc: Global, gate: &Gate) -> Result<Vec<[Slot; 2]>,
     Ok(slots)
 }
 
-/// The empty slots of two shards, the first behind this gate.
+/// The empty slots of two shards. Those of the first have this gate for their syncs.
 fn slots_of_two(alloc: Global, gate: &Gate) -> Result<Vec<[Slot; 2]>, Fail>
     ensures { IfOk result (λ slots. vec_len slots ≡ 2) }
 {
@@ -189,7 +189,7 @@ fn stores<R: Wait>(
     }
 }
 
-/// Makes these pushes, where each is stored.
+/// Makes these pushes, each of which must be stored.
 pub(crate) fn push_all<R: Wait>(
     rt: &R,
     alloc: Global,
@@ -262,8 +262,8 @@ fn act_and_open<R: Wait + Clock>(
     looked
 }
 
-/// One pass makes pushes in a thread of its own. Meanwhile the other makes pushes too, or waits for a while, looks at
-/// shard 0, and opens the gate: the other pass, and the number of steps that it saw.
+/// One pass makes pushes in its own thread. Meanwhile the other makes pushes too, or waits for a while, looks at shard
+/// 0, and opens the gate. Gives the other pass, and the number of steps that it saw.
 fn push_together<R: Threads + Wait + Clock + Sync>(
     rt: &R,
     alloc: Global,
@@ -304,7 +304,7 @@ fn push_together<R: Threads + Wait + Clock + Sync>(
     Ok(looked)
 }
 
-/// What a read of all times gives, where it has entries: each a time and a line.
+/// What a read of all times gives, if it has entries: for each a time and a line.
 pub(crate) fn read<R: Wait>(
     rt: &R,
     alloc: Global,
@@ -338,7 +338,7 @@ pub(crate) fn are_of(entries: Option<EntryList>, pushes: Pushes) -> bool {
             && entry.line.as_str() == pushes.value)
 }
 
-/// The lengths that it sees of both shards.
+/// The lengths of both shards' histories, as the pass sees them.
 fn lengths(ingester: &Ingester<Slot>, pass: &mut Pass) -> (u64, u64)
     requires pass { IsPassOf ingester.now pass.old }
     requires shards { ingester.now.about.shards ≡ 2 }

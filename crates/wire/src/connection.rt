@@ -10,7 +10,7 @@ use std::io::Write;
 pub struct Connection {
     alloc: Global,
     bytes: Vec<u8>,
-    /// The body of the next `post`, as far as it stands.
+    /// The body of the next `post` so far.
     body: Vec<u8>,
     pub manner: Manner,
 }
@@ -45,7 +45,7 @@ impl Connection {
     /// `post PATH TEXT`, `step N`, `fails`, `room N`, `takes N`, `stalls` or `interrupts`.
     ///
     /// # Errors
-    /// Another word, a text that [`unescape`] refuses, or one where a number must be; want of memory.
+    /// Another word, a text that [`unescape`] refuses, or no number where one must be; want of memory.
     pub fn take_line(&mut self, line: &str) -> Result<()> {
         let (word, rest) = word_of(line);
         match word {
@@ -66,7 +66,7 @@ impl Connection {
         Ok(())
     }
 
-    /// A lawful request to a path, with the body that stands and this text behind it.
+    /// Adds a lawful request to a path. Its body is the body so far, followed by this text.
     fn post(&mut self, line: &str) -> Result<()> {
         let (path, text) = word_of(line);
         unescape(text, &mut self.body)?;
@@ -81,7 +81,7 @@ impl Connection {
     }
 }
 
-/// Appends a text so many times.
+/// Appends a text a number of times.
 fn push_many(alloc: Global, line: &str, into: &mut Vec<u8>) -> Result<()> {
     let (count, text) = line.split_once(' ').ok_or(anyhow!("a count and a text"))?;
     let mut piece = Vec::new(alloc);
@@ -92,7 +92,7 @@ fn push_many(alloc: Global, line: &str, into: &mut Vec<u8>) -> Result<()> {
     Ok(())
 }
 
-/// Appends a text once for each number from the first to the second, which stands in place of each `#`.
+/// Appends a text once for each number from the first to the second. The number replaces each `#`.
 fn push_numbered(line: &str, into: &mut Vec<u8>) -> Result<()> {
     let (from, line) = word_of(line);
     let (to, text) = word_of(line);

@@ -4,7 +4,7 @@ ghost use Rattle.rows.specs.Tallies.{one_more};
 use crate::manner::Manner;
 use anyhow::{Result, bail};
 
-/// What changes from run to run, where a connection is run again at each place.
+/// What changes from run to run, where a connection is run again for each place.
 #[derive(Clone, Copy, Debug, PartialEq, Eq)]
 pub enum Each {
     /// The stream ends there.
@@ -13,7 +13,7 @@ pub enum Each {
     Fails,
     /// The writer fails there.
     Room,
-    /// So many bytes come at a time.
+    /// This many bytes come at a time.
     Step,
 }
 
@@ -43,7 +43,7 @@ impl Each {
         }
     }
 
-    /// The place behind the last one, where so many bytes come and so many are written.
+    /// The first place after the last one, where this many bytes come and this many are written.
     pub fn end(self, bytes: usize, written: usize) -> usize
         ensures room { self ≡ Each.Room → result ≡ one_more written }
         ensures other { self ≢ Each.Room → result ≡ one_more bytes }

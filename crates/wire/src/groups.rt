@@ -2,7 +2,7 @@ use anyhow::Result;
 use std::alloc::Global;
 use std::fmt::Write;
 
-/// Runs, counted for as long as they come to the same.
+/// Runs with the same result, counted.
 #[derive(Drop)]
 pub struct Groups {
     came: String,
@@ -18,7 +18,7 @@ impl Groups {
         }
     }
 
-    /// Takes in a run that came to this. Where those before came to something else, they are said.
+    /// Takes in a run with this result. Where those before had another result, they are said.
     ///
     /// # Errors
     /// Want of memory.
@@ -32,7 +32,7 @@ impl Groups {
         Ok(())
     }
 
-    /// Says the last runs: how many they were, and what they came to.
+    /// Says the last runs: how many there were, and their result.
     ///
     /// # Errors
     /// Want of memory.

@@ -1,5 +1,5 @@
 //! Connections in memory for the programs that read rows: how their bytes come, how what is written is taken, and runs
-//! that are repeated at each place.
+//! that are repeated for each place.
 #![tactic(auto)]
 
 mod connection;

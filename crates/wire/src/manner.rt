@@ -5,13 +5,13 @@ pub struct Manner {
     pub length: usize,
     /// How many bytes a read gives at most.
     pub step: usize,
-    /// Whether the reader fails behind them, in place of ending.
+    /// Whether the reader fails after them, in place of ending.
     pub fails: bool,
     /// How many bytes the writer takes in all.
     pub room: usize,
     /// How many bytes it takes in one write.
     pub takes: usize,
-    /// Whether the writer answers behind them that it took no byte, in place of failing.
+    /// Whether the writer, after them, answers that it took no byte, in place of failing.
     pub stalls: bool,
     /// Whether each read and each write is interrupted once before it is made.
     pub interrupts: bool,

@@ -12,7 +12,7 @@ pub struct Sink {
     text: Vec<u8>,
     said: String,
     manner: Manner,
-    /// Whether the write that comes was interrupted already.
+    /// Whether the next write was interrupted already.
     interrupted: bool,
 }
 
@@ -38,8 +38,8 @@ impl Sink {
         self.said.as_str()
     }
 
-    /// Says how much of the whole text was taken: `a full writer` where a beginning of it fills the room, else so many
-    /// `bytes` where it is a beginning, else `other bytes`.
+    /// Says how much of the whole text was taken: `a full writer` where a beginning of it fills the room, otherwise its
+    /// number of `bytes` where it is a beginning, otherwise `other bytes`.
     ///
     /// # Errors
     /// Want of memory.
@@ -80,7 +80,7 @@ impl Write for Sink {
     }
 }
 
-/// Says bytes with escapes: a line for each line of theirs, and one for what stands behind the last line feed.
+/// Says bytes with escapes: a line for each of their lines, and one for what follows the last line feed.
 ///
 /// # Errors
 /// Want of memory.

@@ -6,7 +6,7 @@ use std::io::{self, ErrorKind, Read};
 pub struct Source<'a> {
     rest: &'a [u8],
     manner: Manner,
-    /// Whether the read that comes was interrupted already.
+    /// Whether the next read was interrupted already.
     interrupted: bool,
 }
 
