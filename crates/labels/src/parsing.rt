@@ -76,7 +76,7 @@ fn read_value(text: &str) -> Option<(usize, &str)>
     Some((length, left))
 }
 
-/// What stands before the first `=`, and what follows it.
+/// What comes before the first `=`, and what follows it.
 fn cut_at_equals(text: &str) -> Option<(&str, &str)>
     ensures { MatchOption result (AllByRecursion (λ b. b ≢ 61) text.now)
         (λ r. (text.now ≡ r.0.now ++ 61 ∷ r.1.now) × AllByRecursion (λ b. b ≢ 61) r.0.now) }

@@ -24,7 +24,7 @@ pub(crate) fn is_same_word(a: &[u8], b: &[u8]) -> bool
     a.eq_ignore_ascii_case(b)
 }
 
-/// What stands before the first mark.
+/// What comes before the first mark.
 pub(crate) fn before(bytes: &[u8], mark: u8) -> &[u8]
     ensures { result.now ≡ before mark bytes.now }
 {
@@ -36,7 +36,7 @@ pub(crate) fn before(bytes: &[u8], mark: u8) -> &[u8]
     bytes
 }
 
-/// The fields of this name among those of a head that stands in `bytes`.
+/// The fields of this name among those of a head in `bytes`.
 pub(crate) fn find<'a>(bytes: &'a [u8], fields: &[HeaderSpan], name: &[u8]) -> Found<'a>
     requires { All (IsHeaderWithin (length bytes.now)) fields.now }
     ensures { Finds (values_of name.now (map (header_bytes bytes.now) fields.now)) result }

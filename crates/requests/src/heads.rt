@@ -17,7 +17,7 @@ pub const MAX_FIELDS: usize = 64;
 /// What came of reading a head.
 #[derive(Clone, Copy)]
 pub(crate) enum Head {
-    /// A whole head stands at the front.
+    /// A whole head is at the front.
     Whole(RequestSpans),
     /// What came is no head.
     Refused,

@@ -64,7 +64,7 @@ fn judge(
     }
 }
 
-/// Reads the body of the request whose head stands at the front of the buffer.
+/// Reads the body of the request whose head is at the front of the buffer.
 fn read_message<R: Read>(
     alloc: Global,
     buffer: &mut Vec<u8>,
@@ -138,7 +138,7 @@ impl Incoming {
         }
     }
 
-    /// The body of a request that stands at the front.
+    /// The body of a request that is at the front.
     pub fn body(&self, message: &Message) -> &[u8]
         requires ordered { message.now.start ≤ message.now.end }
         requires within { message.now.end ≤ length self.now }
