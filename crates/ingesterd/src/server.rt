@@ -28,8 +28,8 @@ use workers::serve_listener;
 /// Runs `ingesterd DIR PORT SHARDS WORKERS [CONNECTIONS]`, and gives its exit status. `setting` is the capacity of a
 /// slot by the environment.
 ///
-/// Opens and replays the slots of DIR, listens on the port of 127.0.0.1 (0: any that is free), and writes `ready
-/// <port>`. Each connection is served by one of WORKERS threads, and each shard is owned by another thread. The server
+/// Opens and replays the slots of DIR, listens on the port of 127.0.0.1 (0: any that is free), and writes `ready` and
+/// the port. Each connection is served by one of WORKERS threads, and each shard is owned by another thread. The server
 /// closes its shards and ends with status 0 after CONNECTIONS connections, where that is given, or when no worker is
 /// left. A connection that fails costs no more than itself (`serve_listener`).
 ///
