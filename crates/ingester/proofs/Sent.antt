@@ -8,6 +8,7 @@ use Rattle.disk.specs.declared.device.Disk as disk
 use Rattle.history.proofs.history.History.TheSendSync as history
 use Rattle.keyed.proofs.locks.Locks.TheSendSync as locks
 use Rattle.keyed.proofs.ends.QueueReceiver.TheSendSync as queue_receiver
+use Rattle.keyed.proofs.waiters.Waiters.TheSendSync as waiters
 use Rattle.shard.proofs.Sent.{shard_send}
 use Rattle.shard.specs.contracts.shard.Shard as shard
 use Rattle.owners.proofs.ways.Way.TheSendSync as way
@@ -27,7 +28,7 @@ fields_sync D g s = let one = shard_send D g s in let many = Vec-send (shard.the
         search (sendable, crosses, way.the_send, locks.the_field_sync) depth 30,
         (
           locks.the_field_sync _ (origin.the_row D g) of_shards.the_row (of_shards_fits.ghosts D g of_shards_fits.no_dict of_shards_fits.no_dict) backs,
-          (search (sendable, many, locks.the_field_sync) depth 30, (search (sendable, crosses) depth 30, (search sendable, (search (sendable, crosses) depth 30, (search (sendable, crosses) depth 30, tt))))),
+          (search (sendable, many, locks.the_field_sync) depth 30, (search (sendable, crosses) depth 30, (search (sendable, crosses, waiters.the_sync) depth 30, (search sendable, (search (sendable, crosses) depth 30, (search (sendable, crosses) depth 30, tt)))))),
         ),
       ),
     )

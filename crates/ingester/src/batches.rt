@@ -182,7 +182,7 @@ impl<D: Disk + Drop> Ingester<D> {
         ensures capacity { deque_capacity outcomes.new ≡ deque_capacity outcomes.old }
     {
         send_letters(rt, alloc, &self.home, round.pass, ways);
-        receive_letters(rt, &self.home, round.pass, ways);
+        receive_letters(rt, &self.home, round.pass, ways, &self.waiters);
         let received = self.receive_all(pass, ways, &round, outcomes);
         if received < round.count {
             self.lose(pass, ways, &round, received, outcomes);

@@ -45,7 +45,7 @@ impl<D: Disk + Drop> Ingester<D> {
         ensures { IsCame (home_of self.now) job result }
     {
         let (mut ways, grip) = self.rows.take(rt, pass);
-        let came = ways[shard].call(rt, alloc, &self.home, pass, shard, job);
+        let came = ways[shard].call(rt, alloc, &self.home, pass, shard, job, &self.waiters);
         self.rows.give(ways, grip);
         came
     }

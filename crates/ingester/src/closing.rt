@@ -1,15 +1,13 @@
 //! The end of an ingester.
 ghost use Rattle.std.specs.Prelude.{◌≡◌, ℕ, ◌<◌, ◌+◌, List, Some, length, slice_get, vec_len, IfSome, MatchOption};
 ghost use Rattle.history.specs.Handles.{Passed};
-ghost use Rattle.owners.specs.Homes.{Homed};
-ghost use Rattle.owners.specs.Ways.{AreIdleWays};
 ghost use Rattle.ingester.specs.Calls.{IsPassOf};
 ghost use Rattle.ingester.specs.Closings.{IsHandedOut, AreComparedTo};
 
 use crate::opened::Ingester;
 use disk::Disk;
 use history::Pass;
-use owners::{Origin, Way, take_shard};
+use owners::{Origin, end_owners, take_shard};
 use shard::Shard;
 use std::marker::Model;
 use std::sync::Wait;
@@ -77,16 +75,18 @@ fn compare<D: Disk + Drop>(shard: &mut Shard<D>, passes: &mut [Pass])
     }
 }
 
-// Sends the last order to each owner, by the ways of a pass.
-fn end_all<R: Wait>(rt: &R, ways: &mut Vec<Way>)
-    requires { (home : Homed) × (p : ℕ) × AreIdleWays home p ways.old.items }
-{
-    for shard in 0..ways.len() {
-        ways[shard].end(rt);
-    }
-}
-
 impl<D: Disk + Drop> Ingester<D> {
+    /// Ends each owner, once it has answered all calls that came before. From then on a call is in doubt, and closes its
+    /// pass. `close` takes the shards back.
+    pub fn end_owners<R: Wait>(&self, rt: &R, pass: &Pass)
+        requires { IsPassOf self.now pass.now }
+    {
+        let number = pass.number();
+        let (mut ways, grip) = self.rows.take(rt, number);
+        end_owners(rt, &self.home, number, &mut ways);
+        self.rows.give(ways, grip);
+    }
+
     /// Ends each owner, once it has answered all calls that came before, and takes its shard back.
     pub fn close<R: Wait>(self, rt: &R, passes: Vec<Pass>) -> Closed<D>
         requires some { 0 < vec_len passes }
@@ -99,13 +99,15 @@ impl<D: Disk + Drop> Ingester<D> {
             backs,
             room,
             sizes: _sizes,
+            waiters: _waiters,
             count,
             origin,
-            home: _home,
+            home,
         } = self;
         let mut passes = passes;
-        let mut ways = rows.take_out(rt, passes[0].number());
-        end_all(rt, &mut ways);
+        let pass = passes[0].number();
+        let mut ways = rows.take_out(rt, pass);
+        end_owners(rt, &home, pass, &mut ways);
         let mut backs = backs.take_out(rt, 0);
         let mut shards = room.take_out(rt, 0);
         for number in 0..count as usize {

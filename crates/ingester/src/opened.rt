@@ -15,6 +15,7 @@ use crate::refusal::OpenFault;
 use accept::Limits;
 use disk::Disk;
 use history::{History, Pass};
+use keyed::Waiters;
 use owners::{Backs, Ends, Home, Origin, Plan, Rows, Team, hand_all, make_plan};
 use shard::Shard;
 use std::alloc::Global;
@@ -32,6 +33,7 @@ pub struct Ingester<D: Disk + Drop> {
     pub(crate) backs: Backs<D>,
     pub(crate) room: ListLocks<D>,
     pub(crate) sizes: Vec<Size>,
+    pub(crate) waiters: Waiters,
     pub(crate) count: u32,
     pub(crate) origin: Origin<D>,
     pub(crate) home: Home,
@@ -163,9 +165,7 @@ fn open_all<D: Disk + Drop>(
     let mut logs = Vec::with_capacity(alloc, count)?;
     let mut images = Vec::with_capacity(alloc, count)?;
     let count = count as u32;
-    if let Err(fault) = open_logs(alloc, slots, &mut logs, &mut images, count, capacity) {
-        return Err(fault);
-    }
+    open_logs(alloc, slots, &mut logs, &mut images, count, capacity)?;
     let Ok((history, books, dealt)) = History::new(alloc, &images, passes, limits, capacity) else {
         give_back(slots, &mut logs);
         return Err(OpenFault::Memory);
@@ -184,18 +184,18 @@ fn open_all<D: Disk + Drop>(
         backs,
         ends,
     } = plan;
-    let ingester = Ingester {
-        history,
-        rows,
-        backs,
-        room,
-        sizes: sizes_of(sizes, &shards),
-        count,
-        origin,
-        home,
-    };
     Ok(Opened {
-        ingester,
+        ingester: Ingester {
+            history,
+            rows,
+            backs,
+            room,
+            sizes: sizes_of(sizes, &shards),
+            waiters: Waiters::new(),
+            count,
+            origin,
+            home,
+        },
         passes: dealt,
         shards,
         ends,

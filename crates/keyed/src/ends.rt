@@ -7,6 +7,7 @@ use crate::rule::Fits;
 use crossbeam_channel::{Pass, RuledReceiver, RuledSender};
 use std::alloc::AllocError;
 use std::sync::Wait;
+use std::thread;
 
 /// The sending end of a queue.
 #[derive(Drop)]
@@ -80,5 +81,19 @@ impl<T: Drop, K, P: Fits<T, K>> QueueReceiver<T, K, P> {
         ensures fits { IfSome result (FitsBinding P.fits (receives_as self.old)) }
     {
         self.from.try_recv_as::<Gets<P>, R>(rt, &mut self.port).ok()
+    }
+
+    /// Looks for a message up to `times` times, and lets other threads run in between.
+    pub fn look<R: Wait>(&mut self, rt: &R, times: u32) -> Option<T>
+        ensures same { receives_as self.new ≡ receives_as self.old }
+        ensures fits { IfSome result (FitsBinding P.fits (receives_as self.old)) }
+    {
+        for _ in 0..times {
+            if let Some(message) = self.try_receive(rt) {
+                return Some(message);
+            }
+            thread::yield_now();
+        }
+        None
     }
 }

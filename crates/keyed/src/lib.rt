@@ -7,9 +7,11 @@ mod ends;
 mod locks;
 mod queues;
 mod rule;
+mod waiters;
 
 pub use binding::{Binding, Binds};
 pub use ends::{QueueReceiver, QueueSender};
 pub use locks::{Grip, Locks};
 pub use queues::queue;
 pub use rule::{Fits, Hold, Under};
+pub use waiters::Waiters;

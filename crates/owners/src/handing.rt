@@ -1,17 +1,14 @@
 //! How shards are handed to their owners, and given back.
-ghost use Rattle.std.specs.Prelude.{◌≡◌, ℕ, vec_len, length};
+ghost use Rattle.std.specs.Prelude.{◌≡◌, vec_len};
 ghost use Rattle.std.specs.VecDeque.{deque_len};
-ghost use Rattle.keyed.specs.Queues.{receives_as, sends_to};
+ghost use Rattle.keyed.specs.Queues.{receives_as};
 ghost use Rattle.keyed.specs.declared.binding.Binding.TheVariants.{Bound};
 ghost use Rattle.owners.specs.Owners.{AreEnds};
-ghost use Rattle.owners.specs.Homes.{Homed};
 ghost use Rattle.owners.specs.Places.{IsOf, AreShardsOf};
 
-use crate::letters::Order;
 use crate::owning::{BackIn, Ends, Owner};
 use crate::places::Origin;
 use crate::team::Team;
-use crate::ways::Way;
 use disk::Disk;
 use shard::Shard;
 use std::alloc::Global;
@@ -48,16 +45,6 @@ pub fn hand_all<D: Disk + Drop, R: Wait>(
             ends,
         };
         team.hand_over(rt, owner);
-    }
-}
-
-impl Way {
-    /// Sends the owner the last order.
-    pub fn end<R: Wait>(&mut self, rt: &R)
-        requires { (home : Homed) × (k : ℕ) × (sends_to self.old.orders ≡ Bound home k) }
-        ensures same { sends_to self.new.orders ≡ sends_to self.old.orders }
-    {
-        let _gone = self.orders.send(rt, Order::End);
     }
 }
 

@@ -23,6 +23,6 @@ pub use letters::{Answers, AnswersIn, ForPass, ForShard, Letter, Order, Orders, 
 pub use owning::{Back, BackIn, Ends, Owner, own};
 pub use places::{Home, OfOpening, Origin};
 pub use plan::{Backs, OfPass, OfShards, Plan, Rows, make_plan};
-pub use several::{clear_letters, receive_letters, send_letters};
+pub use several::{clear_letters, end_owners, receive_letters, send_letters};
 pub use team::{StartFault, Team};
 pub use ways::{Came, Way};

@@ -7,6 +7,7 @@ use crate::letters::Order;
 use crate::places::Home;
 use crate::ways::{Way, blank};
 use history::Ticket;
+use keyed::Waiters;
 use shard::{Job, Settled};
 use std::alloc::Global;
 use std::mem;
@@ -39,7 +40,14 @@ impl Way {
     }
 
     // Waits for the letter that is out. None comes where the owner has ended.
-    fn receive<R: Wait>(&mut self, rt: &R, home: &Home, pass: usize, shard: usize)
+    fn receive<R: Wait>(
+        &mut self,
+        rt: &R,
+        home: &Home,
+        pass: usize,
+        shard: usize,
+        waiters: &Waiters,
+    )
         requires { IsWay home.now pass shard self.old }
         ensures { IsWay home.now pass shard self.new }
     {
@@ -47,7 +55,7 @@ impl Way {
         let _ = pass;
         let _ = shard;
         self.is_out = false;
-        if let Some(letter) = self.answers.receive(rt) {
+        if let Some(letter) = waiters.receive(rt, &mut self.answers) {
             self.letter = letter;
         }
     }
@@ -81,6 +89,17 @@ impl Way {
         self.letter.settled.clear();
     }
 
+    // Sends the owner the last order.
+    fn end<R: Wait>(&mut self, rt: &R, home: &Home, pass: usize, shard: usize)
+        requires { IsIdleWay home.now pass shard self.old }
+        ensures { IsIdleWay home.now pass shard self.new }
+    {
+        let _ = home;
+        let _ = pass;
+        let _ = shard;
+        let _gone = self.orders.send(rt, Order::End);
+    }
+
     /// Takes out the ticket of the first call in a letter that was not sent, and drops the others.
     pub fn take_back(&mut self, home: &Home, pass: usize, shard: usize) -> Option<Ticket>
         requires { IsWay home.now pass shard self.old }
@@ -111,14 +130,20 @@ pub fn send_letters<R: Wait>(rt: &R, alloc: Global, home: &Home, pass: usize, wa
 }
 
 /// Waits for each letter that was sent.
-pub fn receive_letters<R: Wait>(rt: &R, home: &Home, pass: usize, ways: &mut Vec<Way>)
+pub fn receive_letters<R: Wait>(
+    rt: &R,
+    home: &Home,
+    pass: usize,
+    ways: &mut Vec<Way>,
+    waiters: &Waiters,
+)
     requires { AreWays home.now pass ways.old.items }
     ensures ways { AreWays home.now pass ways.new.items }
     ensures len { vec_len ways.new ≡ vec_len ways.old }
 {
     for shard in 0..ways.len() {
         if ways[shard].is_out {
-            ways[shard].receive(rt, home, pass, shard);
+            ways[shard].receive(rt, home, pass, shard, waiters);
         }
     }
 }
@@ -131,5 +156,17 @@ pub fn clear_letters(home: &Home, pass: usize, ways: &mut Vec<Way>)
 {
     for shard in 0..ways.len() {
         ways[shard].clear(home, pass, shard);
+    }
+}
+
+/// Sends each owner the last order: it ends once it has answered all that came before. Where it has ended, nothing
+/// happens.
+pub fn end_owners<R: Wait>(rt: &R, home: &Home, pass: usize, ways: &mut Vec<Way>)
+    requires { AreIdleWays home.now pass ways.old.items }
+    ensures ways { AreIdleWays home.now pass ways.new.items }
+    ensures len { vec_len ways.new ≡ vec_len ways.old }
+{
+    for shard in 0..ways.len() {
+        ways[shard].end(rt, home, pass, shard);
     }
 }

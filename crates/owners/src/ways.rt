@@ -7,6 +7,7 @@ ghost use Rattle.owners.specs.Ways.{IsIdleWay, IsBlank, IsCame};
 use crate::letters::{AnswersIn, Letter, Order, Orders};
 use crate::places::Home;
 use history::Ticket;
+use keyed::Waiters;
 use shard::{ApplyFault, Job, Settled};
 use std::alloc::Global;
 use std::collections::VecDeque;
@@ -74,6 +75,7 @@ impl Way {
         pass: usize,
         shard: usize,
         job: Job,
+        waiters: &Waiters,
     ) -> Came
         requires way { IsIdleWay home.now pass shard self.old }
         requires job { IsWaiting home.now.table home.now.about shard job }
@@ -99,7 +101,7 @@ impl Way {
             self.letter = letter;
             return Came::SentBack(ticket);
         }
-        let Some(mut letter) = self.answers.receive(rt) else {
+        let Some(mut letter) = waiters.receive(rt, &mut self.answers) else {
             return Came::Lost;
         };
         let came = letter.settled.pop_front();
