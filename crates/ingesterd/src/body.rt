@@ -8,7 +8,7 @@ use std::io::{ErrorKind, Read, Write};
 /// The greatest length of a body, in bytes.
 const MAX_BODY: u64 = 4_194_304;
 
-/// The whole input, unless it is longer than a body may be.
+/// The whole input, where it is no longer than a body may be.
 pub fn read_body<I: Read>(alloc: Global, input: &mut I) -> Result<Vec<u8>, Stopped> {
     let mut body = Vec::new(alloc);
     if let Err(error) = input.take(MAX_BODY + 1).read_to_end(&mut body) {

@@ -4,11 +4,10 @@ ghost use Rattle.std.specs.Prelude.{◌<◌, ◌^◌};
 use std::rt;
 use std::time::{SystemTime, UNIX_EPOCH};
 
-/// The first time that is too great.
+/// The first time that is too late.
 const END_OF_TIME: u64 = 1 << 63;
 
-/// The system's nanoseconds since 1970. Where the system gives no such number below 2^63, it is the last number given,
-/// at first 0.
+/// The system's nanoseconds since 1970. Where the system gives no such number below 2^63, its last value, at first 0.
 #[derive(Drop)]
 pub struct SystemClock<'a, R: rt::Clock> {
     rt: &'a R,
@@ -22,7 +21,7 @@ impl<'a, R: rt::Clock> SystemClock<'a, R> {
         SystemClock { rt, last: 0 }
     }
 
-    // The system's time, where the system gives one.
+    // The system's time, where it is one.
     fn read(&self) -> Option<u64> {
         let since = SystemTime::now(self.rt)
             .ok()?

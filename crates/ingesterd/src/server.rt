@@ -94,7 +94,7 @@ where
     served
 }
 
-// Opens the port, says which it is, and serves. Gives the passes that are left.
+// Opens the port, says which it is, and serves. Gives passes that are left.
 fn serve_port<D, R, W: Write>(
     rt: &R,
     alloc: Global,

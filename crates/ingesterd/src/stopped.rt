@@ -7,7 +7,7 @@ use std::alloc::AllocError;
 use thiserror::Error;
 use workers::WorkersFault;
 
-/// What stops a program, as its line of standard error says it.
+/// What stops a program, as its line of standard error says.
 #[derive(Debug, Drop, Error)]
 pub enum Stopped {
     #[error("cannot read body")]
@@ -29,7 +29,7 @@ pub enum Stopped {
 }
 
 impl Stopped {
-    /// The exit status: 3 for a refused opening, otherwise 1.
+    /// The exit status: 3 for a refused opening, else 1.
     pub fn status(&self) -> u8
         ensures some { result ≢ 2 }
         ensures few { result ≤ 3 }

@@ -48,9 +48,9 @@ pub enum FixedAnswer {
     NoOrgId,
     /// Two of them, or no lawful tenant: 400.
     BadTenant,
-    /// Not exactly one `Content-Type`, or one other than `application/json`: 415.
+    /// A field `Content-Encoding`: 415.
     ContentEncoding,
-    /// Not just one `Content-Type`, or another than `application/json`: 415.
+    /// Not exactly one `Content-Type`, or one other than `application/json`: 415.
     ContentType,
 }
 

@@ -1,4 +1,4 @@
-//! Whether the metadata of records keeps the limits of a line's, as it has to before they are written.
+//! Whether the metadata of records is within the limits, as it has to be before they are written.
 ghost use Rattle.std.specs.Prelude.{IsTrue};
 ghost use Rattle.std.specs.List.{AllByRecursion};
 ghost use Rattle.segment.specs.Spelling.{AreShort, IsShortRecord};

@@ -21,16 +21,17 @@ pub struct Slots<D> {
 
 /// Splits the streams of old shards among new shards: each goes to the shard of its key under the new number. There are
 /// 1 to 64 old shards, and 1 to 64 new ones. A segment may have `cap` bytes, at most 2^30.
-/// The old slots are synced and read, shard 0 first, and never written. The new slots have to be empty. Once the
+///
 /// The old slots are synced and read, shard 0 first, and never written. The new slots have to be empty. Once the
 /// streams of each new shard are known to have room, generation 1 is started in slot 1 of each, shard 0 first, even for
 /// a shard without streams. All maps are in memory at once. All slots come back.
+///
 /// # Errors
 ///
-/// `Old`: the first old shard whose slots are refused. `NotEmpty`: the first slot of a new shard that is not empty.
-/// `NoRoom`: the first new shard whose streams need more room than `cap`. In these cases nothing was written. `Device`:
-/// a device of a new shard failed. `Memory`: want of memory, other than at the opening of an old shard. After any fault
-/// the new slots must be given up.
+/// `Old`: the first old shard whose slots are refused. `NotEmpty`: the first slot of a new shard that holds something.
+/// `NoRoom`: the first new shard whose streams need more room than `cap`. Up to there nothing was written. `Device`: a
+/// device of a new shard failed. `Memory`: want of memory, but for the opening of an old shard. After any fault what
+/// the new slots hold is to be given up.
 pub fn split<D: Disk>(
     alloc: Global,
     old: Vec<[D; 2]>,

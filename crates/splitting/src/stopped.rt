@@ -9,7 +9,7 @@ use thiserror::Error;
 /// What stops the program, as its line of standard error says.
 #[derive(Debug, Drop, Error)]
 pub enum Stopped {
-    /// The folder to split has no slots of shard 0, or slots of more shards than there may be.
+    /// The folder to split has no slots of shard 0, or those of more shards than there may be.
     #[error("no shards")]
     NoShards,
     /// The folder to split lacks this slot.
@@ -27,7 +27,7 @@ pub enum Stopped {
 }
 
 impl Stopped {
-    /// The exit status: 3 for refused old slots, otherwise 1.
+    /// The exit status: 3 for refused old slots, else 1.
     pub fn status(&self) -> u8
         ensures some { result ≢ 2 }
         ensures few { result ≤ 3 }

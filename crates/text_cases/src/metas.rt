@@ -31,7 +31,7 @@ fn pairs_of(alloc: Global, words: &str) -> Result<Vec<(String, String)>> {
     Ok(pairs)
 }
 
-/// Says the pairs, or that there are none; whether they break the limits of a line's; and whether a copy differs.
+/// Says the pairs, or that there are none; whether they are over the limits; and whether a copy differs.
 fn say(meta: &Meta, said: &mut String) -> Result<()> {
     if meta.as_slice().is_empty() {
         said.push_str("none")?;
