@@ -165,7 +165,9 @@ fn open_all<D: Disk + Drop>(
     let mut logs = Vec::with_capacity(alloc, count)?;
     let mut images = Vec::with_capacity(alloc, count)?;
     let count = count as u32;
-    open_logs(alloc, slots, &mut logs, &mut images, count, capacity)?;
+    if let Err(fault) = open_logs(alloc, slots, &mut logs, &mut images, count, capacity) {
+        return Err(fault);
+    }
     let Ok((history, books, dealt)) = History::new(alloc, &images, passes, limits, capacity) else {
         give_back(slots, &mut logs);
         return Err(OpenFault::Memory);
@@ -184,18 +186,19 @@ fn open_all<D: Disk + Drop>(
         backs,
         ends,
     } = plan;
+    let ingester = Ingester {
+        history,
+        rows,
+        backs,
+        room,
+        sizes: sizes_of(sizes, &shards),
+        waiters: Waiters::new(),
+        count,
+        origin,
+        home,
+    };
     Ok(Opened {
-        ingester: Ingester {
-            history,
-            rows,
-            backs,
-            room,
-            sizes: sizes_of(sizes, &shards),
-            waiters: Waiters::new(),
-            count,
-            origin,
-            home,
-        },
+        ingester,
         passes: dealt,
         shards,
         ends,

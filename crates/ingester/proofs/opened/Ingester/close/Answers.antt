@@ -10,6 +10,7 @@ use Rattle.keyed.specs.declared.binding.Binding.TheVariants.{Bound}
 use Rattle.owners.specs.Openings.{Opening}
 use Rattle.owners.proofs.Each.{each_get, each_set}
 use Rattle.owners.specs.Places.{IsOf}
+use Rattle.owners.specs.Ways.{AreIdleWays}
 use Rattle.ingester.specs.Closings.{IsLast, AreLast}
 use Rattle.ingester.proofs.Lasting.{last_of, last_more, written_back}
 use Rattle.ingester.proofs.opened.Ingester.close.Goals as goal
@@ -20,8 +21,12 @@ take_out-ways-requires g c =
     let some = c.requires.some in
     let lt : 0 < length c.args.passes.items = omega arith in
     let pass = c.requires.passes 0 c.index.result.now (slice_get-get_or c.args.passes.items 0 c.index.result.now lt ∙ ap Some (sym c.index.ensures)) in
-    let here = subst (λ (a : About). c.number.result < a.passes) pass.about c.number.ensures.1 in
-    subst (λ n. c.number.result < n) (ap (λ (o : Opening g.row.D.Denot). o.about.passes) (sym c.self.view_is) ∙ sym inv.passes) here
+    let here = subst (λ (a : About). c.number-pass.result < a.passes) pass.about c.number-pass.ensures.1 in
+    subst (λ n. c.number-pass.result < n) (ap (λ (o : Opening g.row.D.Denot). o.about.passes) (sym c.self.view_is) ∙ sym inv.passes) here
+
+pub end_owners-requires : goal.end_owners-requires
+end_owners-requires g c =
+    subst (λ h. AreIdleWays h c.number-pass.result c.take_out-ways.result.items) c.self.invariant.rows_are c.take_out-ways.ensures.0
 
 pub loop-number-init : goal.loop-number-init
 loop-number-init g c =
