@@ -24,7 +24,7 @@ use Rattle.std.proofs.lemmas.List.Sums.{sum_by-cons, get_or-le-sum_by}
 use Rattle.answering.specs.Courses.{Course, Unread, Whole, Broken, fault_failure, StreamEnds}
 use Rattle.answering.specs.Parts.{BodyIsRefused, StreamIsAnswered, OneIsAnswered, BodyIsAnswered}
 use Rattle.answering.specs.Replies.{one_status, one_text}
-use Rattle.answering.specs.Showing.{Shows}
+use Rattle.answering.specs.Showing.{IsShown}
 use Rattle.answering.specs.Responses.{RequestEnds, cames_status, cames_text, status_for, text_for, failure_in, fault_status, fault_text}
 
 -- it asks for one stream
@@ -33,7 +33,7 @@ IsOfOne Push = ⊥
 IsOfOne Read = Unit {0}
 IsOfOne Trim = Unit {0}
 
-shows_one : (route : Route) → IsOfOne route → (came : Came) (answer : Answer) → Shows (one_status came) (one_text came) answer → Shows (cames_status route (came ∷ [])) (cames_text route (came ∷ [])) answer
+shows_one : (route : Route) → IsOfOne route → (came : Came) (answer : Answer) → IsShown (one_status came) (one_text came) answer → IsShown (cames_status route (came ∷ [])) (cames_text route (came ∷ [])) answer
 shows_one Push never came answer shows = absurd never
 shows_one Read single came answer shows = shows
 shows_one Trim single came answer shows = shows

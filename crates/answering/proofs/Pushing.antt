@@ -8,7 +8,7 @@ use Rattle.accept.specs.declared.call.Reply.{Reply}
 use Rattle.requests.specs.declared.answer.Answer.{Answer}
 use Rattle.requests.specs.declared.failure.Failure.{Failure}
 use Rattle.answering.specs.Asking.{IsCallOf}
-use Rattle.answering.specs.Calls.{AreGiven}
+use Rattle.answering.specs.Calls.{CallsGive}
 use Rattle.answering.specs.declared.calling.Asked.{Asked}
 use Rattle.answering.specs.declared.calling.Came.{Came}
 use Rattle.answering.specs.declared.calling.Came.TheVariants as cames
@@ -23,11 +23,11 @@ use Rattle.answering.specs.declared.window.Window.{Window}
 use Rattle.answering.specs.Courses.{first_failure, behind_failure, StreamGives, StreamsGive}
 use Rattle.answering.specs.Lines.{push_status, lines_from}
 use Rattle.answering.specs.Parts.{BodyIsAnswered}
-use Rattle.answering.specs.Showing.{Shows}
+use Rattle.answering.specs.Showing.{IsShown}
 use Rattle.answering.specs.Telling.{Tells}
-use Rattle.answering.specs.Windows.{IsKeyed, came_of, AreKeyed, mark_of, calls_of, merged, AreDue, IsFilled, cames_in, WindowIsNoted, WindowProgress, NextComes, CameIsNoted, StreamsAreTaken, WindowIsTaken}
+use Rattle.answering.specs.Windows.{IsKeyed, came_of, AreKeyed, mark_of, calls_in, merged, AreAllAnswered, HoldsNext, cames_in, WindowIsNoted, WindowProgress, NextComes, CameIsNoted, StreamsAreTaken, WindowIsTaken}
 
-pub calls_append : (ks ls : List Keyed) → calls_of (ks ++ ls) ≡ calls_of ks ++ calls_of ls
+pub calls_append : (ks ls : List Keyed) → calls_in (ks ++ ls) ≡ calls_in ks ++ calls_in ls
 calls_append [] ls = refl
 calls_append (keys.Refused fault ∷ ks) ls = calls_append ks ls
 calls_append (keys.Called call ∷ ks) ls = ap (λ l. call ∷ l) (calls_append ks ls)
@@ -41,13 +41,13 @@ pub keyed_all : (tenant : List ℕ) (all : List Asked) (ks : List Keyed) → ((l
 keyed_all tenant all ks so_far = subst (AreKeyed tenant all) (append-nil ks) (so_far [] tt)
 
 -- one stream more in a window
-pub filled_more : {O : Type 0} (old rest left : List Keyed) (window next : Window O) (k : Keyed) → IsFilled old rest window → rest ≡ k ∷ left → next.marks.items ≡ window.marks.items ++ mark_of k ∷ []
-    → next.calls.items ≡ window.calls.items ++ calls_of (k ∷ []) → next.outcomes.items ≡ window.outcomes.items → IsFilled old left next
+pub filled_more : {O : Type 0} (old rest left : List Keyed) (window next : Window O) (k : Keyed) → HoldsNext old rest window → rest ≡ k ∷ left → next.marks.items ≡ window.marks.items ++ mark_of k ∷ []
+    → next.calls.items ≡ window.calls.items ++ calls_in (k ∷ []) → next.outcomes.items ≡ window.outcomes.items → HoldsNext old left next
 filled_more old rest left window next k filled is marks calls outcomes = record {
   taken = filled.taken ++ k ∷ [];
   split = filled.split ∙ ap (λ l. filled.taken ++ l) is ∙ sym (append_assoc filled.taken (k ∷ []) left);
   marks = marks ∙ ap (λ l. l ++ mark_of k ∷ []) filled.marks ∙ sym (map-append mark_of filled.taken (k ∷ []));
-  calls = calls ∙ ap (λ l. l ++ calls_of (k ∷ [])) filled.calls ∙ sym (calls_append filled.taken (k ∷ []));
+  calls = calls ∙ ap (λ l. l ++ calls_in (k ∷ [])) filled.calls ∙ sym (calls_append filled.taken (k ∷ []));
   outcomes = outcomes ∙ filled.outcomes;
 }
 
@@ -60,20 +60,20 @@ keyed_split tenant (a ∷ asked) (k ∷ ks) ls are =
     let (done, more, split, first, others) = keyed_split tenant asked ks ls are.1 in
     (a ∷ done, more, ap (λ l. a ∷ l) split, (are.0, first), others)
 
-numbers_of : (tenant : List ℕ) (asked : List Asked) (ks : List Keyed) → AreKeyed tenant asked ks → All AreNumbers (calls_of ks)
+numbers_of : (tenant : List ℕ) (asked : List Asked) (ks : List Keyed) → AreKeyed tenant asked ks → All AreNumbers (calls_in ks)
 numbers_of tenant [] [] are = All-nil AreNumbers
 numbers_of tenant [] (k ∷ ks) are = absurd are
 numbers_of tenant (a ∷ asked) [] are = absurd are
 numbers_of tenant (a ∷ asked) (keys.Refused fault ∷ ks) are = numbers_of tenant asked ks are.1
-numbers_of tenant (a ∷ asked) (keys.Called call ∷ ks) are = All-cons AreNumbers call (calls_of ks) are.0.1 (numbers_of tenant asked ks are.1)
+numbers_of tenant (a ∷ asked) (keys.Called call ∷ ks) are = All-cons AreNumbers call (calls_in ks) are.0.1 (numbers_of tenant asked ks are.1)
 
 -- the calls of a window may be made
-pub numbers : (tenant : List ℕ) {O : Type 0} (asked : List Asked) (old rest : List Keyed) (window : Window O) → AreKeyed tenant asked old → IsFilled old rest window → All AreNumbers window.calls.items
+pub numbers : (tenant : List ℕ) {O : Type 0} (asked : List Asked) (old rest : List Keyed) (window : Window O) → AreKeyed tenant asked old → HoldsNext old rest window → All AreNumbers window.calls.items
 numbers tenant asked old rest window are filled =
     let (done, more, split, first, others) = keyed_split tenant asked filled.taken rest (subst (AreKeyed tenant asked) filled.split are) in
     subst (All AreNumbers) (sym filled.calls) (numbers_of tenant done filled.taken first)
 
-merged_length : {O : Type 0} (told : O → Result Reply Failure) (marks : List Mark) (outcomes : List O) → AreDue marks outcomes → length (merged marks (map told outcomes)) ≡ length marks
+merged_length : {O : Type 0} (told : O → Result Reply Failure) (marks : List Mark) (outcomes : List O) → AreAllAnswered marks outcomes → length (merged marks (map told outcomes)) ≡ length marks
 merged_length told [] outcomes due = refl
 merged_length told (Refused fault ∷ marks) outcomes due = let same = merged_length told marks outcomes due in omega arith
 merged_length told (Called ∷ marks) [] due = absurd due
@@ -99,7 +99,7 @@ same_behind (cames.Failed f ∷ cs) ds none = absurd (cc)
 
 -- of a window in which calls were made, what came is told by the marks and the outcomes
 module _ {H O : Type 0} (gives : H → Call → Result Reply Failure → H → Type 0) (told : O → Result Reply Failure) where
-  due : (h h' : H) (ks : List Keyed) (outcomes : List O) → AreGiven gives h (calls_of ks) (map told outcomes) h' → AreDue (map mark_of ks) outcomes
+  due : (h h' : H) (ks : List Keyed) (outcomes : List O) → CallsGive gives h (calls_in ks) (map told outcomes) h' → AreAllAnswered (map mark_of ks) outcomes
   due h h' [] [] given = refl
   due h h' [] (r ∷ rs) given = absurd given
   due h h' (keys.Refused fault ∷ ks) outcomes given = due h h' ks outcomes given
@@ -111,7 +111,7 @@ module _ {H O : Type 0} (gives : H → Call → Result Reply Failure → H → T
   came_given tenant h h' asked call (Err failure) is given = (call, is, given)
 
   given_streams : (tenant : List ℕ) (h h' : H) (asked : List Asked) (ks : List Keyed) (outcomes : List O) → AreKeyed tenant asked ks
-      → AreGiven gives h (calls_of ks) (map told outcomes) h' → StreamsGive gives tenant h asked (merged (map mark_of ks) (map told outcomes)) h'
+      → CallsGive gives h (calls_in ks) (map told outcomes) h' → StreamsGive gives tenant h asked (merged (map mark_of ks) (map told outcomes)) h'
   given_streams tenant h h' [] [] [] are given = given
   given_streams tenant h h' [] [] (r ∷ rs) are given = absurd given
   given_streams tenant h h' [] (k ∷ ks) outcomes are given = absurd are
@@ -123,12 +123,12 @@ module _ {H O : Type 0} (gives : H → Call → Result Reply Failure → H → T
 
   -- what became of a window
   module _ (tenant : List ℕ) (h h' : H) (all : List Asked) (old rest : List Keyed) (window : Window O) (outcomes : List O)
-      (are : AreKeyed tenant all old) (filled : IsFilled old rest window) (few : length window.marks.items ≤ 64) (given : AreGiven gives h window.calls.items (map told outcomes) h') where
-    calls_given : AreGiven gives h (calls_of filled.taken) (map told outcomes) h'
-    calls_given = subst (λ l. AreGiven gives h l (map told outcomes) h') filled.calls given
+      (are : AreKeyed tenant all old) (filled : HoldsNext old rest window) (few : length window.marks.items ≤ 64) (given : CallsGive gives h window.calls.items (map told outcomes) h') where
+    calls_given : CallsGive gives h (calls_in filled.taken) (map told outcomes) h'
+    calls_given = subst (λ l. CallsGive gives h l (map told outcomes) h') filled.calls given
 
-    pub is_due : AreDue window.marks.items outcomes
-    is_due = subst (λ l. AreDue l outcomes) (sym filled.marks) (due h h' filled.taken outcomes calls_given)
+    pub is_due : AreAllAnswered window.marks.items outcomes
+    is_due = subst (λ l. AreAllAnswered l outcomes) (sym filled.marks) (due h h' filled.taken outcomes calls_given)
 
     same_length : length (merged window.marks.items (map told outcomes)) ≡ length window.marks.items
     same_length = merged_length told window.marks.items outcomes is_due
@@ -237,7 +237,7 @@ module _ {H : Type 0} (gives : H → Call → Result Reply Failure → H → Typ
   none_more (a ∷ more) (k ∷ rest) none are = absurd (cc)
 
   pub ends : (h m : H) (all : List Asked) (start : PushLines) (stream : ℕ) (rest : List Keyed) (old : PushLines) → StreamsAreTaken gives tenant h all 0 start stream m rest old → Tells [] start → rest ≡ []
-      → (answer : Answer) → ((cs : List Came) → Tells cs old → Shows (push_status cs) (lines_from 0 cs) answer) → BodyIsAnswered gives tenant h all (Ok answer) m
+      → (answer : Answer) → ((cs : List Came) → Tells cs old → IsShown (push_status cs) (lines_from 0 cs) answer) → BodyIsAnswered gives tenant h all (Ok answer) m
   ends h m all start stream rest old taken tells none answer shows =
       let is : taken.done ≡ all = sym (append-nil taken.done) ∙ ap (λ l. taken.done ++ l) (sym (none_more taken.more rest none taken.keyed)) ∙ sym taken.split in
       (taken.cames, subst (λ l. StreamsGive gives tenant h l taken.cames m) is taken.each, taken.whole, shows taken.cames (taken.tells [] tells refl))

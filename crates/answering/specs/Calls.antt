@@ -6,8 +6,8 @@ use Rattle.requests.specs.declared.failure.Failure.{Failure}
 
 module _ {H : Type 0} (gives : H → Call → Result Reply Failure → H → Type 0) where
   -- this came of each, from what was known to what is known then
-  abbrev pub AreGiven : H → List Call → List (Result Reply Failure) → H → Type 0
-  AreGiven h [] [] h' = h' ≡ h
-  AreGiven h [] (r ∷ rs) h' = ⊥
-  AreGiven h (call ∷ calls) [] h' = ⊥
-  AreGiven h (call ∷ calls) (r ∷ rs) h' = (mid : H) × gives h call r mid × AreGiven mid calls rs h'
+  abbrev pub CallsGive : H → List Call → List (Result Reply Failure) → H → Type 0
+  CallsGive h [] [] h' = h' ≡ h
+  CallsGive h [] (r ∷ rs) h' = ⊥
+  CallsGive h (call ∷ calls) [] h' = ⊥
+  CallsGive h (call ∷ calls) (r ∷ rs) h' = (mid : H) × gives h call r mid × CallsGive mid calls rs h'

@@ -13,11 +13,11 @@ use Rattle.answering.specs.Lines.{push_status, lines_from}
 use Rattle.answering.specs.Replies.{one_status, one_text}
 use Rattle.answering.specs.Courses.{fault_failure, first_failure, StreamGives, StreamsGive, BodyBreaks, BodyStops}
 use Rattle.answering.specs.Responses.{fault_status, fault_text}
-use Rattle.answering.specs.Showing.{Shows}
+use Rattle.answering.specs.Showing.{IsShown}
 
 -- a body is refused
 abbrev pub BodyIsRefused : PushFault → Result Answer Halt → Type 0
-BodyIsRefused fault (Ok answer) = (fault_failure fault ≡ None) × Shows (fault_status fault) (fault_text fault) answer
+BodyIsRefused fault (Ok answer) = (fault_failure fault ≡ None) × IsShown (fault_status fault) (fault_text fault) answer
 BodyIsRefused fault (Err (Failed failure)) = fault_failure fault ≡ Some failure
 BodyIsRefused fault (Err GivenUp) = fault_failure fault ≡ None
 
@@ -25,7 +25,7 @@ module _ {H : Type 0} (gives : H → Call → Result Reply Failure → H → Typ
   -- the one stream of a read or a trim
   abbrev pub StreamIsAnswered : H → Asked → Result Answer Halt → H → Type 0
   StreamIsAnswered h asked (Ok answer) h' = (came : Came) × StreamGives gives tenant h asked came h'
-      × (first_failure (came ∷ []) ≡ None) × Shows (one_status came) (one_text came) answer
+      × (first_failure (came ∷ []) ≡ None) × IsShown (one_status came) (one_text came) answer
   StreamIsAnswered h asked (Err (Failed failure)) h' = (cames : List Came)
       × BodyBreaks gives tenant h (asked ∷ []) cames failure h'
   StreamIsAnswered h asked (Err GivenUp) h' = BodyStops gives tenant h (asked ∷ []) h'
@@ -38,6 +38,6 @@ module _ {H : Type 0} (gives : H → Call → Result Reply Failure → H → Typ
   -- the streams of a push
   abbrev pub BodyIsAnswered : H → List Asked → Result Answer Halt → H → Type 0
   BodyIsAnswered h all (Ok answer) h' = (cames : List Came) × StreamsGive gives tenant h all cames h'
-      × (first_failure cames ≡ None) × Shows (push_status cames) (lines_from 0 cames) answer
+      × (first_failure cames ≡ None) × IsShown (push_status cames) (lines_from 0 cames) answer
   BodyIsAnswered h all (Err (Failed failure)) h' = (cames : List Came) × BodyBreaks gives tenant h all cames failure h'
   BodyIsAnswered h all (Err GivenUp) h' = BodyStops gives tenant h all h'

@@ -21,7 +21,7 @@ use Rattle.answering.specs.declared.responding.Halt.{Halt}
 use Rattle.answering.specs.declared.responding.Halt.TheVariants.{Failed, GivenUp}
 use Rattle.answering.specs.Lines.{push_status, lines_from}
 use Rattle.answering.specs.Replies.{one_status, one_text}
-use Rattle.answering.specs.Showing.{Shows}
+use Rattle.answering.specs.Showing.{IsShown}
 use Rattle.answering.specs.Courses.{Course, Unread, Whole, Broken, fault_failure, RequestGives, RequestIsLeft}
 
 abbrev pub bad_time_text : ℕ → ℕ → List ℕ
@@ -88,7 +88,7 @@ module _ {H : Type 0} (gives : H → Call → Result Reply Failure → H → Typ
   -- what is answered to a request behind its head: the answer of how its calls went; or nothing, where memory ran out
   abbrev pub RequestIsAnswered : H → Result Answer ServeFault → H → Type 0
   RequestIsAnswered h (Ok answer) h' = (course : Course) × RequestGives gives route now tenant body h course h'
-      × Shows (status_for route course) (text_for route course) answer
+      × IsShown (status_for route course) (text_for route course) answer
   RequestIsAnswered h (Err faults.Memory) h' =
       ((course : Course) × RequestGives gives route now tenant body h course h' × IsSome (failure_in course))
       ⊎ RequestIsLeft gives route now tenant body h h'
@@ -100,7 +100,7 @@ module _ {H : Type 0} (gives : H → Call → Result Reply Failure → H → Typ
   abbrev pub RequestEnds : H → Result Answer Halt → H → Type 0
   RequestEnds h (Ok answer) h' =
       (course : Course) × RequestGives gives route now tenant body h course h' × (failure_in course ≡ None)
-      × Shows (status_for route course) (text_for route course) answer
+      × IsShown (status_for route course) (text_for route course) answer
   RequestEnds h (Err (Failed failure)) h' = (course : Course) × RequestGives gives route now tenant body h course h'
       × (failure_in course ≡ Some failure)
   RequestEnds h (Err GivenUp) h' = RequestIsLeft gives route now tenant body h h'

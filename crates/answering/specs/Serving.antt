@@ -143,21 +143,21 @@ module _ {H C : Type 0} (gives : H → Asking → Result Reply Failure → H →
       ⊎ IsTurnedAway bytes w text w'
 
   -- nothing happened after the last response
-  abbrev pub IsIdle : World H C → List ℕ → World H C → Type 0
-  IsIdle w text w' = (text ≡ []) × (w' ≡ w)
+  abbrev pub IsSilent : World H C → List ℕ → World H C → Type 0
+  IsSilent w text w' = (text ≡ []) × (w' ≡ w)
 
   -- how the connection ended, where no further request was answered with the connection kept: text is what is written
   -- of the last response, and left what the reader may still give
   abbrev pub ConnectionEnds : List ℕ → Option (List ℕ) → World H C → List ℕ → World H C → Result Served ServeFault
       → Type 0
-  ConnectionEnds rest left w text w' (Ok Ended) = (rest ≡ []) × IsAtEnd left × IsIdle w text w'
+  ConnectionEnds rest left w text w' (Ok Ended) = (rest ≡ []) × IsAtEnd left × IsSilent w text w'
   ConnectionEnds rest left w text w' (Ok Closed) = IsLastResponse rest w text w'
-  ConnectionEnds rest left w text w' (Err faults.CutShort) = IsCut rest × IsAtEnd left × IsIdle w text w'
-  ConnectionEnds rest left w text w' (Err faults.Read) = ((rest ≡ []) ⊎ IsCut rest) × IsIdle w text w'
+  ConnectionEnds rest left w text w' (Err faults.CutShort) = IsCut rest × IsAtEnd left × IsSilent w text w'
+  ConnectionEnds rest left w text w' (Err faults.Read) = ((rest ≡ []) ⊎ IsCut rest) × IsSilent w text w'
   ConnectionEnds rest left w text w' (Err faults.Write) = (n : ℕ) × (all : List ℕ) × IsNextResponse rest w all w'
       × (text ≡ take n all)
   ConnectionEnds rest left w text w' (Err faults.Memory) =
-      (text ≡ []) × ((((rest ≡ []) ⊎ IsCut rest) × IsIdle w text w') ⊎ IsUnanswered rest w w' ⊎ IsAbandoned rest w w')
+      (text ≡ []) × ((((rest ≡ []) ⊎ IsCut rest) × IsSilent w text w') ⊎ IsUnanswered rest w w' ⊎ IsAbandoned rest w w')
 
   -- from the bytes read to the text written
   pub record ConnectionIsAnswered (bytes : List ℕ) (left : Option (List ℕ)) (w : World H C) (text : List ℕ)

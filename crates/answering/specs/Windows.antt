@@ -39,10 +39,10 @@ abbrev pub mark_of : Keyed → Mark
 mark_of (keys.Refused fault) = Refused fault
 mark_of (keys.Called call) = Called
 
-abbrev pub calls_of : List Keyed → List Call
-calls_of [] = []
-calls_of (keys.Refused fault ∷ ks) = calls_of ks
-calls_of (keys.Called call ∷ ks) = call ∷ calls_of ks
+abbrev pub calls_in : List Keyed → List Call
+calls_in [] = []
+calls_in (keys.Refused fault ∷ ks) = calls_in ks
+calls_in (keys.Called call ∷ ks) = call ∷ calls_in ks
 
 abbrev pub came_of : Result Reply Failure → Came
 came_of (Ok reply) = cames.Replied reply
@@ -56,24 +56,24 @@ merged (Called ∷ marks) [] = []
 merged (Called ∷ marks) (r ∷ rs) = came_of r ∷ merged marks rs
 
 -- there is an outcome for each call
-abbrev pub AreDue : {O : Type 0} → List Mark → List O → Type 0
-AreDue [] outcomes = outcomes ≡ []
-AreDue (Refused fault ∷ marks) outcomes = AreDue marks outcomes
-AreDue (Called ∷ marks) [] = ⊥
-AreDue (Called ∷ marks) (r ∷ rs) = AreDue marks rs
+abbrev pub AreAllAnswered : {O : Type 0} → List Mark → List O → Type 0
+AreAllAnswered [] outcomes = outcomes ≡ []
+AreAllAnswered (Refused fault ∷ marks) outcomes = AreAllAnswered marks outcomes
+AreAllAnswered (Called ∷ marks) [] = ⊥
+AreAllAnswered (Called ∷ marks) (r ∷ rs) = AreAllAnswered marks rs
 
 -- it holds no stream
-pub record IsEmpty {O : Type 0} (window : Window O) : Type 0 where
+pub record HoldsNoStreams {O : Type 0} (window : Window O) : Type 0 where
   pub marks : window.marks.items ≡ []
   pub calls : window.calls.items ≡ []
   pub outcomes : window.outcomes.items ≡ []
 
 -- it holds the next streams, no call of which was made, and these are left
-pub record IsFilled {O : Type 0} (old rest : List Keyed) (window : Window O) : Type 0 where
+pub record HoldsNext {O : Type 0} (old rest : List Keyed) (window : Window O) : Type 0 where
   pub taken : List Keyed
   pub split : old ≡ taken ++ rest
   pub marks : window.marks.items ≡ map mark_of taken
-  pub calls : window.calls.items ≡ calls_of taken
+  pub calls : window.calls.items ≡ calls_in taken
   pub outcomes : window.outcomes.items ≡ []
 
 -- what came of the streams that a window holds
@@ -82,9 +82,9 @@ cames_in told window = merged window.marks.items (map told window.outcomes.items
 
 -- the next stream is taken out of the window
 abbrev pub NextComes : {O : Type 0} → (O → Result Reply Failure) → Window O → Option Came → Window O → Type 0
-NextComes told old None new = (old.marks.items ≡ []) × IsEmpty new
+NextComes told old None new = (old.marks.items ≡ []) × HoldsNoStreams new
 NextComes told old (Some came) new = (cames_in told old ≡ came ∷ cames_in told new)
-    × AreDue new.marks.items new.outcomes.items
+    × AreAllAnswered new.marks.items new.outcomes.items
     × (length old.marks.items ≡ length new.marks.items + 1)
 
 -- this came of a stream, and it was taken into the lines

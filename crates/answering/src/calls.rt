@@ -4,7 +4,7 @@ ghost use Rattle.accept.specs.Calls.{AreNumbers};
 ghost use Rattle.accept.specs.declared.call.Call.{Call};
 ghost use Rattle.accept.specs.declared.call.Reply.{Reply};
 ghost use Rattle.requests.specs.declared.failure.Failure.{Failure};
-ghost use Rattle.answering.specs.Calls.{AreGiven};
+ghost use Rattle.answering.specs.Calls.{CallsGive};
 
 use accept::{Call, Reply};
 use requests::Failure;
@@ -63,7 +63,7 @@ pub trait Calls {
         requires empty { outcomes.old.items ≡ [] }
         requires room { deque_len calls.old ≤ deque_capacity outcomes.old }
         ensures ready { is_ready self.now pass.new }
-        ensures given { AreGiven (gives self.now) pass.old calls.old.items (map told outcomes.new.items) pass.new }
+        ensures given { CallsGive (gives self.now) pass.old calls.old.items (map told outcomes.new.items) pass.new }
         ensures taken { calls.new.items ≡ [] }
         ensures lens { (deque_len calls.new ≡ 0) × (deque_len outcomes.new ≡ deque_len calls.old) }
         ensures capacities { (deque_capacity calls.new ≡ deque_capacity calls.old)

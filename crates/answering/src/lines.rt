@@ -1,7 +1,7 @@
 //! The lines of the answer to a push.
 ghost use Rattle.std.specs.Prelude.{◌≡◌, ◌++◌, [], List, decimal, OnOk, codes};
 ghost use Rattle.answering.specs.Lines.{label_words, stream_line, entry_front, entry_line, newline, outcome_line, outcome_lines, reply_lines, reply_has_no_room, reply_is_unavailable, worst_status, push_status, lines_from};
-ghost use Rattle.answering.specs.Showing.{Shows};
+ghost use Rattle.answering.specs.Showing.{IsShown};
 ghost use Rattle.answering.specs.Telling.{Tells, NotesNext};
 ghost use Rattle.answering.specs.declared.calling.Came.{Came};
 
@@ -214,7 +214,7 @@ impl PushLines {
 
     /// The answer after the last stream.
     pub(crate) fn into_answer(self) -> Answer
-        ensures { (cames : List Came) → Tells cames self → Shows (push_status cames) (lines_from 0 cames) result }
+        ensures { (cames : List Came) → Tells cames self → IsShown (push_status cames) (lines_from 0 cames) result }
     {
         let PushLines {
             text,

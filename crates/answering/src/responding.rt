@@ -6,8 +6,8 @@ ghost use Rattle.requests.specs.Answers.{failure_body};
 ghost use Rattle.answering.specs.Asking.{AsksFor, IsLawful, asked_push, one_of};
 ghost use Rattle.answering.specs.Parts.{BodyIsRefused, StreamIsAnswered, OneIsAnswered, BodyIsAnswered};
 ghost use Rattle.answering.specs.Responses.{RequestIsAnswered, RequestEnds, bad_time_text};
-ghost use Rattle.answering.specs.Showing.{Shows};
-ghost use Rattle.answering.specs.Windows.{AreKeyed, AreOfStreams, IsEmpty};
+ghost use Rattle.answering.specs.Showing.{IsShown};
+ghost use Rattle.answering.specs.Windows.{AreKeyed, AreOfStreams, HoldsNoStreams};
 ghost use Rattle.answering.specs.declared.responding.Halt.TheVariants.{Failed, GivenUp};
 
 use crate::calling::{Asked, Keyed, Want, take_stream};
@@ -49,7 +49,7 @@ impl From<AllocError> for Halt {
 }
 
 fn answer_of_bad_time(alloc: Global, stream: usize, entry: usize) -> Result<Answer, AllocError>
-    ensures { IfOk result (λ answer. Shows Status.BadRequest (bad_time_text stream entry) answer) }
+    ensures { IfOk result (λ answer. IsShown Status.BadRequest (bad_time_text stream entry) answer) }
 {
     let mut body = Vec::new(alloc);
     body.extend_from_slice(b"bad time at stream ")?;
@@ -91,7 +91,7 @@ fn take_windows<S: Calls, R: Wait>(
 ) -> Result<Answer, Halt>
     requires pass { S.is_ready service.now pass.old }
     requires keyed { AreOfStreams keyed.items }
-    requires empty { IsEmpty window }
+    requires empty { HoldsNoStreams window }
     requires room { window.size ≡ min 64 (deque_len keyed) }
     ensures pass { S.is_ready service.now pass.new }
     ensures goes { (tenant : List ℕ) (all : List Asked) → AreKeyed tenant all keyed.items

@@ -8,7 +8,7 @@ use Rattle.ingester.specs.Calls as calls
 use Rattle.ingester.specs.Calls.{IsGiven, IsGivenAfter, IsLost, with_next, closed_now, is_doubt}
 use Rattle.ingester.specs.declared.fault.CallFault.{CallFault}
 use Rattle.ingester.specs.declared.fault.CallFault.TheVariants.{Memory, PassClosed, LogSpent, InDoubt}
-use Rattle.answering.specs.Calls.{AreGiven}
+use Rattle.answering.specs.Calls.{CallsGive}
 use Rattle.front.specs.Calls.{CallGives, told_of}
 
 -- the call before is in doubt
@@ -46,7 +46,7 @@ module _ {D : Type 0} (opening : Opening D) where
       )
 
   all_after : (lost : Bool) (old new : Passed) (asked : List Call) (outcomes : List (Result Reply CallFault)) → (lost ≡ true → WasLost old)
-      → calls.AreGivenAfter lost opening old asked outcomes new → AreGiven (CallGives opening) old asked (map told_of outcomes) new
+      → calls.AreGivenAfter lost opening old asked outcomes new → CallsGive (CallGives opening) old asked (map told_of outcomes) new
   all_after lost old new [] [] was given = given
   all_after lost old new [] (r ∷ rs) was given = absurd given
   all_after lost old new (call ∷ asked) [] was given = absurd given
@@ -54,5 +54,5 @@ module _ {D : Type 0} (opening : Opening D) where
       let (told, next) = one_told lost old call r mid was is in (mid, told, all_after (is_doubt r) mid new asked rs next given)
 
 pub all_told : {D : Type 0} (opening : Opening D) (old new : Passed) (asked : List Call) (outcomes : List (Result Reply CallFault)) → calls.AreGiven opening old asked outcomes new
-    → AreGiven (CallGives opening) old asked (map told_of outcomes) new
+    → CallsGive (CallGives opening) old asked (map told_of outcomes) new
 all_told opening old new asked outcomes given = all_after opening false old new asked outcomes (λ never. absurd (cc)) given

@@ -4,12 +4,12 @@ use Rattle.std.proofs.lemmas.List.{append-nil}
 use Rattle.accept.specs.declared.call.Call.{Call}
 use Rattle.accept.specs.declared.call.Reply.{Reply}
 use Rattle.requests.specs.declared.failure.Failure.{Failure}
-use Rattle.answering.specs.Calls.{AreGiven}
+use Rattle.answering.specs.Calls.{CallsGive}
 use Rattle.answer_cases.specs.declared.script.Script.{Script}
 use Rattle.answer_cases.proofs.listed.ListedCalls.call_all.Goals as goal
 
 abbrev Given : Script → List Call → List (Result Reply Failure) → Script → Type 0
-Given = AreGiven (λ old call told new. Unit {0})
+Given = CallsGive (λ old call told new. Unit {0})
 
 pub loop-call-init : goal.loop-call-init
 loop-call-init g c = record {
