@@ -15,5 +15,5 @@ pub use calls::Calls;
 pub use clock::Clock;
 pub use replies::answer_of_read;
 pub use requests::{Answer, Failure, Route, ServeFault, Served, Status};
-pub use responding::answer;
+pub use responding::{RequestBody, answer};
 pub use serving::serve;

@@ -48,6 +48,16 @@ impl From<AllocError> for Halt {
     }
 }
 
+/// A request behind its head.
+#[derive(Clone, Copy)]
+pub struct RequestBody<'a> {
+    /// What the clock told for it, in nanoseconds: below 2^63.
+    pub time: u64,
+    pub route: Route,
+    pub tenant: &'a Tenant,
+    pub body: &'a [u8],
+}
+
 fn answer_of_bad_time(alloc: Global, stream: usize, entry: usize) -> Result<Answer, AllocError>
     ensures { IfOk result (λ answer. IsShown Status.BadRequest (bad_time_text stream entry) answer) }
 {
@@ -151,17 +161,24 @@ fn push<S: Calls, R: Wait>(
     alloc: Global,
     service: &S,
     pass: &mut S::Pass,
-    now: u64,
-    tenant: &Tenant,
-    body: &[u8],
+    request: &RequestBody<'_>,
 ) -> Result<Answer, Halt>
     requires pass { S.is_ready service.now pass.old }
-    requires clock { now < 2 ^ 63 }
+    requires clock { request.now.time < 2 ^ 63 }
     ensures pass { S.is_ready service.now pass.new }
-    ensures responds { RequestEnds (S.gives service.now) Route.Push now tenant.now body.now pass.old result pass.new }
+    ensures responds { RequestEnds (S.gives service.now) Route.Push request.now.time request.now.tenant.now
+        request.now.body.now pass.old result pass.new }
 {
-    match read_push(alloc, body) {
-        Ok(batches) => push_streams(rt, alloc, service, pass, tenant, now, batches),
+    match read_push(alloc, request.body) {
+        Ok(batches) => push_streams(
+            rt,
+            alloc,
+            service,
+            pass,
+            request.tenant,
+            request.time,
+            batches,
+        ),
         Err(fault) => refuse(alloc, fault),
     }
 }
@@ -220,18 +237,18 @@ pub(crate) fn respond<S: Calls, R: Wait>(
     alloc: Global,
     service: &S,
     pass: &mut S::Pass,
-    now: u64,
-    route: Route,
-    tenant: &Tenant,
-    body: &[u8],
+    request: &RequestBody<'_>,
 ) -> Result<Answer, Halt>
     requires pass { S.is_ready service.now pass.old }
-    requires clock { now < 2 ^ 63 }
+    requires clock { request.now.time < 2 ^ 63 }
     ensures pass { S.is_ready service.now pass.new }
-    ensures responds { RequestEnds (S.gives service.now) route now tenant.now body.now pass.old result pass.new }
+    ensures responds { RequestEnds (S.gives service.now) request.now.route request.now.time request.now.tenant.now
+        request.now.body.now pass.old result pass.new }
 {
-    match route {
-        Route::Push => push(rt, alloc, service, pass, now, tenant, body),
+    let tenant = request.tenant;
+    let body = request.body;
+    match request.route {
+        Route::Push => push(rt, alloc, service, pass, request),
         Route::Read => answer_one(rt, alloc, service, pass, tenant, asked_by_read(alloc, body)),
         Route::Trim => answer_one(rt, alloc, service, pass, tenant, asked_by_trim(alloc, body)),
     }
@@ -250,9 +267,8 @@ fn failure_body(failure: Failure) -> &'static [u8]
 
 /// Makes the calls that a request asks for, in the order of its body, and gives status and body of its
 /// answer. The labels of all streams of a push are read first, and then their calls are made in windows of up
-/// to 64 streams. A refused stream does not stop the rest of a push. `now` is the clock in nanoseconds, below
-/// 2^63. After an answer of status 500 no call is made after the window in which one failed; calls that were
-/// made stand.
+/// to 64 streams. A refused stream does not stop the rest of a push. After an answer of status 500 no call is
+/// made after the window in which one failed; calls that were made stand.
 ///
 /// # Errors
 ///
@@ -262,17 +278,15 @@ pub fn answer<S: Calls, R: Wait>(
     alloc: Global,
     service: &S,
     pass: &mut S::Pass,
-    now: u64,
-    route: Route,
-    tenant: &Tenant,
-    body: &[u8],
+    request: &RequestBody<'_>,
 ) -> Result<Answer, ServeFault>
     requires pass { S.is_ready service.now pass.old }
-    requires clock { now < 2 ^ 63 }
+    requires clock { request.now.time < 2 ^ 63 }
     ensures pass { S.is_ready service.now pass.new }
-    ensures answers { RequestIsAnswered (S.gives service.now) route now tenant.now body.now pass.old result pass.new }
+    ensures answers { RequestIsAnswered (S.gives service.now) request.now.route request.now.time
+        request.now.tenant.now request.now.body.now pass.old result pass.new }
 {
-    match respond(rt, alloc, service, pass, now, route, tenant, body) {
+    match respond(rt, alloc, service, pass, request) {
         Ok(answer) => Ok(answer),
         Err(Halt::Failed(failure)) => Ok(answer_of_text(
             alloc,

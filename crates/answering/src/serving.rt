@@ -6,7 +6,7 @@ ghost use Rattle.answering.specs.Turns.{KeepsInput, IsSameConnection, ResponseIs
 
 use crate::calls::Calls;
 use crate::clock::Clock;
-use crate::responding::{Halt, respond};
+use crate::responding::{Halt, RequestBody, respond};
 use labels::Tenant;
 use requests::{
     Content, Failure, Incoming, MAX_HEAD, Message, Next, Outgoing, Route, ServeFault, Served,
@@ -73,7 +73,13 @@ impl<'a, S: Calls<Pass = P>, P, C: Clock, I: Read, O: Write> Connection<'a, S, P
             (Verdict.Call route tenant.now) message.now.closes self.old.pass.now self.new.pass.now result }
     {
         let body = self.incoming.body(message);
-        match respond(rt, alloc, self.service, self.pass, now, route, tenant, body) {
+        let request = RequestBody {
+            time: now,
+            route,
+            tenant,
+            body,
+        };
+        match respond(rt, alloc, self.service, self.pass, &request) {
             Ok(answer) => {
                 let content = content_for(answer.status);
                 self.outgoing

@@ -6,7 +6,7 @@ ghost use Rattle.answering.specs.Serving.{ConnectionIsServed, world, io};
 ghost use Rattle.front.specs.Calls.{CallGives, failure_of, told_of};
 
 use accept::{Call, Reply};
-use answering::{Answer, Calls, Clock, Failure, Route, ServeFault, Served};
+use answering::{Answer, Calls, Clock, Failure, RequestBody, Route, ServeFault, Served};
 use disk::Disk;
 use history::Pass;
 use ingester::{CallFault, Ingester};
@@ -102,7 +102,13 @@ pub fn answer<D: Disk + Drop, R: Wait>(
         pass.new }
 {
     let service = Service { ingester };
-    answering::answer(rt, alloc, &service, pass, now, route, tenant, body)
+    let request = RequestBody {
+        time: now,
+        route,
+        tenant,
+        body,
+    };
+    answering::answer(rt, alloc, &service, pass, &request)
 }
 
 /// Answers the requests of a connection, one after another, until its stream ends between two or an
