@@ -1,5 +1,5 @@
 //! The answer to a request behind its head: its body, its calls in body order, status and body of its answer.
-ghost use Rattle.std.specs.Prelude.{◌≡◌, ◌<◌, ◌≤◌, ◌^◌, ℕ, List, All, IfOk, map, min, sum_by, length};
+ghost use Rattle.std.specs.Prelude.{◌≡◌, ◌<◌, ◌≤◌, ◌^◌, [], ℕ, List, All, IfOk, map, min, sum_by, length, vec_capacity};
 ghost use Rattle.std.specs.VecDeque.{deque_len};
 ghost use Rattle.accept.specs.OneStream.{AreTimes};
 ghost use Rattle.requests.specs.Answers.{failure_body};
@@ -22,6 +22,9 @@ use requests::{Answer, Failure, Route, ServeFault, Status};
 use std::alloc::{AllocError, Global};
 use std::collections::VecDeque;
 use std::sync::Wait;
+
+/// How many bytes the longest text of a failure has.
+const LONGEST_FAILURE: usize = 13;
 
 /// Why a request has no answer of its own.
 #[derive(Clone, Copy, Debug)]
@@ -255,13 +258,27 @@ pub(crate) fn respond<S: Calls, R: Wait>(
 }
 
 fn failure_body(failure: Failure) -> &'static [u8]
-    ensures { result.now ≡ failure_body failure }
+    ensures body { result.now ≡ failure_body failure }
+    ensures short { length result.now ≤ LONGEST_FAILURE }
 {
     match failure {
         Failure::OutOfMemory => b"out of memory",
         Failure::PassClosed => b"pass closed",
         Failure::InDoubt => b"call in doubt",
         Failure::LogSpent => b"log spent",
+    }
+}
+
+/// The answer of a failure. Its text has room already.
+fn answer_of_failure(mut text: Vec<u8>, failure: Failure) -> Answer
+    requires empty { text.items ≡ [] }
+    requires room { LONGEST_FAILURE ≤ vec_capacity text }
+    ensures { IsShown Status.InternalServerError (failure_body failure) result }
+{
+    text.extend_from_slice(failure_body(failure)).unwrap();
+    Answer {
+        status: Status::InternalServerError,
+        body: text,
     }
 }
 
@@ -272,7 +289,8 @@ fn failure_body(failure: Failure) -> &'static [u8]
 ///
 /// # Errors
 ///
-/// `Memory`, where there was none for the answer. Calls made before stand.
+/// `Memory`, where there was none before any call, and none to say so; or none for an answer of another status
+/// than 500, and calls made before stand.
 pub fn answer<S: Calls, R: Wait>(
     rt: &R,
     alloc: Global,
@@ -286,13 +304,10 @@ pub fn answer<S: Calls, R: Wait>(
     ensures answers { RequestIsAnswered (S.gives service.now) request.now.route request.now.time
         request.now.tenant.now request.now.body.now pass.old result pass.new }
 {
+    let text = Vec::with_capacity(alloc, LONGEST_FAILURE)?;
     match respond(rt, alloc, service, pass, request) {
         Ok(answer) => Ok(answer),
-        Err(Halt::Failed(failure)) => Ok(answer_of_text(
-            alloc,
-            Status::InternalServerError,
-            failure_body(failure),
-        )?),
+        Err(Halt::Failed(failure)) => Ok(answer_of_failure(text, failure)),
         Err(Halt::GivenUp) => Err(ServeFault::Memory),
     }
 }

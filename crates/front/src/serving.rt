@@ -84,7 +84,8 @@ impl<'a, D: Disk + Drop> Calls for Service<'a, D> {
 ///
 /// # Errors
 ///
-/// `Memory`, where there was none for the answer. Calls made before stand.
+/// `Memory`, where there was none before any call, and none to say so; or none for an answer of another status
+/// than 500, and calls made before stand.
 pub fn answer<D: Disk + Drop, R: Wait>(
     rt: &R,
     alloc: Global,
