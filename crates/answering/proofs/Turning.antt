@@ -30,8 +30,8 @@ same_trans a b c first more = record {
   service = more.service ∙ first.service;
   pass = more.pass ∙ first.pass;
   clock = more.clock ∙ first.clock;
-  reader = more.reader ∙ first.reader;
-  writer = more.writer ∙ first.writer;
+  ends = more.ends ∙ first.ends;
+  of = record { reader = more.of.reader ∙ first.of.reader; writer = more.of.writer ∙ first.of.writer };
   incoming = more.incoming ∙ first.incoming;
   outgoing = more.outgoing ∙ first.outgoing;
 }

@@ -10,6 +10,7 @@ use Rattle.requests.specs.declared.fault.Served.TheVariants as served
 use Rattle.requests.specs.declared.verdict.Verdict.{Verdict}
 use Rattle.answering.specs.Calls.{Giving}
 use Rattle.answering.specs.Courses.{Course}
+use Rattle.answering.specs.Ends.{AreSameEnds}
 use Rattle.answering.specs.Serving.{Exchange, World, world, Io, io, response, closes, response_text, failure_at, ends_behind, VerdictGives, VerdictIsLeft, IsExchange, ConnectionGives, ConnectionEnds}
 use Rattle.answering.specs.declared.serving.Connection.{Connection}
 use Rattle.answering.specs.declared.serving.Turn.{Turn}
@@ -21,22 +22,23 @@ module _ {S P C I O : Type 0} where
     pub service : new.service ≡ old.service
     pub pass : new.pass.ghost_name ≡ old.pass.ghost_name
     pub clock : new.clock.ghost_name ≡ old.clock.ghost_name
-    pub reader : new.reader.ghost_name ≡ old.reader.ghost_name
-    pub writer : new.writer.ghost_name ≡ old.writer.ghost_name
+    pub ends : new.ends.ghost_name ≡ old.ends.ghost_name
+    pub of : AreSameEnds old.ends.now new.ends.now
     pub incoming : new.incoming.ghost_name ≡ old.incoming.ghost_name
     pub outgoing : new.outgoing.ghost_name ≡ old.outgoing.ghost_name
 
   -- nothing more has come
   pub record KeepsInput (old new : Connection S P C I O) : Type 0 where
     pub clock : new.clock.now ≡ old.clock.now
-    pub reader : new.reader.now ≡ old.reader.now
+    pub reader : new.ends.now.reader.now ≡ old.ends.now.reader.now
     pub incoming : new.incoming.now ≡ old.incoming.now
 
   abbrev pub world_of : Connection S P C I O → World P C
   world_of connection = world connection.pass.now connection.clock.now
 
   abbrev pub ends_of : (I → Option (List ℕ)) → (O → Option (List ℕ)) → Connection S P C I O → Io
-  ends_of remaining contents connection = io (remaining connection.reader.now) (contents connection.writer.now)
+  ends_of remaining contents connection =
+      io (remaining connection.ends.now.reader.now) (contents connection.ends.now.writer.now)
 
 module _ {H : Type 0} (gives : Giving H) (now : ℕ) (body : List ℕ) where
   -- the response to a whole request is out, or a beginning of it, or nothing

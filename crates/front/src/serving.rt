@@ -6,7 +6,7 @@ ghost use Rattle.answering.specs.Serving.{ConnectionIsServed, world, io};
 ghost use Rattle.front.specs.Calls.{CallGives, failure_of, told_of};
 
 use accept::{Call, Reply};
-use answering::{Answer, Calls, Clock, Failure, RequestBody, Route, ServeFault, Served};
+use answering::{Answer, Calls, Clock, Ends, Failure, RequestBody, Route, ServeFault, Served};
 use disk::Disk;
 use history::Pass;
 use ingester::{CallFault, Ingester};
@@ -137,5 +137,6 @@ pub fn serve<D: Disk + Drop, R: Wait, C: Clock, I: Read, O: Write>(
         (io (I.remaining reader.new) (O.contents writer.new)) (world pass.new clock.new) result }
 {
     let service = Service { ingester };
-    answering::serve(rt, alloc, &service, pass, clock, reader, writer)
+    let mut ends = Ends::new(reader, writer);
+    answering::serve(rt, alloc, &service, pass, clock, &mut ends)
 }
