@@ -20,7 +20,7 @@ impl Calls for Listed {
 
     ghost is_ready = { λ _ _. Unit {0} };
 
-    ghost gives = { λ _ _ _ _ _. Unit {0} };
+    ghost gives = { λ _ _ _ _ _ _. Unit {0} };
 
     ghost told = { λ outcome. outcome };
 

@@ -4,7 +4,7 @@ use crate::listed::{Listed, Standing};
 use crate::plan::Plan;
 use crate::script::{Script, Told};
 use accept::Outcome;
-use answering::{ServeFault, Served, serve};
+use answering::{Ends, ServeFault, Served, serve};
 use anyhow::Result;
 use rows::escape;
 use std::alloc::Global;
@@ -55,15 +55,8 @@ fn serve_connection<R: Wait>(
     let mut clock = Standing;
     let mut source = connection.source(connection.manner);
     let mut sink = Sink::new(alloc, connection.manner);
-    let end = serve(
-        rt,
-        alloc,
-        &Listed,
-        &mut script,
-        &mut clock,
-        &mut source,
-        &mut sink,
-    );
+    let mut ends = Ends::new(&mut source, &mut sink);
+    let end = serve(rt, alloc, &Listed, &mut script, &mut clock, &mut ends);
     let made = script.made();
     Came { sink, end, made }
 }

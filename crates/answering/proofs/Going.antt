@@ -1,7 +1,6 @@
 -- From how the calls of a request went to its answer.
-use Rattle.std.proofs.Common.{◌≡◌, ℕ, ◌+◌, ◌<◌, ◌≤◌, ◌^◌, All, sum_by, List, [], ◌∷◌, map, length, Some, Result, Ok, Err, refl, sym, ap, ap₂, ◌∙◌, subst, inr, arith}
+use Rattle.std.proofs.Common.{◌≡◌, ◌≢◌, ℕ, ◌+◌, ◌<◌, ◌≤◌, ◌^◌, false, All, sum_by, List, [], ◌∷◌, map, length, None, Some, Result, Ok, Err, refl, sym, ap, ap₂, ◌∙◌, subst, inr, arith}
 use Rattle.accept.specs.declared.call.Call.{Call}
-use Rattle.accept.specs.declared.call.Reply.{Reply}
 use Rattle.pushjson.specs.declared.fault.PushFault.{PushFault}
 use Rattle.pushjson.specs.declared.fault.PushFault.TheVariants.{NotJson, WrongShape, BadTime, TooManyEntries, Memory}
 use Rattle.pushjson.specs.declared.push.RawBatch.{RawBatch}
@@ -21,11 +20,13 @@ use Rattle.answering.specs.Asking.{AsksFor, IsCallOf, IsLawful, asked_push, one_
 use Rattle.pushjson.specs.Bodies.{Stream, batch_of, entry_of, entry_count}
 use Rattle.std.proofs.lemmas.List.{length-map}
 use Rattle.std.proofs.lemmas.List.Sums.{sum_by-cons, get_or-le-sum_by}
-use Rattle.answering.specs.Courses.{Course, Unread, Whole, Broken, fault_failure, StreamEnds}
+use Rattle.answering.specs.Calls.{Giving}
+use Rattle.answering.specs.Courses.{Course, Unread, Whole, Broken, fault_failure, said_of, StreamEnds, BodyStops, RequestGives}
+use Rattle.answering.specs.Lines.{came_lines}
 use Rattle.answering.specs.Parts.{BodyIsRefused, StreamIsAnswered, OneIsAnswered, BodyIsAnswered}
 use Rattle.answering.specs.Replies.{one_status, one_text}
-use Rattle.answering.specs.Showing.{Shows}
-use Rattle.answering.specs.Responses.{RequestEnds, cames_status, cames_text, status_for, text_for, failure_in, fault_status, fault_text}
+use Rattle.answering.specs.Showing.{IsShown}
+use Rattle.answering.specs.Responses.{RequestEnds, RequestIsUnsaid, cames_status, cames_text, status_for, text_for, failure_in, fault_status, fault_text}
 
 -- it asks for one stream
 abbrev pub IsOfOne : Route → Type 0
@@ -33,16 +34,31 @@ IsOfOne Push = ⊥
 IsOfOne Read = Unit {0}
 IsOfOne Trim = Unit {0}
 
-shows_one : (route : Route) → IsOfOne route → (came : Came) (answer : Answer) → Shows (one_status came) (one_text came) answer → Shows (cames_status route (came ∷ [])) (cames_text route (came ∷ [])) answer
+shows_one : (route : Route) → IsOfOne route → (came : Came) (answer : Answer) → IsShown (one_status came) (one_text came) answer → IsShown (cames_status route (came ∷ [])) (cames_text route (came ∷ [])) answer
 shows_one Push never came answer shows = absurd never
 shows_one Read single came answer shows = shows
 shows_one Trim single came answer shows = shows
 
-module _ {H : Type 0} (gives : H → Call → Result Reply Failure → H → Type 0) (now : ℕ) (tenant body : List ℕ) where
+module _ {H : Type 0} (gives : Giving H) (now : ℕ) (tenant body : List ℕ) where
   pub refused : (route : Route) (h : H) (fault : PushFault) (result : Result Answer Halt) → AsksFor route now body (Err fault) → BodyIsRefused fault result → RequestEnds gives route now tenant body h result h
   refused route h fault (Ok answer) asks (none, shows) = (Unread fault, record { asked = Err fault; asks = asks; goes = (refl, refl) }, none, shows)
   refused route h fault (Err (Failed failure)) asks some = (Unread fault, record { asked = Err fault; asks = asks; goes = (refl, refl) }, some)
   refused route h fault (Err GivenUp) asks none = record { asked = Err fault; asks = asks; left = (none, refl) }
+
+  -- there was no memory, which the body does not forbid
+  unread : (route : Route) → AsksFor route now body (Err Memory)
+  unread Push = (Err Memory, tt, refl)
+  unread Read = (Err Memory, tt, refl)
+  unread Trim = (Err Memory, tt, refl)
+
+  pub unsaid : (route : Route) (h : H) → RequestIsUnsaid gives route now tenant body h h
+  unsaid route h = (Unread Memory, record { asked = Err Memory; asks = unread route; goes = (refl, refl) }, refl, refl)
+
+  -- what is said of the one stream
+  one_left : (route : Route) → IsOfOne route → (h h' : H) (all : List Asked) → BodyStops gives tenant (λ i came. one_text came) h all h' → BodyStops gives tenant (said_of route) h all h'
+  one_left Push never h h' all s = absurd never
+  one_left Read single h h' all s = record { done = s.done; more = s.more; cames = s.cames; last = s.last; behind = s.behind; split = s.split; each = s.each; whole = s.whole; said = s.said; few = s.few }
+  one_left Trim single h h' all s = record { done = s.done; more = s.more; cames = s.cames; last = s.last; behind = s.behind; split = s.split; each = s.each; whole = s.whole; said = s.said; few = s.few }
 
   -- a read or a trim
   pub one : (route : Route) → IsOfOne route → (h h' : H) (asked : Result Asked PushFault) (result : Result Answer Halt) → AsksFor route now body (one_of asked) → OneIsAnswered gives tenant h asked result h' → RequestEnds gives route now tenant body h result h'
@@ -50,12 +66,16 @@ module _ {H : Type 0} (gives : H → Call → Result Reply Failure → H → Typ
   one route single h h' (Ok asked) (Ok answer) asks (came, comes, whole, shows) =
       (Whole (came ∷ []), record { asked = Ok (asked ∷ []); asks = asks; goes = (asked ∷ [], refl, (h', comes, refl), whole) }, refl, shows_one route single came answer shows)
   one route single h h' (Ok asked) (Err (Failed failure)) asks (cames, ends) = (Broken cames failure, record { asked = Ok (asked ∷ []); asks = asks; goes = (asked ∷ [], refl, ends) }, refl)
-  one route single h h' (Ok asked) (Err GivenUp) asks stops = record { asked = Ok (asked ∷ []); asks = asks; left = stops }
+  one route single h h' (Ok asked) (Err GivenUp) asks stops = record { asked = Ok (asked ∷ []); asks = asks; left = one_left route single h h' (asked ∷ []) stops }
 
   pub push : (h h' : H) (all : List Asked) (result : Result Answer Halt) → AsksFor Push now body (Ok all) → BodyIsAnswered gives tenant h all result h' → RequestEnds gives Push now tenant body h result h'
   push h h' all (Ok answer) asks (cames, each, whole, shows) = (Whole cames, record { asked = Ok all; asks = asks; goes = (all, refl, each, whole) }, refl, shows)
   push h h' all (Err (Failed failure)) asks (cames, ends) = (Broken cames failure, record { asked = Ok all; asks = asks; goes = (all, refl, ends) }, refl)
-  push h h' all (Err GivenUp) asks stops = record { asked = Ok all; asks = asks; left = stops }
+  push h h' all (Err GivenUp) asks s = record {
+    asked = Ok all;
+    asks = asks;
+    left = record { done = s.done; more = s.more; cames = s.cames; last = s.last; behind = s.behind; split = s.split; each = s.each; whole = s.whole; said = s.said; few = s.few };
+  }
 
 -- a failure is answered by 500 and its text
 fault_is_500 : (fault : PushFault) (failure : Failure) → fault_failure fault ≡ Some failure → (InternalServerError ≡ fault_status fault) × (failure_body failure ≡ fault_text fault)
@@ -70,17 +90,17 @@ is_500 route (Unread fault) failure e = fault_is_500 fault failure e
 is_500 route (Whole cames) failure e = absurd (cc)
 is_500 route (Broken cames other) failure e = let same : other ≡ failure = cc in (refl, ap failure_body (sym same))
 
-module _ {H : Type 0} (gives : H → Call → Result Reply Failure → H → Type 0) (tenant : List ℕ) (h : H) (asked : Asked) where
+module _ {H : Type 0} (gives : Giving H) (tenant : List ℕ) (h : H) (asked : Asked) where
   -- the one call of a read or a trim failed
-  pub fails : (h' : H) (call : Call) (failure : Failure) → IsCallOf tenant asked call → gives h call (Err failure) h' → StreamEnds gives tenant h asked (Err failure) h'
+  pub fails : (h' : H) (call : Call) (failure : Failure) → IsCallOf tenant asked call → gives false h call (Err failure) h' → StreamEnds gives tenant h asked (Err failure) h'
   fails h' call failure is given = (
     cames.Failed failure ∷ [],
     inr (record { done = asked ∷ []; more = []; split = refl; each = (h', (call, is, given), refl); fails = refl; few = omega arith }),
   )
 
   -- there was no memory for its answer
-  pub leaves : (h' : H) (came : Came) → StreamEnds gives tenant h asked (Ok came) h' → StreamIsAnswered gives tenant h asked (Err GivenUp) h'
-  leaves h' came (comes, whole) = record {
+  pub leaves : (h' : H) (came : Came) → StreamEnds gives tenant h asked (Ok came) h' → one_text came ≢ [] → StreamIsAnswered gives tenant h asked (Err GivenUp) h'
+  leaves h' came (comes, whole) said = record {
     done = asked ∷ [];
     more = [];
     cames = [];
@@ -89,6 +109,7 @@ module _ {H : Type 0} (gives : H → Call → Result Reply Failure → H → Typ
     split = refl;
     each = (h', comes, refl);
     whole = whole;
+    said = said;
     few = omega arith;
   }
 

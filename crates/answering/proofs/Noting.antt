@@ -1,5 +1,5 @@
 -- Lines that follow one another.
-use Rattle.std.proofs.Common.{◌≡◌, ℕ, suc, ◌+◌, ◌<◌, Bool, ◌||◌, List, [], ◌∷◌, ◌++◌, length, get_or, drop, Result, Ok, Err, OnOk, sym, ap, ◌∙◌, append_assoc, add-one, add-zero, zero-add, drop-cons, arith}
+use Rattle.std.proofs.Common.{◌≡◌, ◌≢◌, ℕ, zero, suc, ◌+◌, ◌<◌, Bool, ◌||◌, List, [], ◌∷◌, ◌++◌, length, get_or, drop, Result, Ok, Err, OnOk, sym, ap, ◌∙◌, refl, subst, append_assoc, add-one, add-zero, zero-add, drop-cons, arith}
 use Rattle.std.proofs.Math.Bool.{or_assoc, or-false}
 use Rattle.std.proofs.lemmas.List.{append-nil}
 use Rattle.std.specs.List.{list_any}
@@ -15,6 +15,19 @@ pub one_more : (text whole : List ℕ) (i k : ℕ) (os : List Outcome) (o : Outc
 one_more text whole i k os o within is so_far =
     let cut : drop k os ≡ o ∷ drop (k + 1) os = rw add-one (drop-cons os k o within ∙ ap (λ x. x ∷ drop (suc k) os) (sym is)) in
     append_assoc text (outcome_line i k o) (outcome_lines i (k + 1) (drop (k + 1) os)) ∙ ap (λ l. text ++ outcome_lines i k l) (sym cut) ∙ so_far
+
+both_none : (xs ys : List ℕ) → xs ++ ys ≡ [] → (xs ≡ []) × (ys ≡ [])
+both_none [] ys none = (refl, none)
+both_none (x ∷ xs) ys none = absurd (cc)
+
+-- the outcome at k has a line, so the outcomes have one
+pub said_among : (i j k : ℕ) (os : List Outcome) (d : Outcome) → k < length os → outcome_line i (j + k) (get_or os k d) ≢ [] → outcome_lines i j os ≢ []
+said_among i j k [] d within said none = absurd (omega (arith, within))
+said_among i j zero (p ∷ os) d within said none =
+    said (subst (λ (n : ℕ). outcome_line i n p ≡ []) (sym (add-zero j)) (both_none (outcome_line i j p) (outcome_lines i (j + 1) os) none).0)
+said_among i j (suc k) (p ∷ os) d within said none =
+    let later : outcome_line i ((j + 1) + k) (get_or os k d) ≢ [] = subst (λ (n : ℕ). outcome_line i n (get_or os k d) ≢ []) (omega arith) said in
+    said_among i (j + 1) k os d (omega arith) later (both_none (outcome_line i j p) (outcome_lines i (j + 1) os) none).1
 
 -- one stream more
 pub lines_push : (i : ℕ) (cs : List Came) (c : Came) → lines_from i (cs ++ c ∷ []) ≡ lines_from i cs ++ came_lines (i + length cs) c

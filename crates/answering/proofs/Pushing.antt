@@ -1,5 +1,5 @@
 -- From windows of streams to all of them.
-use Rattle.std.proofs.Common.{◌≡◌, ℕ, ◌+◌, ◌<◌, ◌≤◌, All, List, [], ◌∷◌, ◌++◌, map, length, None, Some, Result, Ok, Err, IfOk, refl, sym, ap, ◌∙◌, subst, inr, append_assoc, length-append, arith}
+use Rattle.std.proofs.Common.{◌≡◌, ◌≢◌, ℕ, ◌+◌, ◌<◌, ◌≤◌, Bool, false, All, List, [], ◌∷◌, ◌++◌, map, length, None, Some, Result, Ok, Err, IfOk, refl, sym, ap, ◌∙◌, subst, inr, append_assoc, length-append, arith}
 use Rattle.std.proofs.lemmas.List.{append-nil, map-append}
 use Rattle.std.proofs.lemmas.List.Elements.{All-nil, All-cons}
 use Rattle.accept.specs.Calls.{AreNumbers}
@@ -8,7 +8,7 @@ use Rattle.accept.specs.declared.call.Reply.{Reply}
 use Rattle.requests.specs.declared.answer.Answer.{Answer}
 use Rattle.requests.specs.declared.failure.Failure.{Failure}
 use Rattle.answering.specs.Asking.{IsCallOf}
-use Rattle.answering.specs.Calls.{AreGiven}
+use Rattle.answering.specs.Calls.{Giving, leaves_doubt, CallsGive, CallsGiveAfter}
 use Rattle.answering.specs.declared.calling.Asked.{Asked}
 use Rattle.answering.specs.declared.calling.Came.{Came}
 use Rattle.answering.specs.declared.calling.Came.TheVariants as cames
@@ -20,14 +20,14 @@ use Rattle.answering.specs.declared.responding.Halt.TheVariants.{Failed, GivenUp
 use Rattle.answering.specs.declared.window.Mark.{Mark}
 use Rattle.answering.specs.declared.window.Mark.TheVariants.{Refused, Called}
 use Rattle.answering.specs.declared.window.Window.{Window}
-use Rattle.answering.specs.Courses.{first_failure, behind_failure, StreamGives, StreamsGive}
-use Rattle.answering.specs.Lines.{push_status, lines_from}
+use Rattle.answering.specs.Courses.{first_failure, behind_failure, doubt_behind, StreamGives, StreamsGive, StreamsGiveAfter}
+use Rattle.answering.specs.Lines.{push_status, lines_from, came_lines}
 use Rattle.answering.specs.Parts.{BodyIsAnswered}
-use Rattle.answering.specs.Showing.{Shows}
+use Rattle.answering.specs.Showing.{IsShown}
 use Rattle.answering.specs.Telling.{Tells}
-use Rattle.answering.specs.Windows.{IsKeyed, came_of, AreKeyed, mark_of, calls_of, merged, AreDue, IsFilled, cames_in, WindowIsNoted, WindowProgress, NextComes, CameIsNoted, StreamsAreTaken, WindowIsTaken}
+use Rattle.answering.specs.Windows.{IsKeyed, came_of, AreKeyed, mark_of, calls_in, merged, AreAllAnswered, HoldsNext, cames_in, WindowIsNoted, WindowProgress, NextComes, CameIsNoted, StreamsAreTaken, WindowIsTaken}
 
-pub calls_append : (ks ls : List Keyed) → calls_of (ks ++ ls) ≡ calls_of ks ++ calls_of ls
+pub calls_append : (ks ls : List Keyed) → calls_in (ks ++ ls) ≡ calls_in ks ++ calls_in ls
 calls_append [] ls = refl
 calls_append (keys.Refused fault ∷ ks) ls = calls_append ks ls
 calls_append (keys.Called call ∷ ks) ls = ap (λ l. call ∷ l) (calls_append ks ls)
@@ -41,13 +41,13 @@ pub keyed_all : (tenant : List ℕ) (all : List Asked) (ks : List Keyed) → ((l
 keyed_all tenant all ks so_far = subst (AreKeyed tenant all) (append-nil ks) (so_far [] tt)
 
 -- one stream more in a window
-pub filled_more : {O : Type 0} (old rest left : List Keyed) (window next : Window O) (k : Keyed) → IsFilled old rest window → rest ≡ k ∷ left → next.marks.items ≡ window.marks.items ++ mark_of k ∷ []
-    → next.calls.items ≡ window.calls.items ++ calls_of (k ∷ []) → next.outcomes.items ≡ window.outcomes.items → IsFilled old left next
+pub filled_more : {O : Type 0} (old rest left : List Keyed) (window next : Window O) (k : Keyed) → HoldsNext old rest window → rest ≡ k ∷ left → next.marks.items ≡ window.marks.items ++ mark_of k ∷ []
+    → next.calls.items ≡ window.calls.items ++ calls_in (k ∷ []) → next.outcomes.items ≡ window.outcomes.items → HoldsNext old left next
 filled_more old rest left window next k filled is marks calls outcomes = record {
   taken = filled.taken ++ k ∷ [];
   split = filled.split ∙ ap (λ l. filled.taken ++ l) is ∙ sym (append_assoc filled.taken (k ∷ []) left);
   marks = marks ∙ ap (λ l. l ++ mark_of k ∷ []) filled.marks ∙ sym (map-append mark_of filled.taken (k ∷ []));
-  calls = calls ∙ ap (λ l. l ++ calls_of (k ∷ [])) filled.calls ∙ sym (calls_append filled.taken (k ∷ []));
+  calls = calls ∙ ap (λ l. l ++ calls_in (k ∷ [])) filled.calls ∙ sym (calls_append filled.taken (k ∷ []));
   outcomes = outcomes ∙ filled.outcomes;
 }
 
@@ -60,20 +60,20 @@ keyed_split tenant (a ∷ asked) (k ∷ ks) ls are =
     let (done, more, split, first, others) = keyed_split tenant asked ks ls are.1 in
     (a ∷ done, more, ap (λ l. a ∷ l) split, (are.0, first), others)
 
-numbers_of : (tenant : List ℕ) (asked : List Asked) (ks : List Keyed) → AreKeyed tenant asked ks → All AreNumbers (calls_of ks)
+numbers_of : (tenant : List ℕ) (asked : List Asked) (ks : List Keyed) → AreKeyed tenant asked ks → All AreNumbers (calls_in ks)
 numbers_of tenant [] [] are = All-nil AreNumbers
 numbers_of tenant [] (k ∷ ks) are = absurd are
 numbers_of tenant (a ∷ asked) [] are = absurd are
 numbers_of tenant (a ∷ asked) (keys.Refused fault ∷ ks) are = numbers_of tenant asked ks are.1
-numbers_of tenant (a ∷ asked) (keys.Called call ∷ ks) are = All-cons AreNumbers call (calls_of ks) are.0.1 (numbers_of tenant asked ks are.1)
+numbers_of tenant (a ∷ asked) (keys.Called call ∷ ks) are = All-cons AreNumbers call (calls_in ks) are.0.1 (numbers_of tenant asked ks are.1)
 
 -- the calls of a window may be made
-pub numbers : (tenant : List ℕ) {O : Type 0} (asked : List Asked) (old rest : List Keyed) (window : Window O) → AreKeyed tenant asked old → IsFilled old rest window → All AreNumbers window.calls.items
+pub numbers : (tenant : List ℕ) {O : Type 0} (asked : List Asked) (old rest : List Keyed) (window : Window O) → AreKeyed tenant asked old → HoldsNext old rest window → All AreNumbers window.calls.items
 numbers tenant asked old rest window are filled =
     let (done, more, split, first, others) = keyed_split tenant asked filled.taken rest (subst (AreKeyed tenant asked) filled.split are) in
     subst (All AreNumbers) (sym filled.calls) (numbers_of tenant done filled.taken first)
 
-merged_length : {O : Type 0} (told : O → Result Reply Failure) (marks : List Mark) (outcomes : List O) → AreDue marks outcomes → length (merged marks (map told outcomes)) ≡ length marks
+merged_length : {O : Type 0} (told : O → Result Reply Failure) (marks : List Mark) (outcomes : List O) → AreAllAnswered marks outcomes → length (merged marks (map told outcomes)) ≡ length marks
 merged_length told [] outcomes due = refl
 merged_length told (Refused fault ∷ marks) outcomes due = let same = merged_length told marks outcomes due in omega arith
 merged_length told (Called ∷ marks) [] due = absurd due
@@ -98,37 +98,45 @@ same_behind (cames.Replied r ∷ cs) ds none = same_behind cs ds none
 same_behind (cames.Failed f ∷ cs) ds none = absurd (cc)
 
 -- of a window in which calls were made, what came is told by the marks and the outcomes
-module _ {H O : Type 0} (gives : H → Call → Result Reply Failure → H → Type 0) (told : O → Result Reply Failure) where
-  due : (h h' : H) (ks : List Keyed) (outcomes : List O) → AreGiven gives h (calls_of ks) (map told outcomes) h' → AreDue (map mark_of ks) outcomes
-  due h h' [] [] given = refl
-  due h h' [] (r ∷ rs) given = absurd given
-  due h h' (keys.Refused fault ∷ ks) outcomes given = due h h' ks outcomes given
-  due h h' (keys.Called call ∷ ks) [] given = absurd given
-  due h h' (keys.Called call ∷ ks) (r ∷ rs) (mid, is, given) = due mid h' ks rs given
+module _ {H O : Type 0} (gives : Giving H) (told : O → Result Reply Failure) where
+  due : (doubt : Bool) (h h' : H) (ks : List Keyed) (outcomes : List O) → CallsGiveAfter gives doubt h (calls_in ks) (map told outcomes) h' → AreAllAnswered (map mark_of ks) outcomes
+  due doubt h h' [] [] given = refl
+  due doubt h h' [] (r ∷ rs) given = absurd given
+  due doubt h h' (keys.Refused fault ∷ ks) outcomes given = due doubt h h' ks outcomes given
+  due doubt h h' (keys.Called call ∷ ks) [] given = absurd given
+  due doubt h h' (keys.Called call ∷ ks) (r ∷ rs) (mid, is, given) = due (leaves_doubt (told r)) mid h' ks rs given
 
-  came_given : (tenant : List ℕ) (h h' : H) (asked : Asked) (call : Call) (outcome : Result Reply Failure) → IsCallOf tenant asked call → gives h call outcome h' → StreamGives gives tenant h asked (came_of outcome) h'
-  came_given tenant h h' asked call (Ok reply) is given = (call, is, given)
-  came_given tenant h h' asked call (Err failure) is given = (call, is, given)
+  came_given : (tenant : List ℕ) (doubt : Bool) (h h' : H) (asked : Asked) (call : Call) (outcome : Result Reply Failure) → IsCallOf tenant asked call → gives doubt h call outcome h' → StreamGives gives tenant doubt h asked (came_of outcome) h'
+  came_given tenant doubt h h' asked call (Ok reply) is given = (call, is, given)
+  came_given tenant doubt h h' asked call (Err failure) is given = (call, is, given)
 
-  given_streams : (tenant : List ℕ) (h h' : H) (asked : List Asked) (ks : List Keyed) (outcomes : List O) → AreKeyed tenant asked ks
-      → AreGiven gives h (calls_of ks) (map told outcomes) h' → StreamsGive gives tenant h asked (merged (map mark_of ks) (map told outcomes)) h'
-  given_streams tenant h h' [] [] [] are given = given
-  given_streams tenant h h' [] [] (r ∷ rs) are given = absurd given
-  given_streams tenant h h' [] (k ∷ ks) outcomes are given = absurd are
-  given_streams tenant h h' (a ∷ asked) [] outcomes are given = absurd are
-  given_streams tenant h h' (a ∷ asked) (keys.Refused fault ∷ ks) outcomes are given = (h, (are.0, refl), given_streams tenant h h' asked ks outcomes are.1 given)
-  given_streams tenant h h' (a ∷ asked) (keys.Called call ∷ ks) [] are given = absurd given
-  given_streams tenant h h' (a ∷ asked) (keys.Called call ∷ ks) (r ∷ rs) are (mid, is, given) =
-      (mid, came_given tenant h mid a call (told r) are.0.0 is, given_streams tenant mid h' asked ks rs are.1 given)
+  same_doubt : (doubt : Bool) (outcome : Result Reply Failure) → leaves_doubt outcome ≡ doubt_behind doubt (came_of outcome)
+  same_doubt doubt (Ok reply) = refl
+  same_doubt doubt (Err failure) = refl
+
+  given_streams : (tenant : List ℕ) (doubt : Bool) (h h' : H) (asked : List Asked) (ks : List Keyed) (outcomes : List O) → AreKeyed tenant asked ks
+      → CallsGiveAfter gives doubt h (calls_in ks) (map told outcomes) h' → StreamsGiveAfter gives tenant doubt h asked (merged (map mark_of ks) (map told outcomes)) h'
+  given_streams tenant doubt h h' [] [] [] are given = given
+  given_streams tenant doubt h h' [] [] (r ∷ rs) are given = absurd given
+  given_streams tenant doubt h h' [] (k ∷ ks) outcomes are given = absurd are
+  given_streams tenant doubt h h' (a ∷ asked) [] outcomes are given = absurd are
+  given_streams tenant doubt h h' (a ∷ asked) (keys.Refused fault ∷ ks) outcomes are given = (h, (are.0, refl), given_streams tenant doubt h h' asked ks outcomes are.1 given)
+  given_streams tenant doubt h h' (a ∷ asked) (keys.Called call ∷ ks) [] are given = absurd given
+  given_streams tenant doubt h h' (a ∷ asked) (keys.Called call ∷ ks) (r ∷ rs) are (mid, is, given) =
+      let others = given_streams tenant (leaves_doubt (told r)) mid h' asked ks rs are.1 given in (
+        mid,
+        came_given tenant doubt h mid a call (told r) are.0.0 is,
+        subst (λ (b : Bool). StreamsGiveAfter gives tenant b mid asked (merged (map mark_of ks) (map told rs)) h') (same_doubt doubt (told r)) others,
+      )
 
   -- what became of a window
   module _ (tenant : List ℕ) (h h' : H) (all : List Asked) (old rest : List Keyed) (window : Window O) (outcomes : List O)
-      (are : AreKeyed tenant all old) (filled : IsFilled old rest window) (few : length window.marks.items ≤ 64) (given : AreGiven gives h window.calls.items (map told outcomes) h') where
-    calls_given : AreGiven gives h (calls_of filled.taken) (map told outcomes) h'
-    calls_given = subst (λ l. AreGiven gives h l (map told outcomes) h') filled.calls given
+      (are : AreKeyed tenant all old) (filled : HoldsNext old rest window) (few : length window.marks.items ≤ 64) (given : CallsGive gives h window.calls.items (map told outcomes) h') where
+    calls_given : CallsGive gives h (calls_in filled.taken) (map told outcomes) h'
+    calls_given = subst (λ l. CallsGive gives h l (map told outcomes) h') filled.calls given
 
-    pub is_due : AreDue window.marks.items outcomes
-    is_due = subst (λ l. AreDue l outcomes) (sym filled.marks) (due h h' filled.taken outcomes calls_given)
+    pub is_due : AreAllAnswered window.marks.items outcomes
+    is_due = subst (λ l. AreAllAnswered l outcomes) (sym filled.marks) (due false h h' filled.taken outcomes calls_given)
 
     same_length : length (merged window.marks.items (map told outcomes)) ≡ length window.marks.items
     same_length = merged_length told window.marks.items outcomes is_due
@@ -136,7 +144,7 @@ module _ {H O : Type 0} (gives : H → Call → Result Reply Failure → H → T
     parts : (done : List Asked) × (more : List Asked) × (all ≡ done ++ more) × StreamsGive gives tenant h done (merged window.marks.items (map told outcomes)) h' × AreKeyed tenant more rest
     parts =
         let (done, more, split, first, others) = keyed_split tenant all filled.taken rest (subst (AreKeyed tenant all) filled.split are) in
-        (done, more, split, subst (λ l. StreamsGive gives tenant h done (merged l (map told outcomes)) h') (sym filled.marks) (given_streams tenant h h' done filled.taken outcomes first calls_given), others)
+        (done, more, split, subst (λ l. StreamsGive gives tenant h done (merged l (map told outcomes)) h') (sym filled.marks) (given_streams tenant false h h' done filled.taken outcomes first calls_given), others)
 
     pub window_taken : (stream : ℕ) (lines new : PushLines) (result : Result ℕ Halt) → WindowIsNoted stream (merged window.marks.items (map told outcomes)) lines result new → WindowIsTaken gives tenant h all stream lines result h' rest new
     window_taken stream lines new (Ok next) (whole, count, tells) =
@@ -147,7 +155,7 @@ module _ {H O : Type 0} (gives : H → Call → Result Reply Failure → H → T
         let below = few_behind (merged window.marks.items (map told outcomes)) failure fails in
         let same = same_length in
         (merged window.marks.items (map told outcomes), record { done = done; more = more; split = split; each = each; fails = fails; few = omega (arith, below, same, few) })
-    window_taken stream lines new (Err GivenUp) (first, last, behind, is, whole) =
+    window_taken stream lines new (Err GivenUp) (first, last, behind, is, whole, said) =
         let (done, more, split, each, others) = parts in
         let same = same_length in
         record {
@@ -159,6 +167,7 @@ module _ {H O : Type 0} (gives : H → Call → Result Reply Failure → H → T
           split = split;
           each = subst (λ l. StreamsGive gives tenant h done l h') is each;
           whole = whole;
+          said = said;
           few = omega (arith, same, few, ap length is, length-append first (last ∷ behind));
         }
 
@@ -167,13 +176,16 @@ module _ {H O : Type 0} (gives : H → Call → Result Reply Failure → H → T
     window_count stream lines new (Ok next) left before (whole, count, tells) len = let same = same_length in omega (arith, count, same, len)
     window_count stream lines new (Err halt) left before noted len = tt
 
-module _ {H : Type 0} (gives : H → Call → Result Reply Failure → H → Type 0) (tenant : List ℕ) where
-  pub streams_append : (h m h' : H) (done : List Asked) (cs : List Came) (more : List Asked) (ds : List Came) → StreamsGive gives tenant h done cs m → StreamsGive gives tenant m more ds h'
+module _ {H : Type 0} (gives : Giving H) (tenant : List ℕ) where
+  -- where none of the first failed
+  pub streams_append : (h m h' : H) (done : List Asked) (cs : List Came) (more : List Asked) (ds : List Came) → first_failure cs ≡ None → StreamsGive gives tenant h done cs m → StreamsGive gives tenant m more ds h'
       → StreamsGive gives tenant h (done ++ more) (cs ++ ds) h'
-  streams_append h m h' [] [] more ds same others = subst (λ k. StreamsGive gives tenant k more ds h') same others
-  streams_append h m h' [] (c ∷ cs) more ds never others = absurd never
-  streams_append h m h' (a ∷ done) [] more ds never others = absurd never
-  streams_append h m h' (a ∷ done) (c ∷ cs) more ds (mid, first, each) others = (mid, first, streams_append mid m h' done cs more ds each others)
+  streams_append h m h' [] [] more ds none same others = subst (λ k. StreamsGive gives tenant k more ds h') same others
+  streams_append h m h' [] (c ∷ cs) more ds none never others = absurd never
+  streams_append h m h' (a ∷ done) [] more ds none never others = absurd never
+  streams_append h m h' (a ∷ done) (cames.Refused fault ∷ cs) more ds none (mid, first, each) others = (mid, first, streams_append mid m h' done cs more ds none each others)
+  streams_append h m h' (a ∷ done) (cames.Replied reply ∷ cs) more ds none (mid, first, each) others = (mid, first, streams_append mid m h' done cs more ds none each others)
+  streams_append h m h' (a ∷ done) (cames.Failed failure ∷ cs) more ds none given others = absurd (cc)
 
   pub starts : (h : H) (all : List Asked) (keyed : List Keyed) (lines : PushLines) → AreKeyed tenant all keyed → StreamsAreTaken gives tenant h all 0 lines 0 h keyed lines
   starts h all keyed lines are = record {
@@ -199,26 +211,26 @@ module _ {H : Type 0} (gives : H → Call → Result Reply Failure → H → Typ
       cames = taken.cames ++ t.cames;
       split = split_more t.done t.more t.split;
       keyed = t.keyed;
-      each = streams_append h m h' taken.done taken.cames t.done t.cames taken.each t.each;
+      each = streams_append h m h' taken.done taken.cames t.done t.cames taken.whole taken.each t.each;
       whole = failure_behind taken.cames t.cames taken.whole ∙ t.whole;
       count = omega (arith, taken.count, t.count, length-append taken.cames t.cames);
       tells = λ before tells count.
           subst (λ l. Tells l new) (append_assoc before taken.cames t.cames) (t.tells (before ++ taken.cames) (taken.tells before tells count) (omega (arith, taken.count, count, length-append before taken.cames)));
     }
 
-    pub halts : (h' : H) (halt : Halt) (others : List Keyed) (new : PushLines) → WindowIsTaken gives tenant m taken.more stream old (Err halt) h' others new → BodyIsAnswered gives tenant h all (Err halt) h'
-    halts h' (Failed failure) others new (cs, t) = (
+    pub halts : first ≡ 0 → (h' : H) (halt : Halt) (others : List Keyed) (new : PushLines) → WindowIsTaken gives tenant m taken.more stream old (Err halt) h' others new → BodyIsAnswered gives tenant h all (Err halt) h'
+    halts zero h' (Failed failure) others new (cs, t) = (
       taken.cames ++ cs,
       inr (record {
         done = taken.done ++ t.done;
         more = t.more;
         split = split_more t.done t.more t.split;
-        each = streams_append h m h' taken.done taken.cames t.done cs taken.each t.each;
+        each = streams_append h m h' taken.done taken.cames t.done cs taken.whole taken.each t.each;
         fails = failure_behind taken.cames cs taken.whole ∙ t.fails;
         few = subst (λ (n : ℕ). n < 64) (sym (same_behind taken.cames cs taken.whole)) t.few;
       }),
     )
-    halts h' GivenUp others new t = record {
+    halts zero h' GivenUp others new t = record {
       done = taken.done ++ t.done;
       more = t.more;
       cames = taken.cames ++ t.cames;
@@ -226,8 +238,9 @@ module _ {H : Type 0} (gives : H → Call → Result Reply Failure → H → Typ
       behind = t.behind;
       split = split_more t.done t.more t.split;
       each = subst (λ l. StreamsGive gives tenant h (taken.done ++ t.done) l h') (sym (append_assoc taken.cames t.cames (t.last ∷ t.behind)))
-          (streams_append h m h' taken.done taken.cames t.done (t.cames ++ t.last ∷ t.behind) taken.each t.each);
+          (streams_append h m h' taken.done taken.cames t.done (t.cames ++ t.last ∷ t.behind) taken.whole taken.each t.each);
       whole = ap first_failure (append_assoc taken.cames t.cames (t.last ∷ [])) ∙ failure_behind taken.cames (t.cames ++ t.last ∷ []) taken.whole ∙ t.whole;
+      said = subst (λ (n : ℕ). came_lines n t.last ≢ []) (omega (arith, zero, taken.count, length-append taken.cames t.cames)) t.said;
       few = t.few;
     }
 
@@ -237,7 +250,7 @@ module _ {H : Type 0} (gives : H → Call → Result Reply Failure → H → Typ
   none_more (a ∷ more) (k ∷ rest) none are = absurd (cc)
 
   pub ends : (h m : H) (all : List Asked) (start : PushLines) (stream : ℕ) (rest : List Keyed) (old : PushLines) → StreamsAreTaken gives tenant h all 0 start stream m rest old → Tells [] start → rest ≡ []
-      → (answer : Answer) → ((cs : List Came) → Tells cs old → Shows (push_status cs) (lines_from 0 cs) answer) → BodyIsAnswered gives tenant h all (Ok answer) m
+      → (answer : Answer) → ((cs : List Came) → Tells cs old → IsShown (push_status cs) (lines_from 0 cs) answer) → BodyIsAnswered gives tenant h all (Ok answer) m
   ends h m all start stream rest old taken tells none answer shows =
       let is : taken.done ≡ all = sym (append-nil taken.done) ∙ ap (λ l. taken.done ++ l) (sym (none_more taken.more rest none taken.keyed)) ∙ sym taken.split in
       (taken.cames, subst (λ l. StreamsGive gives tenant h l taken.cames m) is taken.each, taken.whole, shows taken.cames (taken.tells [] tells refl))
@@ -271,7 +284,8 @@ module _ {O : Type 0} (told : O → Result Reply Failure) (all : List Came) (fir
       pub noted_halt : (halt : Halt) (new : PushLines) → CameIsNoted stream came old (Err halt) new → WindowIsNoted first all start (Err halt) new
       noted_halt (Failed failure) new is =
           ap first_failure split_next ∙ failure_behind p.noted (came ∷ cames_in told next) p.whole ∙ ap (λ c. first_failure (c ∷ cames_in told next)) is
-      noted_halt GivenUp new whole = (p.noted, came, cames_in told next, split_next, failure_behind p.noted (came ∷ []) p.whole ∙ whole)
+      noted_halt GivenUp new (whole, said) =
+          (p.noted, came, cames_in told next, split_next, failure_behind p.noted (came ∷ []) p.whole ∙ whole, subst (λ (n : ℕ). came_lines n came ≢ []) p.count said)
 
     pub noted_all : NextComes told window None next → WindowIsNoted first all start (Ok stream) old
     noted_all comes =

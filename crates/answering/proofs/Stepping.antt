@@ -1,5 +1,5 @@
 -- From what one call leaves to what the calls of requests leave.
-use Rattle.std.proofs.Common.{◌≡◌, ℕ, List, [], ◌∷◌, ◌++◌, Result, Ok, Err, refl, sym, ap, ◌∙◌, subst, inl, inr}
+use Rattle.std.proofs.Common.{◌≡◌, ℕ, Bool, false, List, [], ◌∷◌, ◌++◌, Result, Ok, Err, refl, sym, ap, ◌∙◌, subst, inl, inr}
 use Rattle.accept.specs.declared.call.Call.{Call as Asking}
 use Rattle.accept.specs.declared.call.Reply.{Reply}
 use Rattle.accept.specs.declared.history.Step.{Step}
@@ -11,29 +11,30 @@ use Rattle.answering.specs.declared.calling.Asked.{Asked}
 use Rattle.answering.specs.declared.calling.Came.{Came}
 use Rattle.answering.specs.declared.calling.Came.TheVariants.{Refused, Replied, Failed}
 use Rattle.answering.specs.Asking.{IsCallOf}
-use Rattle.answering.specs.Courses.{Course, Unread, Whole, Broken, StreamsGive, BodyBreaks, BodyGives, BodyIsLeft}
+use Rattle.answering.specs.Calls.{Giving}
+use Rattle.answering.specs.Courses.{Course, Unread, Whole, Broken, doubt_behind, said_of, StreamsGiveAfter, BodyBreaks, BodyGives, BodyIsLeft}
 use Rattle.answering.specs.Serving.{Exchange, World, VerdictGives, VerdictIsLeft, ConnectionGives, IsExchange, IsAbandoned}
 use Rattle.answering.specs.Steps.{AreSteps, AreStepsOf, AreFirstStepsOf, AreStepsBy, AreFirstStepsBy, AreTheirSteps}
 
 -- a call with a reply gains its step, one that failed none
-module _ {H : Type 0} (gives : H → Asking → Result Reply Failure → H → Type 0) (Gains : H → List Step → H → Type 0)
+module _ {H : Type 0} (gives : Giving H) (Gains : H → List Step → H → Type 0)
     (none : (h h' : H) → h' ≡ h → Gains h [] h')
-    (one : (h h' : H) (call : Asking) (reply : Reply) → gives h call (Ok reply) h' → (step : Step) × (step.ask.call ≡ call) × (step.reply ≡ reply) × Gains h (step ∷ []) h')
-    (kept : (h h' : H) (call : Asking) (failure : Failure) → gives h call (Err failure) h' → Gains h [] h')
+    (one : (doubt : Bool) (h h' : H) (call : Asking) (reply : Reply) → gives doubt h call (Ok reply) h' → (step : Step) × (step.ask.call ≡ call) × (step.reply ≡ reply) × Gains h (step ∷ []) h')
+    (kept : (doubt : Bool) (h h' : H) (call : Asking) (failure : Failure) → gives doubt h call (Err failure) h' → Gains h [] h')
     (both : (h m h' : H) (first others : List Step) → Gains h first m → Gains m others h' → Gains h (first ++ others) h') where
-  each : (tenant : List ℕ) (h h' : H) (all : List Asked) (cames : List Came) → StreamsGive gives tenant h all cames h' → (steps : List Step) × Gains h steps h' × AreSteps tenant all cames steps
-  each tenant h h' [] [] same = ([], none h h' same, refl)
-  each tenant h h' [] (c ∷ cs) never = absurd never
-  each tenant h h' (a ∷ more) [] never = absurd never
-  each tenant h h' (a ∷ more) (Refused fault ∷ cs) (mid, (why, same), others) =
-      let (steps, gains, are) = each tenant mid h' more cs others in
+  each : (tenant : List ℕ) (doubt : Bool) (h h' : H) (all : List Asked) (cames : List Came) → StreamsGiveAfter gives tenant doubt h all cames h' → (steps : List Step) × Gains h steps h' × AreSteps tenant all cames steps
+  each tenant doubt h h' [] [] same = ([], none h h' same, refl)
+  each tenant doubt h h' [] (c ∷ cs) never = absurd never
+  each tenant doubt h h' (a ∷ more) [] never = absurd never
+  each tenant doubt h h' (a ∷ more) (Refused fault ∷ cs) (mid, (why, same), others) =
+      let (steps, gains, are) = each tenant doubt mid h' more cs others in
       (steps, both h mid h' [] steps (none h mid same) gains, are)
-  each tenant h h' (a ∷ more) (Failed failure ∷ cs) (mid, (call, is, given), others) =
-      let (steps, gains, are) = each tenant mid h' more cs others in
-      (steps, both h mid h' [] steps (kept h mid call failure given) gains, are)
-  each tenant h h' (a ∷ more) (Replied reply ∷ cs) (mid, (call, is, given), others) =
-      let (step, called, replied, first) = one h mid call reply given in
-      let (steps, gains, are) = each tenant mid h' more cs others in
+  each tenant doubt h h' (a ∷ more) (Failed failure ∷ cs) (mid, (call, is, given), others) =
+      let (steps, gains, are) = each tenant (doubt_behind doubt (Failed failure)) mid h' more cs others in
+      (steps, both h mid h' [] steps (kept doubt h mid call failure given) gains, are)
+  each tenant doubt h h' (a ∷ more) (Replied reply ∷ cs) (mid, (call, is, given), others) =
+      let (step, called, replied, first) = one doubt h mid call reply given in
+      let (steps, gains, are) = each tenant false mid h' more cs others in
       (step ∷ steps, both h mid h' (step ∷ []) steps first gains, (subst (IsCallOf tenant a) (sym called) is, replied, are))
 
   breaks : (tenant : List ℕ) (h h' : H) (all : List Asked) (cames : List Came) (failure : Failure) → BodyBreaks gives tenant h all cames failure h'
@@ -41,12 +42,12 @@ module _ {H : Type 0} (gives : H → Asking → Result Reply Failure → H → T
   breaks tenant h h' all cames failure (inl (none_came, memory, same)) =
       ([], none h h' same, ([], all, refl, subst (λ l. AreSteps tenant [] l []) (sym none_came) refl))
   breaks tenant h h' all cames failure (inr ends) =
-      let (steps, gains, are) = each tenant h h' ends.done cames ends.each in
+      let (steps, gains, are) = each tenant false h h' ends.done cames ends.each in
       (steps, gains, (ends.done, ends.more, ap (λ l. Ok l) ends.split, are))
 
   goes : (tenant : List ℕ) (h h' : H) (asked : Result (List Asked) PushFault) (course : Course) → BodyGives gives tenant h asked course h' → (steps : List Step) × Gains h steps h' × AreStepsOf tenant asked course steps
   goes tenant h h' asked (Unread fault) (why, same) = ([], none h h' same, refl)
-  goes tenant h h' asked (Whole cames) (all, is, went, whole) = let (steps, gains, are) = each tenant h h' all cames went in (steps, gains, (all, is, are))
+  goes tenant h h' asked (Whole cames) (all, is, went, whole) = let (steps, gains, are) = each tenant false h h' all cames went in (steps, gains, (all, is, are))
   goes tenant h h' asked (Broken cames failure) (all, is, ends) =
       let (steps, gains, (done, more, split, are)) = breaks tenant h h' all cames failure ends in
       (steps, gains, (done, more, is ∙ split, are))
@@ -57,16 +58,16 @@ module _ {H : Type 0} (gives : H → Asking → Result Reply Failure → H → T
       let (steps, gains, are) = goes tenant h h' takes.asked course takes.goes in (steps, gains, (takes.asked, takes.asks, are))
   handled now body h h' NoMemory course (what, same) = ([], none h h' same, refl)
 
-  gives_up : (tenant : List ℕ) (h h' : H) (asked : Result (List Asked) PushFault) → BodyIsLeft gives tenant h asked h' → (steps : List Step) × Gains h steps h' × AreFirstStepsOf tenant asked steps
-  gives_up tenant h h' (Err fault) (told, same) = ([], none h h' same, refl)
-  gives_up tenant h h' (Ok all) stops =
-      let (steps, gains, are) = each tenant h h' stops.done (stops.cames ++ stops.last ∷ stops.behind) stops.each in
+  gives_up : (tenant : List ℕ) (h h' : H) (says : ℕ → Came → List ℕ) (asked : Result (List Asked) PushFault) → BodyIsLeft gives tenant says h asked h' → (steps : List Step) × Gains h steps h' × AreFirstStepsOf tenant asked steps
+  gives_up tenant h h' says (Err fault) (told, same) = ([], none h h' same, refl)
+  gives_up tenant h h' says (Ok all) stops =
+      let (steps, gains, are) = each tenant false h h' stops.done (stops.cames ++ stops.last ∷ stops.behind) stops.each in
       (steps, gains, (stops.done, stops.more, stops.cames ++ stops.last ∷ stops.behind, stops.split, are))
 
   abandoned : (now : ℕ) (body : List ℕ) (h h' : H) (verdict : Verdict) → VerdictIsLeft gives now body verdict h h' → (steps : List Step) × Gains h steps h' × AreFirstStepsBy now body verdict steps
   abandoned now body h h' (Fixed answer) never = absurd never
   abandoned now body h h' (Call route tenant) left =
-      let (steps, gains, are) = gives_up tenant h h' left.asked left.left in (steps, gains, (left.asked, left.asks, are))
+      let (steps, gains, are) = gives_up tenant h h' (said_of route) left.asked left.left in (steps, gains, (left.asked, left.asks, are))
   abandoned now body h h' NoMemory never = absurd never
 
   module _ {C : Type 0} (ticks : C → ℕ → C → Type 0) where

@@ -6,8 +6,6 @@ use Rattle.std.proofs.Math.Seq.{take-length}
 use Rattle.std.proofs.KnownBytes.{Appends-nil, Appends-trans, Consumes-nil, Consumes-trans}
 use Rattle.std.specs.List.{flat_map}
 use Rattle.std.specs.Io.KnownBytes.{Appends, Consumes}
-use Rattle.accept.specs.declared.call.Call.{Call as Asking}
-use Rattle.accept.specs.declared.call.Reply.{Reply}
 use Rattle.requests.specs.Answers.{fixed_text}
 use Rattle.requests.specs.Streams.{Request, ReadsMessage, IsMessage, IsNext, IsRefused, Grows}
 use Rattle.requests.specs.Writing.{Writes}
@@ -15,11 +13,11 @@ use Rattle.requests.specs.declared.fault.ServeFault.{ServeFault}
 use Rattle.requests.specs.declared.fault.ServeFault.TheVariants.{Read, Write, Memory, CutShort}
 use Rattle.requests.specs.declared.fault.Served.{Served}
 use Rattle.requests.specs.declared.fault.Served.TheVariants as served
-use Rattle.requests.specs.declared.failure.Failure.{Failure}
 use Rattle.requests.specs.declared.fixed.FixedAnswer.{FixedAnswer}
 use Rattle.requests.specs.declared.incoming.Message.{Message}
 use Rattle.requests.specs.declared.verdict.Verdict.{Verdict}
 use Rattle.requests.proofs.Unique.{keeps_request}
+use Rattle.answering.specs.Calls.{Giving}
 use Rattle.answering.specs.Courses.{Course}
 use Rattle.answering.specs.Serving.{Exchange, World, Io, response, closes, response_text, failure_at, ends_behind, VerdictGives, VerdictIsLeft, IsExchange, ConnectionGives, ConnectionEnds, ConnectionIsServed}
 use Rattle.answering.specs.Turns.{IsSameConnection, ResponseGives, ResponseIsWritten, ConnectionTurnIsAnswered, ConnectionTurnIsServed, ConnectionProgress}
@@ -32,8 +30,8 @@ same_trans a b c first more = record {
   service = more.service ∙ first.service;
   pass = more.pass ∙ first.pass;
   clock = more.clock ∙ first.clock;
-  reader = more.reader ∙ first.reader;
-  writer = more.writer ∙ first.writer;
+  ends = more.ends ∙ first.ends;
+  of = record { reader = more.of.reader ∙ first.of.reader; writer = more.of.writer ∙ first.of.writer };
   incoming = more.incoming ∙ first.incoming;
   outgoing = more.outgoing ∙ first.outgoing;
 }
@@ -42,7 +40,7 @@ same_trans a b c first more = record {
 pub not_memory : (fault : ServeFault) → fault ≡ Write → fault ≡ Memory → ⊥
 not_memory fault written none = cc
 
-module _ {H : Type 0} (gives : H → Asking → Result Reply Failure → H → Type 0) (now : ℕ) (body : List ℕ) (verdict : Verdict) (close : Bool) (course : Course) (h h' : H) (before after : Option (List ℕ))
+module _ {H : Type 0} (gives : Giving H) (now : ℕ) (body : List ℕ) (verdict : Verdict) (close : Bool) (course : Course) (h h' : H) (before after : Option (List ℕ))
     (handles : VerdictGives gives now body verdict h course h') where
   -- the response is out
   pub out : (ends : Bool) (u : Unit {0}) → Writes before after (response_text verdict close course) (Ok u) → ends ≡ ends_behind verdict close course → ResponseIsWritten gives now body before after verdict close h h' (Ok ends)
@@ -59,7 +57,7 @@ module _ {H : Type 0} (gives : H → Asking → Result Reply Failure → H → T
   not_out Write (n, appends, some) said = record { text = take n (response_text verdict close course); appends = appends; replies = (course, handles, (n, refl)) }
   not_out Memory (n, appends, none) said = record { text = take n (response_text verdict close course); appends = appends; replies = (ap (λ k. take k (response_text verdict close course)) none, inl (course, handles, said refl)) }
 
-module _ {H C : Type 0} (gives : H → Asking → Result Reply Failure → H → Type 0) (ticks : C → ℕ → C → Type 0) where
+module _ {H C : Type 0} (gives : Giving H) (ticks : C → ℕ → C → Type 0) where
   -- what a turn read stands behind what had come
   pub turn : (ends ends' : Io) (old new rest : List ℕ) (w w' : World H C) (result : Result Turn ServeFault) → Grows ends.unread ends'.unread old new
       → ((text : List ℕ) × Appends ends.written ends'.written text × ConnectionTurnIsAnswered gives ticks new ends'.unread w text rest w' result) → ConnectionTurnIsServed gives ticks ends old w ends' rest w' result

@@ -1,13 +1,32 @@
 -- What came of calls that were made one after another.
-use Rattle.std.specs.Prelude.{◌≡◌, List, [], ◌∷◌, Result}
+use Rattle.std.specs.Prelude.{◌≡◌, Bool, true, false, List, [], ◌∷◌, Result, Ok, Err}
 use Rattle.accept.specs.declared.call.Call.{Call}
 use Rattle.accept.specs.declared.call.Reply.{Reply}
 use Rattle.requests.specs.declared.failure.Failure.{Failure}
+use Rattle.requests.specs.declared.failure.Failure.TheVariants.{OutOfMemory, PassClosed, InDoubt, LogSpent}
 
-module _ {H : Type 0} (gives : H → Call → Result Reply Failure → H → Type 0) where
-  -- this came of each, from what was known to what is known then
-  abbrev pub AreGiven : H → List Call → List (Result Reply Failure) → H → Type 0
-  AreGiven h [] [] h' = h' ≡ h
-  AreGiven h [] (r ∷ rs) h' = ⊥
-  AreGiven h (call ∷ calls) [] h' = ⊥
-  AreGiven h (call ∷ calls) (r ∷ rs) h' = (mid : H) × gives h call r mid × AreGiven mid calls rs h'
+-- a relation of what a call gives: whether the call before it is in doubt, what was known, the call, what came of it,
+-- and what is known then
+abbrev pub Giving : Type 0 → Type 1
+Giving H = Bool → H → Call → Result Reply Failure → H → Type 0
+
+-- whether a call is in doubt of which this came
+abbrev pub leaves_doubt : Result Reply Failure → Bool
+leaves_doubt (Ok reply) = false
+leaves_doubt (Err OutOfMemory) = false
+leaves_doubt (Err PassClosed) = false
+leaves_doubt (Err InDoubt) = true
+leaves_doubt (Err LogSpent) = false
+
+module _ {H : Type 0} (gives : Giving H) where
+  -- this came of each, from what was known to what is known then; the call before the first is in doubt or not
+  abbrev pub CallsGiveAfter : Bool → H → List Call → List (Result Reply Failure) → H → Type 0
+  CallsGiveAfter doubt h [] [] h' = h' ≡ h
+  CallsGiveAfter doubt h [] (r ∷ rs) h' = ⊥
+  CallsGiveAfter doubt h (call ∷ calls) [] h' = ⊥
+  CallsGiveAfter doubt h (call ∷ calls) (r ∷ rs) h' = (mid : H) × gives doubt h call r mid
+      × CallsGiveAfter (leaves_doubt r) mid calls rs h'
+
+  -- and no call before the first is
+  abbrev pub CallsGive : H → List Call → List (Result Reply Failure) → H → Type 0
+  CallsGive h calls outcomes h' = CallsGiveAfter false h calls outcomes h'

@@ -1,17 +1,20 @@
 -- What comes of the streams that a request asks for, one call each in the order of the body.
-use Rattle.std.specs.Prelude.{◌≡◌, ◌⊎◌, ◌<◌, ℕ, List, [], ◌∷◌, ◌++◌, length, Result, Ok, Err, Option, None, Some}
+use Rattle.std.specs.Prelude.{◌≡◌, ◌≢◌, ◌⊎◌, ◌<◌, ℕ, Bool, false, List, [], ◌∷◌, ◌++◌, length, Result, Ok, Err, Option, None, Some}
 use Rattle.labels.specs.Faults.{first_fault}
 use Rattle.accept.specs.declared.call.Call.{Call}
-use Rattle.accept.specs.declared.call.Reply.{Reply}
 use Rattle.pushjson.specs.declared.fault.PushFault.{PushFault}
 use Rattle.pushjson.specs.declared.fault.PushFault.TheVariants.{NotJson, WrongShape, BadTime, TooManyEntries, Memory}
 use Rattle.requests.specs.declared.failure.Failure.{Failure}
 use Rattle.requests.specs.declared.failure.Failure.TheVariants.{OutOfMemory}
 use Rattle.requests.specs.declared.route.Route.{Route}
+use Rattle.requests.specs.declared.route.Route.TheVariants.{Push, Read, Trim}
 use Rattle.answering.specs.declared.calling.Asked.{Asked}
 use Rattle.answering.specs.declared.calling.Came.{Came}
 use Rattle.answering.specs.declared.calling.Came.TheVariants.{Refused, Replied, Failed}
 use Rattle.answering.specs.Asking.{AsksFor, IsCallOf}
+use Rattle.answering.specs.Calls.{Giving, leaves_doubt}
+use Rattle.answering.specs.Lines.{came_lines}
+use Rattle.answering.specs.Replies.{one_text}
 
 -- the failure at a body's form, which is answered by a 500
 abbrev pub fault_failure : PushFault → Option Failure
@@ -42,19 +45,39 @@ pub data Course : Type 0 where
   Whole : List Came → Course
   Broken : List Came → Failure → Course
 
-module _ {H : Type 0} (gives : H → Call → Result Reply Failure → H → Type 0) (tenant : List ℕ) where
-  -- this came of a stream: a refusal of its labels without a call, the reply to its one call, or how that call failed
-  abbrev pub StreamGives : H → Asked → Came → H → Type 0
-  StreamGives h asked (Refused fault) h' = (first_fault asked.pairs ≡ Some fault) × (h' ≡ h)
-  StreamGives h asked (Replied reply) h' = (call : Call) × IsCallOf tenant asked call × gives h call (Ok reply) h'
-  StreamGives h asked (Failed failure) h' = (call : Call) × IsCallOf tenant asked call × gives h call (Err failure) h'
+-- whether the last call is in doubt, where this came of the last stream; one without a call changes nothing of it
+abbrev pub doubt_behind : Bool → Came → Bool
+doubt_behind doubt (Refused fault) = doubt
+doubt_behind doubt (Replied reply) = false
+doubt_behind doubt (Failed failure) = leaves_doubt (Err failure)
+
+-- what the answer to a request of this route says of the stream at this place, of which this came
+abbrev pub said_of : Route → ℕ → Came → List ℕ
+said_of Push i came = came_lines i came
+said_of Read i came = one_text came
+said_of Trim i came = one_text came
+
+module _ {H : Type 0} (gives : Giving H) (tenant : List ℕ) where
+  -- this came of a stream: a refusal of its labels without a call, the reply to its one call, or how that call failed;
+  -- the call before it is in doubt or not
+  abbrev pub StreamGives : Bool → H → Asked → Came → H → Type 0
+  StreamGives doubt h asked (Refused fault) h' = (first_fault asked.pairs ≡ Some fault) × (h' ≡ h)
+  StreamGives doubt h asked (Replied reply) h' = (call : Call) × IsCallOf tenant asked call
+      × gives doubt h call (Ok reply) h'
+  StreamGives doubt h asked (Failed failure) h' = (call : Call) × IsCallOf tenant asked call
+      × gives doubt h call (Err failure) h'
 
   -- this came of each stream, in order
+  abbrev pub StreamsGiveAfter : Bool → H → List Asked → List Came → H → Type 0
+  StreamsGiveAfter doubt h [] [] h' = h' ≡ h
+  StreamsGiveAfter doubt h [] (c ∷ cs) h' = ⊥
+  StreamsGiveAfter doubt h (a ∷ more) [] h' = ⊥
+  StreamsGiveAfter doubt h (a ∷ more) (c ∷ cs) h' = (mid : H) × StreamGives doubt h a c mid
+      × StreamsGiveAfter (doubt_behind doubt c) mid more cs h'
+
+  -- this came of the streams of a request
   abbrev pub StreamsGive : H → List Asked → List Came → H → Type 0
-  StreamsGive h [] [] h' = h' ≡ h
-  StreamsGive h [] (c ∷ cs) h' = ⊥
-  StreamsGive h (a ∷ more) [] h' = ⊥
-  StreamsGive h (a ∷ more) (c ∷ cs) h' = (mid : H) × StreamGives h a c mid × StreamsGive mid more cs h'
+  StreamsGive h all cames h' = StreamsGiveAfter false h all cames h'
 
   -- of a beginning of these streams this came: one failed, and fewer than 64 stand behind it
   pub record BodyFails (h : H) (all : List Asked) (cames : List Came) (failure : Failure) (h' : H) : Type 0 where
@@ -70,9 +93,9 @@ module _ {H : Type 0} (gives : H → Call → Result Reply Failure → H → Typ
   BodyBreaks h all cames failure h' = ((cames ≡ []) × (failure ≡ OutOfMemory) × (h' ≡ h))
       ⊎ BodyFails h all cames failure h'
 
-  -- of a beginning of these streams this came: none failed up to one of which there was something to say, and fewer
+  -- of a beginning of these streams this came: none failed up to one of which there is something to say, and fewer
   -- than 64 stand behind that
-  pub record BodyStops (h : H) (all : List Asked) (h' : H) : Type 0 where
+  pub record BodyStops (says : ℕ → Came → List ℕ) (h : H) (all : List Asked) (h' : H) : Type 0 where
     pub done : List Asked
     pub more : List Asked
     pub cames : List Came
@@ -81,6 +104,7 @@ module _ {H : Type 0} (gives : H → Call → Result Reply Failure → H → Typ
     pub split : all ≡ done ++ more
     pub each : StreamsGive h done (cames ++ last ∷ behind) h'
     pub whole : first_failure (cames ++ last ∷ []) ≡ None
+    pub said : says (length cames) last ≢ []
     pub few : length behind < 64
 
   -- what was asked for went so
@@ -92,25 +116,25 @@ module _ {H : Type 0} (gives : H → Call → Result Reply Failure → H → Typ
       × BodyBreaks h all cames failure h'
 
   -- it was given up at a stream of which there was something to say, or at a body's form that is not answered by a 500
-  abbrev pub BodyIsLeft : H → Result (List Asked) PushFault → H → Type 0
-  BodyIsLeft h (Err fault) h' = (fault_failure fault ≡ None) × (h' ≡ h)
-  BodyIsLeft h (Ok all) h' = BodyStops h all h'
+  abbrev pub BodyIsLeft : (ℕ → Came → List ℕ) → H → Result (List Asked) PushFault → H → Type 0
+  BodyIsLeft says h (Err fault) h' = (fault_failure fault ≡ None) × (h' ≡ h)
+  BodyIsLeft says h (Ok all) h' = BodyStops says h all h'
 
   -- for private clauses: the one stream went so
   abbrev pub StreamEnds : H → Asked → Result Came Failure → H → Type 0
-  StreamEnds h asked (Ok came) h' = StreamGives h asked came h' × (first_failure (came ∷ []) ≡ None)
+  StreamEnds h asked (Ok came) h' = StreamGives false h asked came h' × (first_failure (came ∷ []) ≡ None)
   StreamEnds h asked (Err failure) h' = (cames : List Came) × BodyBreaks h (asked ∷ []) cames failure h'
 
 -- the calls of a request with this route, clock, tenant and body went so
-pub record RequestGives {H : Type 0} (gives : H → Call → Result Reply Failure → H → Type 0) (route : Route) (now : ℕ)
-    (tenant body : List ℕ) (h : H) (course : Course) (h' : H) : Type 0 where
+pub record RequestGives {H : Type 0} (gives : Giving H) (route : Route) (now : ℕ) (tenant body : List ℕ) (h : H)
+    (course : Course) (h' : H) : Type 0 where
   pub asked : Result (List Asked) PushFault
   pub asks : AsksFor route now body asked
   pub goes : BodyGives gives tenant h asked course h'
 
 -- and so where they were given up for want of memory
-pub record RequestIsLeft {H : Type 0} (gives : H → Call → Result Reply Failure → H → Type 0) (route : Route)
-    (now : ℕ) (tenant body : List ℕ) (h h' : H) : Type 0 where
+pub record RequestIsLeft {H : Type 0} (gives : Giving H) (route : Route) (now : ℕ) (tenant body : List ℕ) (h h' : H)
+    : Type 0 where
   pub asked : Result (List Asked) PushFault
   pub asks : AsksFor route now body asked
-  pub left : BodyIsLeft gives tenant h asked h'
+  pub left : BodyIsLeft gives tenant (said_of route) h asked h'

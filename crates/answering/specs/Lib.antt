@@ -1,6 +1,7 @@
 pub mod Asking
 pub mod Calls
 pub mod Courses
+pub mod Ends
 pub mod Lines
 pub mod Parts
 pub mod Replies

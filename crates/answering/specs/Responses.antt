@@ -1,7 +1,5 @@
 -- The answer to a request, by how its calls went.
-use Rattle.std.specs.Prelude.{◌≡◌, ◌⊎◌, ℕ, ◌==◌, if◌then◌else◌, List, [], ◌∷◌, ◌++◌, codes, decimal, Option, None, Some, Result, Ok, Err, IsSome}
-use Rattle.accept.specs.declared.call.Call.{Call}
-use Rattle.accept.specs.declared.call.Reply.{Reply}
+use Rattle.std.specs.Prelude.{◌≡◌, ◌⊎◌, ℕ, ◌==◌, if◌then◌else◌, List, [], ◌∷◌, ◌++◌, codes, decimal, Option, None, Some, Result, Ok, Err}
 use Rattle.pushjson.specs.declared.fault.PushFault.{PushFault}
 use Rattle.pushjson.specs.declared.fault.PushFault.TheVariants.{NotJson, WrongShape, BadTime, TooManyEntries, Memory}
 use Rattle.requests.specs.Answers.{code_of, failure_body}
@@ -19,9 +17,10 @@ use Rattle.requests.specs.declared.status.Status.TheVariants as statuses
 use Rattle.answering.specs.declared.calling.Came.{Came}
 use Rattle.answering.specs.declared.responding.Halt.{Halt}
 use Rattle.answering.specs.declared.responding.Halt.TheVariants.{Failed, GivenUp}
+use Rattle.answering.specs.Calls.{Giving}
 use Rattle.answering.specs.Lines.{push_status, lines_from}
 use Rattle.answering.specs.Replies.{one_status, one_text}
-use Rattle.answering.specs.Showing.{Shows}
+use Rattle.answering.specs.Showing.{IsShown}
 use Rattle.answering.specs.Courses.{Course, Unread, Whole, Broken, fault_failure, RequestGives, RequestIsLeft}
 
 abbrev pub bad_time_text : ℕ → ℕ → List ℕ
@@ -83,15 +82,17 @@ failure_in (Broken cames failure) = Some failure
 abbrev pub content_for : Status → Content
 content_for status = if code_of status == 200 then Json else Text
 
-module _ {H : Type 0} (gives : H → Call → Result Reply Failure → H → Type 0) (route : Route) (now : ℕ)
-    (tenant body : List ℕ) where
+module _ {H : Type 0} (gives : Giving H) (route : Route) (now : ℕ) (tenant body : List ℕ) where
+  -- there was no memory before any call, nor for the text that says so
+  abbrev pub RequestIsUnsaid : H → H → Type 0
+  RequestIsUnsaid h h' = (course : Course) × RequestGives gives route now tenant body h course h'
+      × (failure_in course ≡ Some OutOfMemory) × (h' ≡ h)
+
   -- what is answered to a request behind its head: the answer of how its calls went; or nothing, where memory ran out
   abbrev pub RequestIsAnswered : H → Result Answer ServeFault → H → Type 0
   RequestIsAnswered h (Ok answer) h' = (course : Course) × RequestGives gives route now tenant body h course h'
-      × Shows (status_for route course) (text_for route course) answer
-  RequestIsAnswered h (Err faults.Memory) h' =
-      ((course : Course) × RequestGives gives route now tenant body h course h' × IsSome (failure_in course))
-      ⊎ RequestIsLeft gives route now tenant body h h'
+      × IsShown (status_for route course) (text_for route course) answer
+  RequestIsAnswered h (Err faults.Memory) h' = RequestIsUnsaid h h' ⊎ RequestIsLeft gives route now tenant body h h'
   RequestIsAnswered h (Err faults.Read) h' = ⊥
   RequestIsAnswered h (Err faults.Write) h' = ⊥
   RequestIsAnswered h (Err faults.CutShort) h' = ⊥
@@ -100,7 +101,7 @@ module _ {H : Type 0} (gives : H → Call → Result Reply Failure → H → Typ
   abbrev pub RequestEnds : H → Result Answer Halt → H → Type 0
   RequestEnds h (Ok answer) h' =
       (course : Course) × RequestGives gives route now tenant body h course h' × (failure_in course ≡ None)
-      × Shows (status_for route course) (text_for route course) answer
+      × IsShown (status_for route course) (text_for route course) answer
   RequestEnds h (Err (Failed failure)) h' = (course : Course) × RequestGives gives route now tenant body h course h'
       × (failure_in course ≡ Some failure)
   RequestEnds h (Err GivenUp) h' = RequestIsLeft gives route now tenant body h h'

@@ -2,8 +2,6 @@
 use Rattle.std.specs.Prelude.{◌≡◌, ◌⊎◌, ℕ, ◌||◌, Bool, true, false, List, [], ◌∷◌, ◌++◌, take, Option, None, Some, Result, Ok, Err}
 use Rattle.std.specs.List.{flat_map}
 use Rattle.std.specs.Io.KnownBytes.{Appends, Consumes, IsAtEnd}
-use Rattle.accept.specs.declared.call.Call.{Call as Asking}
-use Rattle.accept.specs.declared.call.Reply.{Reply}
 use Rattle.pushjson.specs.declared.fault.PushFault.TheVariants as bodies
 use Rattle.requests.specs.Answers.{answer_text, fixed_text, failure_text, always_closes}
 use Rattle.requests.specs.Fields.{fields_of}
@@ -19,6 +17,7 @@ use Rattle.requests.specs.declared.fixed.FixedAnswer.{FixedAnswer}
 use Rattle.requests.specs.declared.route.Route.{Route}
 use Rattle.requests.specs.declared.verdict.Verdict.{Verdict}
 use Rattle.requests.specs.declared.verdict.Verdict.TheVariants.{Fixed, Call, NoMemory}
+use Rattle.answering.specs.Calls.{Giving}
 use Rattle.answering.specs.Courses.{Course, Unread, Whole, RequestGives, RequestIsLeft}
 use Rattle.answering.specs.Responses.{status_for, text_for, content_for, failure_in}
 
@@ -66,7 +65,7 @@ response e = response_text e.verdict (asked_to_close e.request) e.course
 abbrev pub closes : Exchange → Bool
 closes e = ends_behind e.verdict (asked_to_close e.request) e.course
 
-module _ {H : Type 0} (gives : H → Asking → Result Reply Failure → H → Type 0) (now : ℕ) (body : List ℕ) where
+module _ {H : Type 0} (gives : Giving H) (now : ℕ) (body : List ℕ) where
   -- how the calls of a request went; one with a fixed answer makes none, nor one for whose tenant there was no memory
   abbrev pub VerdictGives : Verdict → H → Course → H → Type 0
   VerdictGives (Fixed answer) h course h' = (course ≡ Whole []) × (h' ≡ h)
@@ -95,9 +94,14 @@ pub record Io : Type 0 where
 abbrev pub io : Option (List ℕ) → Option (List ℕ) → Io
 io unread written = record { unread = unread; written = written }
 
-module _ {H C : Type 0} (gives : H → Asking → Result Reply Failure → H → Type 0) (ticks : C → ℕ → C → Type 0) where
+-- no whole request came after the last response
+abbrev pub IsUnbegun : List ℕ → Type 0
+IsUnbegun rest = (rest ≡ []) ⊎ IsCut rest
+
+module _ {H C : Type 0} (gives : Giving H) (ticks : C → ℕ → C → Type 0) where
   -- the bytes begin with this request, whose calls went so, at the time of the clock
-  pub record IsExchange (bytes : List ℕ) (w : World H C) (e : Exchange) (rest : List ℕ) (w' : World H C) : Type 0 where
+  pub record IsExchange (bytes : List ℕ) (w : World H C) (e : Exchange) (rest : List ℕ) (w' : World H C)
+      : Type 0 where
     pub message : ReadsMessage bytes e.request rest
     pub verdict : IsVerdict e.request.head.method e.request.head.target (fields_of e.request.head) e.verdict
     pub clock : ticks w.clock e.now w'.clock
@@ -122,7 +126,8 @@ module _ {H C : Type 0} (gives : H → Asking → Result Reply Failure → H →
 
   -- the bytes begin with what is refused, and nothing else happened
   abbrev pub IsTurnedAway : List ℕ → World H C → List ℕ → World H C → Type 0
-  IsTurnedAway bytes w text w' = (why : FixedAnswer) × IsRefused bytes why × (text ≡ fixed_text why true) × (w' ≡ w)
+  IsTurnedAway bytes w text w' = (why : FixedAnswer) × IsRefused bytes why × (text ≡ fixed_text why true)
+      × (w' ≡ w)
 
   -- the bytes begin with a request, or with what is refused, and this is the response
   abbrev pub IsNextResponse : List ℕ → World H C → List ℕ → World H C → Type 0
@@ -139,25 +144,26 @@ module _ {H C : Type 0} (gives : H → Asking → Result Reply Failure → H →
   -- and it closes
   abbrev pub IsLastResponse : List ℕ → World H C → List ℕ → World H C → Type 0
   IsLastResponse bytes w text w' =
-      ((e : Exchange) × (rest : List ℕ) × IsExchange bytes w e rest w' × (closes e ≡ true) × (text ≡ response e))
+      ((e : Exchange) × (rest : List ℕ) × IsExchange bytes w e rest w' × (closes e ≡ true)
+      × (text ≡ response e))
       ⊎ IsTurnedAway bytes w text w'
 
   -- nothing happened after the last response
-  abbrev pub IsIdle : World H C → List ℕ → World H C → Type 0
-  IsIdle w text w' = (text ≡ []) × (w' ≡ w)
+  abbrev pub IsSilent : World H C → List ℕ → World H C → Type 0
+  IsSilent w text w' = (text ≡ []) × (w' ≡ w)
 
   -- how the connection ended, where no further request was answered with the connection kept: text is what is written
   -- of the last response, and left what the reader may still give
   abbrev pub ConnectionEnds : List ℕ → Option (List ℕ) → World H C → List ℕ → World H C → Result Served ServeFault
       → Type 0
-  ConnectionEnds rest left w text w' (Ok Ended) = (rest ≡ []) × IsAtEnd left × IsIdle w text w'
+  ConnectionEnds rest left w text w' (Ok Ended) = (rest ≡ []) × IsAtEnd left × IsSilent w text w'
   ConnectionEnds rest left w text w' (Ok Closed) = IsLastResponse rest w text w'
-  ConnectionEnds rest left w text w' (Err faults.CutShort) = IsCut rest × IsAtEnd left × IsIdle w text w'
-  ConnectionEnds rest left w text w' (Err faults.Read) = ((rest ≡ []) ⊎ IsCut rest) × IsIdle w text w'
+  ConnectionEnds rest left w text w' (Err faults.CutShort) = IsCut rest × IsAtEnd left × IsSilent w text w'
+  ConnectionEnds rest left w text w' (Err faults.Read) = IsUnbegun rest × IsSilent w text w'
   ConnectionEnds rest left w text w' (Err faults.Write) = (n : ℕ) × (all : List ℕ) × IsNextResponse rest w all w'
       × (text ≡ take n all)
   ConnectionEnds rest left w text w' (Err faults.Memory) =
-      (text ≡ []) × ((((rest ≡ []) ⊎ IsCut rest) × IsIdle w text w') ⊎ IsUnanswered rest w w' ⊎ IsAbandoned rest w w')
+      (text ≡ []) × ((IsUnbegun rest × IsSilent w text w') ⊎ IsUnanswered rest w w' ⊎ IsAbandoned rest w w')
 
   -- from the bytes read to the text written
   pub record ConnectionIsAnswered (bytes : List ℕ) (left : Option (List ℕ)) (w : World H C) (text : List ℕ)

@@ -1,10 +1,10 @@
-ghost use Rattle.std.specs.Prelude.{◌≡◌, ◌≤◌, [], All, Result, map};
+ghost use Rattle.std.specs.Prelude.{◌≡◌, ◌≤◌, Bool, false, [], All, Result, map};
 ghost use Rattle.std.specs.VecDeque.{deque_len, deque_capacity};
 ghost use Rattle.accept.specs.Calls.{AreNumbers};
 ghost use Rattle.accept.specs.declared.call.Call.{Call};
 ghost use Rattle.accept.specs.declared.call.Reply.{Reply};
 ghost use Rattle.requests.specs.declared.failure.Failure.{Failure};
-ghost use Rattle.answering.specs.Calls.{AreGiven};
+ghost use Rattle.answering.specs.Calls.{CallsGive};
 
 use accept::{Call, Reply};
 use requests::Failure;
@@ -24,8 +24,9 @@ pub trait Calls {
     ghost is_ready: { Self → Self.Pass → Type 0 };
 
     /// From what a pass knew, a call and what came of it, to what the pass knows then. A call has a reply, or it fails,
-    /// and its request is answered by a status 500.
-    ghost gives: { Self → Self.Pass → Call → Result Reply Failure → Self.Pass → Type 0 };
+    /// and its request is answered by a status 500. The first word tells whether the call before it, made with it, is in
+    /// doubt.
+    ghost gives: { Self → Bool → Self.Pass → Call → Result Reply Failure → Self.Pass → Type 0 };
 
     /// What came of a call, by its outcome.
     ghost told: { Self.Outcome → Result Reply Failure };
@@ -45,7 +46,7 @@ pub trait Calls {
         requires ready { is_ready self.now pass.old }
         requires numbers { AreNumbers call }
         ensures ready { is_ready self.now pass.new }
-        ensures gives { gives self.now pass.old call result pass.new };
+        ensures gives { gives self.now false pass.old call result pass.new };
 
     /// Makes up to 64 calls, as if by `call` one after another in their order. They are taken out of `calls`, and the
     /// outcome of each is put into `outcomes`, which has room for them.
@@ -63,7 +64,7 @@ pub trait Calls {
         requires empty { outcomes.old.items ≡ [] }
         requires room { deque_len calls.old ≤ deque_capacity outcomes.old }
         ensures ready { is_ready self.now pass.new }
-        ensures given { AreGiven (gives self.now) pass.old calls.old.items (map told outcomes.new.items) pass.new }
+        ensures given { CallsGive (gives self.now) pass.old calls.old.items (map told outcomes.new.items) pass.new }
         ensures taken { calls.new.items ≡ [] }
         ensures lens { (deque_len calls.new ≡ 0) × (deque_len outcomes.new ≡ deque_len calls.old) }
         ensures capacities { (deque_capacity calls.new ≡ deque_capacity calls.old)

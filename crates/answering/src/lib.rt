@@ -4,6 +4,7 @@
 mod calling;
 mod calls;
 mod clock;
+mod ends;
 mod lines;
 mod replies;
 mod responding;
@@ -13,7 +14,8 @@ mod window;
 
 pub use calls::Calls;
 pub use clock::Clock;
+pub use ends::Ends;
 pub use replies::answer_of_read;
 pub use requests::{Answer, Failure, Route, ServeFault, Served, Status};
-pub use responding::answer;
+pub use responding::{RequestBody, answer};
 pub use serving::serve;

@@ -1,7 +1,7 @@
 //! The lines of the answer to a push.
-ghost use Rattle.std.specs.Prelude.{◌≡◌, ◌++◌, [], List, decimal, OnOk, codes};
-ghost use Rattle.answering.specs.Lines.{label_words, stream_line, entry_front, entry_line, newline, outcome_line, outcome_lines, reply_lines, reply_has_no_room, reply_is_unavailable, worst_status, push_status, lines_from};
-ghost use Rattle.answering.specs.Showing.{Shows};
+ghost use Rattle.std.specs.Prelude.{◌≡◌, ◌≢◌, ◌++◌, [], List, decimal, OnOk, OnErr, codes};
+ghost use Rattle.answering.specs.Lines.{label_words, stream_line, entry_front, entry_line, newline, outcome_line, outcome_lines, reply_lines, came_lines, reply_has_no_room, reply_is_unavailable, worst_status, push_status, lines_from};
+ghost use Rattle.answering.specs.Showing.{IsShown};
 ghost use Rattle.answering.specs.Telling.{Tells, NotesNext};
 ghost use Rattle.answering.specs.declared.calling.Came.{Came};
 
@@ -46,7 +46,8 @@ fn label_words(fault: LabelFault) -> &'static [u8]
 
 #[tactic(auto, unfolding(crate::specs::Lines::stream_line))]
 fn push_stream_line(text: &mut Vec<u8>, stream: usize, words: &[u8]) -> Result<(), AllocError>
-    ensures { OnOk result (text.new.items ≡ text.old.items ++ stream_line stream words.now) }
+    ensures text { OnOk result (text.new.items ≡ text.old.items ++ stream_line stream words.now) }
+    ensures said { OnErr result (stream_line stream words.now ≢ []) }
 {
     text.extend_from_slice(b"stream ")?;
     push_number(text, stream as u64)?;
@@ -100,7 +101,8 @@ fn push_outcome(
     entry: usize,
     outcome: Outcome,
 ) -> Result<(), AllocError>
-    ensures { OnOk result (text.new.items ≡ text.old.items ++ outcome_line stream entry outcome) }
+    ensures text { OnOk result (text.new.items ≡ text.old.items ++ outcome_line stream entry outcome) }
+    ensures said { OnErr result (outcome_line stream entry outcome ≢ []) }
 {
     match outcome {
         Outcome::TooLong => push_entry_line(text, stream, entry, b"line too long"),
@@ -113,7 +115,8 @@ fn push_outcome(
 }
 
 fn push_outcomes(text: &mut Vec<u8>, stream: usize, outcomes: &[Outcome]) -> Result<(), AllocError>
-    ensures { OnOk result (text.new.items ≡ text.old.items ++ outcome_lines stream 0 outcomes.now) }
+    ensures text { OnOk result (text.new.items ≡ text.old.items ++ outcome_lines stream 0 outcomes.now) }
+    ensures said { OnErr result (outcome_lines stream 0 outcomes.now ≢ []) }
 {
     let mut entry = 0;
     for outcome in outcomes {
@@ -124,7 +127,8 @@ fn push_outcomes(text: &mut Vec<u8>, stream: usize, outcomes: &[Outcome]) -> Res
 }
 
 fn push_reply(text: &mut Vec<u8>, stream: usize, reply: &Reply) -> Result<(), AllocError>
-    ensures { OnOk result (text.new.items ≡ text.old.items ++ reply_lines stream reply.now) }
+    ensures text { OnOk result (text.new.items ≡ text.old.items ++ reply_lines stream reply.now) }
+    ensures said { OnErr result (reply_lines stream reply.now ≢ []) }
 {
     match reply {
         Reply::Verdict(outcomes) => push_outcomes(text, stream, outcomes.as_slice()),
@@ -192,7 +196,8 @@ impl PushLines {
 
     /// Takes in what came of the next stream, which has this place in the body.
     pub(crate) fn note(&mut self, stream: usize, came: &Came) -> Result<(), AllocError>
-        ensures { NotesNext stream came.now self.old self.new result }
+        ensures next { NotesNext stream came.now self.old self.new result }
+        ensures said { OnErr result (came_lines stream came.now ≢ []) }
     {
         match came {
             Came::Refused(fault) => {
@@ -205,7 +210,8 @@ impl PushLines {
 
     /// Takes in the reply to the call on the next stream.
     pub(crate) fn note_reply(&mut self, stream: usize, reply: &Reply) -> Result<(), AllocError>
-        ensures { NotesNext stream (Came.Replied reply.now) self.old self.new result }
+        ensures next { NotesNext stream (Came.Replied reply.now) self.old self.new result }
+        ensures said { OnErr result (reply_lines stream reply.now ≢ []) }
     {
         self.no_room |= has_no_room(reply);
         self.unavailable |= is_unavailable(reply);
@@ -214,7 +220,7 @@ impl PushLines {
 
     /// The answer after the last stream.
     pub(crate) fn into_answer(self) -> Answer
-        ensures { (cames : List Came) → Tells cames self → Shows (push_status cames) (lines_from 0 cames) result }
+        ensures { (cames : List Came) → Tells cames self → IsShown (push_status cames) (lines_from 0 cames) result }
     {
         let PushLines {
             text,

@@ -1,5 +1,5 @@
 //! The answers to reads and trims.
-ghost use Rattle.std.specs.Prelude.{◌≡◌, ◌∷◌, [], None, IfOk, IfErr, map};
+ghost use Rattle.std.specs.Prelude.{◌≡◌, ◌≢◌, ◌∷◌, [], None, IfOk, IfErr, OnErr, map};
 ghost use Rattle.serde_json.specs.Data.{object};
 ghost use Rattle.serde_json.specs.View.{view};
 ghost use Rattle.serde_json.specs.Written.{compact_text};
@@ -9,7 +9,7 @@ ghost use Rattle.pushjson.specs.Bodies.{labels_tree};
 ghost use Rattle.answering.specs.Courses.{first_failure};
 ghost use Rattle.answering.specs.Lines.{push_status, lines_from};
 ghost use Rattle.answering.specs.Replies.{entry_tree, read_tree, trimmed_text, reply_status, reply_text, one_status, one_text};
-ghost use Rattle.answering.specs.Showing.{Shows};
+ghost use Rattle.answering.specs.Showing.{IsShown};
 
 use crate::calling::Came;
 use crate::lines::{PushLines, push_number};
@@ -26,7 +26,7 @@ use std::alloc::{AllocError, Global};
 ///
 /// `Memory`.
 pub fn answer_of_read(alloc: Global, reply: &Reply) -> Result<Answer, ServeFault>
-    ensures shows { IfOk result (λ answer. Shows (reply_status reply.now) (reply_text reply.now) answer) }
+    ensures shows { IfOk result (λ answer. IsShown (reply_status reply.now) (reply_text reply.now) answer) }
     ensures fault { IfErr result (λ e. e ≡ ServeFault.Memory) }
 {
     Ok(answer_of_reply(alloc, reply)?)
@@ -35,7 +35,8 @@ pub fn answer_of_read(alloc: Global, reply: &Reply) -> Result<Answer, ServeFault
 /// The answer to a read or a trim of whose stream this came, which did not fail. Entries are moved into it.
 pub(crate) fn answer_of_came(alloc: Global, came: Came) -> Result<Answer, AllocError>
     requires { first_failure (came ∷ []) ≡ None }
-    ensures { IfOk result (λ answer. Shows (one_status came) (one_text came) answer) }
+    ensures shows { IfOk result (λ answer. IsShown (one_status came) (one_text came) answer) }
+    ensures said { OnErr result (one_text came ≢ []) }
 {
     match came {
         Came::Refused(fault) => answer_of_refusal(alloc, fault),
@@ -46,8 +47,9 @@ pub(crate) fn answer_of_came(alloc: Global, came: Came) -> Result<Answer, AllocE
 }
 
 fn answer_of_refusal(alloc: Global, fault: LabelFault) -> Result<Answer, AllocError>
-    ensures { IfOk result (λ answer.
-        Shows (push_status (Came.Refused fault ∷ [])) (lines_from 0 (Came.Refused fault ∷ [])) answer) }
+    ensures shows { IfOk result (λ answer.
+        IsShown (push_status (Came.Refused fault ∷ [])) (lines_from 0 (Came.Refused fault ∷ [])) answer) }
+    ensures said { OnErr result (lines_from 0 (Came.Refused fault ∷ []) ≢ []) }
 {
     let mut lines = PushLines::new(alloc);
     lines.note(0, &Came::Refused(fault))?;
@@ -55,7 +57,8 @@ fn answer_of_refusal(alloc: Global, fault: LabelFault) -> Result<Answer, AllocEr
 }
 
 fn answer_of_reply(alloc: Global, reply: &Reply) -> Result<Answer, AllocError>
-    ensures { IfOk result (λ answer. Shows (reply_status reply.now) (reply_text reply.now) answer) }
+    ensures shows { IfOk result (λ answer. IsShown (reply_status reply.now) (reply_text reply.now) answer) }
+    ensures said { OnErr result (reply_text reply.now ≢ []) }
 {
     match reply {
         Reply::Entries(entries) => {
@@ -84,8 +87,9 @@ fn copy_of_entries(alloc: Global, entries: &[Entry]) -> Result<EntryList, AllocE
 }
 
 fn answer_of_lines(alloc: Global, reply: &Reply) -> Result<Answer, AllocError>
-    ensures { IfOk result (λ answer.
-        Shows (push_status (Came.Replied reply.now ∷ [])) (lines_from 0 (Came.Replied reply.now ∷ [])) answer) }
+    ensures shows { IfOk result (λ answer.
+        IsShown (push_status (Came.Replied reply.now ∷ [])) (lines_from 0 (Came.Replied reply.now ∷ [])) answer) }
+    ensures said { OnErr result (lines_from 0 (Came.Replied reply.now ∷ []) ≢ []) }
 {
     let mut lines = PushLines::new(alloc);
     lines.note_reply(0, reply)?;
@@ -94,7 +98,8 @@ fn answer_of_lines(alloc: Global, reply: &Reply) -> Result<Answer, AllocError>
 
 #[tactic(auto, unfolding(crate::specs::Replies::trimmed_text))]
 fn answer_of_trimmed(alloc: Global, count: u64) -> Result<Answer, AllocError>
-    ensures { IfOk result (λ answer. Shows Status.Ok (trimmed_text count) answer) }
+    ensures shows { IfOk result (λ answer. IsShown Status.Ok (trimmed_text count) answer) }
+    ensures said { OnErr result (trimmed_text count ≢ []) }
 {
     let mut body = Vec::new(alloc);
     body.extend_from_slice(b"{\"trimmed\":")?;
@@ -107,7 +112,7 @@ fn answer_of_trimmed(alloc: Global, count: u64) -> Result<Answer, AllocError>
 }
 
 fn answer_of_entries(alloc: Global, entries: EntryList) -> Result<Answer, AllocError>
-    ensures { IfOk result (λ answer. Shows Status.Ok (compact_text (read_tree entries)) answer) }
+    ensures { IfOk result (λ answer. IsShown Status.Ok (compact_text (read_tree entries)) answer) }
 {
     Ok(Answer {
         status: Status::Ok,
@@ -173,7 +178,7 @@ pub(crate) fn answer_of_text(
     status: Status,
     text: &[u8],
 ) -> Result<Answer, AllocError>
-    ensures { IfOk result (λ answer. Shows status text.now answer) }
+    ensures { IfOk result (λ answer. IsShown status text.now answer) }
 {
     Ok(Answer {
         status,

@@ -1,13 +1,13 @@
 //! The answer to a request behind its head: its body, its calls in body order, status and body of its answer.
-ghost use Rattle.std.specs.Prelude.{◌≡◌, ◌<◌, ◌≤◌, ◌^◌, ℕ, List, All, IfOk, map, min, sum_by, length};
+ghost use Rattle.std.specs.Prelude.{◌≡◌, ◌<◌, ◌≤◌, ◌^◌, [], ℕ, List, All, IfOk, map, min, sum_by, length, vec_capacity};
 ghost use Rattle.std.specs.VecDeque.{deque_len};
 ghost use Rattle.accept.specs.OneStream.{AreTimes};
 ghost use Rattle.requests.specs.Answers.{failure_body};
 ghost use Rattle.answering.specs.Asking.{AsksFor, IsLawful, asked_push, one_of};
 ghost use Rattle.answering.specs.Parts.{BodyIsRefused, StreamIsAnswered, OneIsAnswered, BodyIsAnswered};
 ghost use Rattle.answering.specs.Responses.{RequestIsAnswered, RequestEnds, bad_time_text};
-ghost use Rattle.answering.specs.Showing.{Shows};
-ghost use Rattle.answering.specs.Windows.{AreKeyed, AreOfStreams, IsEmpty};
+ghost use Rattle.answering.specs.Showing.{IsShown};
+ghost use Rattle.answering.specs.Windows.{AreKeyed, AreOfStreams, HoldsNoStreams};
 ghost use Rattle.answering.specs.declared.responding.Halt.TheVariants.{Failed, GivenUp};
 
 use crate::calling::{Asked, Keyed, Want, take_stream};
@@ -22,6 +22,9 @@ use requests::{Answer, Failure, Route, ServeFault, Status};
 use std::alloc::{AllocError, Global};
 use std::collections::VecDeque;
 use std::sync::Wait;
+
+/// How many bytes the longest text of a failure has.
+const LONGEST_FAILURE: usize = 13;
 
 /// Why a request has no answer of its own.
 #[derive(Clone, Copy, Debug)]
@@ -48,8 +51,18 @@ impl From<AllocError> for Halt {
     }
 }
 
+/// A request behind its head.
+#[derive(Clone, Copy)]
+pub struct RequestBody<'a> {
+    /// What the clock told for it, in nanoseconds: below 2^63.
+    pub time: u64,
+    pub route: Route,
+    pub tenant: &'a Tenant,
+    pub body: &'a [u8],
+}
+
 fn answer_of_bad_time(alloc: Global, stream: usize, entry: usize) -> Result<Answer, AllocError>
-    ensures { IfOk result (λ answer. Shows Status.BadRequest (bad_time_text stream entry) answer) }
+    ensures { IfOk result (λ answer. IsShown Status.BadRequest (bad_time_text stream entry) answer) }
 {
     let mut body = Vec::new(alloc);
     body.extend_from_slice(b"bad time at stream ")?;
@@ -91,7 +104,7 @@ fn take_windows<S: Calls, R: Wait>(
 ) -> Result<Answer, Halt>
     requires pass { S.is_ready service.now pass.old }
     requires keyed { AreOfStreams keyed.items }
-    requires empty { IsEmpty window }
+    requires empty { HoldsNoStreams window }
     requires room { window.size ≡ min 64 (deque_len keyed) }
     ensures pass { S.is_ready service.now pass.new }
     ensures goes { (tenant : List ℕ) (all : List Asked) → AreKeyed tenant all keyed.items
@@ -151,17 +164,24 @@ fn push<S: Calls, R: Wait>(
     alloc: Global,
     service: &S,
     pass: &mut S::Pass,
-    now: u64,
-    tenant: &Tenant,
-    body: &[u8],
+    request: &RequestBody<'_>,
 ) -> Result<Answer, Halt>
     requires pass { S.is_ready service.now pass.old }
-    requires clock { now < 2 ^ 63 }
+    requires clock { request.now.time < 2 ^ 63 }
     ensures pass { S.is_ready service.now pass.new }
-    ensures responds { RequestEnds (S.gives service.now) Route.Push now tenant.now body.now pass.old result pass.new }
+    ensures responds { RequestEnds (S.gives service.now) Route.Push request.now.time request.now.tenant.now
+        request.now.body.now pass.old result pass.new }
 {
-    match read_push(alloc, body) {
-        Ok(batches) => push_streams(rt, alloc, service, pass, tenant, now, batches),
+    match read_push(alloc, request.body) {
+        Ok(batches) => push_streams(
+            rt,
+            alloc,
+            service,
+            pass,
+            request.tenant,
+            request.time,
+            batches,
+        ),
         Err(fault) => refuse(alloc, fault),
     }
 }
@@ -220,25 +240,26 @@ pub(crate) fn respond<S: Calls, R: Wait>(
     alloc: Global,
     service: &S,
     pass: &mut S::Pass,
-    now: u64,
-    route: Route,
-    tenant: &Tenant,
-    body: &[u8],
+    request: &RequestBody<'_>,
 ) -> Result<Answer, Halt>
     requires pass { S.is_ready service.now pass.old }
-    requires clock { now < 2 ^ 63 }
+    requires clock { request.now.time < 2 ^ 63 }
     ensures pass { S.is_ready service.now pass.new }
-    ensures responds { RequestEnds (S.gives service.now) route now tenant.now body.now pass.old result pass.new }
+    ensures responds { RequestEnds (S.gives service.now) request.now.route request.now.time request.now.tenant.now
+        request.now.body.now pass.old result pass.new }
 {
-    match route {
-        Route::Push => push(rt, alloc, service, pass, now, tenant, body),
+    let tenant = request.tenant;
+    let body = request.body;
+    match request.route {
+        Route::Push => push(rt, alloc, service, pass, request),
         Route::Read => answer_one(rt, alloc, service, pass, tenant, asked_by_read(alloc, body)),
         Route::Trim => answer_one(rt, alloc, service, pass, tenant, asked_by_trim(alloc, body)),
     }
 }
 
 fn failure_body(failure: Failure) -> &'static [u8]
-    ensures { result.now ≡ failure_body failure }
+    ensures body { result.now ≡ failure_body failure }
+    ensures short { length result.now ≤ LONGEST_FAILURE }
 {
     match failure {
         Failure::OutOfMemory => b"out of memory",
@@ -248,37 +269,45 @@ fn failure_body(failure: Failure) -> &'static [u8]
     }
 }
 
+/// The answer of a failure. Its text has room already.
+fn answer_of_failure(mut text: Vec<u8>, failure: Failure) -> Answer
+    requires empty { text.items ≡ [] }
+    requires room { LONGEST_FAILURE ≤ vec_capacity text }
+    ensures { IsShown Status.InternalServerError (failure_body failure) result }
+{
+    text.extend_from_slice(failure_body(failure)).unwrap();
+    Answer {
+        status: Status::InternalServerError,
+        body: text,
+    }
+}
+
 /// Makes the calls that a request asks for, in the order of its body, and gives status and body of its
 /// answer. The labels of all streams of a push are read first, and then their calls are made in windows of up
-/// to 64 streams. A refused stream does not stop the rest of a push. `now` is the clock in nanoseconds, below
-/// 2^63. After an answer of status 500 no call is made after the window in which one failed; calls that were
-/// made stand.
+/// to 64 streams. A refused stream does not stop the rest of a push. After an answer of status 500 no call is
+/// made after the window in which one failed; calls that were made stand.
 ///
 /// # Errors
 ///
-/// `Memory`, where there was none for the answer. Calls made before stand.
+/// `Memory`, where there was none before any call, and none to say so; or none for an answer of another status
+/// than 500, and calls made before stand.
 pub fn answer<S: Calls, R: Wait>(
     rt: &R,
     alloc: Global,
     service: &S,
     pass: &mut S::Pass,
-    now: u64,
-    route: Route,
-    tenant: &Tenant,
-    body: &[u8],
+    request: &RequestBody<'_>,
 ) -> Result<Answer, ServeFault>
     requires pass { S.is_ready service.now pass.old }
-    requires clock { now < 2 ^ 63 }
+    requires clock { request.now.time < 2 ^ 63 }
     ensures pass { S.is_ready service.now pass.new }
-    ensures answers { RequestIsAnswered (S.gives service.now) route now tenant.now body.now pass.old result pass.new }
+    ensures answers { RequestIsAnswered (S.gives service.now) request.now.route request.now.time
+        request.now.tenant.now request.now.body.now pass.old result pass.new }
 {
-    match respond(rt, alloc, service, pass, now, route, tenant, body) {
+    let text = Vec::with_capacity(alloc, LONGEST_FAILURE)?;
+    match respond(rt, alloc, service, pass, request) {
         Ok(answer) => Ok(answer),
-        Err(Halt::Failed(failure)) => Ok(answer_of_text(
-            alloc,
-            Status::InternalServerError,
-            failure_body(failure),
-        )?),
+        Err(Halt::Failed(failure)) => Ok(answer_of_failure(text, failure)),
         Err(Halt::GivenUp) => Err(ServeFault::Memory),
     }
 }

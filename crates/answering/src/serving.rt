@@ -1,16 +1,18 @@
 //! A connection: its requests read, their calls made, and the answers written.
-ghost use Rattle.std.specs.Prelude.{◌≡◌, ◌<◌, ◌≤◌, ◌^◌, length, drop, slice_range, Ok, []};
+ghost use Rattle.std.specs.Prelude.{◌≡◌, ◌<◌, ◌≤◌, ◌^◌, length, drop, slice_range, Ok, [], IfErr};
+ghost use Rattle.answering.specs.Ends.{AreSameEnds, IsOfItsEnd};
 ghost use Rattle.answering.specs.Responses.{content_for};
 ghost use Rattle.answering.specs.Serving.{ConnectionIsServed, world, io};
 ghost use Rattle.answering.specs.Turns.{KeepsInput, IsSameConnection, ResponseIsWritten, ConnectionTurnIsServed, ConnectionTakesMessage, ends_of, world_of};
 
 use crate::calls::Calls;
 use crate::clock::Clock;
-use crate::responding::{Halt, respond};
+use crate::ends::Ends;
+use crate::responding::{Halt, RequestBody, respond};
 use labels::Tenant;
 use requests::{
     Content, Failure, Incoming, MAX_HEAD, Message, Next, Outgoing, Route, ServeFault, Served,
-    Status, Verdict, write_failure,
+    Status, Verdict,
 };
 use std::alloc::Global;
 use std::io::{Read, Write};
@@ -39,17 +41,16 @@ fn content_for(status: Status) -> Content
 
 /// A connection: what makes its calls, its clock, its two ends, what has come, and where answers are put together.
 #[derive(Drop)]
-struct Connection<'a, S, P, C, I, O> {
+struct Connection<'a, 'b, S, P, C, I, O> {
     service: &'a S,
     pass: &'a mut P,
     clock: &'a mut C,
-    reader: &'a mut I,
-    writer: &'a mut O,
+    ends: &'a mut Ends<'b, I, O>,
     incoming: &'a mut Incoming,
     outgoing: &'a mut Outgoing,
 }
 
-impl<'a, S: Calls<Pass = P>, P, C: Clock, I: Read, O: Write> Connection<'a, S, P, C, I, O> {
+impl<'a, 'b, S: Calls<Pass = P>, P, C: Clock, I: Read, O: Write> Connection<'a, 'b, S, P, C, I, O> {
     // Makes the calls of a request and writes its answer. Whether the connection ends after it.
     fn reply_to_call<R: Wait>(
         &mut self,
@@ -65,23 +66,30 @@ impl<'a, S: Calls<Pass = P>, P, C: Clock, I: Read, O: Write> Connection<'a, S, P
         requires ordered { message.now.start ≤ message.now.end }
         requires within { message.now.end ≤ length self.old.incoming.now }
         ensures same { IsSameConnection self.old self.new }
+        ensures told { IfErr result (λ fault. IsOfItsEnd self.new.ends.now fault) }
         ensures kept { KeepsInput self.old self.new }
         ensures ready { S.is_ready self.new.service.now self.new.pass.now }
         ensures replies { ResponseIsWritten (S.gives self.old.service.now) now
             (slice_range self.old.incoming.now message.now.start message.now.end)
-            (O.contents self.old.writer.now) (O.contents self.new.writer.now)
+            (O.contents self.old.ends.now.writer.now) (O.contents self.new.ends.now.writer.now)
             (Verdict.Call route tenant.now) message.now.closes self.old.pass.now self.new.pass.now result }
     {
         let body = self.incoming.body(message);
-        match respond(rt, alloc, self.service, self.pass, now, route, tenant, body) {
+        let request = RequestBody {
+            time: now,
+            route,
+            tenant,
+            body,
+        };
+        match respond(rt, alloc, self.service, self.pass, &request) {
             Ok(answer) => {
                 let content = content_for(answer.status);
-                self.outgoing
-                    .answer(self.writer, &answer, content, message.closes)?;
+                self.ends
+                    .answer(self.outgoing, &answer, content, message.closes)?;
                 Ok(message.closes)
             }
             Err(Halt::Failed(failure)) => {
-                write_failure(self.writer, failure)?;
+                self.ends.failure(failure)?;
                 Ok(true)
             }
             Err(Halt::GivenUp) => Err(ServeFault::Memory),
@@ -101,23 +109,24 @@ impl<'a, S: Calls<Pass = P>, P, C: Clock, I: Read, O: Write> Connection<'a, S, P
         requires ordered { message.now.start ≤ message.now.end }
         requires within { message.now.end ≤ length self.old.incoming.now }
         ensures same { IsSameConnection self.old self.new }
+        ensures told { IfErr result (λ fault. IsOfItsEnd self.new.ends.now fault) }
         ensures kept { KeepsInput self.old self.new }
         ensures ready { S.is_ready self.new.service.now self.new.pass.now }
         ensures replies { ResponseIsWritten (S.gives self.old.service.now) now
             (slice_range self.old.incoming.now message.now.start message.now.end)
-            (O.contents self.old.writer.now) (O.contents self.new.writer.now)
+            (O.contents self.old.ends.now.writer.now) (O.contents self.new.ends.now.writer.now)
             message.now.verdict message.now.closes self.old.pass.now self.new.pass.now result }
     {
         match &message.verdict {
             Verdict::Fixed(answer) => {
-                self.outgoing.fixed(self.writer, *answer, message.closes)?;
+                self.ends.fixed(self.outgoing, *answer, message.closes)?;
                 Ok(answer.always_closes() | message.closes)
             }
             Verdict::Call(route, tenant) => {
                 self.reply_to_call(rt, alloc, now, *route, tenant, message)
             }
             Verdict::NoMemory => {
-                write_failure(self.writer, Failure::OutOfMemory)?;
+                self.ends.failure(Failure::OutOfMemory)?;
                 Ok(true)
             }
         }
@@ -134,11 +143,12 @@ impl<'a, S: Calls<Pass = P>, P, C: Clock, I: Read, O: Write> Connection<'a, S, P
         requires ordered { message.now.start ≤ message.now.end }
         requires within { message.now.end ≤ length self.old.incoming.now }
         ensures same { IsSameConnection self.old self.new }
-        ensures reader { self.new.reader.now ≡ self.old.reader.now }
+        ensures told { IfErr result (λ fault. IsOfItsEnd self.new.ends.now fault) }
+        ensures reader { self.new.ends.now.reader.now ≡ self.old.ends.now.reader.now }
         ensures ready { S.is_ready self.new.service.now self.new.pass.now }
         ensures drops { result ≡ Ok Turn.Answered → self.new.incoming.now ≡ drop message.now.end self.old.incoming.now }
         ensures takes { ConnectionTakesMessage (S.gives self.old.service.now) C.ticks
-            (O.contents self.old.writer.now) (O.contents self.new.writer.now) message.now
+            (O.contents self.old.ends.now.writer.now) (O.contents self.new.ends.now.writer.now) message.now
             self.old.incoming.now self.new.incoming.now (world_of self.old) (world_of self.new) result }
     {
         let now = self.clock.now();
@@ -156,16 +166,17 @@ impl<'a, S: Calls<Pass = P>, P, C: Clock, I: Read, O: Write> Connection<'a, S, P
         requires ready { S.is_ready self.old.service.now self.old.pass.now }
         requires short { length self.old.incoming.now ≤ MAX_HEAD }
         ensures same { IsSameConnection self.old self.new }
+        ensures told { IfErr result (λ fault. IsOfItsEnd self.new.ends.now fault) }
         ensures ready { S.is_ready self.new.service.now self.new.pass.now }
         ensures short { result ≡ Ok Turn.Answered → length self.new.incoming.now ≤ MAX_HEAD }
         ensures turns { ConnectionTurnIsServed (S.gives self.old.service.now) C.ticks
             (ends_of I.remaining O.contents self.old) self.old.incoming.now (world_of self.old)
             (ends_of I.remaining O.contents self.new) self.new.incoming.now (world_of self.new) result }
     {
-        match self.incoming.next(alloc, self.reader)? {
+        match self.ends.next(alloc, self.incoming)? {
             Next::Ended => Ok(Turn::Ended),
             Next::Refused(why) => {
-                self.outgoing.fixed(self.writer, why, true)?;
+                self.ends.fixed(self.outgoing, why, true)?;
                 Ok(Turn::Closed)
             }
             Next::Whole(message) => self.take_message(rt, alloc, &message),
@@ -177,6 +188,7 @@ impl<'a, S: Calls<Pass = P>, P, C: Clock, I: Read, O: Write> Connection<'a, S, P
         requires ready { S.is_ready self.old.service.now self.old.pass.now }
         requires fresh { self.old.incoming.now ≡ [] }
         ensures same { IsSameConnection self.old self.new }
+        ensures told { IfErr result (λ fault. IsOfItsEnd self.new.ends.now fault) }
         ensures ready { S.is_ready self.new.service.now self.new.pass.now }
         ensures serves { ConnectionIsServed (S.gives self.old.service.now) C.ticks
             (ends_of I.remaining O.contents self.old) (world_of self.old)
@@ -202,20 +214,22 @@ impl<'a, S: Calls<Pass = P>, P, C: Clock, I: Read, O: Write> Connection<'a, S, P
 /// `Read`, `Memory` and `CutShort`: what is written are whole answers of a beginning of the requests.
 /// `Memory` never comes in place of an answer of status 500.
 /// `Write`: a beginning of the answers is written. Calls made before stand.
-pub fn serve<'a, S: Calls, R: Wait, C: Clock, I: Read, O: Write>(
+/// `Read` and `Write` come only of an end that failed when it was asked.
+pub fn serve<'a, 'b, S: Calls, R: Wait, C: Clock, I: Read, O: Write>(
     rt: &R,
     alloc: Global,
     service: &'a S,
     pass: &'a mut S::Pass,
     clock: &'a mut C,
-    reader: &'a mut I,
-    writer: &'a mut O,
+    ends: &'a mut Ends<'b, I, O>,
 ) -> Result<Served, ServeFault>
     requires pass { S.is_ready service.now pass.old }
     ensures pass { S.is_ready service.now pass.new }
+    ensures same { AreSameEnds ends.old ends.new }
+    ensures told { IfErr result (λ fault. IsOfItsEnd ends.new fault) }
     ensures serves { ConnectionIsServed (S.gives service.now) C.ticks
-        (io (I.remaining reader.old) (O.contents writer.old)) (world pass.old clock.old)
-        (io (I.remaining reader.new) (O.contents writer.new)) (world pass.new clock.new) result }
+        (io (I.remaining ends.old.reader.now) (O.contents ends.old.writer.now)) (world pass.old clock.old)
+        (io (I.remaining ends.new.reader.now) (O.contents ends.new.writer.now)) (world pass.new clock.new) result }
 {
     let mut incoming = Incoming::new(alloc);
     let mut outgoing = Outgoing::new(alloc);
@@ -223,8 +237,7 @@ pub fn serve<'a, S: Calls, R: Wait, C: Clock, I: Read, O: Write>(
         service,
         pass,
         clock,
-        reader,
-        writer,
+        ends,
         incoming: &mut incoming,
         outgoing: &mut outgoing,
     };

@@ -2,7 +2,7 @@
 ghost use Rattle.std.specs.Prelude.{◌≡◌, ◌+◌, ◌-◌, ◌<◌, ◌≤◌, ◌^◌, ◌∷◌, [], ◌++◌, ℕ, List, All, map, min, length, IfOk, IfErr};
 ghost use Rattle.std.specs.VecDeque.{deque_len};
 ghost use Rattle.answering.specs.Asking.{IsLawful, asked_push};
-ghost use Rattle.answering.specs.Windows.{AreKeyed, AreOfStreams, AreDue, IsEmpty, IsFilled, NextComes, CameIsNoted, WindowIsNoted, WindowIsTaken, calls_of, came_of, cames_in, mark_of};
+ghost use Rattle.answering.specs.Windows.{AreKeyed, AreOfStreams, AreAllAnswered, HoldsNoStreams, HoldsNext, NextComes, CameIsNoted, WindowIsNoted, WindowIsTaken, calls_in, came_of, cames_in, mark_of};
 
 use crate::calling::{Asked, Came, Keyed, Want, keyed_of};
 use crate::calls::Calls;
@@ -22,7 +22,7 @@ const MOST: usize = 64;
 impl<O: Drop> Window<O> {
     /// An empty window for a push of so many streams.
     pub(crate) fn new(alloc: Global, streams: usize) -> Result<Window<O>, AllocError>
-        ensures empty { IfOk result (λ window. IsEmpty window) }
+        ensures empty { IfOk result (λ window. HoldsNoStreams window) }
         ensures size { IfOk result (λ window. window.size ≡ min 64 streams) }
     {
         let size = MOST.min(streams);
@@ -39,7 +39,7 @@ impl<O: Drop> Window<O> {
         requires room { deque_len self.old.marks < self.old.size }
         requires fewer { deque_len self.old.calls ≤ deque_len self.old.marks }
         ensures marks { self.new.marks.items ≡ self.old.marks.items ++ mark_of keyed ∷ [] }
-        ensures calls { self.new.calls.items ≡ self.old.calls.items ++ calls_of (keyed ∷ []) }
+        ensures calls { self.new.calls.items ≡ self.old.calls.items ++ calls_in (keyed ∷ []) }
         ensures outcomes { self.new.outcomes.items ≡ self.old.outcomes.items }
         ensures size { self.new.size ≡ self.old.size }
         ensures len { deque_len self.new.marks ≡ deque_len self.old.marks + 1 }
@@ -56,8 +56,8 @@ impl<O: Drop> Window<O> {
 
     /// Takes the next streams in, as many as it has room for.
     pub(crate) fn fill(&mut self, keyed: &mut VecDeque<Keyed>)
-        requires { IsEmpty self.old }
-        ensures filled { IsFilled keyed.old.items keyed.new.items self.new }
+        requires { HoldsNoStreams self.old }
+        ensures filled { HoldsNext keyed.old.items keyed.new.items self.new }
         ensures size { self.new.size ≡ self.old.size }
         ensures len { deque_len self.new.marks + deque_len keyed.new ≡ deque_len keyed.old }
         ensures few { deque_len self.new.marks ≡ min self.old.size (deque_len keyed.old) }
@@ -73,7 +73,7 @@ impl<O: Drop> Window<O> {
 
     // What came of the next stream, which is taken out.
     fn next_came<S: Calls<Outcome = O>>(&mut self) -> Option<Came>
-        requires due { AreDue self.old.marks.items self.old.outcomes.items }
+        requires due { AreAllAnswered self.old.marks.items self.old.outcomes.items }
         requires called { self.old.calls.items ≡ [] }
         ensures comes { NextComes S.told self.old result self.new }
         ensures called { self.new.calls.items ≡ [] }
@@ -97,11 +97,11 @@ impl<O: Drop> Window<O> {
         stream: usize,
         lines: &mut PushLines,
     ) -> Result<usize, Halt>
-        requires due { AreDue self.old.marks.items self.old.outcomes.items }
+        requires due { AreAllAnswered self.old.marks.items self.old.outcomes.items }
         requires called { self.old.calls.items ≡ [] }
         requires few { stream + length self.old.marks.items < 2 ^ 64 }
         ensures noted { WindowIsNoted stream (cames_in S.told self.old) lines.old result lines.new }
-        ensures empty { IfOk result (λ _. IsEmpty self.new) }
+        ensures empty { IfOk result (λ _. HoldsNoStreams self.new) }
         ensures size { self.new.size ≡ self.old.size }
     {
         let mut place = stream;
@@ -124,14 +124,14 @@ impl<O: Drop> Window<O> {
         lines: &mut PushLines,
     ) -> Result<usize, Halt>
         requires pass { S.is_ready service.now pass.old }
-        requires empty { IsEmpty self.old }
+        requires empty { HoldsNoStreams self.old }
         requires keyed { AreOfStreams keyed.old.items }
         requires few { stream + deque_len keyed.old < 2 ^ 64 }
         ensures pass { S.is_ready service.now pass.new }
         ensures goes { (tenant : List ℕ) (all : List Asked) → AreKeyed tenant all keyed.old.items
             → WindowIsTaken (S.gives service.now) tenant pass.old all stream lines.old result pass.new keyed.new.items
             lines.new }
-        ensures empty { IfOk result (λ _. IsEmpty self.new) }
+        ensures empty { IfOk result (λ _. HoldsNoStreams self.new) }
         ensures size { self.new.size ≡ self.old.size }
         ensures count { IfOk result (λ next. next + deque_len keyed.new ≡ stream + deque_len keyed.old) }
         ensures fewer { deque_len keyed.new ≡ deque_len keyed.old - self.old.size }

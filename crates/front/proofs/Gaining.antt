@@ -1,12 +1,12 @@
 -- What a pass has made after the calls of requests.
-use Rattle.std.proofs.Common.{◌≡◌, ℕ, List, [], ◌∷◌, ◌++◌, Result, Ok, Err, refl, sym, ap, ◌∙◌, append_assoc, inl, inr}
+use Rattle.std.proofs.Common.{◌≡◌, ℕ, Bool, true, false, List, [], ◌∷◌, ◌++◌, Result, Ok, Err, refl, sym, ap, ◌∙◌, append_assoc, inl, inr}
 use Rattle.std.proofs.lemmas.List.{append-nil}
 use Rattle.accept.specs.declared.call.Call.{Call}
 use Rattle.accept.specs.declared.call.Reply.{Reply}
 use Rattle.accept.specs.declared.history.Step.{Step}
 use Rattle.history.specs.Handles.{Passed}
 use Rattle.owners.specs.Openings.{Opening}
-use Rattle.ingester.specs.Calls.{next_step, IsRefused, IsGiven}
+use Rattle.ingester.specs.Calls.{next_step, IsRefused, IsGiven, with_next}
 use Rattle.ingester.specs.declared.fault.CallFault.{CallFault}
 use Rattle.ingester.specs.declared.fault.CallFault.TheVariants.{Memory, PassClosed, LogSpent, InDoubt}
 use Rattle.requests.specs.declared.failure.Failure.{Failure}
@@ -37,17 +37,19 @@ module _ {D : Type 0} (opening : Opening D) where
   one_by h h' call reply (Ok other) is same = (next_step h.caller call other, refl, sym (same_reply reply other same), ap (λ p. p.caller.made) is.answered.pass)
   one_by h h' call reply (Err fault) is same = absurd (cc)
 
-  one : (h h' : Passed) (call : Call) (reply : Reply) → CallGives opening h call (Ok reply) h' → (step : Step) × (step.ask.call ≡ call) × (step.reply ≡ reply) × Gains h (step ∷ []) h'
-  one h h' call reply (inl (outcome, is, same)) = one_by h h' call reply outcome is same
-  one h h' call reply (inr lost) = absurd (let never = lost.told_is in cc)
+  one : (doubt : Bool) (h h' : Passed) (call : Call) (reply : Reply) → CallGives opening doubt h call (Ok reply) h' → (step : Step) × (step.ask.call ≡ call) × (step.reply ≡ reply) × Gains h (step ∷ []) h'
+  one false h h' call reply (outcome, is, same) = one_by h h' call reply outcome is same
+  one true h h' call reply (outcome, inl is, same) = one_by h h' call reply outcome is same
+  one true h h' call reply (outcome, inr (lost, stays), same) = absurd (let never = ap told_of lost in cc)
 
   kept_by : (h h' : Passed) (call : Call) (failure : Failure) (outcome : Result Reply CallFault) → IsGiven opening h call outcome h' → Err failure ≡ told_of outcome → Gains h [] h'
   kept_by h h' call failure (Ok reply) is same = absurd (cc)
   kept_by h h' call failure (Err fault) is same = made_kept h h' call fault is.refused ∙ sym (append-nil h.caller.made)
 
-  kept : (h h' : Passed) (call : Call) (failure : Failure) → CallGives opening h call (Err failure) h' → Gains h [] h'
-  kept h h' call failure (inl (outcome, is, same)) = kept_by h h' call failure outcome is same
-  kept h h' call failure (inr lost) = ap (λ p. p.caller.made) lost.stays ∙ sym (append-nil h.caller.made)
+  kept : (doubt : Bool) (h h' : Passed) (call : Call) (failure : Failure) → CallGives opening doubt h call (Err failure) h' → Gains h [] h'
+  kept false h h' call failure (outcome, is, same) = kept_by h h' call failure outcome is same
+  kept true h h' call failure (outcome, inl is, same) = kept_by h h' call failure outcome is same
+  kept true h h' call failure (outcome, inr (lost, stays), same) = ap (λ p. p.caller.made) stays ∙ sym (append-nil h.caller.made)
 
   module _ {C : Type 0} (ticks : C → ℕ → C → Type 0) where
     pub its_calls : (bytes : List ℕ) (w : World Passed C) (e : Exchange) (rest : List ℕ) (w' : World Passed C) → MakesItsCalls opening ticks bytes w e rest w'

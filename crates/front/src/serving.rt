@@ -6,7 +6,7 @@ ghost use Rattle.answering.specs.Serving.{ConnectionIsServed, world, io};
 ghost use Rattle.front.specs.Calls.{CallGives, failure_of, told_of};
 
 use accept::{Call, Reply};
-use answering::{Answer, Calls, Clock, Failure, Route, ServeFault, Served};
+use answering::{Answer, Calls, Clock, Ends, Failure, RequestBody, Route, ServeFault, Served};
 use disk::Disk;
 use history::Pass;
 use ingester::{CallFault, Ingester};
@@ -84,7 +84,8 @@ impl<'a, D: Disk + Drop> Calls for Service<'a, D> {
 ///
 /// # Errors
 ///
-/// `Memory`, where there was none for the answer. Calls made before stand.
+/// `Memory`, where there was none before any call, and none to say so; or none for an answer of another status
+/// than 500, and calls made before stand.
 pub fn answer<D: Disk + Drop, R: Wait>(
     rt: &R,
     alloc: Global,
@@ -102,7 +103,13 @@ pub fn answer<D: Disk + Drop, R: Wait>(
         pass.new }
 {
     let service = Service { ingester };
-    answering::answer(rt, alloc, &service, pass, now, route, tenant, body)
+    let request = RequestBody {
+        time: now,
+        route,
+        tenant,
+        body,
+    };
+    answering::answer(rt, alloc, &service, pass, &request)
 }
 
 /// Answers the requests of a connection, one after another, until its stream ends between two or an
@@ -130,5 +137,6 @@ pub fn serve<D: Disk + Drop, R: Wait, C: Clock, I: Read, O: Write>(
         (io (I.remaining reader.new) (O.contents writer.new)) (world pass.new clock.new) result }
 {
     let service = Service { ingester };
-    answering::serve(rt, alloc, &service, pass, clock, reader, writer)
+    let mut ends = Ends::new(reader, writer);
+    answering::serve(rt, alloc, &service, pass, clock, &mut ends)
 }

@@ -31,7 +31,7 @@ pub returns-in_err-stream-clause-goes : goal.returns-in_err-stream-clause-goes
 returns-in_err-stream-clause-goes g c tenant all are =
     let before = c.loop-alloc.invariant.taken tenant all are in
     let p = err_from_is_err_and c.from_residual.result c.from_residual.ensures.1 in
-    rw (p.1, p.2) (halts (g.S.Calls.gives c.args.service.now) tenant c.args.pass.now c.loop-alloc.pass all 0 c.new-lines.result c.loop-alloc.stream c.loop-alloc.keyed.items c.loop-alloc.lines before c.take.new.pass c.in_err-stream.field-0.0 c.take.new.keyed.items c.take.new.lines
+    rw (p.1, p.2) (halts (g.S.Calls.gives c.args.service.now) tenant c.args.pass.now c.loop-alloc.pass all 0 c.new-lines.result c.loop-alloc.stream c.loop-alloc.keyed.items c.loop-alloc.lines before refl c.take.new.pass c.in_err-stream.field-0.0 c.take.new.keyed.items c.take.new.lines
     (c.in_err-stream.ensures.goes tenant before.more before.keyed))
 
 pub returns-clause-goes : goal.returns-clause-goes

@@ -3,7 +3,7 @@ use Rattle.answering.specs.declared.calling.Came.TheVariants.{Replied}
 use Rattle.answering.proofs.Noting.{noted, on_ok}
 use Rattle.answering.proofs.lines.PushLines.note_reply.Goals as goal
 
-pub returns : goal.returns
-returns c cames tells count =
+pub returns-clause-next : goal.returns-clause-next
+returns-clause-next c cames tells count =
     let old = c.args.self.now in
-    on_ok c.push_reply.result _ _ (λ text. noted cames (Replied c.args.reply.now) c.args.stream old _ tells count text (ap (λ b. old.no_room || b) c.has_no_room.ensures) (ap (λ b. old.unavailable || b) c.is_unavailable.ensures)) c.push_reply.ensures
+    on_ok c.push_reply.result _ _ (λ text. noted cames (Replied c.args.reply.now) c.args.stream old _ tells count text (ap (λ b. old.no_room || b) c.has_no_room.ensures) (ap (λ b. old.unavailable || b) c.is_unavailable.ensures)) c.push_reply.ensures.text

@@ -9,17 +9,17 @@ use Rattle.answering.proofs.serving.Connection.reply_to.Goals as goal
 pub returns-in_err-fixed-in-Fixed-clause-replies : goal.returns-in_err-fixed-in-Fixed-clause-replies
 returns-in_err-fixed-in-Fixed-clause-replies g c =
     let p = err_from_is_err_and c.from_residual.result c.from_residual.ensures.1 in
-    rw (p.1, p.2, c.in-Fixed.is) (not_out (g.S.Calls.gives c.args.self.now.service.now) c.args.now (slice_range c.args.self.now.incoming.now c.args.message.now.start c.args.message.now.end) (Fixed c.in-Fixed.answer) c.args.message.now.closes (Whole []) c.args.self.now.pass.now c.args.self.now.pass.now _ _ (refl, refl) c.in_err-fixed-in-Fixed.field-0.0 c.in_err-fixed-in-Fixed.ensures (λ none. refl))
+    rw (p.1, p.2, c.in-Fixed.is) (not_out (g.S.Calls.gives c.args.self.now.service.now) c.args.now (slice_range c.args.self.now.incoming.now c.args.message.now.start c.args.message.now.end) (Fixed c.in-Fixed.answer) c.args.message.now.closes (Whole []) c.args.self.now.pass.now c.args.self.now.pass.now _ _ (refl, refl) c.in_err-fixed-in-Fixed.field-0.0 c.in_err-fixed-in-Fixed.ensures.writes (λ none. refl))
 
-pub returns-in_err-write_failure-in-NoMemory-clause-replies : goal.returns-in_err-write_failure-in-NoMemory-clause-replies
-returns-in_err-write_failure-in-NoMemory-clause-replies g c =
-    let p = err_from_is_err_and c.from_residual-in_err-write_failure-in-NoMemory.result c.from_residual-in_err-write_failure-in-NoMemory.ensures.1 in
-    rw (p.1, p.2, c.in-NoMemory.is) (not_out (g.S.Calls.gives c.args.self.now.service.now) c.args.now (slice_range c.args.self.now.incoming.now c.args.message.now.start c.args.message.now.end) NoMemory c.args.message.now.closes (Unread Memory) c.args.self.now.pass.now c.args.self.now.pass.now _ _ (refl, refl) c.in_err-write_failure-in-NoMemory.field-0.0 c.in_err-write_failure-in-NoMemory.ensures.writes (λ none. absurd (not_memory c.in_err-write_failure-in-NoMemory.field-0.0 c.in_err-write_failure-in-NoMemory.ensures.fault none)))
+pub returns-in_err-failure-in-NoMemory-clause-replies : goal.returns-in_err-failure-in-NoMemory-clause-replies
+returns-in_err-failure-in-NoMemory-clause-replies g c =
+    let p = err_from_is_err_and c.from_residual-in_err-failure-in-NoMemory.result c.from_residual-in_err-failure-in-NoMemory.ensures.1 in
+    rw (p.1, p.2, c.in-NoMemory.is) (not_out (g.S.Calls.gives c.args.self.now.service.now) c.args.now (slice_range c.args.self.now.incoming.now c.args.message.now.start c.args.message.now.end) NoMemory c.args.message.now.closes (Unread Memory) c.args.self.now.pass.now c.args.self.now.pass.now _ _ (refl, refl) c.in_err-failure-in-NoMemory.field-0.0 c.in_err-failure-in-NoMemory.ensures.writes (λ none. absurd (not_memory c.in_err-failure-in-NoMemory.field-0.0 c.in_err-failure-in-NoMemory.ensures.fault none)))
 
-pub returns-in_ok-write_failure-in-NoMemory-clause-replies : goal.returns-in_ok-write_failure-in-NoMemory-clause-replies
-returns-in_ok-write_failure-in-NoMemory-clause-replies g c =
-    rw c.in-NoMemory.is (out (g.S.Calls.gives c.args.self.now.service.now) c.args.now (slice_range c.args.self.now.incoming.now c.args.message.now.start c.args.message.now.end) NoMemory c.args.message.now.closes (Unread Memory) c.args.self.now.pass.now c.args.self.now.pass.now _ _ (refl, refl) _ tt c.in_ok-write_failure-in-NoMemory.ensures.writes refl)
+pub returns-in_ok-failure-in-NoMemory-clause-replies : goal.returns-in_ok-failure-in-NoMemory-clause-replies
+returns-in_ok-failure-in-NoMemory-clause-replies g c =
+    rw c.in-NoMemory.is (out (g.S.Calls.gives c.args.self.now.service.now) c.args.now (slice_range c.args.self.now.incoming.now c.args.message.now.start c.args.message.now.end) NoMemory c.args.message.now.closes (Unread Memory) c.args.self.now.pass.now c.args.self.now.pass.now _ _ (refl, refl) _ tt c.in_ok-failure-in-NoMemory.ensures.writes refl)
 
 pub returns-in_ok-fixed-in-Fixed-clause-replies : goal.returns-in_ok-fixed-in-Fixed-clause-replies
 returns-in_ok-fixed-in-Fixed-clause-replies g c =
-    rw c.in-Fixed.is (out (g.S.Calls.gives c.args.self.now.service.now) c.args.now (slice_range c.args.self.now.incoming.now c.args.message.now.start c.args.message.now.end) (Fixed c.in-Fixed.answer) c.args.message.now.closes (Whole []) c.args.self.now.pass.now c.args.self.now.pass.now _ _ (refl, refl) _ tt c.in_ok-fixed-in-Fixed.ensures (ap (λ b. b || c.args.message.now.closes) c.always_closes.ensures))
+    rw c.in-Fixed.is (out (g.S.Calls.gives c.args.self.now.service.now) c.args.now (slice_range c.args.self.now.incoming.now c.args.message.now.start c.args.message.now.end) (Fixed c.in-Fixed.answer) c.args.message.now.closes (Whole []) c.args.self.now.pass.now c.args.self.now.pass.now _ _ (refl, refl) _ tt c.in_ok-fixed-in-Fixed.ensures.writes (ap (λ b. b || c.args.message.now.closes) c.always_closes.ensures))

@@ -9,7 +9,7 @@ pub loop-turn-init : goal.loop-turn-init
 loop-turn-init g c =
     let old = c.args.self.now in
     record {
-      same = record { service = refl; pass = refl; clock = refl; reader = refl; writer = refl; incoming = refl; outgoing = refl };
+      same = record { service = refl; pass = refl; clock = refl; ends = refl; of = record { reader = refl; writer = refl }; incoming = refl; outgoing = refl };
       ready = c.requires.ready;
       short = omega (arith, ap length c.requires.fresh);
       progress = starts (g.S.Calls.gives old.service.now) g.C.Clock.ticks (ends_of g.I.Read.remaining g.O.Write.contents old) old.incoming.now (world_of old) c.requires.fresh;
