@@ -142,6 +142,17 @@ impl Opened {
         }
     }
 
+    /// Ends the owner of each shard.
+    pub fn end_owners<R: Wait>(&self, rt: &R) -> Result<()> {
+        match self {
+            Opened::Alone(_) => bail!("a shard alone has no owner"),
+            Opened::Together(together) => {
+                together.end_owners(rt);
+                Ok(())
+            }
+        }
+    }
+
     /// What is left of each shard, shard 0 first.
     pub fn close<R: Wait>(self, rt: &R, alloc: Global) -> Result<Vec<Left>> {
         match self {

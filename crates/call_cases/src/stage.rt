@@ -58,6 +58,7 @@ impl Stage {
             "group" => self.group(rt, said),
             "look" => self.look(rest, said),
             "turn" => self.turn(),
+            "end_owners" => self.end_owners(rt),
             "store" => self.make_change(End::Store, rest, said),
             "forget" => self.make_change(End::Forget, rest, said),
             "block" | "segment" => self.say_change(word, said),
@@ -214,6 +215,14 @@ impl Stage {
     fn turn(&mut self) -> Result<()> {
         match &mut self.opened {
             Some(opened) => opened.turn(),
+            None => bail!("nothing is open"),
+        }
+    }
+
+    /// `end_owners`: the owner of each shard ends.
+    fn end_owners<R: Wait>(&self, rt: &R) -> Result<()> {
+        match &self.opened {
+            Some(opened) => opened.end_owners(rt),
             None => bail!("nothing is open"),
         }
     }

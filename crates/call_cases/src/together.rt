@@ -152,6 +152,11 @@ impl Together {
         Ok(())
     }
 
+    /// Ends the owner of each shard: from then on calls are in doubt.
+    pub fn end_owners<R: Wait>(&self, rt: &R) {
+        self.ingester.end_owners(rt, &self.pass);
+    }
+
     /// How long the history of a shard is, as the pass sees it now.
     pub fn steps(&mut self, shard: u32) -> Result<u64> {
         if shard >= self.count {

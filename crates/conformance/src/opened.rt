@@ -92,6 +92,11 @@ impl Opened {
         steps
     }
 
+    /// Ends the owner of each shard.
+    pub fn end_owners<R: Wait>(&self, rt: &R) {
+        self.ingester.end_owners(rt, &self.pass);
+    }
+
     /// Serves a connection whose bytes come in this manner.
     pub fn run_visit<R: Wait>(
         &mut self,

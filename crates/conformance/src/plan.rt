@@ -20,6 +20,8 @@ pub struct Visit {
     pub connection: Connection,
     /// The places at which it is run again.
     pub each: Option<Each>,
+    /// Whether the owners of the shards end before it.
+    pub ends_owners: bool,
 }
 
 impl Visit {
@@ -29,6 +31,7 @@ impl Visit {
             tick: 0,
             connection: Connection::new(alloc),
             each: None,
+            ends_owners: false,
         }
     }
 
@@ -37,6 +40,7 @@ impl Visit {
             ("time", time) => self.time = time.parse::<u64>()?,
             ("tick", tick) => self.tick = tick.parse::<u64>()?,
             ("each", name) => self.each = Some(Each::find(name)?),
+            ("end_owners", _) => self.ends_owners = true,
             _ => self.connection.take_line(line)?,
         }
         Ok(())

@@ -43,6 +43,9 @@ fn serve_visit<R: Wait>(
     visit: &Visit,
     said: &mut String,
 ) -> Result<()> {
+    if visit.ends_owners {
+        opened.end_owners(rt);
+    }
     let whole = opened.run_visit(rt, alloc, visit, visit.connection.manner);
     whole.say(said)?;
     match visit.each {

@@ -3,10 +3,10 @@ ghost use Rattle.std.specs.Prelude.{◌≡◌, ℕ, Some, slice_get, IfOk, IsOk}
 ghost use Rattle.history.specs.Handles.{Passed};
 ghost use Rattle.ingester.specs.Calls.{IsPassOf};
 
-use crate::shards::{Pushes, Slot, are_of, last_of, open, push_all, read, slots_of_one};
+use crate::shards::{Pushes, Slot, are_of, fault_of, last_of, open, push_all, read, slots_of_one};
 use disk::{Disk, Gate};
 use history::Pass;
-use ingester::Ingester;
+use ingester::{CallFault, Ingester};
 use std::alloc::Global;
 use std::sync::Wait;
 use std::test::*;
@@ -21,6 +21,9 @@ const TIMES: [u64; 6] = [10, 20, 40, 80, 160, 320];
 /// be longer.)
 const GROUPED: [u64; 2] = [0, 153];
 
+/// The lengths of the slots with a segment of one push alone.
+const ALONE: [u64; 2] = [0, 82];
+
 /// What a thread does with a stream.
 #[derive(Clone, Copy)]
 enum Task {
@@ -28,6 +31,10 @@ enum Task {
     Push(Pushes),
     /// It reads all, and must find these.
     Read(Pushes),
+    /// It ends the owner of each shard.
+    EndOwners,
+    /// Its first push must be in doubt, and the next one must find its pass closed.
+    Doubt(Pushes),
 }
 
 /// A thread's task, and how many milliseconds it waits before it.
@@ -78,6 +85,15 @@ fn play<R: Wait + Clock>(part: Part<R>) -> bool
     match turn.task {
         Task::Push(pushes) => push_all(rt, alloc, ingester, pass, pushes).is_some(),
         Task::Read(pushes) => are_of(read(rt, alloc, ingester, &mut pass, pushes.value), pushes),
+        Task::EndOwners => {
+            ingester.end_owners(rt, &pass);
+            true
+        }
+        Task::Doubt(pushes) => {
+            let first = fault_of(rt, alloc, ingester, &mut pass, pushes);
+            let second = fault_of(rt, alloc, ingester, &mut pass, pushes);
+            (first, second) == (Some(CallFault::InDoubt), Some(CallFault::PassClosed))
+        }
     }
 }
 
@@ -226,9 +242,14 @@ fn slot_lengths<R: Wait>(
     lengths_of(shard.0)
 }
 
-/// A push, and while it is written another one, a read that must find both, and a third push. Gives whether all was
-/// right, and the lengths of the slots. Each comes `time` milliseconds after the one before it.
-fn three_while_written<R>(rt: &R, alloc: Global, time: u64) -> Result<(bool, [u64; 2]), Fail>
+/// Four threads do these tasks, each `time` milliseconds after the one before it. The first is a push, and the others
+/// come while it is written. Gives whether all was right, and the lengths of the slots.
+fn three_while_written<R>(
+    rt: &R,
+    alloc: Global,
+    time: u64,
+    tasks: [Task; 4],
+) -> Result<(bool, [u64; 2]), Fail>
 where
     R: Threads + Wait + Clock + Copy + Send + Sync + 'static,
 {
@@ -238,11 +259,12 @@ where
         after: time.saturating_mul(number),
         task,
     };
+    let [first, second, third, fourth] = tasks;
     let turns = [
-        turn(0, Task::Push(pushes(10, 1))),
-        turn(1, Task::Push(pushes(11, 1))),
-        turn(2, Task::Read(pushes(10, 2))),
-        turn(3, Task::Push(pushes(12, 1))),
+        turn(0, first),
+        turn(1, second),
+        turn(2, third),
+        turn(3, fourth),
     ];
     gate.close();
     let opener = Opener {
@@ -256,13 +278,36 @@ where
 
 #[test]
 fn gate_three_calls_in_one_group(rt: HostRuntime) -> Result<(), Fail> {
+    let tasks = [
+        Task::Push(pushes(10, 1)),
+        Task::Push(pushes(11, 1)),
+        Task::Read(pushes(10, 2)),
+        Task::Push(pushes(12, 1)),
+    ];
     for time in TIMES {
-        let (played, lengths) = three_while_written(&rt, rt.alloc(), time)?;
+        let (played, lengths) = three_while_written(&rt, rt.alloc(), time, tasks)?;
         if played && lengths == GROUPED {
             return Ok(());
         }
     }
     Err("calls that came while the shard was written are no group".into())
+}
+
+#[test]
+fn gate_calls_in_the_queue_of_an_owner_that_ends(rt: HostRuntime) -> Result<(), Fail> {
+    let tasks = [
+        Task::Push(pushes(10, 1)),
+        Task::EndOwners,
+        Task::Doubt(pushes(11, 1)),
+        Task::Doubt(pushes(12, 1)),
+    ];
+    for time in TIMES {
+        let (played, lengths) = three_while_written(&rt, rt.alloc(), time, tasks)?;
+        if played && lengths == ALONE {
+            return Ok(());
+        }
+    }
+    Err("calls in the queue of an owner that ends are not in doubt".into())
 }
 
 #[test]

@@ -7,7 +7,7 @@ ghost use Rattle.threads.specs.Looks.{CanLook};
 use accept::{Call, Entry, EntryList, Limits, Line, Meta, Outcome, Reply};
 use disk::{Gate, GateDisk, MemDisk};
 use history::Pass;
-use ingester::Ingester;
+use ingester::{CallFault, Ingester};
 use labels::{LabelPairs, LabelSet, StreamKey, Tenant};
 use std::alloc::Global;
 use std::sync::Wait;
@@ -162,6 +162,38 @@ fn call<R: Wait>(
     }
 }
 
+/// A push of one entry.
+fn push_of(alloc: Global, value: &str, time: u64) -> Option<Call> {
+    let line = Line::new(value.to_string(alloc).ok()?);
+    let mut entries = Vec::new(alloc);
+    let meta = Meta::none();
+    entries.push(Entry { time, line, meta }).ok()?;
+    Some(Call::Push {
+        key: key(alloc, value)?,
+        now: NOW,
+        entries: EntryList::new(entries),
+    })
+}
+
+/// Makes the first of these pushes: why it is refused, if it is.
+pub(crate) fn fault_of<R: Wait>(
+    rt: &R,
+    alloc: Global,
+    ingester: &Ingester<Slot>,
+    pass: &mut Pass,
+    pushes: Pushes,
+) -> Option<CallFault>
+    requires { IsPassOf ingester.now pass.old }
+    ensures { IsPassOf ingester.now pass.new }
+{
+    let push = push_of(alloc, pushes.value, pushes.first)?;
+    if push.has_lawful_numbers() {
+        ingester.call(rt, alloc, pass, push).err()
+    } else {
+        None
+    }
+}
+
 /// Pushes one entry: whether it is stored.
 fn stores<R: Wait>(
     rt: &R,
@@ -174,15 +206,7 @@ fn stores<R: Wait>(
     requires { IsPassOf ingester.now pass.old }
     ensures { IsPassOf ingester.now pass.new }
 {
-    let line = Line::new(value.to_string(alloc).ok()?);
-    let mut entries = Vec::new(alloc);
-    let meta = Meta::none();
-    entries.push(Entry { time, line, meta }).ok()?;
-    let push = Call::Push {
-        key: key(alloc, value)?,
-        now: NOW,
-        entries: EntryList::new(entries),
-    };
+    let push = push_of(alloc, value, time)?;
     match call(rt, alloc, ingester, pass, push)? {
         Reply::Verdict(outcomes) => Some(outcomes.as_slice() == [Outcome::Stored].as_slice()),
         _ => Some(false),
