@@ -24,8 +24,8 @@ pub trait Calls {
     ghost is_ready: { Self → Self.Pass → Type 0 };
 
     /// From what a pass knew, a call and what came of it, to what the pass knows then. A call has a reply, or it fails,
-    /// and its request is answered by a status 500. The first word tells whether the call before it, made with it, is in
-    /// doubt.
+    /// and its request is answered by a status 500. The first word tells whether the call before it, made with it, is
+    /// in doubt.
     ghost gives: { Self → Bool → Self.Pass → Call → Result Reply Failure → Self.Pass → Type 0 };
 
     /// What came of a call, by its outcome.
