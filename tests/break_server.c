@@ -1,7 +1,7 @@
 // Breaks a server on purpose, so that a run over it can be seen to fail. Preloaded, by these variables of the environment:
 // BREAK_ADDRESS: it listens on all addresses. BREAK_CLOCK: the clock of the day stands still. BREAK_PAUSE: no thread
 // sleeps. BREAK_SYNC=folder, file or gate: a folder is not synced, a file that was opened is not, or every other sync of a
-// slot's bytes is not. BREAK_LINE=n: in each n-th write of several bytes the last x is a y. BREAK_MEMORY: each write leaves 64 bytes of memory behind. BREAK_SPEED: each sync takes longer than
+// slot's bytes is not. BREAK_LINE=n: in each n-th write of several bytes the last x is a y. BREAK_MEMORY: each write leaves 256 bytes of memory behind. BREAK_SPEED: each sync takes longer than
 // the one before, by so many nanoseconds. BREAK_ACCEPT=n: from then on no connection is accepted.
 #define _GNU_SOURCE
 #include <arpa/inet.h>
@@ -102,7 +102,7 @@ ssize_t pwrite(int file, const void *bytes, size_t count, off_t at) {
     static volatile char *left;
     ssize_t (*it)(int, const void *, size_t, off_t) = (ssize_t(*)(int, const void *, size_t, off_t))real("pwrite");
     if (getenv("BREAK_MEMORY") != NULL) {
-        left = malloc(64);
+        left = malloc(256);
         left[0] = 1;
     }
     char *copy = is_changed(count) ? malloc(count) : NULL;
