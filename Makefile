@@ -6,7 +6,7 @@ WORKERS ?= 64
 
 .PHONY: help run demo sample test edits faults check check-docs fmt bench kill failed-disk roll-time deb deb-check \
 	edge-check drain-check pictures deb-lint metrics-check metrics-cost fill-check split-check \
-	power-loss sync-check soak
+	power-loss sync-check soak scale-check
 
 help: ## prints this
 	@sed -nE 's/^([a-z][a-z-]*):.*## (.*)/\1\t\2/p' Makefile | while IFS='	' read -r name words; do \
@@ -44,6 +44,10 @@ sync-check: ## which files and folders a server syncs when, and what it says whe
 soak: ## a server under a steady load: memory, and how long a push takes (MINUTES=2)
 	@RT='$(RT)' tests/build server
 	@tests/soak $(MINUTES)
+
+scale-check: ## once at scale: long streams, many streams, long reads, a slot above 100 MB
+	@RT='$(RT)' tests/build server walcat
+	@tests/scale_check
 
 roll-time: ## how long a push takes that begins the next segment of a full shard (MIB="64 1024")
 	@RT='$(RT)' tests/build server

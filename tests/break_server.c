@@ -2,7 +2,8 @@
 // BREAK_ADDRESS: it listens on all addresses. BREAK_CLOCK: the clock of the day stands still. BREAK_PAUSE: no thread
 // sleeps. BREAK_SYNC=folder, file or gate: a folder is not synced, a file that was opened is not, or every other sync of a
 // slot's bytes is not. BREAK_LINE=n: in each n-th write of several bytes the last x is a y. BREAK_MEMORY: each write leaves 256 bytes of memory behind. BREAK_SPEED: each sync takes longer than
-// the one before, by so many nanoseconds. BREAK_ACCEPT=n: from then on no connection is accepted.
+// the one before, by so many nanoseconds. BREAK_ACCEPT=n: from then on no connection is accepted. BREAK_LARGE=n:
+// no memory of more than n bytes is given.
 #define _GNU_SOURCE
 #include <arpa/inet.h>
 #include <dlfcn.h>
@@ -63,6 +64,30 @@ int clock_nanosleep(clockid_t which, int flags, const struct timespec *asked, st
         return 0;
     }
     return ((int (*)(clockid_t, int, const struct timespec *, struct timespec *))real("clock_nanosleep"))(which, flags, asked, left);
+}
+
+static int is_too_large(size_t size) {
+    static uint64_t most;
+    if (most == 0) {
+        most = getenv("BREAK_LARGE") == NULL ? UINT64_MAX : number_of("BREAK_LARGE");
+    }
+    return size > most;
+}
+
+void *malloc(size_t size) {
+    static void *(*it)(size_t);
+    if (it == NULL) {
+        it = (void *(*)(size_t))real("malloc");
+    }
+    return is_too_large(size) ? NULL : it(size);
+}
+
+void *realloc(void *old, size_t size) {
+    static void *(*it)(void *, size_t);
+    if (it == NULL) {
+        it = (void *(*)(void *, size_t))real("realloc");
+    }
+    return is_too_large(size) ? NULL : it(old, size);
 }
 
 static int is_broken(const char *what) {

@@ -91,7 +91,7 @@ def try_faults(faults):
         is_well &= status == 0
     for name, variable, value, words in faults:
         status, said = run_again(words, {variable: value})
-        why = next((it for it in said if "WRONG" in it), said[0])
+        why = next((it for it in said if "WRONG" in it), said[-1])
         print(f"{'found' if status == 1 else 'NOT FOUND'}: {name} ({variable}={value}): {why[:300]}", flush=True)
         is_well &= status == 1
     return 0 if is_well else 1
