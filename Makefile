@@ -6,7 +6,7 @@ WORKERS ?= 64
 
 .PHONY: help run demo sample test edits faults check check-docs fmt bench kill failed-disk roll-time deb deb-check \
 	edge-check drain-check pictures deb-lint metrics-check metrics-cost fill-check split-check \
-	power-loss sync-check soak scale-check
+	power-loss sync-check outside-check soak scale-check
 
 help: ## prints this
 	@sed -nE 's/^([a-z][a-z-]*):.*## (.*)/\1\t\2/p' Makefile | while IFS='	' read -r name words; do \
@@ -40,6 +40,10 @@ power-loss: ## what a server under load may leave at a loss of power, image by i
 sync-check: ## which files and folders a server syncs when, and what it says where a sync fails
 	@RT='$(RT)' tests/build server
 	@tests/sync_check
+
+outside-check: ## a server from outside: its address, its clock, silent clients, no descriptors, a million connections
+	@RT='$(RT)' tests/build server ingestctl ingest1 walsplit
+	@tests/outside_check
 
 soak: ## a server under a steady load: memory, and how long a push takes (MINUTES=2)
 	@RT='$(RT)' tests/build server

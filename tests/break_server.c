@@ -3,7 +3,7 @@
 // sleeps. BREAK_SYNC=folder, file or gate: a folder is not synced, a file that was opened is not, or every other sync of a
 // slot's bytes is not. BREAK_LINE=n: in each n-th write of several bytes the last x is a y. BREAK_MEMORY: each write leaves 256 bytes of memory behind. BREAK_SPEED: each sync takes longer than
 // the one before, by so many nanoseconds. BREAK_ACCEPT=n: from then on no connection is accepted. BREAK_LARGE=n:
-// no memory of more than n bytes is given.
+// no memory of more than n bytes is given. BREAK_SETTING: the environment has no NEEDLEAZURE_CAPACITY.
 #define _GNU_SOURCE
 #include <arpa/inet.h>
 #include <dlfcn.h>
@@ -24,6 +24,12 @@ static void *real(const char *name) {
 static uint64_t number_of(const char *name) {
     const char *said = getenv(name);
     return said == NULL ? 0 : strtoull(said, NULL, 10);
+}
+
+__attribute__((constructor)) static void forget_setting(void) {
+    if (getenv("BREAK_SETTING") != NULL) {
+        unsetenv("NEEDLEAZURE_CAPACITY");
+    }
 }
 
 int bind(int it, const struct sockaddr *address, socklen_t length) {
