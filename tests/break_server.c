@@ -1,9 +1,10 @@
 // Breaks a server on purpose, so that a run over it can be seen to fail. Preloaded, by these variables of the environment:
 // BREAK_ADDRESS: it listens on all addresses. BREAK_CLOCK: the clock of the day stands still. BREAK_PAUSE: no thread
-// sleeps. BREAK_SYNC=folder, file or gate: a folder is not synced, a file that was opened is not, or every other sync of a
-// slot's bytes is not. BREAK_LINE=n: in each n-th write of several bytes the last x is a y. BREAK_MEMORY: each write leaves 256 bytes of memory behind. BREAK_SPEED: each sync takes longer than
-// the one before, by so many nanoseconds. BREAK_ACCEPT=n: from then on no connection is accepted. BREAK_LARGE=n:
-// no memory of more than n bytes is given. BREAK_SETTING: the environment has no NEEDLEAZURE_CAPACITY.
+// sleeps. BREAK_SETTING: there is no NEEDLEAZURE_CAPACITY. BREAK_ACCEPT=n: after n connections none is accepted.
+// BREAK_SYNC=folder, file or gate: folders are not synced, files are not when they are opened, or every other sync of a
+// slot's bytes is left out. BREAK_LINE=n: in each n-th write of several bytes the last x is a y. BREAK_MEMORY: each write
+// leaves 256 bytes of memory behind. BREAK_LARGE=n: no memory of more than n bytes is given. BREAK_SPEED=n: each sync takes
+// n nanoseconds longer than the one before.
 #define _GNU_SOURCE
 #include <arpa/inet.h>
 #include <dlfcn.h>
