@@ -1,6 +1,7 @@
 // many_connections PORT COUNT THREADS: makes COUNT connections to 127.0.0.1, each with one `GET /ready`, and looks at its
 // answer. Prints how many were answered 200 `ready`. A connection ends by a reset, so that its port is free at once.
 #include <arpa/inet.h>
+#include <errno.h>
 #include <netinet/in.h>
 #include <netinet/tcp.h>
 #include <pthread.h>
@@ -18,14 +19,23 @@ static int is_answered(void) {
     char found[512];
     struct linger reset = {1, 0};
     struct timeval patience = {60, 0};
+    const char *step = "socket";
     int on = 1, is_well = 0, it = socket(AF_INET, SOCK_STREAM, 0);
     setsockopt(it, SOL_SOCKET, SO_LINGER, &reset, sizeof reset);
     setsockopt(it, SOL_SOCKET, SO_RCVTIMEO, &patience, sizeof patience);
     setsockopt(it, IPPROTO_TCP, TCP_NODELAY, &on, sizeof on);
-    if (connect(it, (struct sockaddr *)&place, sizeof place) == 0 && send(it, asked, sizeof asked - 1, MSG_NOSIGNAL) > 0) {
+    if (connect(it, (struct sockaddr *)&place, sizeof place) != 0) {
+        step = "connect";
+    } else if (send(it, asked, sizeof asked - 1, MSG_NOSIGNAL) < 0) {
+        step = "send";
+    } else {
         ssize_t length = recv(it, found, sizeof found - 1, 0);
+        step = length > 0 ? "other answer" : length == 0 ? "end" : "recv";
         found[length < 0 ? 0 : length] = 0;
         is_well = strncmp(found, "HTTP/1.1 200", 12) == 0 && length > 5 && strcmp(found + length - 5, "ready") == 0;
+    }
+    if (!is_well) {
+        fprintf(stderr, "connection %ld: %s: %s\n", begun, step, strerror(errno));
     }
     close(it);
     return is_well;

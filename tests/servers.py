@@ -47,9 +47,9 @@ def build_library(folder, name):
     return path
 
 
-def room_in_memory(name):
-    """A temporary folder whose syncs take no time, where the system has such a place."""
-    place = "/dev/shm" if os.access("/dev/shm", os.W_OK) else None
+def room_in_memory(name, place=None):
+    """A temporary folder in this place, else where syncs take no time, where the system has such a place."""
+    place = place or ("/dev/shm" if os.access("/dev/shm", os.W_OK) else None)
     return tempfile.TemporaryDirectory(prefix=f"needleazure-{name}-", dir=place)
 
 
@@ -72,12 +72,15 @@ def breaking_library():
 def broken(settings):
     """The settings of a server, which is broken where this run's environment has variables of break_server.c."""
     ways = {name: value for name, value in os.environ.items() if name.startswith("BREAK_")}
-    return {**settings, **ways, "LD_PRELOAD": f"{breaking_library()} {settings.get('LD_PRELOAD', '')}".strip()} if ways else settings
+    if not ways:
+        return settings
+    return {**settings, **ways, "LD_PRELOAD": f"{breaking_library()} {settings.get('LD_PRELOAD', '')}".strip()}
 
 
 def run_again(words, settings):
     """Runs this script with these words. Returns its exit status, and what it said."""
-    ended = subprocess.run([sys.argv[0], *words], env={**os.environ, **settings}, capture_output=True, text=True, check=False)
+    how = {"env": {**os.environ, **settings}, "capture_output": True, "text": True, "check": False}
+    ended = subprocess.run([sys.argv[0], *words], **how)
     return ended.returncode, (ended.stdout + ended.stderr).strip().splitlines() or [""]
 
 
@@ -174,8 +177,8 @@ class Server:
 
 def request(path, body, tenant="t"):
     body = json.dumps(body).encode()
-    head = f"POST {path} HTTP/1.1\r\nX-Scope-OrgID: {tenant}\r\nContent-Type: application/json\r\nContent-Length: {len(body)}\r\n\r\n"
-    return head.encode() + body
+    head = [f"POST {path} HTTP/1.1", f"X-Scope-OrgID: {tenant}", "Content-Type: application/json", f"Content-Length: {len(body)}"]
+    return "\r\n".join([*head, "", ""]).encode() + body
 
 
 def value_of(entry):
