@@ -1,10 +1,10 @@
 // Breaks a server on purpose, so that a run over it can be seen to fail. Preloaded, by these variables of the environment:
 // BREAK_ADDRESS: it listens on all addresses. BREAK_CLOCK: the clock of the day stands still. BREAK_PAUSE: no thread
 // sleeps. BREAK_SETTING: there is no NEEDLEAZURE_CAPACITY. BREAK_ACCEPT=n: after n connections none is accepted.
-// BREAK_SYNC=folder, file or gate: folders are not synced, files are not when they are opened, or every other sync of a
-// slot's bytes is left out. BREAK_LINE=n: in each n-th write of several bytes the last x is a y. BREAK_MEMORY: each write
-// leaves 256 bytes of memory behind. BREAK_LARGE=n: no memory of more than n bytes is given. BREAK_SPEED=n: each sync takes
-// n nanoseconds longer than the one before.
+// BREAK_SYNC=folder, file, opening or gate: folders are not synced, files are not when they are made, nothing is before the
+// first write, or every other sync of a slot's bytes is left out. BREAK_LINE=n: in each n-th write of several bytes the
+// last x is a y. BREAK_MEMORY: each write leaves 256 bytes of memory behind. BREAK_LARGE=n: no memory of more than n bytes
+// is given. BREAK_SPEED=n: each sync takes n nanoseconds longer than the one before.
 #define _GNU_SOURCE
 #include <arpa/inet.h>
 #include <dlfcn.h>
@@ -102,8 +102,13 @@ static int is_broken(const char *what) {
     return said != NULL && strcmp(said, what) == 0;
 }
 
+static int has_written;
+
 int fsync(int file) {
     struct stat its;
+    if (is_broken("opening") && !has_written) {
+        return 0;
+    }
     if (fstat(file, &its) == 0 && is_broken(S_ISDIR(its.st_mode) ? "folder" : "file")) {
         return 0;
     }
@@ -117,7 +122,7 @@ int fdatasync(int file) {
     if (more > 0) {
         ((int (*)(const struct timespec *, struct timespec *))real("nanosleep"))(&wait, NULL);
     }
-    if (is_broken("gate") && number % 2 == 0) {
+    if ((is_broken("gate") && number % 2 == 0) || (is_broken("opening") && !has_written)) {
         return 0;
     }
     return ((int (*)(int))real("fdatasync"))(file);
@@ -132,6 +137,7 @@ static int is_changed(size_t count) {
 
 ssize_t pwrite(int file, const void *bytes, size_t count, off_t at) {
     static volatile char *left;
+    has_written = 1;
     ssize_t (*it)(int, const void *, size_t, off_t) = (ssize_t(*)(int, const void *, size_t, off_t))real("pwrite");
     if (getenv("BREAK_MEMORY") != NULL) {
         left = malloc(256);

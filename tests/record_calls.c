@@ -3,6 +3,7 @@
 // the order of their times. Preloaded, it also lets calls fail: each fdatasync whose number among those is a multiple of
 // FAIL_SYNC (only those of files whose path ends with FAIL_NAME, where it is given) is not made and answers EIO; and from
 // the pwrite with the number FULL_AT on, none makes its file longer: the first of them writes half, the others nothing.
+// Each pwrite and fdatasync takes RECORD_SLOW microseconds longer, as if a disk did.
 #define _GNU_SOURCE
 #include <dlfcn.h>
 #include <errno.h>
@@ -93,6 +94,14 @@ static int64_t end(struct call *call, int64_t result) {
     }
     errno = cause;
     return result;
+}
+
+// Waits in a call that was begun.
+static void take_long(const struct call *call) {
+    const char *slow = getenv("RECORD_SLOW");
+    if (call->is_noted && slow != NULL) {
+        usleep((useconds_t)strtoul(slow, NULL, 10));
+    }
 }
 
 static void name_file(struct call *call, int file) {
@@ -188,6 +197,7 @@ ssize_t pwrite(int file, const void *bytes, size_t count, off_t at) {
     struct call call;
     name_file(&call, file);
     begin(&call, 'w', (uint64_t)at, count, bytes);
+    take_long(&call);
     ssize_t fits = call.is_noted ? room(file, count, at) : (ssize_t)count;
     if (fits < 0) {
         errno = ENOSPC;
@@ -213,6 +223,7 @@ int fdatasync(int file) {
     struct call call;
     name_file(&call, file);
     begin(&call, 's', 0, 0, NULL);
+    take_long(&call);
     if (call.is_noted && fails(call.path)) {
         errno = EIO;
         return (int)end(&call, -1);
