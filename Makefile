@@ -5,7 +5,8 @@ SHARDS ?= 16
 WORKERS ?= 64
 
 .PHONY: help run demo sample test edits faults check check-docs fmt bench kill failed-disk roll-time deb deb-check \
-	edge-check drain-check pictures deb-lint metrics-check metrics-cost fill-check split-check
+	edge-check drain-check pictures deb-lint metrics-check metrics-cost fill-check split-check \
+	power-loss sync-check outside-check soak scale-check
 
 help: ## prints this
 	@sed -nE 's/^([a-z][a-z-]*):.*## (.*)/\1\t\2/p' Makefile | while IFS='	' read -r name words; do \
@@ -31,6 +32,26 @@ kill: ## kills a server in the middle of pushes, reads and trims, and reads all 
 failed-disk: ## a server whose disk fails while it serves says so, once for each shard
 	@RT='$(RT)' tests/build server
 	@tests/failed_disk
+
+power-loss: ## what a server under load may leave at a loss of power, image by image (IMAGES=2000 SEED=1)
+	@RT='$(RT)' tests/build server
+	@tests/power_loss $(or $(IMAGES),2000) $(SEED)
+
+sync-check: ## which files and folders a server syncs when, and what it says where a sync fails
+	@RT='$(RT)' tests/build server
+	@tests/sync_check
+
+outside-check: ## a server from outside: its address, its clock, silent clients, no descriptors, a million connections
+	@RT='$(RT)' tests/build server ingestctl ingest1 walsplit
+	@tests/outside_check
+
+soak: ## a server under a steady load: memory, and how long a push takes (MINUTES=2)
+	@RT='$(RT)' tests/build server
+	@tests/soak $(MINUTES)
+
+scale-check: ## once at scale: long streams, many streams, long reads, a slot above 100 MB
+	@RT='$(RT)' tests/build server walcat
+	@tests/scale_check
 
 roll-time: ## how long a push takes that begins the next segment of a full shard (MIB="64 1024")
 	@RT='$(RT)' tests/build server
