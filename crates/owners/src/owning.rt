@@ -4,7 +4,7 @@ use crate::letters::{Answers, OrdersIn};
 use crate::making::make_all;
 use crate::places::{Home, OfOpening, Origin};
 use crate::sending::send_all;
-use crate::taking::{Group, take_group};
+use crate::taking::take_group;
 use disk::Disk;
 use keyed::{QueueReceiver, QueueSender};
 use shard::Shard;
@@ -66,13 +66,11 @@ pub fn own<D: Disk + Drop, R: Wait>(rt: &R, owner: Owner<D>) {
         mut back,
         mut desk,
     } = ends;
-    let mut group = Group::OfOne;
     for _ in rt.forever() {
-        let is_likely = group == Group::OfSeveral;
-        group = take_group(rt, &home, number, &mut orders, &mut desk, is_likely);
+        let is_last = take_group(rt, &home, number, &mut orders, &mut desk);
         make_all(alloc, &origin, &home, &mut state, &mut desk);
         send_all(rt, &home, &mut desk.letters, &mut answers);
-        if group == Group::Last {
+        if is_last {
             break;
         }
     }

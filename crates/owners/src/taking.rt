@@ -1,5 +1,5 @@
 //! How an owner takes in the calls that have come.
-ghost use Rattle.std.specs.Prelude.{◌≡◌, ◌≤◌, ◌++◌, IfSome};
+ghost use Rattle.std.specs.Prelude.{◌≡◌, ◌≤◌, ◌++◌};
 ghost use Rattle.std.specs.VecDeque.{deque_len};
 ghost use Rattle.keyed.specs.Queues.{receives_as};
 ghost use Rattle.keyed.specs.declared.binding.Binding.TheVariants.{Bound};
@@ -13,20 +13,6 @@ use std::sync::Wait;
 
 /// How many calls a group has before no further letter is taken in.
 const MOST: usize = 64;
-
-/// How often an owner looks for an order that is likely to come, before it sleeps.
-const LOOKS: u32 = 50;
-
-/// What an owner took in.
-#[derive(Clone, Copy, Debug, Drop, PartialEq, Eq)]
-pub(crate) enum Group {
-    /// One letter.
-    OfOne,
-    /// Several letters: others call this shard too, so the next order is likely to come soon.
-    OfSeveral,
-    /// The last order.
-    Last,
-}
 
 // Puts the calls of a letter after those of the desk, and the letter at the place of its pass.
 fn take_letter(home: &Home, shard: usize, desk: &mut Desk, mut letter: Letter)
@@ -63,38 +49,15 @@ fn take_order(home: &Home, shard: usize, desk: &mut Desk, order: Order) -> bool
     }
 }
 
-// Waits for an order. Where one is likely, it looks for it for a while before it sleeps. None comes where nobody can send
-// any more.
-fn wait_for_order<R: Wait>(
-    rt: &R,
-    home: &Home,
-    shard: usize,
-    orders: &mut OrdersIn,
-    is_likely: bool,
-) -> Option<Order>
-    requires { receives_as orders.old ≡ Bound home.now shard }
-    ensures order { IfSome result (IsOrderFor home.now shard) }
-    ensures orders { receives_as orders.new ≡ Bound home.now shard }
-{
-    let _ = home;
-    let _ = shard;
-    let looks = if is_likely { LOOKS } else { 0 };
-    match orders.look(rt, looks) {
-        Some(order) => Some(order),
-        None => orders.receive(rt),
-    }
-}
-
-/// Waits for an order, and takes in those that are there, until 64 calls or more are to be made. `is_likely` says
-/// whether an order is likely to come soon.
+/// Waits for an order, and takes in those that are there, until 64 calls or more are to be made. It says whether that
+/// was the last order.
 pub(crate) fn take_group<R: Wait>(
     rt: &R,
     home: &Home,
     shard: usize,
     orders: &mut OrdersIn,
     desk: &mut Desk,
-    is_likely: bool,
-) -> Group
+) -> bool
     requires orders { receives_as orders.old ≡ Bound home.now shard }
     requires desk { IsDesk home.now shard desk.old }
     requires idle { deque_len desk.old.jobs ≡ 0 }
@@ -102,10 +65,9 @@ pub(crate) fn take_group<R: Wait>(
     ensures desk { IsDesk home.now shard desk.new }
     ensures few { deque_len desk.new.jobs ≤ 128 }
 {
-    let Some(first) = wait_for_order(rt, home, shard, orders, is_likely) else {
-        return Group::Last;
+    let Some(first) = orders.receive(rt) else {
+        return true;
     };
-    let mut group = Group::OfOne;
     let mut is_last = take_order(home, shard, desk, first);
     for _ in 0..MOST {
         if is_last || desk.jobs.len() >= MOST {
@@ -115,7 +77,6 @@ pub(crate) fn take_group<R: Wait>(
             break;
         };
         is_last = take_order(home, shard, desk, next);
-        group = Group::OfSeveral;
     }
-    if is_last { Group::Last } else { group }
+    is_last
 }
