@@ -1,7 +1,9 @@
 //! The program `walsplit`: the slots of a folder under another number of shards.
-ghost use Rattle.std.specs.Prelude.{◌≡◌, ◌↔◌, ◌≤◌, ◌^◌, option_map};
+ghost use Rattle.std.specs.Prelude.{◌≡◌, ◌⊎◌, ◌↔◌, ◌≤◌, ◌^◌, ℕ, IfOk, IfErr, OnOk, option_map};
+ghost use Rattle.std.specs.Io.KnownBytes.{Appends};
 ghost use Rattle.words.specs.Words.{GivesCapacity};
 ghost use Rattle.splitting.specs.Words.{GiveSplit};
+ghost use Rattle.splitting.specs.Endings.{SplitEnds, split_line};
 
 use crate::announced::{Side, announce};
 use crate::asked::split_in;
@@ -39,6 +41,7 @@ pub fn run_walsplit<R: Files<File = File>, W: Write, E: Write>(
 ) -> u8
     ensures status { result ≤ 3 }
     ensures usage { (result ≡ 2) ↔ (¬ (GiveSplit words.now × GivesCapacity (option_map (λ s. s.now) setting.entry))) }
+    ensures ends { SplitEnds words.now (W.contents output.old) (W.contents output.new) result }
 {
     let Some(words) = split_in(words) else {
         let _ = writeln!(errors, "usage: walsplit OLD NEW COUNT");
@@ -67,13 +70,20 @@ fn split_and_print<R: Files<File = File>, W: Write>(
     marks: Option<Stderr>,
 ) -> Result<(), Stopped>
     requires { capacity ≤ 2 ^ 30 }
+    ensures said { OnOk result ((shards : ℕ) × (1 ≤ shards) × (shards ≤ 64)
+        × Appends (W.contents output.old) (W.contents output.new) (split_line shards words.entry.shards)) }
+    ensures stopped { IfErr result (λ stop. (stop ≡ Stopped.Output)
+        ⊎ (W.contents output.new ≡ W.contents output.old)) }
 {
     let old_shards = split_folder(rt, alloc, words, capacity, marks)?;
     let new_shards = words.shards;
-    let written = writeln!(output, "split {old_shards} to {new_shards}");
-    written
-        .and_then(|()| output.flush())
-        .map_err(|_| Stopped::Output)
+    let Ok(()) = writeln!(output, "split {old_shards} to {new_shards}") else {
+        return Err(Stopped::Output);
+    };
+    let Ok(()) = output.flush() else {
+        return Err(Stopped::Output);
+    };
+    Ok(())
 }
 
 // Splits what stands in the old folder, and gives its number of shards.
@@ -85,6 +95,7 @@ fn split_folder<R: Files<File = File>>(
     marks: Option<Stderr>,
 ) -> Result<u32, Stopped>
     requires { capacity ≤ 2 ^ 30 }
+    ensures { IfOk result (λ shards. (1 ≤ shards) × (shards ≤ 64)) }
 {
     let SplitWords {
         old_folder,
