@@ -1,5 +1,5 @@
 -- What is written after what was written.
-use Rattle.std.proofs.Common.{◌≡◌, ◌++◌, ℕ, List, [], Option, append-nil, sym, subst}
+use Rattle.std.proofs.Common.{◌++◌, ℕ, List, [], Option, append-nil, sym, subst}
 use Rattle.std.specs.Prelude.{Result, Ok, Err, OnOk}
 use Rattle.std.specs.Io.KnownBytes.{Appends}
 use Rattle.std.proofs.KnownBytes.{Appends-trans}

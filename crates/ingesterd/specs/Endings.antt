@@ -1,8 +1,7 @@
 -- How programs end, and with which exit status.
-use Rattle.std.specs.Prelude.{◌≡◌, ◌⊎◌, ℕ, List, [], ◌∷◌, ◌++◌, codes, decimal, Option, IfSome, Result, Ok}
+use Rattle.std.specs.Prelude.{◌≡◌, ◌⊎◌, ℕ, List, [], ◌∷◌, ◌++◌, codes, decimal, Option, IfSome, String, Ok}
 use Rattle.std.specs.Io.KnownBytes.{Appends}
 use Rattle.std.specs.declared.alloc.Global.{Global}
-use Rattle.std.specs.Prelude.{String}
 use Rattle.history.specs.Handles.{Passed}
 use Rattle.requests.specs.Answers.{code_of}
 use Rattle.requests.specs.declared.answer.Answer.{Answer}
@@ -42,8 +41,8 @@ answer_lines answer = decimal (code_of answer.status) ++ codes "\n" ++ answer.bo
 abbrev pub ready_line : ℕ → List ℕ
 ready_line port = codes "ready " ++ decimal port ++ codes "\n"
 
--- The answer that is due to a request with this body, as the words say it: at an opening of their number of shards, under
--- the profile's limits, by its one pass.
+-- The answer that is due to a request with this body, as the words say it: at an opening of their number of shards,
+-- under the profile's limits, by its one pass.
 pub record IsAnswerDue (D : Type 0) (call : CallWords) (capacity : ℕ) (body : List ℕ) (answer : Answer) : Type 0 where
   pub opening : Opening D
   pub before : Passed
@@ -65,8 +64,8 @@ pub data CallEnds (D : Type 0) (words : List (String Global)) (setting input bef
   stopped_call : (stop : Stopped) → (stop ≡ Output) ⊎ (after ≡ before) → status ≡ stop_status stop
       → CallEnds D words setting input before after status
 
--- How `ingest1` ended: its word was wrong; or the answer to the push was written, and what was read back; or it stopped,
--- and where its opening was refused, nothing was written.
+-- How `ingest1` ended: its word was wrong; or the answer to the push was written, and what was read back; or it
+-- stopped, and where its opening was refused, nothing was written.
 pub data PushEnds (before after : Option (List ℕ)) (status : ℕ) : Type 0 where
   unasked_push : status ≡ 2 → after ≡ before → PushEnds before after status
   answered_push : (answer : Answer) (back : List ℕ) → Appends before after (answer_lines answer ++ back) → status ≡ 0

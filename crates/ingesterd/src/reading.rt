@@ -1,5 +1,5 @@
-//! The system's clock, with a record of its readings. What a reader has to trust stands here: that `read_once` reads the
-//! system's clock once, and returns what it gave. That it notes just this is proved, and so is what is told by it.
+//! The system's clock, with a record of its readings. What a reader has to trust stands here: that `read_once` reads
+//! the system's clock once, and returns what it gave. That it notes just this is proved, and so is what is told by it.
 ghost use Rattle.std.specs.Prelude.{◌≡◌, ℕ, List, [], ◌∷◌, Option, option_map};
 ghost use Rattle.std.specs.Borrow.{ftrue};
 ghost use Rattle.std.specs.Time.{system_time_nanos};

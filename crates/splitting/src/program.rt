@@ -1,7 +1,10 @@
 //! The program `walsplit`: the slots of a folder under another number of shards.
-ghost use Rattle.std.specs.Prelude.{◌≡◌, ◌⊎◌, ◌↔◌, ◌≤◌, ◌^◌, ℕ, IfOk, IfErr, OnOk, option_map};
+ghost use Rattle.std.specs.Prelude.{◌≡◌, ◌⊎◌, ◌↔◌, ◌<◌, ◌≤◌, ◌^◌, ℕ, IfOk, IfErr, OnOk, option_map, vec_len};
 ghost use Rattle.std.specs.Io.KnownBytes.{Appends};
 ghost use Rattle.words.specs.Words.{GivesCapacity};
+ghost use Rattle.split.specs.declared.fault.SplitFault.{SplitFault};
+ghost use Rattle.split.specs.declared.splitting.Slots.{Slots};
+ghost use Rattle.split.specs.Splits.{AreSplit, IsCause};
 ghost use Rattle.splitting.specs.Words.{GiveSplit};
 ghost use Rattle.splitting.specs.Endings.{SplitEnds, split_line};
 
@@ -11,6 +14,7 @@ use crate::beside::{give_name, unfinished, unopened};
 use crate::found::{has_slots, shards_in};
 use crate::said::SplitWords;
 use crate::stopped::Stopped;
+use disk::Disk;
 use slots::{open_slots, terminal_in};
 use split::split;
 use std::alloc::Global;
@@ -121,13 +125,32 @@ fn split_folder<R: Files<File = File>>(
         Ok(new) => announce(alloc, new, Side::New, terminal)?,
         Err(fault) => return Err(unopened(alloc, fault, folder, new_folder)?),
     };
-    if let Err((fault, _slots)) = split(alloc, old, new, capacity) {
-        return Err(Stopped::Split(fault));
-    }
+    split_slots(alloc, old, new, capacity)?;
     if let Some(path) = &unfinished {
         give_name(rt, alloc, path.as_str(), new_folder)?;
     }
     Ok(old_shards)
+}
+
+// Splits what these slots hold, and drops them.
+fn split_slots<D: Disk + Drop>(
+    alloc: Global,
+    old: Vec<[D; 2]>,
+    new: Vec<[D; 2]>,
+    capacity: u64,
+) -> Result<(), Stopped>
+    requires old { (0 < vec_len old) × (vec_len old ≤ 64) }
+    requires new { (0 < vec_len new) × (vec_len new ≤ 64) }
+    requires capacity { capacity ≤ 2 ^ 30 }
+    ensures done { OnOk result ((backs : Slots D)
+        × AreSplit D.sight D.follows capacity old.items backs.old.items new.items backs.new.items) }
+    ensures cause { IfErr result (λ stop. (fault : SplitFault) × (backs : Slots D) × (stop ≡ Stopped.Split fault)
+        × IsCause D.sight D.follows fault capacity old.items backs.old.items new.items backs.new.items) }
+{
+    match split(alloc, old, new, capacity) {
+        Ok(_slots) => Ok(()),
+        Err((fault, _slots)) => Err(Stopped::Split(fault)),
+    }
 }
 
 // Of a folder that is there nothing tells later whether it is whole.

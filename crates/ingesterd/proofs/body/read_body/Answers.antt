@@ -1,4 +1,4 @@
-use Rattle.std.proofs.Common.{◌≤◌, length, vec_len, sym, arith}
+use Rattle.std.proofs.Common.{◌≤◌, length, arith}
 use Rattle.ingesterd.proofs.Bodies.{whole_body}
 use Rattle.ingesterd.proofs.body.read_body.Goals as goal
 
