@@ -1,4 +1,7 @@
 //! Bodies that programs read, and answers that they write.
+ghost use Rattle.std.specs.Prelude.{◌≡◌, ◌⊎◌, OnOk, IfOk, IfErr, IfSome};
+ghost use Rattle.std.specs.Io.KnownBytes.{Appends};
+ghost use Rattle.ingesterd.specs.Endings.{answer_lines};
 
 use crate::stopped::Stopped;
 use front::Answer;
@@ -9,7 +12,10 @@ use std::io::{ErrorKind, Read, Write};
 const MAX_BODY: u64 = 4_194_304;
 
 /// The whole input, where it is no longer than a body may be.
-pub fn read_body<I: Read>(alloc: Global, input: &mut I) -> Result<Vec<u8>, Stopped> {
+pub fn read_body<I: Read>(alloc: Global, input: &mut I) -> Result<Vec<u8>, Stopped>
+    ensures whole { IfOk result (λ body. IfSome (I.remaining input.old) (λ bytes. body.items ≡ bytes)) }
+    ensures cause { IfErr result (λ stop. (stop ≡ Stopped.Body) ⊎ (stop ≡ Stopped.Memory)) }
+{
     let mut body = Vec::new(alloc);
     if let Err(error) = input.take(MAX_BODY + 1).read_to_end(&mut body) {
         return Err(match error.kind() {
@@ -24,7 +30,10 @@ pub fn read_body<I: Read>(alloc: Global, input: &mut I) -> Result<Vec<u8>, Stopp
 }
 
 /// Writes all of these bytes.
-pub fn write_bytes<W: Write>(output: &mut W, bytes: &[u8]) -> Result<(), Stopped> {
+pub fn write_bytes<W: Write>(output: &mut W, bytes: &[u8]) -> Result<(), Stopped>
+    ensures written { OnOk result (Appends (W.contents output.old) (W.contents output.new) bytes.now) }
+    ensures cause { IfErr result (λ stop. stop ≡ Stopped.Output) }
+{
     match output.write_all(bytes) {
         Ok(()) => Ok(()),
         Err(_) => Err(Stopped::Output),
@@ -32,11 +41,11 @@ pub fn write_bytes<W: Write>(output: &mut W, bytes: &[u8]) -> Result<(), Stopped
 }
 
 /// Writes an answer's status, a newline and its body.
-pub fn write_answer<W: Write>(
-    alloc: Global,
-    output: &mut W,
-    answer: &Answer,
-) -> Result<(), Stopped> {
+pub fn write_answer<W: Write>(alloc: Global, output: &mut W, answer: &Answer) -> Result<(), Stopped>
+    ensures written { OnOk result (Appends (W.contents output.old) (W.contents output.new) (answer_lines answer.now)) }
+    ensures cause { IfErr result (λ stop. (stop ≡ Stopped.Output)
+        ⊎ ((stop ≡ Stopped.Memory) × (W.contents output.new ≡ W.contents output.old))) }
+{
     let code = answer.status.code();
     write_bytes(output, format!(in alloc; "{code}\n")?.as_bytes())?;
     write_bytes(output, answer.body.as_slice())

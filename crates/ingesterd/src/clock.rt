@@ -1,45 +1,62 @@
 //! The programs' clock.
-ghost use Rattle.std.specs.Prelude.{◌<◌, ◌^◌};
+ghost use Rattle.std.specs.Prelude.{◌≡◌, ◌<◌, ◌^◌, option_map};
+ghost use Rattle.std.specs.Time.{system_time_nanos};
+ghost use Rattle.ingesterd.specs.Readings.{time_by};
 
+use crate::reading::{NotedClock, nanos_of};
 use std::rt;
-use std::time::{SystemTime, UNIX_EPOCH};
+use std::time::SystemTime;
 
 /// The first time that is too late.
-const END_OF_TIME: u64 = 1 << 63;
+const END_OF_TIME: u128 = 1 << 63;
 
 /// The system's nanoseconds since 1970. Where the system gives no such number below 2^63, its last value, at first 0.
 #[derive(Drop)]
 pub struct SystemClock<'a, R: rt::Clock> {
-    rt: &'a R,
+    system: NotedClock<'a, R>,
     last: u64,
     ghost small: { last < 2 ^ 63 },
 }
 
 impl<'a, R: rt::Clock> SystemClock<'a, R> {
-    /// A clock that has given nothing yet.
-    pub fn new(rt: &'a R) -> SystemClock<'a, R> {
-        SystemClock { rt, last: 0 }
-    }
+    ghost use Rattle.ingesterd.specs.Clocks.{IsUnread};
 
-    // The system's time, where it is one.
-    fn read(&self) -> Option<u64> {
-        let since = SystemTime::now(self.rt)
-            .ok()?
-            .duration_since(UNIX_EPOCH)
-            .ok()?;
-        u64::try_from(since.as_nanos()).ok()
+    /// A clock that has given nothing yet.
+    pub fn new(rt: &'a R) -> SystemClock<'a, R>
+        ensures { IsUnread result }
+    {
+        SystemClock {
+            system: NotedClock::new(rt),
+            last: 0,
+        }
     }
 }
 
 impl<'a, R: rt::Clock> front::Clock for SystemClock<'a, R> {
-    ghost ticks = { λ before time after. Unit {0} };
+    ghost use Rattle.ingesterd.specs.Clocks.{IsTick};
+
+    ghost ticks = { IsTick };
 
     fn now(&mut self) -> u64 {
-        if let Some(time) = self.read()
-            && time < END_OF_TIME
-        {
-            self.last = time;
-        }
+        let reading = self.system.read_once();
+        self.last = time_by(reading, self.last);
         self.last
+    }
+}
+
+// The time by a reading of the system's clock, where this was told last.
+fn time_by(reading: Option<SystemTime>, last: u64) -> u64
+    requires { last < 2 ^ 63 }
+    ensures told { result ≡ time_by (option_map system_time_nanos reading) last }
+    ensures range { result < 2 ^ 63 }
+{
+    let Some(time) = reading else {
+        return last;
+    };
+    let nanos = nanos_of(time);
+    if nanos < END_OF_TIME {
+        nanos as u64
+    } else {
+        last
     }
 }

@@ -1,6 +1,11 @@
 //! The program `ingestctl`: one request on the slots of a folder.
-ghost use Rattle.std.specs.Prelude.{◌≡◌, ◌↔◌, ◌≤◌, ◌^◌, IfOk, option_map};
+ghost use Rattle.std.specs.Prelude.{◌≡◌, ◌⊎◌, ◌↔◌, ◌≤◌, ◌^◌, ℕ, List, IfOk, IfErr, IfSome, option_map};
+ghost use Rattle.std.specs.Io.KnownBytes.{Appends};
+ghost use Rattle.requests.specs.declared.answer.Answer.{Answer};
+ghost use Rattle.disk.specs.declared.file.FileDisk.{FileDisk};
+ghost use Rattle.slots.specs.declared.watched.Watched.{Watched};
 ghost use Rattle.words.specs.Words.{GiveCall, GivesCapacity};
+ghost use Rattle.ingesterd.specs.Endings.{CallEnds, IsAnswerDue, answer_lines, answer_status, stop_status};
 
 use crate::body::{read_body, write_answer};
 use crate::opening::{close_for_one, open_for_one};
@@ -34,6 +39,8 @@ where
     R: Files<File = File> + Threads + Wait + Copy + Send + 'static,
     ensures status { result ≤ 3 }
     ensures usage { (result ≡ 2) ↔ (¬ (GiveCall words.now × GivesCapacity (option_map (λ s. s.now) setting.entry))) }
+    ensures ends { CallEnds (Watched FileDisk) words.now (option_map (λ s. s.now) setting.entry) (I.remaining input.old)
+        (W.contents output.old) (W.contents output.new) result }
 {
     let Some(words) = call_in(alloc, words) else {
         let _ = writeln!(
@@ -66,13 +73,28 @@ fn call_and_print<R, I: Read, W: Write>(
 where
     R: Files<File = File> + Threads + Wait + Copy + Send + 'static,
     requires { capacity ≤ 2 ^ 30 }
-    ensures { IfOk result (λ status. status ≤ 1) }
+    ensures few { IfOk result (λ status. status ≤ 1) }
+    ensures answered { IfOk result (λ status. (answer : Answer) × (body : List ℕ)
+        × IfSome (I.remaining input.old) (λ bytes. body ≡ bytes)
+        × IsAnswerDue (Watched FileDisk) words.entry capacity body answer
+        × Appends (W.contents output.old) (W.contents output.new) (answer_lines answer)
+        × (status ≡ answer_status answer.status)) }
+    ensures stopped { IfErr result (λ stop. (stop ≡ Stopped.Output)
+        ⊎ (W.contents output.new ≡ W.contents output.old)) }
 {
     let answer = call_folder(rt, alloc, words, capacity, input)?;
     write_answer(alloc, output, &answer)?;
-    match answer.status {
-        Status::Ok | Status::NoContent => Ok(0),
-        _ => Ok(1),
+    Ok(status_of(answer.status))
+}
+
+// The exit status after this answer: 0 for 200 and 204, else 1.
+fn status_of(status: Status) -> u8
+    ensures cause { result ≡ answer_status status }
+    ensures few { result ≤ 1 }
+{
+    match status {
+        Status::Ok | Status::NoContent => 0,
+        _ => 1,
     }
 }
 
@@ -87,6 +109,8 @@ fn call_folder<R, I: Read>(
 where
     R: Files<File = File> + Threads + Wait + Copy + Send + 'static,
     requires { capacity ≤ 2 ^ 30 }
+    ensures { IfOk result (λ answer. (body : List ℕ) × IfSome (I.remaining input.old) (λ bytes. body ≡ bytes)
+        × IsAnswerDue (Watched FileDisk) words.entry capacity body answer) }
 {
     let CallWords {
         route,

@@ -1,7 +1,11 @@
 //! The program `ingest1`: a push body, judged on an empty shard in memory and read back.
-ghost use Rattle.std.specs.Prelude.{◌≡◌, ◌↔◌, ◌<◌, ◌≤◌, ◌^◌, IfOk, vec_len};
+ghost use Rattle.std.specs.Prelude.{◌≡◌, ◌↔◌, ◌<◌, ◌≤◌, ◌^◌, ◌++◌, ◌∷◌, [], ℕ, List, IfOk, IfErr, OnOk, vec_len};
+ghost use Rattle.std.specs.Io.KnownBytes.{Appends};
+ghost use Rattle.requests.specs.declared.answer.Answer.{Answer};
 ghost use Rattle.ingester.specs.Calls.{IsPassOf};
 ghost use Rattle.words.specs.Words.{GiveClock};
+ghost use Rattle.ingesterd.specs.Openings.{IsProfiled};
+ghost use Rattle.ingesterd.specs.Endings.{PushEnds, answer_lines, stop_status};
 
 use crate::body::{read_body, write_answer, write_bytes};
 use crate::opening::{close_for_one, open_for_one};
@@ -50,6 +54,7 @@ where
     R: Threads + Wait + Copy + Send + 'static,
     ensures status { result ≤ 3 }
     ensures usage { (result ≡ 2) ↔ (¬ GiveClock words.now) }
+    ensures ends { PushEnds (W.contents output.old) (W.contents output.new) result }
 {
     let Some(now) = clock_in(words) else {
         let _ = writeln!(errors, "usage: ingest1 NOW");
@@ -73,6 +78,10 @@ fn push_and_read<R, I: Read, W: Write>(
 where
     R: Threads + Wait + Copy + Send + 'static,
     requires { now < 2 ^ 63 }
+    ensures pushed { OnOk result ((answer : Answer) × (back : List ℕ)
+        × Appends (W.contents output.old) (W.contents output.new) (answer_lines answer ++ back)) }
+    ensures refused { IfErr result (λ stop. stop_status stop ≡ 3
+        → W.contents output.new ≡ W.contents output.old) }
 {
     let body = read_body(alloc, input)?;
     let (ingester, mut pass) = open_for_one(rt, alloc, empty_slots(alloc)?, CAPACITY)?;
@@ -91,9 +100,13 @@ fn push_body<D: Disk + Drop, R: Wait, W: Write>(
     body: &[u8],
     output: &mut W,
 ) -> Result<(), Stopped>
+    requires profiled { IsProfiled 1 1 67108864 ingester.now (pass.old ∷ []) }
     requires pass { IsPassOf ingester.now pass.old }
     requires clock { now < 2 ^ 63 }
-    ensures { IsPassOf ingester.now pass.new }
+    ensures pass { IsPassOf ingester.now pass.new }
+    ensures pushed { OnOk result ((answer : Answer) × (back : List ℕ)
+        × Appends (W.contents output.old) (W.contents output.new) (answer_lines answer ++ back)) }
+    ensures stopped { IfErr result (λ stop. stop_status stop ≡ 1) }
 {
     let Ok(tenant) = Tenant::new(alloc, TENANT) else {
         return Err(Stopped::Memory);
@@ -110,7 +123,8 @@ fn push_body<D: Disk + Drop, R: Wait, W: Write>(
 
 // The two empty slots of one shard.
 fn empty_slots(alloc: Global) -> Result<Vec<[MemDisk; 2]>, Stopped>
-    ensures { IfOk result (λ slots. vec_len slots ≡ 1) }
+    ensures one { IfOk result (λ slots. vec_len slots ≡ 1) }
+    ensures stopped { IfErr result (λ stop. stop ≡ Stopped.Memory) }
 {
     let first = MemDisk::new(alloc, ROOM, CALLS, ROOM)?;
     let second = MemDisk::new(alloc, ROOM, CALLS, ROOM)?;
@@ -129,7 +143,10 @@ fn read_back<D: Disk + Drop, R: Wait, W: Write>(
     output: &mut W,
 ) -> Result<(), Stopped>
     requires { IsPassOf ingester.now pass.old }
-    ensures { IsPassOf ingester.now pass.new }
+    ensures pass { IsPassOf ingester.now pass.new }
+    ensures written { OnOk result ((back : List ℕ)
+        × Appends (W.contents output.old) (W.contents output.new) back) }
+    ensures stopped { IfErr result (λ stop. stop_status stop ≡ 1) }
 {
     let batches = match read_push(alloc, body) {
         Ok(batches) => batches,
@@ -152,7 +169,10 @@ fn read_stream<D: Disk + Drop, R: Wait, W: Write>(
     output: &mut W,
 ) -> Result<(), Stopped>
     requires { IsPassOf ingester.now pass.old }
-    ensures { IsPassOf ingester.now pass.new }
+    ensures pass { IsPassOf ingester.now pass.new }
+    ensures written { OnOk result ((back : List ℕ)
+        × Appends (W.contents output.old) (W.contents output.new) back) }
+    ensures stopped { IfErr result (λ stop. stop_status stop ≡ 1) }
 {
     let labels = match LabelSet::new(alloc, batch.pairs) {
         Ok(labels) => labels,
@@ -167,7 +187,10 @@ fn read_stream<D: Disk + Drop, R: Wait, W: Write>(
         from: 0,
         to: END_OF_TIME,
     };
-    let reply = ingester.call(rt, alloc, pass, call)?;
+    let reply = match ingester.call(rt, alloc, pass, call) {
+        Ok(reply) => reply,
+        Err(fault) => return Err(Stopped::Call(fault)),
+    };
     let Ok(read) = answer_of_read(alloc, &reply) else {
         return Err(Stopped::Memory);
     };

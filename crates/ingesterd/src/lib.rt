@@ -7,6 +7,7 @@ mod connections;
 mod ctl;
 mod ingest1;
 mod opening;
+mod reading;
 mod replayed;
 mod server;
 mod setting;

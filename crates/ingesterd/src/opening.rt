@@ -1,7 +1,10 @@
 //! Shards that programs open and close.
-ghost use Rattle.std.specs.Prelude.{◌≡◌, ◌<◌, ◌≤◌, ◌^◌, ℕ, Some, slice_get, vec_len, IfOk};
+ghost use Rattle.std.specs.Prelude.{◌≡◌, ◌<◌, ◌≤◌, ◌^◌, ◌∷◌, [], ℕ, List, Some, slice_get, vec_len, IfOk, IfErr};
 ghost use Rattle.history.specs.Handles.{Passed};
 ghost use Rattle.ingester.specs.Calls.{IsPassOf};
+ghost use Rattle.ingester.specs.declared.refusal.OpenFault.{OpenFault};
+ghost use Rattle.ingester.specs.Findings.{AreOpenedFrom, IsUnmade};
+ghost use Rattle.ingesterd.specs.Openings.{IsProfiled};
 
 use crate::stopped::Stopped;
 use accept::Limits;
@@ -27,7 +30,11 @@ where
     requires slots { (0 < vec_len slots) × (vec_len slots ≤ 64) }
     requires passes { (0 < passes) × (passes ≤ 64) }
     requires capacity { capacity ≤ 2 ^ 30 }
-    ensures capacity { IfOk result (λ it. it.0.about.capacity ≡ capacity) }
+    ensures profiled { IfOk result (λ it. IsProfiled (vec_len slots) passes capacity it.0 it.1.items) }
+    ensures found { IfOk result (λ it.
+        AreOpenedFrom D.sight D.follows (vec_len slots) capacity 0 slots.items it.0.logs it.0.about.bases) }
+    ensures refused { IfErr result (λ stop. (fault : OpenFault) × (backs : List (List D))
+        × (stop ≡ Stopped.Opening fault) × IsUnmade D.sight D.follows (vec_len slots) slots.items backs fault) }
     ensures passes { IfOk result (λ it. (p : ℕ) (pass : Passed) → slice_get it.1.items p ≡ Some pass
         → IsPassOf it.0 pass) }
 {
@@ -49,14 +56,16 @@ where
     R: Threads + Wait + Copy + Send + 'static,
     requires slots { (0 < vec_len slots) × (vec_len slots ≤ 64) }
     requires capacity { capacity ≤ 2 ^ 30 }
-    ensures capacity { IfOk result (λ it. it.0.about.capacity ≡ capacity) }
+    ensures profiled { IfOk result (λ it. IsProfiled (vec_len slots) 1 capacity it.0 (it.1 ∷ [])) }
+    ensures refused { IfErr result (λ stop. (fault : OpenFault) × (backs : List (List D))
+        × (stop ≡ Stopped.Opening fault) × IsUnmade D.sight D.follows (vec_len slots) slots.items backs fault) }
     ensures pass { IfOk result (λ it. IsPassOf it.0 it.1) }
 {
     let (ingester, mut passes) = open_shards(rt, alloc, slots, 1, capacity)?;
-    match passes.pop() {
-        Some(pass) => Ok((ingester, pass)),
-        None => Err(Stopped::Memory),
-    }
+    let Some(pass) = passes.pop() else {
+        unreachable!();
+    };
+    Ok((ingester, pass))
 }
 
 /// Closes shards and their slots by the passes that are left. Where no pass is left, the threads of the shards end by

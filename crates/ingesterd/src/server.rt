@@ -1,8 +1,11 @@
 //! The program `ingesterd`: the server.
-ghost use Rattle.std.specs.Prelude.{◌≡◌, ◌↔◌, ◌≤◌, ◌^◌, ℕ, Some, slice_get, option_map};
+ghost use Rattle.std.specs.Prelude.{◌≡◌, ◌↔◌, ◌≤◌, ◌^◌, ℕ, Some, IfOk, IfErr, OnOk, slice_get, option_map};
+ghost use Rattle.std.specs.Io.KnownBytes.{Appends};
 ghost use Rattle.history.specs.Handles.{Passed};
 ghost use Rattle.ingester.specs.Calls.{IsPassOf};
 ghost use Rattle.words.specs.Words.{GiveServer, GivesCapacity};
+ghost use Rattle.ingesterd.specs.Openings.{IsProfiled};
+ghost use Rattle.ingesterd.specs.Endings.{ServerEnds, ready_line, stop_status};
 
 use crate::clock::SystemClock;
 use crate::connections::Connections;
@@ -51,6 +54,7 @@ where
     R: Clock + Threads + Wait + Copy + Send + Sync + 'static,
     ensures status { result ≤ 3 }
     ensures usage { (result ≡ 2) ↔ (¬ (GiveServer words.now × GivesCapacity (option_map (λ s. s.now) setting.entry))) }
+    ensures ends { ServerEnds (W.contents output.old) (W.contents output.new) result }
 {
     let Some(words) = server_in(words) else {
         let _ = writeln!(
@@ -62,43 +66,55 @@ where
     let Some(capacity) = capacity_by(setting, errors) else {
         return 2;
     };
-    if let Err(stopped) = serve_folder(rt, alloc, words, capacity, output, marks) {
+    let asked = Asked { words, capacity };
+    if let Err(stopped) = serve_folder(rt, alloc, asked, output, marks) {
         let _ = writeln!(errors, "{stopped}");
         return stopped.status();
     }
     0
 }
 
+// What the server is asked for: its words, and how many bytes a slot may have.
+#[derive(Clone, Copy)]
+struct Asked<'a> {
+    words: ServerWords<'a>,
+    capacity: u64,
+    ghost small: { capacity ≤ 2 ^ 30 },
+}
+
 // Opens the folder, serves, and closes it.
 fn serve_folder<R, W: Write>(
     rt: &R,
     alloc: Global,
-    words: ServerWords<'_>,
-    capacity: u64,
+    asked: Asked<'_>,
     output: &mut W,
     marks: Option<Stderr>,
 ) -> Result<(), Stopped>
 where
     R: Files<File = File> + Net<Listener = TcpListener, Stream = TcpStream>,
     R: Clock + Threads + Wait + Copy + Send + Sync + 'static,
-    requires { capacity ≤ 2 ^ 30 }
+    ensures served { OnOk result ((port : ℕ)
+        × Appends (W.contents output.old) (W.contents output.new) (ready_line port)) }
+    ensures refused { IfErr result (λ stop. stop_status stop ≡ 3
+        → W.contents output.new ≡ W.contents output.old) }
 {
+    let words = asked.words;
     let slots = open_slots(rt, alloc, words.folder, words.shards, marks)?;
     let start = Instant::now(rt).ok();
-    let (ingester, passes) = open_shards(rt, alloc, slots, words.workers, capacity)?;
+    let (ingester, passes) = open_shards(rt, alloc, slots, words.workers, asked.capacity)?;
     if let Some(terminal) = terminal_in(marks) {
         say_replayed(rt, &ingester, start, terminal);
     }
-    let (passes, served) = serve_port(rt, alloc, words, &ingester, passes, output);
+    let (passes, served) = serve_port(rt, alloc, asked, &ingester, passes, output);
     close_shards(rt, ingester, passes);
     served
 }
 
-// Opens the port, says which it is, and serves. Gives passes that are left.
+// Opens the port, says which it is, and serves over what was opened as it was asked for. Gives passes that are left.
 fn serve_port<D, R, W: Write>(
     rt: &R,
     alloc: Global,
-    words: ServerWords<'_>,
+    asked: Asked<'_>,
     ingester: &Ingester<D>,
     passes: Vec<Pass>,
     output: &mut W,
@@ -106,9 +122,14 @@ fn serve_port<D, R, W: Write>(
 where
     D: Disk + Drop + Send,
     R: Net<Listener = TcpListener, Stream = TcpStream> + Clock + Threads + Wait + Sync,
+    requires profiled { IsProfiled asked.words.shards asked.words.workers asked.capacity ingester.now passes.items }
     requires passes { (i : ℕ) (pass : Passed) → slice_get passes.items i ≡ Some pass → IsPassOf ingester.now pass }
     ensures passes { (i : ℕ) (pass : Passed) → slice_get result.0.items i ≡ Some pass → IsPassOf ingester.now pass }
+    ensures served { OnOk result.1 ((port : ℕ)
+        × Appends (W.contents output.old) (W.contents output.new) (ready_line port)) }
+    ensures stopped { IfErr result.1 (λ stop. stop_status stop ≡ 1) }
 {
+    let words = asked.words;
     let servers = match make_servers(rt, alloc, passes.len()) {
         Ok(servers) => servers,
         Err(stopped) => return (passes, Err(stopped)),
@@ -139,7 +160,9 @@ fn make_servers<'a, R: Clock>(
     rt: &'a R,
     alloc: Global,
     count: usize,
-) -> Result<Vec<Connections<SystemClock<'a, R>>>, Stopped> {
+) -> Result<Vec<Connections<SystemClock<'a, R>>>, Stopped>
+    ensures { IfErr result (λ stop. stop ≡ Stopped.Memory) }
+{
     let mut servers = Vec::with_capacity(alloc, count)?;
     for _ in 0..count {
         let server = Connections::new(SystemClock::new(rt));
@@ -155,7 +178,11 @@ fn listen<R: Net<Listener = TcpListener, Stream = TcpStream>, W: Write>(
     rt: &R,
     port: u16,
     output: &mut W,
-) -> Result<TcpListener, Stopped> {
+) -> Result<TcpListener, Stopped>
+    ensures said { OnOk result ((port : ℕ)
+        × Appends (W.contents output.old) (W.contents output.new) (ready_line port)) }
+    ensures stopped { IfErr result (λ stop. stop_status stop ≡ 1) }
+{
     let address = SocketAddr::new(IpAddr::V4(Ipv4Addr::LOCALHOST), port);
     let Ok(listener) = TcpListener::bind(rt, address) else {
         return Err(Stopped::Listen);
@@ -164,8 +191,11 @@ fn listen<R: Net<Listener = TcpListener, Stream = TcpStream>, W: Write>(
         return Err(Stopped::Listen);
     };
     let port = bound.port();
-    if writeln!(output, "ready {port}").is_err() || output.flush().is_err() {
+    let Ok(()) = writeln!(output, "ready {port}") else {
         return Err(Stopped::Output);
-    }
+    };
+    let Ok(()) = output.flush() else {
+        return Err(Stopped::Output);
+    };
     Ok(listener)
 }

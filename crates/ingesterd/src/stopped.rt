@@ -1,5 +1,6 @@
 //! What stops a program.
-ghost use Rattle.std.specs.Prelude.{◌≢◌, ◌≤◌};
+ghost use Rattle.std.specs.Prelude.{◌≡◌, ◌≢◌, ◌≤◌};
+ghost use Rattle.ingesterd.specs.declared.stopped.Stopped.TheVariants as stops;
 
 use ingester::{CallFault, OpenFault};
 use slots::SlotsFault;
@@ -29,8 +30,11 @@ pub enum Stopped {
 }
 
 impl Stopped {
+    ghost use Rattle.ingesterd.specs.Endings.{stop_status};
+
     /// The exit status: 3 for a refused opening, else 1.
     pub fn status(&self) -> u8
+        ensures cause { result ≡ stop_status self.now }
         ensures some { result ≢ 2 }
         ensures few { result ≤ 3 }
     {
@@ -42,6 +46,8 @@ impl Stopped {
 }
 
 impl From<AllocError> for Stopped {
+    ghost from_gives = { λ _ stop. stop ≡ stops.Memory };
+
     fn from(_refused: AllocError) -> Stopped {
         Stopped::Memory
     }

@@ -1,5 +1,5 @@
 -- What the stages of a split come to.
-use Rattle.std.proofs.Common.{◌≡◌, ℕ, ◌<◌, List, length, set, refl, sym, ◌∙◌, subst, arith}
+use Rattle.std.proofs.Common.{◌≡◌, ◌≢◌, ℕ, ◌<◌, List, length, set, refl, sym, ◌∙◌, subst, arith}
 use Rattle.std.specs.Prelude.{Result, Ok, Err, OnOk, IfErr}
 use Rattle.accept.specs.Rooms.{Streams}
 use Rattle.disk.specs.Sight.{Sight}
@@ -8,7 +8,7 @@ use Rattle.wal.specs.Opening.{slots_of, AllFollow}
 use Rattle.split.specs.declared.fault.SplitFault.{SplitFault}
 use Rattle.split.specs.declared.fault.SplitFault.TheVariants.{NotEmpty, NoRoom, Device, Memory}
 use Rattle.split.specs.Maps.{map_at, IsSplit, AreFit, AreWithin, IsFirstAbove}
-use Rattle.split.specs.Splits.{pair_at, EachPair, IsEmptyPair, HasNotFailed, IsBefore, IsAtRest, IsRead, Division, AreSplit, IsCause}
+use Rattle.split.specs.Splits.{pair_at, EachPair, IsEmptyPair, HasNotFailed, IsBefore, IsAtRest, IsRead, Division, AreSplit, AreOldRead, IsCause}
 use Rattle.split.specs.Stages.{AreDone, IsTested, IsBegun, IsStartFault, found_more, broken, short}
 use Rattle.split.proofs.Dealt.{apart_by_fit}
 use Rattle.split.proofs.Pairs.{stopped}
@@ -29,20 +29,25 @@ module _ {D : Type 0} (sight : D → Sight) (follows : D → Type 0) where
   abbrev divided : (m : ℕ) (olds news : List Streams) (old old_back : List (List D)) → AreDivided (length old) m olds news old old_back → Division sight follows m old old_back
   divided m olds news old old_back are = record { olds = map_at olds; news = map_at news; read = are.0; apart = apart_by_fit (length old) olds are.1; split = are.2 }
 
+  -- what the slots of old shards hold, by the number of them
+  pub old_read : (n : ℕ) (olds : List Streams) (old old_back : List (List D)) → n ≡ length old → EachPair (λ s given back. IsRead sight follows (owner_of s n) given back (map_at olds s)) old old_back → AreOldRead sight follows old old_back
+  old_read n olds old old_back long read s lt = (map_at olds s, subst (λ (k : ℕ). IsRead sight follows (owner_of s k) (pair_at old s) (pair_at old_back s) (map_at olds s)) long (read s lt))
+
   pub rested_before : (new mid : List (List D)) → EachPair (λ _. IsAtRest sight follows) new mid → EachPair (λ _. IsBefore sight follows) new mid
   rested_before new mid rests s lt = (rests s lt).before
 
   pub begun_before : (new mid back : List (List D)) → length mid ≡ length new → EachPair (λ _. IsAtRest sight follows) new mid → EachPair (λ _. IsBefore sight follows) mid back → EachPair (λ _. IsBefore sight follows) new back
   begun_before new mid back len rests before s lt all = (rests s lt).before (before s (omega (arith, lt, len)) all)
 
-  pub no_room : (n cap s : ℕ) (olds news : List Streams) (old old_back new mid : List (List D)) → n ≡ length old → length news ≡ length new → AreDivided n (length new) olds news old old_back → EachPair (λ _. IsAtRest sight follows) new mid → IsFirstAbove cap s news
+  pub no_room : (n cap s : ℕ) (olds news : List Streams) (old old_back new mid : List (List D)) → n ≡ length old → length news ≡ length new → AreDivided n (length new) olds news old old_back → EachPair (λ _. IsTested sight follows) new mid → IsFirstAbove cap s news
       → IsCause sight follows (NoRoom s) cap old old_back new mid
-  no_room n cap s olds news old old_back new mid long len are rests above = record {
+  no_room n cap s olds news old old_back new mid long len are tested above = record {
     division = divided (length new) olds news old old_back (subst (λ (k : ℕ). AreDivided k (length new) olds news old old_back) long are);
     within = omega (arith, above.within, len);
     full = above.full;
     before = above.before;
-    rests = rests;
+    empty = λ i lt. (tested i lt).empty;
+    rests = λ i lt. (tested i lt).rests;
   }
 
   pub finished : (n m cap : ℕ) (olds news : List Streams) (old old_back new mid back : List (List D)) → n ≡ length old → m ≡ length new → length mid ≡ length new → AreDivided n m olds news old old_back → AreWithin cap m news
@@ -72,31 +77,42 @@ module _ {D : Type 0} (sight : D → Sight) (follows : D → Type 0) where
       let none = test.empty all in
       (rested.first.same ∙ none.0, rested.second.same ∙ none.1)
 
-  start_cause : (s cap : ℕ) (fault : SplitFault) (old old_back new mid back : List (List D)) → s < length new → length mid ≡ length new → EachPair (λ _. HasNotFailed sight follows) old old_back → EachPair (λ _. IsTested sight follows) new mid → EachPair (λ _. IsBefore sight follows) mid back
-      → IsStartFault sight follows s (pair_at mid s) (pair_at back s) fault → (fault ≡ Memory → EachPair (λ _. HasNotFailed sight follows) mid back) → IsCause sight follows fault cap old old_back new back
-  start_cause s cap fault old old_back new mid back lt len old_well tested before (found_more slot is not) well =
+  start_cause : (s cap : ℕ) (fault : SplitFault) (old old_back new mid back : List (List D)) → s < length new → length mid ≡ length new → AreOldRead sight follows old old_back → EachPair (λ _. IsTested sight follows) new mid → EachPair (λ _. IsBefore sight follows) mid back
+      → IsStartFault sight follows s (pair_at mid s) (pair_at back s) fault → EachPair (λ i given made. i ≢ s → HasNotFailed sight follows given made) mid back → (fault ≡ Memory → EachPair (λ _. HasNotFailed sight follows) mid back) → IsCause sight follows fault cap old old_back new back
+  start_cause s cap fault old old_back new mid back lt len read tested before (found_more slot is not) others well =
       let never : AllFollow follows (pair_at back s) → ⊥ = λ all. not all (still_empty (pair_at new s) (pair_at mid s) (tested s lt) (before s (omega (arith, lt, len)) all)) in
       subst (λ (e : SplitFault). IsCause sight follows e cap old old_back new back) (sym is) (record {
+        read = read;
         within = lt;
         full = λ all. absurd (never all);
         before = λ i under all. (tested i (omega (arith, under, lt))).empty (before i (omega (arith, under, lt, len)) all);
         rests = λ all. absurd (never all);
       })
-  start_cause s cap fault old old_back new mid back lt len old_well tested before (broken is failed) well =
-      subst (λ (e : SplitFault). IsCause sight follows e cap old old_back new back) (sym is)
-      (lt, failed_then (slots_of sight (pair_at new s)) (slots_of sight (pair_at mid s)) (slots_of sight (pair_at back s)) (tested s lt).not_failed failed)
-  start_cause s cap fault old old_back new mid back lt len old_well tested before (short is never) well = subst (λ (e : SplitFault). IsCause sight follows e cap old old_back new back) (sym is) (old_well, λ i under. none_failed (slots_of sight (pair_at new i)) (slots_of sight (pair_at mid i)) (slots_of sight (pair_at back i)) (tested i under).not_failed (well is i (omega (arith, under, len))))
+  start_cause s cap fault old old_back new mid back lt len read tested before (broken is failed) others well =
+      subst (λ (e : SplitFault). IsCause sight follows e cap old old_back new back) (sym is) (record {
+        read = read;
+        within = lt;
+        failed = failed_then (slots_of sight (pair_at new s)) (slots_of sight (pair_at mid s)) (slots_of sight (pair_at back s)) (tested s lt).not_failed failed;
+        before = λ i under all. (tested i (omega (arith, under, lt))).empty (before i (omega (arith, under, lt, len)) all);
+        others = λ i under not. none_failed (slots_of sight (pair_at new i)) (slots_of sight (pair_at mid i)) (slots_of sight (pair_at back i)) (tested i under).not_failed (others i (omega (arith, under, len)) not);
+      })
+  start_cause s cap fault old old_back new mid back lt len read tested before (short is never) others well = subst (λ (e : SplitFault). IsCause sight follows e cap old old_back new back) (sym is) ((λ i under. (read i under).1.not_failed), λ i under. none_failed (slots_of sight (pair_at new i)) (slots_of sight (pair_at mid i)) (slots_of sight (pair_at back i)) (tested i under).not_failed (well is i (omega (arith, under, len))))
 
-  pub cause_if_err : (r : Result (Unit {0}) SplitFault) (m cap : ℕ) (old old_back new mid back : List (List D)) → m ≡ length new → length mid ≡ length new → EachPair (λ _. HasNotFailed sight follows) old old_back → EachPair (λ _. IsTested sight follows) new mid → EachPair (λ _. IsBefore sight follows) mid back
-      → IfErr r (λ fault. (s : ℕ) × (s < m) × IsStartFault sight follows s (pair_at mid s) (pair_at back s) fault) → IfErr r (λ fault. fault ≡ Memory → EachPair (λ _. HasNotFailed sight follows) mid back) → IfErr r (λ fault. IsCause sight follows fault cap old old_back new back)
-  cause_if_err (Ok x) m cap old old_back new mid back many len old_well tested before h well = tt
-  cause_if_err (Err e) m cap old old_back new mid back many len old_well tested before h well = start_cause h.0 cap e old old_back new mid back (omega (arith, h.1, many)) len old_well tested before h.2 well
+  pub cause_if_err : (r : Result (Unit {0}) SplitFault) (m cap : ℕ) (old old_back new mid back : List (List D)) → m ≡ length new → length mid ≡ length new → AreOldRead sight follows old old_back → EachPair (λ _. IsTested sight follows) new mid → EachPair (λ _. IsBefore sight follows) mid back
+      → IfErr r (λ fault. (s : ℕ) × (s < m) × IsStartFault sight follows s (pair_at mid s) (pair_at back s) fault × EachPair (λ i given made. i ≢ s → HasNotFailed sight follows given made) mid back) → IfErr r (λ fault. fault ≡ Memory → EachPair (λ _. HasNotFailed sight follows) mid back) → IfErr r (λ fault. IsCause sight follows fault cap old old_back new back)
+  cause_if_err (Ok x) m cap old old_back new mid back many len read tested before h well = tt
+  cause_if_err (Err e) m cap old old_back new mid back many len read tested before h well = start_cause h.0 cap e old old_back new mid back (omega (arith, h.1, many)) len read tested before h.2 h.3 well
 
   -- want of memory, and nothing else
   unfailed : (n : ℕ) (given back : List D) (fault : SplitFault) → IsStartFault sight follows n given back fault → fault ≡ Memory → HasNotFailed sight follows given back
   unfailed n given back fault (found_more slot is not) short_is = absurd (apart_full n slot (sym is ∙ short_is))
   unfailed n given back fault (broken is failed) short_is = absurd (apart_broken n (sym is ∙ short_is))
   unfailed n given back fault (short is never) short_is = never
+
+  -- no device of another shard has failed
+  pub starts_others : (n m : ℕ) (news : List Streams) (xs ys zs : List (List D)) → AreDone (λ s given made. IsBegun sight follows (owner_of s m) given made (map_at news s)) n xs ys → zs ≡ set ys n (pair_at zs n) → EachPair (λ s given back. s ≢ n → HasNotFailed sight follows given back) xs zs
+  starts_others n m news xs ys zs so_far there =
+      stopped (λ s given made. IsBegun sight follows (owner_of s m) given made (map_at news s)) (λ s given back. s ≢ n → HasNotFailed sight follows given back) n xs ys zs (pair_at zs n) so_far there (λ s given made begun not. begun.not_failed) (λ not. absurd (not refl)) (λ s given not. (refl, refl))
 
   pub starts_stop : (n m : ℕ) (news : List Streams) (fault : SplitFault) (xs ys zs : List (List D)) → AreDone (λ s given made. IsBegun sight follows (owner_of s m) given made (map_at news s)) n xs ys → zs ≡ set ys n (pair_at zs n)
       → IsStartFault sight follows n (pair_at ys n) (pair_at zs n) fault → fault ≡ Memory → EachPair (λ _. HasNotFailed sight follows) xs zs

@@ -1,5 +1,5 @@
 -- What comes of the slots of old shards and of new ones, and why shards are not split.
-use Rattle.std.specs.Prelude.{◌≡◌, ◌⊎◌, ◌≤◌, ◌<◌, ℕ, List, [], length, slice_index_or, Result, Ok, Err}
+use Rattle.std.specs.Prelude.{◌≡◌, ◌≢◌, ◌⊎◌, ◌≤◌, ◌<◌, ℕ, List, [], length, slice_index_or, Result, Ok, Err}
 use Rattle.accept.specs.Rooms.{Streams, room}
 use Rattle.disk.specs.Sight.{Sight}
 use Rattle.segment.specs.declared.owner.Owner.{Owner}
@@ -105,27 +105,42 @@ module _ {D : Type 0} (sight : D → Sight) (follows : D → Type 0) where
         × IsRead (owner_of i (length old)) (pair_at old i) (pair_at old_back i) m
     pub untouched : new_back ≡ new
 
-  -- This slot of this new shard is the first that is not empty, and nothing was written.
-  pub record IsNotEmpty (s slot : ℕ) (new new_back : List (List D)) : Type 0 where
+  -- the slots of every old shard were read
+  abbrev pub AreOldRead : List (List D) → List (List D) → Type 0
+  AreOldRead old old_back =
+      EachPair (λ s given back. (m : Streams) × IsRead (owner_of s (length old)) given back m) old old_back
+
+  -- Every old shard was read, this slot of this new shard is the first that is not empty, and nothing was written.
+  pub record IsNotEmpty (s slot : ℕ) (old old_back new new_back : List (List D)) : Type 0 where
+    pub read : AreOldRead old old_back
     pub within : s < length new
     pub full : AllFollow follows (pair_at new_back s) → IsFirstFull slot (slots_of sight (pair_at new s))
     pub before : (i : ℕ) → i < s → AllFollow follows (pair_at new_back i) → IsEmptyPair (slots_of sight (pair_at new i))
     pub rests : AllFollow follows (pair_at new_back s) → EachPair (λ _. IsAtRest) new new_back
 
-  -- This new shard is the first whose streams need more room than there is, and nothing was written.
+  -- All new slots are empty, this new shard is the first whose streams need more room than there is, and nothing was
+  -- written.
   pub record HasNoRoom (cap s : ℕ) (old old_back new new_back : List (List D)) : Type 0 where
     pub division : Division (length new) old old_back
     pub within : s < length new
     pub full : cap < room (division.news s)
     pub before : (i : ℕ) → i < s → room (division.news i) ≤ cap
+    pub empty : EachPair (λ _ given back. AllFollow follows back → IsEmptyPair (slots_of sight given)) new new_back
     pub rests : EachPair (λ _. IsAtRest) new new_back
+
+  -- Every old shard was read, the new shards before this one are empty, and of all devices only one of this has failed.
+  pub record IsBroken (s : ℕ) (old old_back new new_back : List (List D)) : Type 0 where
+    pub read : AreOldRead old old_back
+    pub within : s < length new
+    pub failed : HasFailed (slots_of sight (pair_at new s)) (slots_of sight (pair_at new_back s))
+    pub before : (i : ℕ) → i < s → AllFollow follows (pair_at new_back i) → IsEmptyPair (slots_of sight (pair_at new i))
+    pub others : EachPair (λ i given back. i ≢ s → HasNotFailed given back) new new_back
 
   -- why shards are not split
   abbrev pub IsCause : SplitFault → ℕ → List (List D) → List (List D) → List (List D) → List (List D) → Type 0
   IsCause (Old s fault) cap old old_back new new_back = IsOldRefused s fault old old_back new new_back
-  IsCause (NotEmpty s slot) cap old old_back new new_back = IsNotEmpty s slot new new_back
+  IsCause (NotEmpty s slot) cap old old_back new new_back = IsNotEmpty s slot old old_back new new_back
   IsCause (NoRoom s) cap old old_back new new_back = HasNoRoom cap s old old_back new new_back
-  IsCause (Device s) cap old old_back new new_back = (s < length new)
-      × HasFailed (slots_of sight (pair_at new s)) (slots_of sight (pair_at new_back s))
+  IsCause (Device s) cap old old_back new new_back = IsBroken s old old_back new new_back
   IsCause Memory cap old old_back new new_back = EachPair (λ _. HasNotFailed) old old_back
       × EachPair (λ _. HasNotFailed) new new_back

@@ -28,10 +28,11 @@ pub struct Slots<D> {
 ///
 /// # Errors
 ///
-/// `Old`: the first old shard whose slots are refused. `NotEmpty`: the first slot of a new shard that holds something.
-/// `NoRoom`: the first new shard whose streams need more room than `cap`. Up to there nothing was written. `Device`: a
-/// device of a new shard failed. `Memory`: want of memory, but for the opening of an old shard. After any fault what
-/// the new slots hold is to be given up.
+/// `Old`: the first old shard whose slots are refused. `NotEmpty`: all were read, and this is the first slot of a new
+/// shard that holds something. `NoRoom`: all new slots are empty, and this is the first new shard whose streams need
+/// more room than `cap`. Up to there nothing was written. `Device`: a device of this new shard failed, and no other.
+/// `Memory`: want of memory, but for the opening of an old shard. After any fault what the new slots hold is to be given
+/// up.
 pub fn split<D: Disk>(
     alloc: Global,
     old: Vec<[D; 2]>,

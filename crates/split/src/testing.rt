@@ -1,7 +1,7 @@
 //! Whether the slots of new shards are empty.
 ghost use Rattle.std.specs.Prelude.{◌≡◌, ◌≢◌, ◌⊎◌, ◌<◌, ◌≤◌, ℕ, List, [], ◌∷◌, set, OnOk, IfErr, vec_len};
 ghost use Rattle.wal.specs.Opening.{IsRested};
-ghost use Rattle.split.specs.Splits.{pair_at, EachPair, IsAtRest, IsCause};
+ghost use Rattle.split.specs.Splits.{pair_at, EachPair, IsAtRest, AreOldRead, IsCause};
 ghost use Rattle.split.specs.Stages.{IsTested, IsTestFault};
 
 use crate::fault::SplitFault;
@@ -73,6 +73,7 @@ pub(crate) fn test_all<D: Disk>(new: &mut Vec<[D; 2]>) -> Result<(), SplitFault>
     ensures rests { EachPair (λ _. IsAtRest D.sight D.follows) new.old.items new.new.items }
     ensures tested { OnOk result (EachPair (λ _. IsTested D.sight D.follows) new.old.items new.new.items) }
     ensures cause { IfErr result (λ fault. (cap : ℕ) (old old_back : List (List D))
+        → AreOldRead D.sight D.follows old old_back
         → IsCause D.sight D.follows fault cap old old_back new.old.items new.new.items) }
 {
     for shard in 0..new.len() as u32 {

@@ -1,7 +1,12 @@
 //! The program `walsplit`: the slots of a folder under another number of shards.
-ghost use Rattle.std.specs.Prelude.{◌≡◌, ◌↔◌, ◌≤◌, ◌^◌, option_map};
+ghost use Rattle.std.specs.Prelude.{◌≡◌, ◌⊎◌, ◌↔◌, ◌<◌, ◌≤◌, ◌^◌, ℕ, IfOk, IfErr, OnOk, option_map, vec_len};
+ghost use Rattle.std.specs.Io.KnownBytes.{Appends};
 ghost use Rattle.words.specs.Words.{GivesCapacity};
+ghost use Rattle.split.specs.declared.fault.SplitFault.{SplitFault};
+ghost use Rattle.split.specs.declared.splitting.Slots.{Slots};
+ghost use Rattle.split.specs.Splits.{AreSplit, IsCause};
 ghost use Rattle.splitting.specs.Words.{GiveSplit};
+ghost use Rattle.splitting.specs.Endings.{SplitEnds, split_line};
 
 use crate::announced::{Side, announce};
 use crate::asked::split_in;
@@ -9,6 +14,7 @@ use crate::beside::{give_name, unfinished, unopened};
 use crate::found::{has_slots, shards_in};
 use crate::said::SplitWords;
 use crate::stopped::Stopped;
+use disk::Disk;
 use slots::{open_slots, terminal_in};
 use split::split;
 use std::alloc::Global;
@@ -42,6 +48,7 @@ pub fn run_walsplit<R: Files<File = File>, W: Write, E: Write>(
 ) -> u8
     ensures status { result ≤ 3 }
     ensures usage { (result ≡ 2) ↔ (¬ (GiveSplit words.now × GivesCapacity (option_map (λ s. s.now) setting.entry))) }
+    ensures ends { SplitEnds words.now (W.contents output.old) (W.contents output.new) result }
 {
     let Some(words) = split_in(words) else {
         let _ = writeln!(errors, "usage: walsplit OLD NEW COUNT");
@@ -70,13 +77,20 @@ fn split_and_print<R: Files<File = File>, W: Write>(
     marks: Option<Stderr>,
 ) -> Result<(), Stopped>
     requires { capacity ≤ 2 ^ 30 }
+    ensures said { OnOk result ((shards : ℕ) × (1 ≤ shards) × (shards ≤ 64)
+        × Appends (W.contents output.old) (W.contents output.new) (split_line shards words.entry.shards)) }
+    ensures stopped { IfErr result (λ stop. (stop ≡ Stopped.Output)
+        ⊎ (W.contents output.new ≡ W.contents output.old)) }
 {
     let old_shards = split_folder(rt, alloc, words, capacity, marks)?;
     let new_shards = words.shards;
-    let written = writeln!(output, "split {old_shards} to {new_shards}");
-    written
-        .and_then(|()| output.flush())
-        .map_err(|_| Stopped::Output)
+    let Ok(()) = writeln!(output, "split {old_shards} to {new_shards}") else {
+        return Err(Stopped::Output);
+    };
+    let Ok(()) = output.flush() else {
+        return Err(Stopped::Output);
+    };
+    Ok(())
 }
 
 // Splits what is in the old folder, and gives its number of shards.
@@ -88,6 +102,7 @@ fn split_folder<R: Files<File = File>>(
     marks: Option<Stderr>,
 ) -> Result<u32, Stopped>
     requires { capacity ≤ 2 ^ 30 }
+    ensures { IfOk result (λ shards. (1 ≤ shards) × (shards ≤ 64)) }
 {
     let SplitWords {
         old_folder,
@@ -113,16 +128,39 @@ fn split_folder<R: Files<File = File>>(
         Ok(new) => announce(alloc, new, Side::New, terminal)?,
         Err(fault) => return Err(unopened(alloc, fault, folder, new_folder)?),
     };
-    if let Err((fault, _slots)) = split(alloc, old, new, capacity) {
-        return Err(Stopped::Split(fault));
-    }
+    split_slots(alloc, old, new, capacity)?;
     if let Some(path) = &unfinished {
         give_name(rt, alloc, path.as_str(), new_folder)?;
     }
     Ok(old_shards)
 }
 
+<<<<<<< HEAD
 // Nothing tells later whether a folder that existed is whole.
+=======
+// Splits what these slots hold, and drops them.
+fn split_slots<D: Disk + Drop>(
+    alloc: Global,
+    old: Vec<[D; 2]>,
+    new: Vec<[D; 2]>,
+    capacity: u64,
+) -> Result<(), Stopped>
+    requires old { (0 < vec_len old) × (vec_len old ≤ 64) }
+    requires new { (0 < vec_len new) × (vec_len new ≤ 64) }
+    requires capacity { capacity ≤ 2 ^ 30 }
+    ensures done { OnOk result ((backs : Slots D)
+        × AreSplit D.sight D.follows capacity old.items backs.old.items new.items backs.new.items) }
+    ensures cause { IfErr result (λ stop. (fault : SplitFault) × (backs : Slots D) × (stop ≡ Stopped.Split fault)
+        × IsCause D.sight D.follows fault capacity old.items backs.old.items new.items backs.new.items) }
+{
+    match split(alloc, old, new, capacity) {
+        Ok(_slots) => Ok(()),
+        Err((fault, _slots)) => Err(Stopped::Split(fault)),
+    }
+}
+
+// Of a folder that is there nothing tells later whether it is whole.
+>>>>>>> hprog
 fn warn(terminal: Option<Stderr>, folder: &str) {
     if let Some(mut terminal) = terminal {
         let _ = writeln!(

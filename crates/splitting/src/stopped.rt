@@ -1,5 +1,5 @@
 //! What stops the program.
-ghost use Rattle.std.specs.Prelude.{◌≢◌, ◌≤◌};
+ghost use Rattle.std.specs.Prelude.{◌≡◌, ◌≢◌, ◌≤◌};
 
 use slots::SlotsFault;
 use split::SplitFault;
@@ -27,8 +27,11 @@ pub enum Stopped {
 }
 
 impl Stopped {
+    ghost use Rattle.splitting.specs.Endings.{split_status};
+
     /// The exit status: 3 for refused old slots, else 1.
     pub fn status(&self) -> u8
+        ensures cause { result ≡ split_status self.now }
         ensures some { result ≢ 2 }
         ensures few { result ≤ 3 }
     {

@@ -7,12 +7,18 @@ use Rattle.split.specs.declared.fault.SplitFault.{SplitFault}
 use Rattle.split.specs.Maps.{map_at, IsSplit, AreWithin, IsFirstAbove}
 use Rattle.split.specs.Splits.{EachPair, IsCause}
 use Rattle.split.specs.Stages.{IsBegun}
-use Rattle.split.proofs.Wholes.{no_room, finished_if_ok, cause_if_err}
+use Rattle.split.proofs.Wholes.{old_read, no_room, finished_if_ok, cause_if_err}
 use Rattle.split.proofs.splitting.split_over.Goals as goal
 
 -- the same maps under numbers that are equal
 split_at : (n m k l : ℕ) (olds news : List Streams) → n ≡ k → m ≡ l → IsSplit n m (map_at olds) (map_at news) → IsSplit k l (map_at olds) (map_at news)
 split_at n m k l olds news e f is = subst (λ (i : ℕ). IsSplit i l (map_at olds) (map_at news)) e (subst (λ (j : ℕ). IsSplit n j (map_at olds) (map_at news)) f is)
+
+pub returns-in_err-test_all-clause-cause : goal.returns-in_err-test_all-clause-cause
+returns-in_err-test_all-clause-cause g c =
+    let p = err_from_is_err_and c.from_residual-in_err-test_all.result c.from_residual-in_err-test_all.ensures.1 in
+    rw (p.1, p.2) (c.in_err-test_all.ensures.cause c.args.cap c.args.old.now.items c.read_all.new.old.items
+    (old_read g.D.Disk.sight g.D.Disk.follows (vec_len c.args.old.now) c.in_ok-olds.olds.items c.args.old.now.items c.read_all.new.old.items c.args.old.now.ok.0 c.in_ok-olds.ensures.read))
 
 pub returns-in_err-test_rooms-clause-cause : goal.returns-in_err-test_rooms-clause-cause
 returns-in_err-test_rooms-clause-cause g c =
@@ -25,7 +31,7 @@ returns-in_err-test_rooms-clause-cause g c =
     let len : length news ≡ length new.items = sym c.in_ok-news.news.ok.0 ∙ (c.in_ok-news.ensures.len ∙ many) in
     let split = split_at (vec_len c.in_ok-olds.olds) c.len-count.result (vec_len c.args.old.now) (length new.items) olds news c.in_ok-olds.ensures.images many c.in_ok-news.ensures.split in
     let cause = no_room g.D.Disk.sight g.D.Disk.follows (vec_len c.args.old.now) c.args.cap full.0 olds news c.args.old.now.items c.read_all.new.old.items new.items c.test_all.new.new.items c.args.old.now.ok.0 len
-    (c.in_ok-olds.ensures.read, c.in_ok-olds.ensures.fit, split) c.test_all.ensures.rests (subst (λ (l : List Streams). IsFirstAbove c.args.cap full.0 l) c.deref.ensures.value full.2) in
+    (c.in_ok-olds.ensures.read, c.in_ok-olds.ensures.fit, split) c.in_ok-test_all.ensures.tested (subst (λ (l : List Streams). IsFirstAbove c.args.cap full.0 l) c.deref.ensures.value full.2) in
     rw (p.1, p.2) (subst (λ (e : SplitFault). IsCause g.D.Disk.sight g.D.Disk.follows e c.args.cap c.args.old.now.items c.read_all.new.old.items new.items c.test_all.new.new.items) (sym full.1) cause)
 
 pub returns-clause-split : goal.returns-clause-split
@@ -53,4 +59,4 @@ returns-clause-cause g c =
     let new = c.args.new.now in
     let mid = c.test_all.new.new in
     cause_if_err g.D.Disk.sight g.D.Disk.follows c.start_all.result (vec_len mid) c.args.cap c.args.old.now.items c.read_all.new.old.items new.items mid.items c.start_all.new.new.items
-    (c.test_all.ensures.len ∙ new.ok.0) (sym mid.ok.0 ∙ (c.test_all.ensures.len ∙ new.ok.0)) (λ s lt. (c.in_ok-olds.ensures.read s lt).not_failed) c.in_ok-test_all.ensures.tested c.start_all.ensures.before c.start_all.ensures.fault c.start_all.ensures.not_failed
+    (c.test_all.ensures.len ∙ new.ok.0) (sym mid.ok.0 ∙ (c.test_all.ensures.len ∙ new.ok.0)) (old_read g.D.Disk.sight g.D.Disk.follows (vec_len c.args.old.now) c.in_ok-olds.olds.items c.args.old.now.items c.read_all.new.old.items c.args.old.now.ok.0 c.in_ok-olds.ensures.read) c.in_ok-test_all.ensures.tested c.start_all.ensures.before c.start_all.ensures.fault c.start_all.ensures.not_failed

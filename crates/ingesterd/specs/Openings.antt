@@ -1,0 +1,16 @@
+-- How programs open shards.
+use Rattle.std.specs.Prelude.{◌≡◌, ℕ, List}
+use Rattle.accept.specs.OneStream.{profile_limits}
+use Rattle.history.specs.Handles.{Passed}
+use Rattle.owners.specs.Openings.{Opening}
+use Rattle.ingester.specs.Openings.{AreFresh}
+
+-- So many shards, under the profile's limits, whose segments may have so many bytes, and so many passes of them, which
+-- have seen and made nothing.
+pub record IsProfiled {D : Type 0} (shards workers capacity : ℕ) (opening : Opening D) (passes : List Passed)
+    : Type 0 where
+  pub limits : opening.about.limits ≡ profile_limits
+  pub shards_are : opening.about.shards ≡ shards
+  pub capacity_is : opening.about.capacity ≡ capacity
+  pub passes_are : opening.about.passes ≡ workers
+  pub fresh : AreFresh opening workers passes

@@ -1,0 +1,32 @@
+-- How `walsplit` ends, and with which exit status.
+use Rattle.std.specs.Prelude.{◌≡◌, ◌⊎◌, ◌≤◌, ℕ, List, ◌++◌, codes, decimal, Option, String}
+use Rattle.std.specs.Io.KnownBytes.{Appends}
+use Rattle.std.specs.declared.alloc.Global.{Global}
+use Rattle.split.specs.declared.fault.SplitFault.TheVariants as faults
+use Rattle.splitting.specs.Words.{SaysSplit}
+use Rattle.splitting.specs.declared.said.SplitWords.{SplitWords}
+use Rattle.splitting.specs.declared.stopped.Stopped.{Stopped}
+use Rattle.splitting.specs.declared.stopped.Stopped.TheVariants.{NoShards, Missing, HasSlots, Slots, Split, Output}
+
+-- what stops it: 3 for old slots that are refused, else 1
+abbrev pub split_status : Stopped → ℕ
+split_status NoShards = 1
+split_status (Missing shard slot) = 1
+split_status (HasSlots folder) = 1
+split_status (Slots fault) = 1
+split_status (Split (faults.Old shard fault)) = 3
+split_status (Split fault) = 1
+split_status Output = 1
+
+-- what it says at its end
+abbrev pub split_line : ℕ → ℕ → List ℕ
+split_line old new = codes "split " ++ decimal old ++ codes " to " ++ decimal new ++ codes "\n"
+
+-- How it ended, by what its output held before and after: its words or its setting were wrong; or it split as the words
+-- say; or it stopped, and where that is not for its output, it said nothing.
+pub data SplitEnds (words : List (String Global)) (before after : Option (List ℕ)) (status : ℕ) : Type 0 where
+  unasked_split : status ≡ 2 → after ≡ before → SplitEnds words before after status
+  divided_split : (said : SplitWords) → SaysSplit words said → (shards : ℕ) → 1 ≤ shards → shards ≤ 64
+      → Appends before after (split_line shards said.shards) → status ≡ 0 → SplitEnds words before after status
+  stopped_split : (stop : Stopped) → (stop ≡ Output) ⊎ (after ≡ before) → status ≡ split_status stop
+      → SplitEnds words before after status
