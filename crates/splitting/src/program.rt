@@ -135,9 +135,6 @@ fn split_folder<R: Files<File = File>>(
     Ok(old_shards)
 }
 
-<<<<<<< HEAD
-// Nothing tells later whether a folder that existed is whole.
-=======
 // Splits what these slots hold, and drops them.
 fn split_slots<D: Disk + Drop>(
     alloc: Global,
@@ -159,8 +156,7 @@ fn split_slots<D: Disk + Drop>(
     }
 }
 
-// Of a folder that is there nothing tells later whether it is whole.
->>>>>>> hprog
+// Nothing tells later whether a folder that existed is whole.
 fn warn(terminal: Option<Stderr>, folder: &str) {
     if let Some(mut terminal) = terminal {
         let _ = writeln!(
