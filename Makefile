@@ -6,11 +6,11 @@ WORKERS ?= 64
 
 .PHONY: help run demo sample test edits faults check check-docs fmt bench kill failed-disk roll-time deb deb-check \
 	edge-check drain-check pictures deb-lint metrics-check metrics-cost fill-check split-check \
-	power-loss sync-check outside-check soak scale-check
+	power-loss sync-check outside-check soak scale-check start-time default-shards
 
 help: ## prints this
 	@sed -nE 's/^([a-z][a-z-]*):.*## (.*)/\1\t\2/p' Makefile | while IFS='	' read -r name words; do \
-		printf '  make %-13s %s\n' "$$name" "$$words"; done
+		printf '  make %-14s %s\n' "$$name" "$$words"; done
 
 # (jemalloc where it is installed, else the C library's with threads that keep more freed pieces at hand:
 # docs/BENCHMARKS.md says what a push takes by each)
@@ -56,6 +56,14 @@ scale-check: ## once at scale: long streams, many streams, long reads, a slot ab
 roll-time: ## how long a push takes that begins the next segment of a full shard (MIB="64 1024")
 	@RT='$(RT)' tests/build server
 	@tests/roll_time $(MIB)
+
+start-time: ## how long a server takes to be ready over full shards, beside cat (MB=42 SHARDS=16)
+	@RT='$(RT)' tests/build server
+	@tests/start_time $(or $(MB),42) $(SHARDS)
+
+default-shards: ## what 16, 8 and 4 shards of together 1 GiB cost: pushes, pauses, a start (five minutes)
+	@RT='$(RT)' tests/build server
+	@tests/default_shards
 
 deb: ## the Debian package, in deploy/out
 	@RT='$(RT)' tests/build server ingestctl ingest1 walcat walsplit

@@ -161,10 +161,10 @@ class Server:
         with self.running.stderr as file:
             return file.read().decode()
 
-    def memory(self):
-        """How many bytes of memory it has now."""
+    def memory(self, which="VmRSS"):
+        """How many bytes of memory it has now, or with VmHWM has had at most."""
         with open(f"/proc/{self.pid}/status", encoding="ascii") as file:
-            return next(int(line.split()[1]) * 1024 for line in file if line.startswith("VmRSS"))
+            return next(int(line.split()[1]) * 1024 for line in file if line.startswith(which))
 
     def processor(self):
         """For how many seconds it has had a processor."""
