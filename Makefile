@@ -97,8 +97,8 @@ edits: ## tries all wrong bodies, and prints the goal that each leaves open (CRA
 	@RT='$(RT)' tests/edits $(if $(JOBS),--jobs $(JOBS)) $(CRATES)
 
 faults: ## hostile bytes, refused memory, bad files, slow clients, held to the definitions (some minutes)
-	@RT='$(RT)' tests/build bench ingest1 call_cases quiet_calls ingestctl server walcat walsplit
-	@failed=0; for it in judge_rows mutations 'each_allocation_fails bench ingest1 call_cases quiet_calls ingestctl server' refused_threads hostile_files hostile_clients; do \
+	@RT='$(RT)' tests/build bench ingest1 call_cases conformance quiet_calls ingestctl server walcat walsplit
+	@failed=0; for it in judge_rows mutations 'each_allocation_fails bench ingest1 call_cases conformance quiet_calls ingestctl server' refused_threads hostile_files hostile_clients; do \
 		tests/$$it || failed=1; done; exit $$failed
 
 check: ## proves every crate, lowest first, over the work of earlier checks

@@ -1,6 +1,6 @@
 //! What a crash leaves of a shard, and what becomes of a call where a device fails.
 
-use crate::alone::{open_alone, pair_of};
+use crate::alone::{answer_of, open_alone, pair_of};
 use crate::grouped::{Doing, answers_of};
 use anyhow::{Result, bail};
 use call_slots::{Pair, Way};
@@ -33,6 +33,10 @@ enum Tried {
     Another,
     /// It was unavailable, and no content of the slots was found.
     Nothing,
+    /// A slot changed in an opening that failed.
+    Changed,
+    /// A call was unavailable, and another of its group or after it was answered or reached a slot, or there is no mark.
+    GoesOn,
     /// It was answered.
     Answered,
 }
@@ -46,6 +50,8 @@ impl fmt::Display for Tried {
             Tried::Either => "before or after",
             Tried::Another => "another state",
             Tried::Nothing => "nothing",
+            Tried::Changed => "changed",
+            Tried::GoesOn => "goes on",
             Tried::Answered => "answered",
         })
     }
@@ -91,20 +97,48 @@ fn found_on(
     found_in(alloc, pair, settings, reads)
 }
 
-/// What a crash may leave on a disk: each content where few bytes are unsynced, otherwise every 61st of those with 1
-/// for each unsynced byte.
-fn some_contents(alloc: Global, disk: &MemDisk) -> Result<Vec<Vec<u8>>> {
-    match disk.images(alloc, &[0, 1, 127], 8) {
-        Err(ImagesFault::TooMany) => {
-            let all = disk.images(alloc, &[1], MOST)?;
-            Ok(all.into_iter().step_by(61).collect(alloc)?)
-        }
+/// What a crash may leave on a disk: with each of four values for an unsynced byte where those are few contents, as after
+/// a write of one byte, otherwise with each of three values for all unsynced bytes.
+fn contents_of(alloc: Global, disk: &MemDisk) -> Result<Vec<Vec<u8>>> {
+    match disk.images(alloc, &[0, 1, 127, 255], 8) {
+        Err(ImagesFault::TooMany) => long_contents_of(alloc, disk),
         found => Ok(found?),
     }
 }
 
+fn long_contents_of(alloc: Global, disk: &MemDisk) -> Result<Vec<Vec<u8>>> {
+    let mut all = Vec::new(alloc);
+    for value in [0, 1, 255] {
+        let mut found = disk.images(alloc, &[value], MOST)?;
+        all.append(&mut found)?;
+    }
+    Ok(all)
+}
+
+/// What becomes of slots whose opening failed.
+fn unopened(alloc: Global, pair: Pair, copy: Pair) -> Result<Tried> {
+    if are_same(alloc, pair, copy)? {
+        Ok(Tried::Unopened)
+    } else {
+        Ok(Tried::Changed)
+    }
+}
+
+/// Whether two pairs of slots hold the same bytes.
+fn are_same(alloc: Global, one: Pair, other: Pair) -> Result<bool> {
+    let (mut one, mut other) = (one, other);
+    one.mend();
+    other.mend();
+    let is_first = one.bytes(alloc, 0)? == other.bytes(alloc, 0)?;
+    Ok(is_first && one.bytes(alloc, 1)? == other.bytes(alloc, 1)?)
+}
+
+fn are_unavailable(answers: &str) -> bool {
+    answers.lines().all(|line| line == "Unavailable")
+}
+
 /// A call, or a group of calls, that is tried on copies of slots.
-#[derive(Clone, Copy)]
+#[derive(Drop)]
 struct Trial<'a> {
     alloc: Global,
     settings: Settings,
@@ -112,33 +146,63 @@ struct Trial<'a> {
     /// What the reads give before the calls, and after them.
     before: &'a str,
     after: &'a str,
+    /// How many contents of slots were opened.
+    contents: u64,
 }
 
 impl Trial<'_> {
-    /// What becomes of the call in these slots.
-    fn attempt(&self, pair: Pair) -> Result<Tried> {
+    /// What becomes of the call in these slots, of which there is a copy.
+    fn attempt(&mut self, pair: Pair, copy: Pair) -> Result<Tried> {
         match open_alone(self.alloc, pair, self.settings)? {
-            Ok(shard) => self.attempt_in(shard),
-            Err((OpenFault::Device, _)) => Ok(Tried::Unopened),
+            Ok(shard) => self.attempt_in(shard, copy),
+            Err((OpenFault::Device, pair)) => unopened(self.alloc, pair, copy),
             Err((fault, _)) => Err(fault.into()),
         }
     }
 
-    fn attempt_in(&self, shard: Box<LoneShard<MemDisk>>) -> Result<Tried> {
+    fn attempt_in(&mut self, shard: Box<LoneShard<MemDisk>>, copy: Pair) -> Result<Tried> {
         let mut said = String::new(self.alloc);
         let shard = self.doing.make(self.alloc, shard, &mut said)?;
-        if !said.as_str().contains("Unavailable") {
+        let said = said.as_str();
+        if !said.contains("Unavailable") {
             return Ok(Tried::Answered);
         }
-        self.left_in(&pair_of(shard))
+        let is_kept = said.contains("Stored") || said.contains("Trimmed");
+        let pair = pair_of(shard);
+        if is_kept || !self.is_over(copy, pair.calls())? {
+            return Ok(Tried::GoesOn);
+        }
+        self.left_in(&pair)
+    }
+
+    /// Whether all calls after the failed one in these slots are unavailable, the history has a mark, and the slots see
+    /// no more than the calls that they have seen without them.
+    fn is_over(&self, pair: Pair, calls: (u64, u64)) -> Result<bool> {
+        let alloc = self.alloc;
+        let Ok(shard) = open_alone(alloc, pair, self.settings)? else {
+            bail!("the same slots are opened once, and not again");
+        };
+        let mut shard = self.doing.make(alloc, shard, &mut String::new(alloc))?;
+        let is_over = shard.is_marked() && self.are_over(&mut shard)?;
+        Ok(is_over && pair_of(shard).calls() == calls)
+    }
+
+    /// Whether all calls are unavailable now.
+    fn are_over(&self, shard: &mut LoneShard<MemDisk>) -> Result<bool> {
+        let again = answers_of(shard, self.alloc, &self.doing.calls)?;
+        let reads = answers_of(shard, self.alloc, &self.doing.reads)?;
+        let trim = answer_of(shard, self.alloc, "trim 1 0")?;
+        let is_over = are_unavailable(again.as_str()) && are_unavailable(reads.as_str());
+        Ok(is_over && trim.as_str() == "Unavailable")
     }
 
     /// Which streams a crash may leave in these slots.
-    fn left_in(&self, pair: &Pair) -> Result<Tried> {
-        let seconds = some_contents(self.alloc, &pair.second)?;
+    fn left_in(&mut self, pair: &Pair) -> Result<Tried> {
+        let seconds = contents_of(self.alloc, &pair.second)?;
         let (mut is_before, mut is_after) = (false, false);
-        for first in some_contents(self.alloc, &pair.first)?.iter() {
+        for first in contents_of(self.alloc, &pair.first)?.iter() {
             for second in seconds.iter() {
+                self.contents = self.contents.saturating_add(1);
                 match self.sight(first, second)? {
                     Some(Tried::Before) => is_before = true,
                     Some(_) => is_after = true,
@@ -166,10 +230,11 @@ impl Trial<'_> {
 
     /// What becomes of the call where the first call on a slot fails, where the second does, and so on, until it is
     /// answered.
-    fn attempt_each(&self, pair: &mut Pair, slot: u64, way: Way) -> Result<Counted> {
+    fn attempt_each(&mut self, pair: &mut Pair, slot: u64, way: Way) -> Result<Counted> {
         let mut all = Counted::new(self.alloc);
         for call in 1..CALLS {
-            let tried = self.attempt(planned(self.alloc, pair, slot, way, call)?)?;
+            let copy = planned(self.alloc, pair, slot, way, call)?;
+            let tried = self.attempt(planned(self.alloc, pair, slot, way, call)?, copy)?;
             all.add(format!(in self.alloc; "{tried}")?)?;
             if tried == Tried::Answered {
                 return Ok(all);
@@ -179,7 +244,7 @@ impl Trial<'_> {
     }
 
     /// Says for each slot what becomes of the call where the slot fails.
-    fn say_slots(&self, pair: &mut Pair, way: Way, said: &mut String) -> Result<()> {
+    fn say_slots(&mut self, pair: &mut Pair, way: Way, said: &mut String) -> Result<()> {
         for slot in 0..2 {
             write!(said, "slot {slot}: ")?;
             self.attempt_each(pair, slot, way)?.write(", ", said)?;
@@ -211,7 +276,7 @@ fn say_made(
 }
 
 /// Makes calls on copies of these slots, and says their answers. Then tries them on other copies, of which one slot
-/// fails, and says for each slot what becomes of them. Gives the slots after the calls.
+/// fails, and says for each slot what becomes of them. Gives the slots after the calls, and how many contents were opened.
 pub fn say_trials(
     alloc: Global,
     pair: &mut Pair,
@@ -219,17 +284,18 @@ pub fn say_trials(
     way: Way,
     doing: &Doing,
     said: &mut String,
-) -> Result<Pair> {
+) -> Result<(Pair, u64)> {
     let before = found_in(alloc, pair.copy(alloc)?, settings, &doing.reads)?;
     let mut next = say_made(alloc, pair.copy(alloc)?, settings, doing, said)?;
     let after = found_in(alloc, next.copy(alloc)?, settings, &doing.reads)?;
-    let trial = Trial {
+    let mut trial = Trial {
         alloc,
         settings,
         doing,
         before: before.as_str(),
         after: after.as_str(),
+        contents: 0,
     };
     trial.say_slots(pair, way, said)?;
-    Ok(next)
+    Ok((next, trial.contents))
 }

@@ -13,7 +13,8 @@ use std::fmt::Write;
 /// Calls that are made one after another, or as a group, and a read of the stream of each.
 #[derive(Drop)]
 pub struct Doing {
-    calls: Gathered,
+    /// The calls, in order.
+    pub calls: Gathered,
     is_group: bool,
     /// The reads that show the streams before and after.
     pub reads: Gathered,

@@ -27,6 +27,8 @@ pub struct Stage {
     /// The calls of the next group.
     gathered: Gathered,
     prepared: Box<Prepared>,
+    /// How many contents that a crash may leave were opened by `fails` and `stops`.
+    contents: u64,
 }
 
 impl Stage {
@@ -40,6 +42,7 @@ impl Stage {
             opened: None,
             gathered: Gathered::new(alloc),
             prepared: Box::new(alloc, Prepared::new(alloc)?)?,
+            contents: 0,
         })
     }
 
@@ -52,6 +55,7 @@ impl Stage {
         match word {
             "open" => self.open(rt, rest, said),
             "close" => self.close(rt, said),
+            "opens" => self.open_and_close(rt, rest, said),
             "push" | "read" | "trim" | "each" => self.take_call(rt, line, said),
             "with" => self.gathered.add(self.alloc, rest),
             "with*" => self.gathered.add_each(self.alloc, rest),
@@ -65,6 +69,7 @@ impl Stage {
             "crash" => self.crash(rest, said),
             "fails" => self.try_each(Way::Fails, rest, said),
             "stops" => self.try_each(Way::Stops, rest, said),
+            "contents" => self.say_contents(said),
             "shards" => self.set_shards(rest),
             "slot" | "write" | "fail" | "stop" | "bytes" => self.take_slot(word, rest, said),
             _ => self.settings.set(word, rest),
@@ -111,6 +116,18 @@ impl Stage {
                 Ok(())
             }
             Err(refused) => self.refuse(refused, said),
+        }
+    }
+
+    /// `opens`: opens all slots as `open` does, and closes them where that was not refused.
+    fn open_and_close<R>(&mut self, rt: &R, text: &str, said: &mut String) -> Result<()>
+    where
+        R: Threads + Wait + Copy + Send + 'static,
+    {
+        self.open(rt, text, said)?;
+        match self.opened {
+            Some(_) => self.close(rt, said),
+            None => Ok(()),
         }
     }
 
@@ -267,11 +284,27 @@ impl Stage {
     fn try_doing(&mut self, way: Way, doing: &Doing, said: &mut String) -> Result<()> {
         match self.pairs.first_mut() {
             Some(pair) => {
-                *pair = say_trials(self.alloc, pair, self.settings, way, doing, said)?;
+                let (next, contents) = say_trials(
+                    self.alloc,
+                    pair,
+                    self.settings,
+                    way,
+                    doing,
+                    said,
+                )?;
+                *pair = next;
+                self.contents = self.contents.saturating_add(contents);
                 Ok(())
             }
             None => bail!("the shard is open"),
         }
+    }
+
+    /// `contents`: how many contents the row's trials opened.
+    fn say_contents(&self, said: &mut String) -> Result<()> {
+        let contents = self.contents;
+        writeln!(said, "{contents} contents")?;
+        Ok(())
     }
 }
 
