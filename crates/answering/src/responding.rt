@@ -1,4 +1,4 @@
-//! The answer to a request behind its head: its body, its calls in body order, status and body of its answer.
+//! The answer to a request after its head: its body, its calls in body order, status and body of its answer.
 ghost use Rattle.std.specs.Prelude.{◌≡◌, ◌<◌, ◌≤◌, ◌^◌, [], ℕ, List, All, IfOk, map, min, sum_by, length, vec_capacity};
 ghost use Rattle.std.specs.VecDeque.{deque_len};
 ghost use Rattle.accept.specs.OneStream.{AreTimes};
@@ -51,7 +51,7 @@ impl From<AllocError> for Halt {
     }
 }
 
-/// A request behind its head.
+/// A request after its head.
 #[derive(Clone, Copy)]
 pub struct RequestBody<'a> {
     /// What the clock told for it, in nanoseconds: below 2^63.

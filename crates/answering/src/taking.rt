@@ -20,7 +20,7 @@ use std::sync::Wait;
 const MOST: usize = 64;
 
 impl<O: Drop> Window<O> {
-    /// An empty window for a push of so many streams.
+    /// An empty window for a push of `streams` streams.
     pub(crate) fn new(alloc: Global, streams: usize) -> Result<Window<O>, AllocError>
         ensures empty { IfOk result (λ window. HoldsNoStreams window) }
         ensures size { IfOk result (λ window. window.size ≡ min 64 streams) }
@@ -90,8 +90,8 @@ impl<O: Drop> Window<O> {
         }
     }
 
-    // Takes what came of the streams into the lines, the first of which has this place in the body. The place
-    // behind the last.
+    // Takes what came of the streams into the lines, the first of which has this place in the body. Gives the place
+    // after the last one.
     fn note<S: Calls<Outcome = O>>(
         &mut self,
         stream: usize,
