@@ -253,12 +253,12 @@ impl<D: Disk + Drop> Ingester<D> {
     }
 
     /// Makes up to 64 calls of a pass, as if by `call` one after another in their order: of each comes what would come
-    /// then. All are sent before the answer to any is waited for, and those to one shard are written together. The calls
+    /// then. All are sent before the first answer is waited for, and those to one shard are written together. The calls
     /// are taken out of `calls`, and what came of each is put into `outcomes`, which has room for them.
     ///
-    /// A call that is refused for want of memory, or since the log is spent, takes those with it that come after it at its
-    /// shard: they are refused for want of memory. One that could not even be announced takes all after it. Where an owner
-    /// has ended, a call that was sent to it is in doubt, and so is each that was announced after it; the pass is closed.
+    /// If a call is refused for want of memory, or since the log is spent, later ones at its shard are refused for want
+    /// of memory. If one could not even be announced, all later ones are. If an owner has ended, a call that was sent to
+    /// it is in doubt, and so is each that was announced after it; the pass is closed.
     pub fn call_all<R: Wait>(
         &self,
         rt: &R,

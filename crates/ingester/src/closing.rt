@@ -76,8 +76,8 @@ fn compare<D: Disk + Drop>(shard: &mut Shard<D>, passes: &mut [Pass])
 }
 
 impl<D: Disk + Drop> Ingester<D> {
-    /// Ends each owner, once it has answered all calls that came before. From then on a call is in doubt, and closes its
-    /// pass. `close` takes the shards back.
+    /// Ends each owner, once it has answered all calls that came before. A later call is in doubt, and closes its pass.
+    /// `close` takes the shards back.
     pub fn end_owners<R: Wait>(&self, rt: &R, pass: &Pass)
         requires { IsPassOf self.now pass.now }
     {

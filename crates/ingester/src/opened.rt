@@ -6,6 +6,7 @@ ghost use Rattle.history.specs.Handles.{about_of};
 ghost use Rattle.owners.specs.Owners.{AreEnds};
 ghost use Rattle.owners.specs.Places.{AreShardsOf};
 ghost use Rattle.ingester.specs.Openings.{AreFresh};
+ghost use Rattle.ingester.specs.Parts.{HasParts};
 ghost use Rattle.ingester.specs.Findings.{AreOpenedFrom, IsUnmade};
 
 use crate::locking::{make_shards, reserve_room, sizes_of};
@@ -24,8 +25,8 @@ use std::marker::Model;
 use std::sync::Wait;
 use std::thread::Threads;
 
-/// Up to 64 shards, each with its streams, its log and its history in a thread of its own. Contracts see the table of the
-/// histories, what was opened, and each shard's log as it was then.
+/// Up to 64 shards, each with its streams, its log and its history in a thread of its own. Contracts see the table of
+/// the histories, what was opened, and each shard's log as it was then.
 #[derive(Drop)]
 pub struct Ingester<D: Disk + Drop> {
     pub(crate) history: History,
@@ -179,6 +180,32 @@ fn open_all<D: Disk + Drop>(
     let Ok(shards) = make_shards(alloc, slots, shards, logs, images, books, limits) else {
         return Err(OpenFault::Memory);
     };
+    let sizes = sizes_of(sizes, &shards);
+    let kept = Kept { room, sizes, count };
+    Ok(opened_with(plan, history, dealt, shards, kept))
+}
+
+// What an ingester keeps of its shards beside what is planned.
+struct Kept<D: Disk + Drop> {
+    room: ListLocks<D>,
+    sizes: Vec<Size>,
+    count: u32,
+}
+
+// What was opened by this plan.
+fn opened_with<D: Disk + Drop>(
+    plan: Plan<D>,
+    history: History,
+    passes: Vec<Pass>,
+    shards: Vec<Option<Shard<D>>>,
+    kept: Kept<D>,
+) -> Opened<D>
+    requires { HasParts history plan.rows plan.backs kept.room kept.count plan.origin plan.home }
+    ensures ingester { result.ingester ≡ plan.origin }
+    ensures passes { result.passes ≡ passes }
+    ensures shards { result.shards ≡ shards }
+    ensures ends { result.ends ≡ plan.ends }
+{
     let Plan {
         origin,
         home,
@@ -186,21 +213,22 @@ fn open_all<D: Disk + Drop>(
         backs,
         ends,
     } = plan;
+    let Kept { room, sizes, count } = kept;
     let ingester = Ingester {
         history,
         rows,
         backs,
         room,
-        sizes: sizes_of(sizes, &shards),
+        sizes,
         waiters: Waiters::new(),
         count,
         origin,
         home,
     };
-    Ok(Opened {
+    Opened {
         ingester,
-        passes: dealt,
+        passes,
         shards,
         ends,
-    })
+    }
 }

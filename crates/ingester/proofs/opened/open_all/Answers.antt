@@ -104,15 +104,15 @@ returns-in_default-make_shards-clause-unmade g c =
     let opened = c.in_default.ensures.ok in
     inr (returned_all g.D.Disk.sight g.D.Disk.follows c.len-count.result c.args.capacity c.args.slots.now.items _ _ c.open_logs.new.logs.items c.open_logs.new.images.items opened.0 opened.1 c.in_default-make_shards.ensures.unmade)
 
-pub sizes_of-requires : goal.sizes_of-requires
-sizes_of-requires g c =
+pub sizes_of-sizes-requires : goal.sizes_of-sizes-requires
+sizes_of-sizes-requires g c =
     let made = c.in-Ok-make_shards.ensures.room.1 in
     let lens = c.in_default.ensures.lens.0 in
     let room = c.in_ok-sizes.ensures.capacity in
     (c.in_ok-sizes.ensures.len, omega arith)
 
-pub invariant_of-ingester : goal.invariant_of-ingester
-invariant_of-ingester g c =
+pub opened_with-requires : goal.opened_with-requires
+opened_with-requires g c =
     let images = c.open_logs.new.images.items in
     let logs = c.open_logs.new.logs in
     let about = about_of images c.args.passes c.args.limits c.args.capacity in
@@ -166,7 +166,9 @@ returns-clause-found g c =
     let as_logs : length images ≡ vec_len logs = omega (arith, c.open_logs.new.images.ok.0) in
     let first : c.index.result.now ≡ fresh_book c.in-Ok.history about 0 = first_fresh c.in-Ok.history about (length images) c.in-Ok.books.items c.index.result.now are some_image c.index.ensures in
     let plan = c.in-Ok-make_plan.ensures in
-    subst (λ (o : Opening g.row.D.Denot). AreOpenedFrom g.D.Disk.sight g.D.Disk.follows (deque_len c.args.slots.now) c.args.capacity 0 c.args.slots.now.items o.logs o.about.bases) (sym plan.origin)
+    let made = c.opened_with.ensures in
+    let here = made.ingester ∙ plan.origin in
+    subst (λ (o : Opening g.row.D.Denot). AreOpenedFrom g.D.Disk.sight g.D.Disk.follows (deque_len c.args.slots.now) c.args.capacity 0 c.args.slots.now.items o.logs o.about.bases) (sym here)
     (found_first g.D.Disk.sight g.D.Disk.follows c.in-Ok.history images c.args.passes c.args.limits c.args.capacity c.len-count.result (deque_len c.args.slots.now) c.args.slots.now.items logs.items logs.items c.index.result.now first count refl c.in_default.ensures.ok.0)
 
 pub returns-clause-about : goal.returns-clause-about
@@ -188,7 +190,9 @@ returns-clause-about g c =
     let as_logs : length images ≡ vec_len logs = omega (arith, c.open_logs.new.images.ok.0) in
     let first : c.index.result.now ≡ fresh_book c.in-Ok.history about 0 = first_fresh c.in-Ok.history about (length images) c.in-Ok.books.items c.index.result.now are some_image c.index.ensures in
     let plan = c.in-Ok-make_plan.ensures in
-    subst (λ (o : Opening g.row.D.Denot). o.about ≡ about_of o.about.bases c.args.passes c.args.limits c.args.capacity) (sym plan.origin) (about_first c.in-Ok.history images c.args.passes c.args.limits c.args.capacity c.index.result.now first)
+    let made = c.opened_with.ensures in
+    let here = made.ingester ∙ plan.origin in
+    subst (λ (o : Opening g.row.D.Denot). o.about ≡ about_of o.about.bases c.args.passes c.args.limits c.args.capacity) (sym here) (about_first c.in-Ok.history images c.args.passes c.args.limits c.args.capacity c.index.result.now first)
 
 pub returns-clause-shards : goal.returns-clause-shards
 returns-clause-shards g c =
@@ -209,7 +213,9 @@ returns-clause-shards g c =
     let as_logs : length images ≡ vec_len logs = omega (arith, c.open_logs.new.images.ok.0) in
     let first : c.index.result.now ≡ fresh_book c.in-Ok.history about 0 = first_fresh c.in-Ok.history about (length images) c.in-Ok.books.items c.index.result.now are some_image c.index.ensures in
     let plan = c.in-Ok-make_plan.ensures in
-    ap (λ (o : Opening g.row.D.Denot). o.about.shards) plan.origin ∙ (ap (λ (b : Booked). b.about.shards) first ∙ (counted ∙ count))
+    let made = c.opened_with.ensures in
+    let here = made.ingester ∙ plan.origin in
+    ap (λ (o : Opening g.row.D.Denot). o.about.shards) here ∙ (ap (λ (b : Booked). b.about.shards) first ∙ (counted ∙ count))
 
 pub returns-clause-passes : goal.returns-clause-passes
 returns-clause-passes g c =
@@ -230,8 +236,11 @@ returns-clause-passes g c =
     let as_logs : length images ≡ vec_len logs = omega (arith, c.open_logs.new.images.ok.0) in
     let first : c.index.result.now ≡ fresh_book c.in-Ok.history about 0 = first_fresh c.in-Ok.history about (length images) c.in-Ok.books.items c.index.result.now are some_image c.index.ensures in
     let plan = c.in-Ok-make_plan.ensures in
+    let made = c.opened_with.ensures in
+    let here = made.ingester ∙ plan.origin in
     let dealt : c.in-Ok.dealt.items ≡ fresh_passes c.in-Ok.history about c.args.passes = c.in-Ok.ensures.passes ∙ ap (λ m. fresh_passes c.in-Ok.history (about_of m c.args.passes c.args.limits c.args.capacity) c.args.passes) c.deref.ensures.value in
-    subst (λ (o : Opening g.row.D.Denot). AreFresh o c.args.passes c.in-Ok.dealt.items) (sym plan.origin) (passes_first c.in-Ok.history about c.args.passes logs.items c.index.result.now c.in-Ok.dealt.items first dealt)
+    subst (λ v. AreFresh c.opened_with.result.ingester c.args.passes v.items) (sym made.passes)
+    (subst (λ (o : Opening g.row.D.Denot). AreFresh o c.args.passes c.in-Ok.dealt.items) (sym here) (passes_first c.in-Ok.history about c.args.passes logs.items c.index.result.now c.in-Ok.dealt.items first dealt))
 
 pub returns-clause-ready : goal.returns-clause-ready
 returns-clause-ready g c =
@@ -252,9 +261,11 @@ returns-clause-ready g c =
     let as_logs : length images ≡ vec_len logs = omega (arith, c.open_logs.new.images.ok.0) in
     let first : c.index.result.now ≡ fresh_book c.in-Ok.history about 0 = first_fresh c.in-Ok.history about (length images) c.in-Ok.books.items c.index.result.now are some_image c.index.ensures in
     let plan = c.in-Ok-make_plan.ensures in
+    let made = c.opened_with.ensures in
+    let here = made.ingester ∙ plan.origin in
     let shards = c.in-Ok-make_shards in
     let books = like_first c.in-Ok.history about (length images) (vec_len logs) c.in-Ok.books.items c.index.result.now are first as_logs in (
-      subst (λ (o : Opening g.row.D.Denot). AreShardsOf o shards.shards.items) (sym plan.origin) (made_fit c.index.result.now logs.items logs.items shards.shards.items c.in-Ok.books.items (vec_len logs) refl books shards.ensures.made),
-      subst (λ (o : Opening g.row.D.Denot). AreEnds o c.in-Ok-make_plan.plan.ends.items) (sym plan.origin) plan.ends,
-      plan.count ∙ (ap (λ (b : Booked). b.about.shards) first ∙ (as_logs ∙ sym shards.ensures.room.1)),
+      subst (λ v. AreShardsOf c.opened_with.result.ingester v.items) (sym made.shards) (subst (λ (o : Opening g.row.D.Denot). AreShardsOf o shards.shards.items) (sym here) (made_fit c.index.result.now logs.items logs.items shards.shards.items c.in-Ok.books.items (vec_len logs) refl books shards.ensures.made)),
+      subst (λ v. AreEnds c.opened_with.result.ingester v.items) (sym made.ends) (subst (λ (o : Opening g.row.D.Denot). AreEnds o c.in-Ok-make_plan.plan.ends.items) (sym here) plan.ends),
+      ap deque_len made.ends ∙ (plan.count ∙ (ap (λ (b : Booked). b.about.shards) first ∙ (as_logs ∙ (sym shards.ensures.room.1 ∙ ap vec_len (sym made.shards))))),
     )
