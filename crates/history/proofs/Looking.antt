@@ -185,6 +185,8 @@ counts slots id k shelf here s h wide e fits =
         (
           ap (slice_index s.words) here ∙ r.words.lengths shelf.shard mine.1 ∙ ap length mine.3,
           subst (λ l. IsShort shelf.about l) mine.3 (short shelf.about x shelf.shard r.good),
+          subst (λ l. IsLegalAt shelf.about shelf.shard l) mine.3 (r.good.legal shelf.shard),
+          subst (λ l. IsByPasses shelf.about.passes l) mine.3 (r.good.by_passes shelf.shard),
         ),
       ),
     )

@@ -273,6 +273,7 @@ IsShort about items = length items ≤ about.passes * bound + 1
 
 abbrev pub Counts : ℕ → Role → Type 0
 Counts found (Keeps shelf) = (found ≡ length shelf.items) × IsShort shelf.about shelf.items
+    × IsLegalAt shelf.about shelf.shard shelf.items × IsByPasses shelf.about.passes shelf.items
 Counts found role = Unit {0}
 
 -- a look that counts a book's items, and changes nothing

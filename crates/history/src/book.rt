@@ -150,11 +150,14 @@ impl Book {
         shared.fetch_add::<Marks>(&mut self.seat, self.shard, 1);
     }
 
-    /// How many items the history has: at most one step for each number of each pass, and the mark.
+    /// How many items the history has: at most one step for each number of each pass, and the mark. It is legal, and
+    /// has only steps of passes of the opening.
     pub fn len(&mut self) -> u64
         ensures book { self.new ≡ self.old }
         ensures len { result ≡ length self.old.items }
         ensures short { IsShort self.old.about self.old.items }
+        ensures legal { IsLegalAt self.old.about self.old.shard self.old.items }
+        ensures by_passes { IsByPasses self.old.about.passes self.old.items }
     {
         self.table.shared.load::<Counts>(&mut self.seat, self.shard)
     }

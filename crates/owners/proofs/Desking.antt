@@ -103,10 +103,13 @@ module _ {D : Type 0} (opening : Opening D) where
     cap = h.shard.log.cap;
     opened = h.shard.opened.generation;
     opened_is = get_map (λ (log : Wal D). log.generation) opening.logs k h.shard.opened h.opened;
-    last = h.last;
-    writes = h.writes;
-    full = h.full;
-    late = h.late;
+    last = h.spent.last;
+    writes = h.spent.writes;
+    full = h.spent.full;
+    legal = h.spent.legal;
+    by_passes = h.spent.by_passes;
+    rolled = h.spent.rolled;
+    late = h.spent.late;
   }
 
   spent_free : (s : Settled) → IsSpentAsSaid opening s → IsSpentAt (home_of opening) s

@@ -1,5 +1,5 @@
 -- A log that is spent, by its generation alone and with its disks.
-use Rattle.std.proofs.Common.{◌≡◌, ℕ, ◌+◌, ◌-◌, ◌*◌, ◌^◌, ◌≤◌, refl, sym, ◌∙◌, subst}
+use Rattle.std.proofs.Common.{◌≡◌, ℕ, ◌+◌, ◌-◌, ◌*◌, ◌^◌, ◌≤◌, length, refl, sym, ◌∙◌, subst}
 use Rattle.std.specs.Prelude.{Option, Some, None, option_map, slice_get}
 use Rattle.std.proofs.lemmas.Option.{slice_get-map}
 use Rattle.accept.specs.declared.call.Call.{Call}
@@ -33,8 +33,13 @@ module _ {D : Type 0} (opening : Opening D) where
         about = h.about;
         number = h.number;
         opened = is.there;
-        last = h.last;
-        writes = h.writes;
-        full = h.full;
-        late = subst (λ n. 2 ^ 63 - 1 ≤ n + (h.book.about.passes * bound + 1)) (sym is.same) h.late;
+        spent = record {
+          last = h.last;
+          writes = h.writes;
+          full = h.full;
+          legal = h.legal;
+          by_passes = h.by_passes;
+          rolled = subst (λ n. h.generation ≤ n + length h.book.items) (sym is.same) h.rolled;
+          late = subst (λ n. 2 ^ 63 - 1 ≤ n + (h.book.about.passes * bound + 1)) (sym is.same) h.late;
+        };
       }

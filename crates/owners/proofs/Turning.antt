@@ -15,7 +15,7 @@ use Rattle.shard.specs.declared.front.Ended.{Ended}
 use Rattle.shard.specs.declared.front.Job.{Job}
 use Rattle.shard.specs.declared.group.Settled.{Settled}
 use Rattle.shard.specs.declared.group.Settled.TheVariants.{Answered, Refused}
-use Rattle.shard.specs.Calls.{Writes, FitsBehind}
+use Rattle.shard.specs.Calls.{IsSpent}
 use Rattle.shard.specs.Groups.{with_step, marked_by}
 use Rattle.shard.specs.Keeping.{moments}
 use Rattle.shard.specs.Jobs.{tickets_of, jobs_by, jobs_but, AreLawful, AreInPassTurn}
@@ -250,10 +250,7 @@ module _ {D : Type 0} (sight : D → Sight) (follows : D → Type 0) (opening : 
           about = is.about;
           number = sym ready'.of_book.1 ∙ ap (λ (a : About). shard_in a h.job.ticket.ask) is.about;
           opened = subst (λ (n : ℕ). slice_get opening.logs n ≡ Some old.opened) (sym is.number ∙ sym ready'.of_book.1 ∙ ap (λ (a : About). shard_in a h.job.ticket.ask) is.about) is.opened;
-          last = (h.spent cause).0;
-          writes = subst (λ c. Writes old.book c) (sym ready'.lawful.1) (h.spent cause).1;
-          full = subst (λ c. ¬ FitsBehind old.log old.book c) (sym ready'.lawful.1) (h.spent cause).2;
-          late = h.late cause;
+          spent = subst (λ c. IsSpent old.log old.opened old.book c) (sym ready'.lawful.1) (h.spent cause);
         },
       )
 

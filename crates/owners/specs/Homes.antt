@@ -1,12 +1,12 @@
 -- An opening without its disks, and a log that is spent.
-use Rattle.std.specs.Prelude.{◌≡◌, ℕ, ◌+◌, ◌-◌, ◌*◌, ◌^◌, ◌<◌, ◌≤◌, List, Some, slice_get}
+use Rattle.std.specs.Prelude.{◌≡◌, ℕ, ◌+◌, ◌-◌, ◌*◌, ◌^◌, ◌<◌, ◌≤◌, List, length, Some, slice_get}
 use Rattle.atomic_table.specs.Seated.{TableId}
 use Rattle.accept.specs.declared.call.Call.{Call}
 use Rattle.segment.specs.declared.version.Version.{Version}
 use Rattle.segment.specs.Versions.{latest}
 use Rattle.history.specs.declared.views.About.{About}
 use Rattle.history.specs.Handles.{Booked}
-use Rattle.history.specs.Histories.{bound}
+use Rattle.history.specs.Histories.{IsLegalAt, IsByPasses, bound}
 use Rattle.streams.specs.Changes.{change_of}
 use Rattle.shard.specs.Calls.{Writes, block_length, answer_in}
 
@@ -19,8 +19,8 @@ pub record Homed : Type 0 where
 abbrev pub home_with : Booked → List ℕ → Homed
 home_with first generations = record { table = first.table; about = first.about; generations = generations }
 
--- The call writes, and its change does not fit behind a segment of the last generation, after a history of shard k. The
--- log of the shard was opened so late that a history may have rolled it there.
+-- The call writes, and its change does not fit behind a segment of the last generation, after a legal history of shard k.
+-- Each roll since the log of the shard was opened took a call of that history, so it was opened late.
 pub record NeedsGeneration (home : Homed) (k : ℕ) (call : Call) : Type 0 where
   pub book : Booked
   pub about : book.about ≡ home.about
@@ -34,4 +34,7 @@ pub record NeedsGeneration (home : Homed) (k : ℕ) (call : Call) : Type 0 where
   pub last : 2 ^ 63 - 1 ≤ generation
   pub writes : Writes book call
   pub full : ¬ ((0 < generation) × (version ≡ latest) × (end + 1 + block_length (change_of call (answer_in book call)) ≤ cap))
+  pub legal : IsLegalAt book.about book.shard book.items
+  pub by_passes : IsByPasses book.about.passes book.items
+  pub rolled : generation ≤ opened + length book.items
   pub late : 2 ^ 63 - 1 ≤ opened + (book.about.passes * bound + 1)

@@ -1,12 +1,12 @@
 -- What was opened, and a log of it that is spent.
-use Rattle.std.specs.Prelude.{◌≡◌, ℕ, ◌-◌, ◌^◌, ◌≤◌, List, Some, map, slice_get}
+use Rattle.std.specs.Prelude.{◌≡◌, ℕ, List, Some, map, slice_get}
 use Rattle.atomic_table.specs.Seated.{TableId}
 use Rattle.accept.specs.declared.call.Call.{Call}
 use Rattle.wal.specs.declared.log.Wal.{Wal}
 use Rattle.history.specs.declared.views.About.{About}
 use Rattle.history.specs.Handles.{Booked}
 use Rattle.shard.specs.Shards.{Sharded}
-use Rattle.shard.specs.Calls.{Writes, FitsBehind, IsLate}
+use Rattle.shard.specs.Calls.{IsSpent}
 use Rattle.owners.specs.Homes.{Homed}
 
 -- an opening as contracts see it: the table of its histories, what was opened, and each shard's log as it was then
@@ -30,14 +30,10 @@ home_of opening = record {
   generations = generations_of opening.logs;
 }
 
--- The call needs another generation of its shard's log, which has used its last one. The log was opened so late that a
--- history may have rolled it there.
+-- The call needs another generation of its shard's log, which has used its last one after a legal history of the shard.
 pub record HasSpentLog {D : Type 0} (opening : Opening D) (k : ℕ) (call : Call) : Type 0 where
   pub shard : Sharded D
   pub about : shard.book.about ≡ opening.about
   pub number : shard.book.shard ≡ k
   pub opened : slice_get opening.logs k ≡ Some shard.opened
-  pub last : 2 ^ 63 - 1 ≤ shard.log.generation
-  pub writes : Writes shard.book call
-  pub full : ¬ FitsBehind shard.log shard.book call
-  pub late : IsLate shard.opened shard.book
+  pub spent : IsSpent shard.log shard.opened shard.book call

@@ -1,5 +1,5 @@
 -- What a call is to a book, and what becomes of both.
-use Rattle.std.specs.Prelude.{◌≡◌, ◌⊎◌, ◌≤◌, ◌+◌, ◌-◌, ◌*◌, ◌^◌, ℕ, List, [], ◌∷◌, length, true, false, Option, Some, None}
+use Rattle.std.specs.Prelude.{◌≡◌, ◌⊎◌, ◌≤◌, ◌+◌, ◌-◌, ◌*◌, ◌^◌, ℕ, nat_lt, List, [], ◌∷◌, length, true, false, Option, Some, None, if◌then◌else◌}
 use Rattle.accept.specs.declared.call.Call.{Call}
 use Rattle.accept.specs.declared.call.Reply.{Reply}
 use Rattle.accept.specs.declared.call.Reply.TheVariants.{NoRoom, Unavailable}
@@ -13,9 +13,11 @@ use Rattle.wal.specs.declared.log.Wal.{Wal}
 use Rattle.wal.specs.Recovery.{Recovers}
 use Rattle.wal.specs.Moments.{Pair, HasFailed, HasNoFailure}
 use Rattle.wal.specs.Logs.{FitsInUse}
-use Rattle.history.specs.Histories.{doubt_of, reply_of, step_of, bound}
+use Rattle.history.specs.Histories.{IsLegalAt, IsByPasses, doubt_of, reply_of, step_of, bound}
 use Rattle.history.specs.Handles.{Booked, Announced, history_in, longer}
 use Rattle.streams.specs.Changes.{change_of}
+use Rattle.shard.specs.declared.fault.ApplyFault.{ApplyFault}
+use Rattle.shard.specs.declared.fault.ApplyFault.TheVariants.{Memory, GenerationSpent}
 use Rattle.shard.specs.Keeping.{owner_in, IsAllowed}
 
 -- what is answered to the call, what all streams have once it is answered, and what is replied
@@ -48,9 +50,24 @@ block_length (Some record_of_change) = length (frame latest (record_of_change �
 abbrev pub FitsBehind : {D : Type 0} → Wal D → Booked → Call → Type 0
 FitsBehind log book call = FitsInUse log (block_length (change_of call (answer_in book call)))
 
+-- why a roll of a log of this generation is refused: behind the last one there is none, else there was no memory
+abbrev pub roll_fault : ℕ → ApplyFault
+roll_fault generation = if nat_lt generation (2 ^ 63 - 1) then Memory else GenerationSpent
+
 -- The log was opened so late that a history of its opening may have rolled it to the last generation.
 abbrev pub IsLate : {D : Type 0} → Wal D → Booked → Type 0
 IsLate opened book = 2 ^ 63 - 1 ≤ opened.generation + (book.about.passes * bound + 1)
+
+-- The call writes, and its block would have to go into a generation behind the last. Each roll since the log was opened
+-- took a call of the history, which is legal, so the log was opened late.
+pub record IsSpent {D : Type 0} (log opened : Wal D) (book : Booked) (call : Call) : Type 0 where
+  pub last : 2 ^ 63 - 1 ≤ log.generation
+  pub writes : Writes book call
+  pub full : ¬ FitsBehind log book call
+  pub legal : IsLegalAt book.about book.shard book.items
+  pub by_passes : IsByPasses book.about.passes book.items
+  pub rolled : log.generation ≤ opened.generation + length book.items
+  pub late : IsLate opened book
 
 -- The call has its step, and no device call failed.
 pub record IsCommitted (old new : Pair) (before : Booked) (ticket : Announced) (behind : Booked)

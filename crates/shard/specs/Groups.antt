@@ -1,16 +1,23 @@
 -- What calls, one after another, make of a book, and what becomes of a group of them that is written at once.
-use Rattle.std.specs.Prelude.{◌≡◌, ◌⊎◌, ℕ, List, [], ◌∷◌, ◌++◌, map, false, if◌then◌else◌}
+use Rattle.std.specs.Prelude.{◌≡◌, ◌⊎◌, ℕ, ◌+◌, List, [], ◌∷◌, ◌++◌, length, map, false, Option, Some, None, if◌then◌else◌}
+use Rattle.accept.specs.declared.call.Call.{Call}
 use Rattle.accept.specs.declared.call.Reply.{Reply}
 use Rattle.accept.specs.declared.call.Reply.TheVariants.{Unavailable}
 use Rattle.accept.specs.declared.history.Ask.{Ask}
 use Rattle.accept.specs.declared.history.Item.{Item}
 use Rattle.accept.specs.declared.history.Item.TheVariants.{Answered, Failed}
 use Rattle.accept.specs.Histories.{meaning, changes, is_marked}
+use Rattle.segment.specs.declared.record.Record.{Record}
+use Rattle.segment.specs.Versions.{latest}
+use Rattle.segment.specs.Spelling.{frame}
+use Rattle.wal.specs.declared.log.Wal.{Wal}
 use Rattle.wal.specs.Recovery.{Recovers}
 use Rattle.wal.specs.Moments.{Pair, HasFailed, HasNoFailure}
+use Rattle.wal.specs.Logs.{FitsInUse}
 use Rattle.history.specs.declared.views.About.{About}
 use Rattle.history.specs.Histories.{HasStep, IsAmong, steps_by, doubt_of, reply_of, step_of}
 use Rattle.history.specs.Handles.{Booked, Announced, history_in, longer}
+use Rattle.streams.specs.Changes.{change_of}
 use Rattle.shard.specs.Keeping.{owner_in, IsAllowed}
 use Rattle.shard.specs.Calls.{reply_in}
 
@@ -39,6 +46,20 @@ changing_of book [] = []
 changing_of book (a ∷ asks) =
     if changes (reply_in book a.call) then a ∷ changing_of (with_step book a) asks
     else changing_of (with_step book a) asks
+
+abbrev pub listed : Option Record → List Record
+listed None = []
+listed (Some r) = r ∷ []
+
+-- what the calls change, each judged after the steps before it
+abbrev pub records_of : Booked → List Ask → List Record
+records_of book [] = []
+records_of book (a ∷ asks) = listed (change_of a.call (reply_in book a.call)) ++ records_of (with_step book a) asks
+
+-- the block of what these calls change, with what this one changes behind it, fits behind the segment in use
+abbrev pub FitsAfter : {D : Type 0} → Wal D → Booked → List Ask → Call → Type 0
+FitsAfter log book asks call = FitsInUse log
+    (length (frame latest (records_of book asks ++ listed (change_of call (reply_in (with_steps book asks) call)))) + 1)
 
 -- each of the calls has a step in these items, or is one of those in front
 abbrev pub HaveStepsOr : List Ask → List Item → List Ask → Type 0

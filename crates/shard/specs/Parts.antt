@@ -1,18 +1,16 @@
 -- The parts of a shard, and what a call makes of them.
-use Rattle.std.specs.Prelude.{◌≡◌, ◌⊎◌, ◌+◌, ◌-◌, ◌^◌, ◌≤◌, false}
-use Rattle.accept.specs.declared.call.Call.{Call}
+use Rattle.std.specs.Prelude.{◌≡◌, ◌⊎◌, ◌+◌, false}
 use Rattle.accept.specs.declared.call.Reply.{Reply}
 use Rattle.accept.specs.declared.history.Ask.{Ask}
 use Rattle.disk.specs.Sight.{Sight}
-use Rattle.wal.specs.declared.log.Wal.{Wal}
 use Rattle.wal.specs.Moments.{PairLeavesOnly, HasNoFailure}
 use Rattle.wal.specs.Logs.{Follow, slots}
 use Rattle.history.specs.Histories.{doubt_of, step_of}
-use Rattle.history.specs.Handles.{Booked, Announced, Received}
+use Rattle.history.specs.Handles.{Announced, Received}
 use Rattle.shard.specs.declared.parts.Parts.{Parts}
 use Rattle.streams.specs.Mapped.{Mapped}
 use Rattle.shard.specs.Keeping.{moments, LeavesSince, IsAllowed}
-use Rattle.shard.specs.Calls.{Writes, IsQuiet, FitsBehind, IsLate, IsCommitted, IsLost, MayLeave}
+use Rattle.shard.specs.Calls.{Writes, IsQuiet, FitsBehind, IsCommitted, IsLost, MayLeave}
 use Rattle.shard.specs.Shards.{Sharded, IsShard}
 use Rattle.shard.specs.Readies.{IsNext}
 
@@ -34,11 +32,6 @@ pub record IsStored {D : Type 0} (sight : D → Sight) (follows : D → Type 0) 
   pub writes : Writes p.book ask.call
   pub full : ¬ FitsBehind p.log.wal p.book ask.call
   pub next : IsNext p.limits p.log.wal before ask.call p.states p.buffer.items reply
-
--- the generations are used up, the call's change does not fit behind the segment in use, and the log was opened late
-abbrev pub IsSpent : {D : Type 0} → Wal D → Booked → Wal D → Call → Type 0
-IsSpent log book opened call = (2 ^ 63 - 1 ≤ log.generation) × Writes book call × (¬ FitsBehind log book call)
-    × IsLate opened book
 
 -- The call has its step.
 pub record IsApplied {D : Type 0} (sight : D → Sight) (follows : D → Type 0) (old new : Sharded D) (ticket : Announced)

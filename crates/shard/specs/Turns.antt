@@ -1,5 +1,5 @@
 -- What a turn at some jobs makes of a shard: a front of them is written at once, or the first goes alone.
-use Rattle.std.specs.Prelude.{◌≡◌, ◌≢◌, ◌⊎◌, ◌≤◌, ◌-◌, ◌^◌, ℕ, List, [], ◌∷◌, ◌++◌, length}
+use Rattle.std.specs.Prelude.{◌≡◌, ◌≢◌, ◌⊎◌, ◌≤◌, ℕ, List, [], ◌∷◌, ◌++◌, length}
 use Rattle.accept.specs.declared.call.Reply.{Reply}
 use Rattle.disk.specs.Sight.{Sight}
 use Rattle.wal.specs.Moments.{PairLeavesOnly, HasFailed, HasNoFailure}
@@ -7,15 +7,15 @@ use Rattle.wal.specs.Logs.{Follow, slots}
 use Rattle.history.specs.Histories.{doubt_of}
 use Rattle.history.specs.Handles.{Booked, Announced, Received, AreOf, asks_of}
 use Rattle.shard.specs.declared.fault.ApplyFault.{ApplyFault}
-use Rattle.shard.specs.declared.fault.ApplyFault.TheVariants.{GenerationSpent}
+use Rattle.shard.specs.declared.fault.ApplyFault.TheVariants as faults
 use Rattle.shard.specs.declared.front.Job.{Job}
 use Rattle.shard.specs.declared.front.Ended.{Ended}
 use Rattle.shard.specs.declared.front.Ended.TheVariants.{Most, Last, Full, Memory}
 use Rattle.shard.specs.declared.group.Settled.{Settled}
 use Rattle.shard.specs.declared.group.Settled.TheVariants as settled
 use Rattle.shard.specs.Keeping.{moments, LeavesSince, IsAllowed}
-use Rattle.shard.specs.Calls.{Writes, FitsBehind, IsLate}
-use Rattle.shard.specs.Groups.{with_steps, changing_of, marked_by, MayLeaveAll}
+use Rattle.shard.specs.Calls.{Writes, FitsBehind, roll_fault, IsSpent}
+use Rattle.shard.specs.Groups.{with_steps, changing_of, marked_by, FitsAfter, MayLeaveAll}
 use Rattle.shard.specs.Jobs.{tickets_of, jobs_by, jobs_but, AreLawful, AreInPassTurn}
 use Rattle.shard.specs.Parts.{IsApplied}
 use Rattle.shard.specs.Queues.{settled_of}
@@ -45,13 +45,15 @@ pub record AreApplied {D : Type 0} (sight : D → Sight) (follows : D → Type 0
   pub appended : new.log.generation ≡ old.log.generation
   pub opened : new.opened ≡ old.opened
 
--- the front of the jobs ends with these tickets, and these jobs are left
-abbrev pub EndsFor : Booked → List Announced → List Job → Ended → Type 0
-EndsFor book front rest Most = length front ≡ 64
-EndsFor book front rest Last = rest ≡ []
-EndsFor book front [] Full = ⊥
-EndsFor book front (j ∷ rest) Full = Writes (with_steps book (asks_of front)) j.call
-EndsFor book front rest Memory = rest ≢ []
+-- The front of the jobs ends with these tickets, and these jobs are left: the front has 64 calls; or no job is left; or
+-- the next call writes, and the block with its change does not fit; or there was no memory for it.
+abbrev pub EndsFor : {D : Type 0} → Sharded D → List Announced → List Job → Ended → Type 0
+EndsFor old front rest Most = length front ≡ 64
+EndsFor old front rest Last = rest ≡ []
+EndsFor old front [] Full = ⊥
+EndsFor old front (j ∷ rest) Full = Writes (with_steps old.book (asks_of front)) j.call
+    × (¬ FitsAfter old.log old.book (asks_of front) j.call)
+EndsFor old front rest Memory = rest ≢ []
 
 -- A front of the jobs is written at once, and the rest is as it was.
 pub record HasFront {D : Type 0} (sight : D → Sight) (follows : D → Type 0) (old new : Sharded D)
@@ -61,7 +63,7 @@ pub record HasFront {D : Type 0} (sight : D → Sight) (follows : D → Type 0) 
   pub few : length front ≤ 64
   pub split : tickets_of jobs ≡ front ++ tickets_of rest
   pub applied : AreApplied sight follows old new front was now
-  pub ends : EndsFor old.book front rest ended
+  pub ends : EndsFor old front rest ended
 
 -- why a call goes alone
 abbrev pub GoesAlone : {D : Type 0} → Sharded D → Job → Ended → Type 0
@@ -69,6 +71,11 @@ GoesAlone old job Most = ⊥
 GoesAlone old job Last = ⊥
 GoesAlone old job Full = Writes old.book job.call × (¬ FitsBehind old.log old.book job.call)
 GoesAlone old job Memory = Unit {0}
+
+-- why such a call is refused
+abbrev pub fault_alone : ℕ → Ended → ApplyFault
+fault_alone generation Full = roll_fault generation
+fault_alone generation ended = faults.Memory
 
 -- The first job goes alone: as a call that is made by itself.
 pub record IsAlone {D : Type 0} (sight : D → Sight) (follows : D → Type 0) (old new : Sharded D) (jobs rest : List Job)
@@ -95,9 +102,8 @@ pub record IsGivenBack {D : Type 0} (old new : Sharded D) (jobs rest : List Job)
   pub why : GoesAlone old job ended
   pub same : new ≡ old
   pub fault : ApplyFault
-  pub spent : fault ≡ GenerationSpent → (2 ^ 63 - 1 ≤ old.log.generation) × Writes old.book job.call
-      × (¬ FitsBehind old.log old.book job.call)
-  pub late : fault ≡ GenerationSpent → IsLate old.opened old.book
+  pub fault_is : fault ≡ fault_alone old.log.generation ended
+  pub spent : fault ≡ faults.GenerationSpent → IsSpent old.log old.opened old.book job.call
   pub settled : now ≡ was ++ refused_of fault (tickets_of (jobs_by job.ticket.ask.pass jobs))
   pub rest_is : rest ≡ jobs_but job.ticket.ask.pass jobs
 
