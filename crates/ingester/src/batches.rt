@@ -9,6 +9,7 @@ ghost use Rattle.owners.specs.Openings.{home_of};
 ghost use Rattle.owners.specs.Ways.{IsWay, AreWays, AreReady, AreIdleWays};
 ghost use Rattle.ingester.specs.Calls.{IsPassOf, AreGiven};
 ghost use Rattle.ingester.specs.Batches.{AreBatchesOf, AreBelow, AreNumbered, IsTaken, IsTakenBack, AreReceived, AreLost, AreEnded, IsNextRefused};
+ghost use Rattle.ingester.specs.Settling.{told_of};
 
 use crate::announcing::Round;
 use crate::fault::CallFault;
@@ -52,7 +53,8 @@ impl<D: Disk + Drop> Ingester<D> {
         requires due { IsDue (home_of self.now) pass.old.caller.pass settled }
         requires number { IsFirstNumber (number_in settled) pass.old.caller.pending }
         requires rested { IsRested pass.old.caller }
-        ensures { IsTaken self.now pass.old pass.new result }
+        ensures taken { IsTaken self.now pass.old pass.new result }
+        ensures told { result ≡ told_of settled }
     {
         match settled {
             Settled::Answered(reply, receipt) => {

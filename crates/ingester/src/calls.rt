@@ -11,7 +11,7 @@ ghost use Rattle.owners.specs.Calls.{IsWaiting};
 ghost use Rattle.owners.specs.Openings.{HasSpentLog, home_of};
 ghost use Rattle.owners.specs.Ways.{IsCame};
 ghost use Rattle.ingester.specs.Calls.{IsPassOf, IsAnswered, IsRefused, shard_for};
-ghost use Rattle.ingester.specs.Settling.{IsOpenWith, IsCameOf};
+ghost use Rattle.ingester.specs.Settling.{IsOpenWith, IsCameOf, outcome_of};
 ghost use Rattle.ingester.specs.declared.fault.CallFault.TheVariants as faults;
 
 use crate::fault::CallFault;
@@ -65,6 +65,7 @@ impl<D: Disk + Drop> Ingester<D> {
         ensures pass { IsPassOf self.now pass.new }
         ensures answered { IfOk result (λ reply. IsAnswered before.now.value pass.new call.now.value reply) }
         ensures refused { IfErr result (λ fault. IsRefused before.now.value call.now.value pass.new fault) }
+        ensures outcome { result ≡ outcome_of came }
         ensures not_closed { IsErrOf result faults.PassClosed → ⊥ }
         ensures spent { IsErrOf result faults.LogSpent
             → HasSpentLog self.now (shard_for before.now.value.caller call.now.value) call.now.value }

@@ -5,8 +5,8 @@ use Rattle.owners.specs.Calls.{IsDue}
 use Rattle.owners.proofs.Spent.{needs_log}
 use Rattle.ingester.proofs.opened.Ingester.take_in.Goals as goal
 
-pub returns-in-Refused : goal.returns-in-Refused
-returns-in-Refused g c =
+pub returns-in-Refused-clause-taken : goal.returns-in-Refused-clause-taken
+returns-in-Refused-clause-taken g c =
     let now = c.args.self.now in
     let back = c.in-Refused.ticket.ask in
     let due = subst (IsDue (home_of now) c.args.pass.now.caller.pass) c.in-Refused.is c.requires.due in
