@@ -445,6 +445,16 @@ fn a_server_keeps_what_it_answered(rt: HostRuntime) -> Result<(), Fail> {
     Ok(())
 }
 
+#[test]
+fn each_time_is_a_new_reading(rt: HostRuntime) -> Result<(), Fail> {
+    let mut clock = SystemClock::new(&rt);
+    let first = front::Clock::now(&mut clock);
+    thread::sleep(&rt, Duration::from_millis(20));
+    let passed = front::Clock::now(&mut clock).saturating_sub(first);
+    assert!(rt; passed >= 10_000_000 && passed < 60_000_000_000, "20 ms, in nanoseconds");
+    Ok(())
+}
+
 /// A body that pushes `lines` lines of this length to the sample's stream, all of this time.
 fn lines_of(alloc: Global, time: u64, lines: u64, length: usize) -> Result<String, Fail> {
     let line = "x".repeat(alloc, length)?;
