@@ -1,27 +1,22 @@
 -- A book that is compared with passes, and what its slots keep.
 use Rattle.std.proofs.Common.{◌≡◌, ◌≢◌, ℕ, ◌+◌, ◌<◌, List, [], ◌∷◌, Bool, true, false, refl, sym, ap, ◌∙◌, subst, ⊎_elim, arith}
-use Rattle.std.specs.Prelude.{Some, slice_get, slice_set, slice_index_or, if◌then◌else◌, length}
+use Rattle.std.specs.Prelude.{Some, slice_get, slice_set, slice_index_or, length}
 use Rattle.std.proofs.lemmas.List.{set-get_or}
 use Rattle.std.proofs.lemmas.Option.{slice_get_within}
 use Rattle.std.proofs.lemmas.Bool.{cases_eq}
 use Rattle.accept.specs.Histories.{is_marked}
 use Rattle.disk.specs.Sight.{Sight}
 use Rattle.segment.specs.Segments.{owner_of}
-use Rattle.wal.specs.declared.log.Wal.{Wal}
-use Rattle.wal.specs.Recovery.{is_even}
-use Rattle.wal.specs.Moments.{pair, HasFailed, HasNoFailure}
+use Rattle.wal.specs.Moments.{HasFailed, HasNoFailure}
 use Rattle.wal.specs.Logs.{Follow, slots}
 use Rattle.wal.specs.Covers.{Covers}
-use Rattle.wal.specs.Opening.{slots_of, disks, AllFollow, PairRests}
-use Rattle.segment.specs.declared.owner.Owner.{Owner}
-use Rattle.accept.specs.declared.limits.Limits.{Limits}
-use Rattle.accept.specs.declared.history.Ask.{Ask}
-use Rattle.accept.specs.declared.history.History.{History}
+use Rattle.wal.specs.Opening.{slots_of, disks, AllFollow}
 use Rattle.history.specs.declared.views.About.{About}
 use Rattle.history.specs.Histories.{IsLegalAt, IsByPasses, doubt_of, history_of}
 use Rattle.history.specs.Handles.{Booked, Passed}
 use Rattle.shard.specs.Keeping.{Keeps}
 use Rattle.shard.specs.Shards.{Sharded}
+use Rattle.openings.proofs.Ordered.{ordered}
 use Rattle.owners.specs.Openings.{Opening}
 use Rattle.ingester.specs.Closings.{IsComparedTo, AreComparedTo, IsHandedOut}
 
@@ -35,33 +30,6 @@ pub set_alike : {A : Type 0} (xs : List A) (i : ℕ) (x y : A) → y ≡ x → x
 set_alike xs i x y e at = ap (slice_set xs i) (e ∙ at) ∙ set-get_or xs i x
 
 module _ {D : Type 0} (sight : D → Sight) (follows : D → Type 0) where
-  -- the slots of a log in their order
-  pub record AreSlots (log : Wal D) (out : List D) : Type 0 where
-    pub both : AllFollow follows out → Follow follows log
-    pub covers : (owner : Owner) (limits : Limits) (h : History) (doubt : List Ask) → Covers owner limits (slots sight log) h doubt → Covers owner limits (slots_of sight out) h doubt
-    pub failed : (opened : Wal D) → HasFailed (slots sight opened) (slots sight log) → HasFailed (slots sight opened) (slots_of sight out)
-    pub not_failed : (opened : Wal D) → HasNoFailure (slots sight opened) (slots sight log) → HasNoFailure (slots sight opened) (slots_of sight out)
-    pub rests : (given : List D) → PairRests (slots_of sight given) (slots sight log) → PairRests (slots_of sight given) (slots_of sight out)
-
-  in_order : (b : Bool) (log : Wal D) → is_even log.generation ≡ b → AreSlots log (if b then log.active ∷ log.spare ∷ [] else log.spare ∷ log.active ∷ [])
-  in_order true log e = record {
-    both = λ f. (f.0, f.1.0);
-    covers = λ owner limits h doubt c. subst (λ (x : Bool). Covers owner limits (pair x (sight log.active) (sight log.spare)) h doubt) e c;
-    failed = λ opened f. subst (λ (x : Bool). HasFailed (slots sight opened) (pair x (sight log.active) (sight log.spare))) e f;
-    not_failed = λ opened f. subst (λ (x : Bool). HasNoFailure (slots sight opened) (pair x (sight log.active) (sight log.spare))) e f;
-    rests = λ given r. subst (λ (x : Bool). PairRests (slots_of sight given) (pair x (sight log.active) (sight log.spare))) e r;
-  }
-  in_order false log e = record {
-    both = λ f. (f.1.0, f.0);
-    covers = λ owner limits h doubt c. subst (λ (x : Bool). Covers owner limits (pair x (sight log.active) (sight log.spare)) h doubt) e c;
-    failed = λ opened f. subst (λ (x : Bool). HasFailed (slots sight opened) (pair x (sight log.active) (sight log.spare))) e f;
-    not_failed = λ opened f. subst (λ (x : Bool). HasNoFailure (slots sight opened) (pair x (sight log.active) (sight log.spare))) e f;
-    rests = λ given r. subst (λ (x : Bool). PairRests (slots_of sight given) (pair x (sight log.active) (sight log.spare))) e r;
-  }
-
-  pub ordered : (log : Wal D) (out : List D) → out ≡ disks log → AreSlots log out
-  ordered log out e = subst (AreSlots log) (sym e) (in_order (is_even log.generation) log refl)
-
   -- a shard of the opening, compared with all passes, is handed out
   pub handed : (opening : Opening D) (passes : List Passed) (shard : Sharded D) (out : List D) (marked : Bool) → 0 < length passes
       → AreComparedTo shard.book passes (length passes)
@@ -75,7 +43,7 @@ module _ {D : Type 0} (sight : D → Sight) (follows : D → Type 0) where
       → IsHandedOut sight follows opening passes shard.book.shard (out, marked)
   handed opening passes shard out marked some_pass compared is keeps before failed not_failed flag about opened =
       let there = first_of passes some_pass in
-      let are = ordered shard.log out is in
+      let are = ordered sight follows shard.log out is in
       record {
         items = shard.book.items;
         legal = subst (λ (a : About). IsLegalAt a shard.book.shard shard.book.items) about (compared 0 there.0 some_pass there.1).legal;

@@ -18,14 +18,14 @@ use Rattle.history.specs.declared.views.About.{About}
 use Rattle.history.specs.Handles.{Booked, Passed, about_of, fresh_book, fresh_books, fresh_pass, fresh_passes}
 use Rattle.shard.specs.Shards.{Sharded}
 use Rattle.keyed.proofs.Filling.{get_before, get_last}
+use Rattle.openings.specs.Findings.{IsOpenedFrom, AreOpenedFrom, AreReturned}
+use Rattle.openings.proofs.Trying.{logs_returned}
 use Rattle.owners.specs.Openings.{Opening, opening_of}
 use Rattle.owners.specs.Places.{AreShardsOf, IsShardAt}
 use Rattle.owners.proofs.Each.{each_of}
 use Rattle.ingester.specs.Openings.{AreFresh}
 use Rattle.ingester.specs.Calls.{IsPassOf}
-use Rattle.ingester.specs.Findings.{IsOpenedFrom, AreOpenedFrom, AreReturned}
 use Rattle.ingester.specs.Makings.{IsGround, AreGround, AreMade, AreThere, logs_in}
-use Rattle.ingester.proofs.Comparing.{ordered}
 use Rattle.ingester.proofs.Lasting.{get_front}
 
 -- values that are dealt one after another
@@ -69,20 +69,10 @@ are_fresh opening n passes e = record {
 }
 
 module _ {D : Type 0} (sight : D → Sight) (follows : D → Type 0) where
-  pub returned : (count capacity k : ℕ) (all : List (List D)) (logs : List (Wal D)) (ms : List Streams) → AreOpenedFrom sight follows count capacity k all logs ms → AreReturned sight follows all (map disks logs)
-  returned count capacity k [] [] [] h = tt
-  returned count capacity k [] [] (m' ∷ ms) h = absurd h
-  returned count capacity k [] (l ∷ logs) ms h = absurd h
-  returned count capacity k (g ∷ all) [] ms h = absurd h
-  returned count capacity k (g ∷ all) (l ∷ logs) [] h = absurd h
-  returned count capacity k (g ∷ all) (l ∷ logs) (m' ∷ ms) h =
-      let are = ordered sight follows l (disks l) refl in
-      let o = h.0 in (record { before = λ f. o.before (are.both f); rests = λ f. are.rests g (o.rests (are.both f)) }, returned count capacity (k + 1) all logs ms h.1)
-
   -- all that was opened comes back
   pub returned_all : (count capacity : ℕ) (all back left : List (List D)) (logs : List (Wal D)) (ms : List Streams) → AreOpenedFrom sight follows count capacity 0 all logs ms → left ≡ [] → back ≡ map disks logs ++ left → AreReturned sight follows all back
   returned_all count capacity all back left logs ms h none is =
-      subst (AreReturned sight follows all) (sym (is ∙ (ap (λ l. map disks logs ++ l) none ∙ append-nil (map disks logs)))) (returned count capacity 0 all logs ms h)
+      subst (AreReturned sight follows all) (sym (is ∙ (ap (λ l. map disks logs ++ l) none ∙ append-nil (map disks logs)))) (logs_returned sight follows count capacity 0 all logs ms h)
 
   -- the log of a shard and the streams that stood in it
   record IsFoundAt (count capacity k : ℕ) (log : Wal D) (m : Streams) : Type 0 where

@@ -1,7 +1,6 @@
 pub mod Batching
 pub mod Chaining
 pub mod Comparing
-pub mod Finding
 pub mod Gathering
 pub mod Grounding
 pub mod Lasting

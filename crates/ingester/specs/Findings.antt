@@ -1,110 +1,20 @@
--- What an opening finds in the slots of its shards, and what it gives back.
-use Rattle.std.specs.Prelude.{◌≡◌, ◌⊎◌, ℕ, ◌+◌, ◌≤◌, ◌^◌, false, List, [], ◌∷◌, ◌++◌, length}
-use Rattle.accept.specs.declared.limits.Limits.{Limits}
-use Rattle.accept.specs.declared.history.Ask.{Ask}
-use Rattle.accept.specs.declared.history.History.{History}
-use Rattle.accept.specs.Rooms.{Streams, room}
+-- Why slots are not opened, and what is given back.
+use Rattle.std.specs.Prelude.{◌≡◌, ◌⊎◌, ℕ, List}
 use Rattle.disk.specs.Sight.{Sight}
-use Rattle.segment.specs.declared.owner.Owner.{Owner}
-use Rattle.segment.specs.Segments.{owner_of}
-use Rattle.segment.specs.Fitting.{FitStreams}
-use Rattle.wal.specs.declared.fault.OpenFault.{OpenFault as LogFault}
-use Rattle.wal.specs.declared.log.Wal.{Wal}
-use Rattle.wal.specs.Recovery.{Recovers}
-use Rattle.wal.specs.Moments.{HasNoFailure}
-use Rattle.wal.specs.Logs.{Follow, slots, owner, IsSettled}
-use Rattle.wal.specs.Covers.{Covers, IsAfter}
-use Rattle.wal.specs.Opening.{slots_of, AllFollow, PairRests, CountsCause, IsOfDeviceOrMemory, IsOpenFault}
+use Rattle.openings.specs.declared.fault.LogsFault.{LogsFault}
+use Rattle.openings.specs.declared.fault.LogsFault.TheVariants as causes
+use Rattle.openings.specs.Findings.{AreReturned, IsFirstRefused}
 use Rattle.ingester.specs.declared.refusal.OpenFault.{OpenFault}
 use Rattle.ingester.specs.declared.refusal.OpenFault.TheVariants as faults
 
+-- which refusal stands for which of the logs
+abbrev pub refusal_of : LogsFault → OpenFault
+refusal_of (causes.Refused shard fault) = faults.Refused shard fault
+refusal_of causes.Memory = faults.Memory
+
 module _ {D : Type 0} (sight : D → Sight) (follows : D → Type 0) where
-  -- The log that was opened over these slots, and the streams that stood in them. Nothing was written.
-  pub record IsOpenedFrom (whose : Owner) (capacity : ℕ) (given : List D) (log : Wal D) (m : Streams) : Type 0 where
-    pub before : Follow follows log → AllFollow follows given
-    pub rests : Follow follows log → PairRests (slots_of sight given) (slots sight log)
-    pub settled : Follow follows log → IsSettled sight log m
-    pub recovers : Follow follows log
-        → Recovers whose (slots_of sight given).first.seen (slots_of sight given).second.seen m
-    pub covered : Follow follows log → (limits : Limits) (h : History) (doubt : List Ask)
-        → Covers whose limits (slots_of sight given) h doubt → IsAfter limits h doubt m
-    pub not_failed : HasNoFailure (slots_of sight given) (slots sight log)
-    pub fit : FitStreams whose m
-    pub small : room m ≤ 2 ^ 31 + 27
-    pub usable : log.failed ≡ false
-    pub same_owner : owner log ≡ whose
-    pub same_capacity : log.cap ≡ capacity
-
-  -- so is the log of each shard from k on
-  abbrev pub AreOpenedFrom : ℕ → ℕ → ℕ → List (List D) → List (Wal D) → List Streams → Type 0
-  AreOpenedFrom count capacity k [] [] [] = Unit {0}
-  AreOpenedFrom count capacity k (given ∷ all) (log ∷ logs) (m ∷ ms) =
-      IsOpenedFrom (owner_of k count) capacity given log m × AreOpenedFrom count capacity (k + 1) all logs ms
-  AreOpenedFrom count capacity k all logs ms = ⊥
-
-  -- the slots of a shard come back, and nothing was written
-  pub record IsReturned (given back : List D) : Type 0 where
-    pub before : AllFollow follows back → AllFollow follows given
-    pub rests : AllFollow follows back → PairRests (slots_of sight given) (slots_of sight back)
-
-  abbrev pub AreReturned : List (List D) → List (List D) → Type 0
-  AreReturned [] [] = Unit {0}
-  AreReturned (given ∷ all) (back ∷ backs) = IsReturned given back × AreReturned all backs
-  AreReturned all backs = ⊥
-
-  -- why the slots of a shard are refused
-  pub record IsRefusal (whose : Owner) (given back : List D) (fault : LogFault) : Type 0 where
-    pub returned : IsReturned given back
-    pub why : IsOfDeviceOrMemory fault ⊎ (AllFollow follows back
-        → IsOpenFault whose (slots_of sight given).first.seen (slots_of sight given).second.seen fault)
-    pub covered : AllFollow follows back → (limits : Limits) (h : History) (doubt : List Ask)
-        → Covers whose limits (slots_of sight given) h doubt → IsOfDeviceOrMemory fault
-    pub counted : CountsCause fault (slots_of sight given) (slots_of sight back)
-
-  -- of the shards from k on the slots come back, and hold streams
-  abbrev pub AreGood : ℕ → ℕ → List (List D) → List (List D) → Type 0
-  AreGood count k [] [] = Unit {0}
-  AreGood count k (given ∷ all) (back ∷ backs) =
-      (IsReturned given back × ((m : Streams) × (AllFollow follows back
-      → Recovers (owner_of k count) (slots_of sight given).first.seen (slots_of sight given).second.seen m)))
-      × AreGood count (k + 1) all backs
-  AreGood count k all backs = ⊥
-
-  -- the shard of this number is the first that is refused, and no shard behind it was looked at
-  pub record IsFirstRefused (count : ℕ) (shard : ℕ) (fault : LogFault) (all backs : List (List D)) : Type 0 where
-    pub front : List (List D)
-    pub given : List D
-    pub behind : List (List D)
-    pub front_back : List (List D)
-    pub back : List D
-    pub all_are : all ≡ front ++ given ∷ behind
-    pub backs_are : backs ≡ front_back ++ back ∷ behind
-    pub number : length front ≡ shard
-    pub good : AreGood count 0 front front_back
-    pub refusal : IsRefusal (owner_of shard count) given back fault
-
   -- all slots come back in their order, and this is why. Without memory they may be untouched.
   abbrev pub IsUnmade : ℕ → List (List D) → List (List D) → OpenFault → Type 0
-  IsUnmade count all backs (faults.Refused shard fault) = IsFirstRefused count shard fault all backs
-  IsUnmade count all backs faults.Memory = (backs ≡ all) ⊎ AreReturned all backs
+  IsUnmade count all backs (faults.Refused shard fault) = IsFirstRefused sight follows count shard fault all backs
+  IsUnmade count all backs faults.Memory = (backs ≡ all) ⊎ AreReturned sight follows all backs
   IsUnmade count all backs faults.Thread = backs ≡ all
-
-  -- the next shard is opened
-  pub record IsNextOpened (whose : Owner) (capacity : ℕ) (slots_old slots_new : List (List D))
-      (logs_old logs_new : List (Wal D)) (images_old images_new : List Streams) : Type 0 where
-    pub given : List D
-    pub log : Wal D
-    pub image : Streams
-    pub slots_are : slots_old ≡ given ∷ slots_new
-    pub logs_are : logs_new ≡ logs_old ++ log ∷ []
-    pub images_are : images_new ≡ images_old ++ image ∷ []
-    pub opened : IsOpenedFrom whose capacity given log image
-
-  -- or refused, and its slots are put back
-  pub record IsNextRefused (whose : Owner) (fault : LogFault) (slots_old slots_new : List (List D)) : Type 0 where
-    pub given : List D
-    pub back : List D
-    pub behind : List (List D)
-    pub old_are : slots_old ≡ given ∷ behind
-    pub new_are : slots_new ≡ back ∷ behind
-    pub refusal : IsRefusal whose given back fault

@@ -6,12 +6,13 @@ ghost use Rattle.wal.specs.Opening.{disks};
 ghost use Rattle.keyed.specs.Grips.{count_of, key_of};
 ghost use Rattle.ingester.specs.Makings.{AreGround, AreMade};
 
-use crate::opening::{give_back, make_one, put_front, return_shards};
+use crate::opening::{make_one, return_shards};
 use crate::places::{ListLocks, Size};
 use accept::{Image, Limits};
 use disk::Disk;
 use history::Book;
 use keyed::Locks;
+use openings::give_back;
 use shard::Shard;
 use std::alloc::{AllocError, Global};
 use std::collections::VecDeque;
@@ -60,7 +61,7 @@ pub(crate) fn make_shards<D: Disk + Drop>(
         };
         if let Err(log) = make_one(alloc, log, image, book, limits, &mut shards) {
             return_shards(slots, shards.into_vec());
-            put_front(slots, log.into_slots());
+            slots.push_front_reserved(log.into_slots());
             give_back(slots, &mut logs);
             return Err(AllocError);
         }

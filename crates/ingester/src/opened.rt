@@ -3,20 +3,21 @@ ghost use Rattle.std.specs.Prelude.{◌≡◌, ◌<◌, ◌≤◌, ◌^◌, vec_
 ghost use Rattle.std.specs.VecDeque.{deque_len, deque_capacity};
 ghost use Rattle.accept.specs.OneStream.{AreLimits};
 ghost use Rattle.history.specs.Handles.{about_of};
+ghost use Rattle.openings.specs.Findings.{AreOpenedFrom};
 ghost use Rattle.owners.specs.Owners.{AreEnds};
 ghost use Rattle.owners.specs.Places.{AreShardsOf};
 ghost use Rattle.ingester.specs.Openings.{AreFresh};
 ghost use Rattle.ingester.specs.Parts.{HasParts};
-ghost use Rattle.ingester.specs.Findings.{AreOpenedFrom, IsUnmade};
+ghost use Rattle.ingester.specs.Findings.{IsUnmade};
 
 use crate::locking::{make_shards, reserve_room, sizes_of};
-use crate::opening::{give_back, open_logs};
 use crate::places::{ListLocks, Size};
 use crate::refusal::OpenFault;
 use accept::Limits;
 use disk::Disk;
 use history::{History, Pass};
 use keyed::Waiters;
+use openings::{give_back, open_logs};
 use owners::{Backs, Ends, Home, Origin, Plan, Rows, Team, hand_all, make_plan};
 use shard::Shard;
 use std::alloc::Global;
@@ -67,7 +68,8 @@ pub(crate) struct Opened<D: Disk + Drop> {
 impl<D: Disk + Drop> Ingester<D> {
     /// Opens a shard over each pair of slots, with 1 to 64 passes, and starts a thread for each shard that owns it.
     /// `handle` is what these threads wait by. `capacity` is how many bytes a segment may have, at most 2^30. What the
-    /// slots hold is the base of the shard's history; nothing is written.
+    /// slots hold is the base of the shard's history; nothing is written. The slots of several shards are read side by
+    /// side, by as many threads as there are processors at most.
     ///
     /// # Errors
     ///
@@ -84,7 +86,7 @@ impl<D: Disk + Drop> Ingester<D> {
     ) -> Result<(Ingester<D>, Vec<Pass>), (OpenFault, Vec<[D; 2]>)>
     where
         D: Send + 'static,
-        R: Threads + Wait,
+        R: Threads + Wait + Sync,
         H: Wait + Copy + Send + 'static,
         requires slots { (0 < vec_len slots) × (vec_len slots ≤ 64) }
         requires passes { (0 < passes) × (passes ≤ 64) }
@@ -102,7 +104,7 @@ impl<D: Disk + Drop> Ingester<D> {
             Err(fault) => return Err((OpenFault::from(fault), slots)),
         };
         let mut slots = VecDeque::from_vec(slots);
-        match open_all(alloc, &mut slots, passes, limits, capacity) {
+        match open_all(rt, alloc, &mut slots, passes, limits, capacity) {
             Ok(opened) => Ok(begin(rt, alloc, opened, team)),
             Err(fault) => {
                 team.end(rt);
@@ -136,7 +138,8 @@ fn begin<D: Disk + Drop, R: Wait>(
 }
 
 // Opens all slots. Where that is refused, they are put back.
-fn open_all<D: Disk + Drop>(
+fn open_all<D: Disk + Drop + Send, R: Threads + Sync>(
+    rt: &R,
     alloc: Global,
     slots: &mut VecDeque<[D; 2]>,
     passes: u32,
@@ -163,12 +166,7 @@ fn open_all<D: Disk + Drop>(
     let room = reserve_room(alloc, count)?;
     let shards = VecDeque::with_capacity(alloc, count)?;
     let sizes = Vec::with_capacity(alloc, count)?;
-    let mut logs = Vec::with_capacity(alloc, count)?;
-    let mut images = Vec::with_capacity(alloc, count)?;
-    let count = count as u32;
-    if let Err(fault) = open_logs(alloc, slots, &mut logs, &mut images, count, capacity) {
-        return Err(fault);
-    }
+    let (mut logs, images) = open_logs(rt, alloc, slots, capacity)?;
     let Ok((history, books, dealt)) = History::new(alloc, &images, passes, limits, capacity) else {
         give_back(slots, &mut logs);
         return Err(OpenFault::Memory);
@@ -181,6 +179,7 @@ fn open_all<D: Disk + Drop>(
         return Err(OpenFault::Memory);
     };
     let sizes = sizes_of(sizes, &shards);
+    let count = count as u32;
     let kept = Kept { room, sizes, count };
     Ok(opened_with(plan, history, dealt, shards, kept))
 }

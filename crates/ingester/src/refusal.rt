@@ -2,7 +2,9 @@
 ghost use Rattle.std.specs.Prelude.{◌≡◌};
 ghost use Rattle.ingester.specs.declared.refusal.OpenFault.TheVariants as faults;
 ghost use Rattle.ingester.specs.Faults.{cause_of};
+ghost use Rattle.ingester.specs.Findings.{refusal_of};
 
+use openings::LogsFault;
 use owners::StartFault;
 use std::alloc::AllocError;
 use thiserror::Error;
@@ -31,6 +33,17 @@ impl From<AllocError> for OpenFault {
 
     fn from(_refused: AllocError) -> OpenFault {
         OpenFault::Memory
+    }
+}
+
+impl From<LogsFault> for OpenFault {
+    ghost from_gives = { λ cause fault. fault ≡ refusal_of cause };
+
+    fn from(cause: LogsFault) -> OpenFault {
+        match cause {
+            LogsFault::Refused { shard, fault } => OpenFault::Refused { shard, fault },
+            LogsFault::Memory => OpenFault::Memory,
+        }
     }
 }
 

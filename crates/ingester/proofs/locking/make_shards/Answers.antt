@@ -39,8 +39,8 @@ return_shards-requires g c =
     let capacity : deque_capacity c.loop-log.slots ≡ deque_capacity c.args.slots.now = ap (λ d. deque_capacity d) inv.slots in
     (search rules, (omega arith, subst AreThere (sym (c.into_vec.ensures.items ∙ ap (λ d. d.items) same)) (made_there _ _ _ inv.partly.made).0))
 
-pub put_front-requires : goal.put_front-requires
-put_front-requires g c =
+pub push_front_reserved-requires : goal.push_front_reserved-requires
+push_front_reserved-requires g c =
     let inv = c.loop-log.invariant in
     let same = c.in-Err.ensures.err.1 in
     let made = inv.made in
@@ -65,8 +65,8 @@ give_back-requires g c =
     let capacity : deque_capacity c.loop-log.slots ≡ deque_capacity c.args.slots.now = ap (λ d. deque_capacity d) inv.slots in
     let now = c.return_shards.ensures.len in
     let now_capacity = c.return_shards.ensures.capacity in
-    let front = c.put_front.ensures.len in
-    let front_capacity = c.put_front.ensures.capacity in
+    let front = c.push_front_reserved.ensures.len in
+    let front_capacity = c.push_front_reserved.ensures.capacity in
     (search rules, omega arith)
 
 pub returns-in-Err-clause-unmade : goal.returns-in-Err-clause-unmade
@@ -76,7 +76,7 @@ returns-in-Err-clause-unmade g c =
     let shards = c.into_vec.ensures.items ∙ ap (λ d. d.items) err.1 in
     let slots = ap (λ d. d.items) inv.slots in
     partly_back c.loop-log.shards.items c.loop-log.logs.items c.pop.new.self.items c.args.logs.items c.loop-log.books.items c.args.books.items c.in-Some.log c.in-Err.log c.args.slots.now.items _ _ _ inv.partly c.in-Some.ensures.items err.0
-    (c.return_shards.ensures.items ∙ (λ i. map disks (logs_in (shards i)) ++ slots i)) (c.put_front.ensures.items ∙ ap (λ s. s ∷ c.return_shards.new.slots.items) c.into_slots.ensures) c.give_back.ensures.items
+    (c.return_shards.ensures.items ∙ (λ i. map disks (logs_in (shards i)) ++ slots i)) (c.push_front_reserved.ensures.items ∙ ap (λ s. s ∷ c.return_shards.new.slots.items) c.into_slots.ensures) c.give_back.ensures.items
 
 pub loop-log-preserved : goal.loop-log-preserved
 loop-log-preserved g c =

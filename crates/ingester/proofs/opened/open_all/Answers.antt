@@ -4,34 +4,34 @@ use Rattle.history.specs.Handles.{Booked, about_of, fresh_book, fresh_books, fre
 use Rattle.owners.specs.Openings.{Opening, home_of}
 use Rattle.owners.specs.Owners.{AreEnds}
 use Rattle.owners.specs.Places.{AreShardsOf}
-use Rattle.ingester.specs.Findings.{AreOpenedFrom}
+use Rattle.openings.specs.Findings.{AreOpenedFrom}
 use Rattle.ingester.specs.Openings.{AreFresh}
 use Rattle.ingester.proofs.Grounding.{length-fresh_books, first_fresh, like_first, grounded, returned_all, about_first, found_first, passes_first, made_fit}
 use Rattle.ingester.proofs.opened.open_all.Goals as goal
 
-pub returns-in_default-new-clause-unmade : goal.returns-in_default-new-clause-unmade
-returns-in_default-new-clause-unmade g c =
-    let opened = c.in_default.ensures.ok in
-    inr (returned_all g.D.Disk.sight g.D.Disk.follows c.len-count.result c.args.capacity c.args.slots.now.items _ _ c.open_logs.new.logs.items c.open_logs.new.images.items opened.0 opened.1 c.give_back.ensures.items)
+pub returns-in_default-clause-unmade : goal.returns-in_default-clause-unmade
+returns-in_default-clause-unmade g c =
+    let opened = c.in_ok-logs.ensures.opened in
+    inr (returned_all g.D.Disk.sight g.D.Disk.follows (deque_len c.args.slots.now) c.args.capacity c.args.slots.now.items _ _ c.in_ok-logs.logs.items c.in_ok-logs.images.items opened.0 opened.1 c.give_back.ensures.items)
 
 pub index-requires : goal.index-requires
 index-requires g c =
-    let images = c.open_logs.new.images.items in
+    let images = c.in_ok-logs.images.items in
     let about = about_of images c.args.passes c.args.limits c.args.capacity in
     let are : c.in-Ok.books.items ≡ fresh_books c.in-Ok.history about (length images) = c.in-Ok.ensures.books ∙ ap (λ m. fresh_books c.in-Ok.history (about_of m c.args.passes c.args.limits c.args.capacity) (length m)) c.deref.ensures.value in
     let many : length c.in-Ok.books.items ≡ length images = ap length are ∙ length-fresh_books c.in-Ok.history about (length images) in
-    let lens = c.in_default.ensures.lens.1 in
+    let lens = c.in_ok-logs.ensures.lens.1 in
     let some = c.requires.slots.0 in
     let count = c.len-count.ensures in
     omega arith
 
 pub make_plan-requires-clause-shards : goal.make_plan-requires-clause-shards
 make_plan-requires-clause-shards g c =
-    let images = c.open_logs.new.images.items in
-    let logs = c.open_logs.new.logs in
+    let images = c.in_ok-logs.images.items in
+    let logs = c.in_ok-logs.logs in
     let about = about_of images c.args.passes c.args.limits c.args.capacity in
     let are : c.in-Ok.books.items ≡ fresh_books c.in-Ok.history about (length images) = c.in-Ok.ensures.books ∙ ap (λ m. fresh_books c.in-Ok.history (about_of m c.args.passes c.args.limits c.args.capacity) (length m)) c.deref.ensures.value in
-    let lens = c.in_default.ensures.lens in
+    let lens = c.in_ok-logs.ensures.lens in
     let logs_len = lens.0 in
     let images_len = lens.1 in
     let slots_len = lens.2 in
@@ -39,19 +39,19 @@ make_plan-requires-clause-shards g c =
     let few = c.requires.slots.1 in
     let room = c.requires.slots.2 in
     let count = c.len-count.ensures in
-    let some_image : 0 < length images = omega (arith, c.open_logs.new.images.ok.0) in
-    let counted : length images ≡ c.len-count.result = omega (arith, c.open_logs.new.images.ok.0) in
-    let as_logs : length images ≡ vec_len logs = omega (arith, c.open_logs.new.images.ok.0) in
+    let some_image : 0 < length images = omega (arith, c.in_ok-logs.images.ok.0) in
+    let counted : length images ≡ c.len-count.result = omega (arith, c.in_ok-logs.images.ok.0) in
+    let as_logs : length images ≡ vec_len logs = omega (arith, c.in_ok-logs.images.ok.0) in
     let first : c.index.result.now ≡ fresh_book c.in-Ok.history about 0 = first_fresh c.in-Ok.history about (length images) c.in-Ok.books.items c.index.result.now are some_image c.index.ensures in
     ap (λ (b : Booked). b.about.shards) first ∙ as_logs
 
 pub make_plan-requires-clause-passes : goal.make_plan-requires-clause-passes
 make_plan-requires-clause-passes g c =
-    let images = c.open_logs.new.images.items in
-    let logs = c.open_logs.new.logs in
+    let images = c.in_ok-logs.images.items in
+    let logs = c.in_ok-logs.logs in
     let about = about_of images c.args.passes c.args.limits c.args.capacity in
     let are : c.in-Ok.books.items ≡ fresh_books c.in-Ok.history about (length images) = c.in-Ok.ensures.books ∙ ap (λ m. fresh_books c.in-Ok.history (about_of m c.args.passes c.args.limits c.args.capacity) (length m)) c.deref.ensures.value in
-    let lens = c.in_default.ensures.lens in
+    let lens = c.in_ok-logs.ensures.lens in
     let logs_len = lens.0 in
     let images_len = lens.1 in
     let slots_len = lens.2 in
@@ -59,24 +59,24 @@ make_plan-requires-clause-passes g c =
     let few = c.requires.slots.1 in
     let room = c.requires.slots.2 in
     let count = c.len-count.ensures in
-    let some_image : 0 < length images = omega (arith, c.open_logs.new.images.ok.0) in
-    let counted : length images ≡ c.len-count.result = omega (arith, c.open_logs.new.images.ok.0) in
-    let as_logs : length images ≡ vec_len logs = omega (arith, c.open_logs.new.images.ok.0) in
+    let some_image : 0 < length images = omega (arith, c.in_ok-logs.images.ok.0) in
+    let counted : length images ≡ c.len-count.result = omega (arith, c.in_ok-logs.images.ok.0) in
+    let as_logs : length images ≡ vec_len logs = omega (arith, c.in_ok-logs.images.ok.0) in
     let first : c.index.result.now ≡ fresh_book c.in-Ok.history about 0 = first_fresh c.in-Ok.history about (length images) c.in-Ok.books.items c.index.result.now are some_image c.index.ensures in
     ap (λ (b : Booked). b.about.passes) first
 
 pub returns-in_default-make_plan-clause-unmade : goal.returns-in_default-make_plan-clause-unmade
 returns-in_default-make_plan-clause-unmade g c =
-    let opened = c.in_default.ensures.ok in
-    inr (returned_all g.D.Disk.sight g.D.Disk.follows c.len-count.result c.args.capacity c.args.slots.now.items _ _ c.open_logs.new.logs.items c.open_logs.new.images.items opened.0 opened.1 c.give_back-in_default-make_plan.ensures.items)
+    let opened = c.in_ok-logs.ensures.opened in
+    inr (returned_all g.D.Disk.sight g.D.Disk.follows (deque_len c.args.slots.now) c.args.capacity c.args.slots.now.items _ _ c.in_ok-logs.logs.items c.in_ok-logs.images.items opened.0 opened.1 c.give_back-in_default-make_plan.ensures.items)
 
 pub make_shards-requires : goal.make_shards-requires
 make_shards-requires g c =
-    let images = c.open_logs.new.images.items in
-    let logs = c.open_logs.new.logs in
+    let images = c.in_ok-logs.images.items in
+    let logs = c.in_ok-logs.logs in
     let about = about_of images c.args.passes c.args.limits c.args.capacity in
     let are : c.in-Ok.books.items ≡ fresh_books c.in-Ok.history about (length images) = c.in-Ok.ensures.books ∙ ap (λ m. fresh_books c.in-Ok.history (about_of m c.args.passes c.args.limits c.args.capacity) (length m)) c.deref.ensures.value in
-    let lens = c.in_default.ensures.lens in
+    let lens = c.in_ok-logs.ensures.lens in
     let logs_len = lens.0 in
     let images_len = lens.1 in
     let slots_len = lens.2 in
@@ -84,40 +84,40 @@ make_shards-requires g c =
     let few = c.requires.slots.1 in
     let room = c.requires.slots.2 in
     let count = c.len-count.ensures in
-    let some_image : 0 < length images = omega (arith, c.open_logs.new.images.ok.0) in
-    let counted : length images ≡ c.len-count.result = omega (arith, c.open_logs.new.images.ok.0) in
-    let as_logs : length images ≡ vec_len logs = omega (arith, c.open_logs.new.images.ok.0) in
+    let some_image : 0 < length images = omega (arith, c.in_ok-logs.images.ok.0) in
+    let counted : length images ≡ c.len-count.result = omega (arith, c.in_ok-logs.images.ok.0) in
+    let as_logs : length images ≡ vec_len logs = omega (arith, c.in_ok-logs.images.ok.0) in
     let first : c.index.result.now ≡ fresh_book c.in-Ok.history about 0 = first_fresh c.in-Ok.history about (length images) c.in-Ok.books.items c.index.result.now are some_image c.index.ensures in
     let many : length c.in-Ok.books.items ≡ length images = ap length are ∙ length-fresh_books c.in-Ok.history about (length images) in
     let shards = c.in_ok-shards.ensures in
     let shards_room = shards.capacity in
-    let capacity = c.in_default.ensures.capacities in (
+    let capacity = c.in_ok-logs.ensures.room in (
       search rules,
       (
-        grounded g.D.Disk.sight g.D.Disk.follows c.in-Ok.history c.args.passes c.args.limits c.len-count.result c.args.capacity c.args.slots.now.items c.open_logs.new.logs.items images c.in-Ok.books.items c.in_default.ensures.ok.0 counted c.requires.limits c.requires.capacity are,
+        grounded g.D.Disk.sight g.D.Disk.follows c.in-Ok.history c.args.passes c.args.limits (deque_len c.args.slots.now) c.args.capacity c.args.slots.now.items c.in_ok-logs.logs.items images c.in-Ok.books.items c.in_ok-logs.ensures.opened.0 (counted ∙ count) c.requires.limits c.requires.capacity are,
         ((omega arith, omega (arith, c.in-Ok.books.ok.0)), ((shards.items, shards.len, omega arith), omega arith)),
       ),
     )
 
 pub returns-in_default-make_shards-clause-unmade : goal.returns-in_default-make_shards-clause-unmade
 returns-in_default-make_shards-clause-unmade g c =
-    let opened = c.in_default.ensures.ok in
-    inr (returned_all g.D.Disk.sight g.D.Disk.follows c.len-count.result c.args.capacity c.args.slots.now.items _ _ c.open_logs.new.logs.items c.open_logs.new.images.items opened.0 opened.1 c.in_default-make_shards.ensures.unmade)
+    let opened = c.in_ok-logs.ensures.opened in
+    inr (returned_all g.D.Disk.sight g.D.Disk.follows (deque_len c.args.slots.now) c.args.capacity c.args.slots.now.items _ _ c.in_ok-logs.logs.items c.in_ok-logs.images.items opened.0 opened.1 c.in_default-make_shards.ensures.unmade)
 
 pub sizes_of-sizes-requires : goal.sizes_of-sizes-requires
 sizes_of-sizes-requires g c =
     let made = c.in-Ok-make_shards.ensures.room.1 in
-    let lens = c.in_default.ensures.lens.0 in
+    let lens = c.in_ok-logs.ensures.lens.0 in
     let room = c.in_ok-sizes.ensures.capacity in
     (c.in_ok-sizes.ensures.len, omega arith)
 
 pub opened_with-requires : goal.opened_with-requires
 opened_with-requires g c =
-    let images = c.open_logs.new.images.items in
-    let logs = c.open_logs.new.logs in
+    let images = c.in_ok-logs.images.items in
+    let logs = c.in_ok-logs.logs in
     let about = about_of images c.args.passes c.args.limits c.args.capacity in
     let are : c.in-Ok.books.items ≡ fresh_books c.in-Ok.history about (length images) = c.in-Ok.ensures.books ∙ ap (λ m. fresh_books c.in-Ok.history (about_of m c.args.passes c.args.limits c.args.capacity) (length m)) c.deref.ensures.value in
-    let lens = c.in_default.ensures.lens in
+    let lens = c.in_ok-logs.ensures.lens in
     let logs_len = lens.0 in
     let images_len = lens.1 in
     let slots_len = lens.2 in
@@ -125,9 +125,9 @@ opened_with-requires g c =
     let few = c.requires.slots.1 in
     let room = c.requires.slots.2 in
     let count = c.len-count.ensures in
-    let some_image : 0 < length images = omega (arith, c.open_logs.new.images.ok.0) in
-    let counted : length images ≡ c.len-count.result = omega (arith, c.open_logs.new.images.ok.0) in
-    let as_logs : length images ≡ vec_len logs = omega (arith, c.open_logs.new.images.ok.0) in
+    let some_image : 0 < length images = omega (arith, c.in_ok-logs.images.ok.0) in
+    let counted : length images ≡ c.len-count.result = omega (arith, c.in_ok-logs.images.ok.0) in
+    let as_logs : length images ≡ vec_len logs = omega (arith, c.in_ok-logs.images.ok.0) in
     let first : c.index.result.now ≡ fresh_book c.in-Ok.history about 0 = first_fresh c.in-Ok.history about (length images) c.in-Ok.books.items c.index.result.now are some_image c.index.ensures in
     let plan = c.in-Ok-make_plan.ensures in
     let list = c.in_ok-room.ensures in
@@ -149,11 +149,11 @@ opened_with-requires g c =
 
 pub returns-clause-found : goal.returns-clause-found
 returns-clause-found g c =
-    let images = c.open_logs.new.images.items in
-    let logs = c.open_logs.new.logs in
+    let images = c.in_ok-logs.images.items in
+    let logs = c.in_ok-logs.logs in
     let about = about_of images c.args.passes c.args.limits c.args.capacity in
     let are : c.in-Ok.books.items ≡ fresh_books c.in-Ok.history about (length images) = c.in-Ok.ensures.books ∙ ap (λ m. fresh_books c.in-Ok.history (about_of m c.args.passes c.args.limits c.args.capacity) (length m)) c.deref.ensures.value in
-    let lens = c.in_default.ensures.lens in
+    let lens = c.in_ok-logs.ensures.lens in
     let logs_len = lens.0 in
     let images_len = lens.1 in
     let slots_len = lens.2 in
@@ -161,23 +161,23 @@ returns-clause-found g c =
     let few = c.requires.slots.1 in
     let room = c.requires.slots.2 in
     let count = c.len-count.ensures in
-    let some_image : 0 < length images = omega (arith, c.open_logs.new.images.ok.0) in
-    let counted : length images ≡ c.len-count.result = omega (arith, c.open_logs.new.images.ok.0) in
-    let as_logs : length images ≡ vec_len logs = omega (arith, c.open_logs.new.images.ok.0) in
+    let some_image : 0 < length images = omega (arith, c.in_ok-logs.images.ok.0) in
+    let counted : length images ≡ c.len-count.result = omega (arith, c.in_ok-logs.images.ok.0) in
+    let as_logs : length images ≡ vec_len logs = omega (arith, c.in_ok-logs.images.ok.0) in
     let first : c.index.result.now ≡ fresh_book c.in-Ok.history about 0 = first_fresh c.in-Ok.history about (length images) c.in-Ok.books.items c.index.result.now are some_image c.index.ensures in
     let plan = c.in-Ok-make_plan.ensures in
     let made = c.opened_with.ensures in
     let here = made.ingester ∙ plan.origin in
     subst (λ (o : Opening g.row.D.Denot). AreOpenedFrom g.D.Disk.sight g.D.Disk.follows (deque_len c.args.slots.now) c.args.capacity 0 c.args.slots.now.items o.logs o.about.bases) (sym here)
-    (found_first g.D.Disk.sight g.D.Disk.follows c.in-Ok.history images c.args.passes c.args.limits c.args.capacity c.len-count.result (deque_len c.args.slots.now) c.args.slots.now.items logs.items logs.items c.index.result.now first count refl c.in_default.ensures.ok.0)
+    (found_first g.D.Disk.sight g.D.Disk.follows c.in-Ok.history images c.args.passes c.args.limits c.args.capacity (deque_len c.args.slots.now) (deque_len c.args.slots.now) c.args.slots.now.items logs.items logs.items c.index.result.now first refl refl c.in_ok-logs.ensures.opened.0)
 
 pub returns-clause-about : goal.returns-clause-about
 returns-clause-about g c =
-    let images = c.open_logs.new.images.items in
-    let logs = c.open_logs.new.logs in
+    let images = c.in_ok-logs.images.items in
+    let logs = c.in_ok-logs.logs in
     let about = about_of images c.args.passes c.args.limits c.args.capacity in
     let are : c.in-Ok.books.items ≡ fresh_books c.in-Ok.history about (length images) = c.in-Ok.ensures.books ∙ ap (λ m. fresh_books c.in-Ok.history (about_of m c.args.passes c.args.limits c.args.capacity) (length m)) c.deref.ensures.value in
-    let lens = c.in_default.ensures.lens in
+    let lens = c.in_ok-logs.ensures.lens in
     let logs_len = lens.0 in
     let images_len = lens.1 in
     let slots_len = lens.2 in
@@ -185,9 +185,9 @@ returns-clause-about g c =
     let few = c.requires.slots.1 in
     let room = c.requires.slots.2 in
     let count = c.len-count.ensures in
-    let some_image : 0 < length images = omega (arith, c.open_logs.new.images.ok.0) in
-    let counted : length images ≡ c.len-count.result = omega (arith, c.open_logs.new.images.ok.0) in
-    let as_logs : length images ≡ vec_len logs = omega (arith, c.open_logs.new.images.ok.0) in
+    let some_image : 0 < length images = omega (arith, c.in_ok-logs.images.ok.0) in
+    let counted : length images ≡ c.len-count.result = omega (arith, c.in_ok-logs.images.ok.0) in
+    let as_logs : length images ≡ vec_len logs = omega (arith, c.in_ok-logs.images.ok.0) in
     let first : c.index.result.now ≡ fresh_book c.in-Ok.history about 0 = first_fresh c.in-Ok.history about (length images) c.in-Ok.books.items c.index.result.now are some_image c.index.ensures in
     let plan = c.in-Ok-make_plan.ensures in
     let made = c.opened_with.ensures in
@@ -196,11 +196,11 @@ returns-clause-about g c =
 
 pub returns-clause-shards : goal.returns-clause-shards
 returns-clause-shards g c =
-    let images = c.open_logs.new.images.items in
-    let logs = c.open_logs.new.logs in
+    let images = c.in_ok-logs.images.items in
+    let logs = c.in_ok-logs.logs in
     let about = about_of images c.args.passes c.args.limits c.args.capacity in
     let are : c.in-Ok.books.items ≡ fresh_books c.in-Ok.history about (length images) = c.in-Ok.ensures.books ∙ ap (λ m. fresh_books c.in-Ok.history (about_of m c.args.passes c.args.limits c.args.capacity) (length m)) c.deref.ensures.value in
-    let lens = c.in_default.ensures.lens in
+    let lens = c.in_ok-logs.ensures.lens in
     let logs_len = lens.0 in
     let images_len = lens.1 in
     let slots_len = lens.2 in
@@ -208,9 +208,9 @@ returns-clause-shards g c =
     let few = c.requires.slots.1 in
     let room = c.requires.slots.2 in
     let count = c.len-count.ensures in
-    let some_image : 0 < length images = omega (arith, c.open_logs.new.images.ok.0) in
-    let counted : length images ≡ c.len-count.result = omega (arith, c.open_logs.new.images.ok.0) in
-    let as_logs : length images ≡ vec_len logs = omega (arith, c.open_logs.new.images.ok.0) in
+    let some_image : 0 < length images = omega (arith, c.in_ok-logs.images.ok.0) in
+    let counted : length images ≡ c.len-count.result = omega (arith, c.in_ok-logs.images.ok.0) in
+    let as_logs : length images ≡ vec_len logs = omega (arith, c.in_ok-logs.images.ok.0) in
     let first : c.index.result.now ≡ fresh_book c.in-Ok.history about 0 = first_fresh c.in-Ok.history about (length images) c.in-Ok.books.items c.index.result.now are some_image c.index.ensures in
     let plan = c.in-Ok-make_plan.ensures in
     let made = c.opened_with.ensures in
@@ -219,11 +219,11 @@ returns-clause-shards g c =
 
 pub returns-clause-passes : goal.returns-clause-passes
 returns-clause-passes g c =
-    let images = c.open_logs.new.images.items in
-    let logs = c.open_logs.new.logs in
+    let images = c.in_ok-logs.images.items in
+    let logs = c.in_ok-logs.logs in
     let about = about_of images c.args.passes c.args.limits c.args.capacity in
     let are : c.in-Ok.books.items ≡ fresh_books c.in-Ok.history about (length images) = c.in-Ok.ensures.books ∙ ap (λ m. fresh_books c.in-Ok.history (about_of m c.args.passes c.args.limits c.args.capacity) (length m)) c.deref.ensures.value in
-    let lens = c.in_default.ensures.lens in
+    let lens = c.in_ok-logs.ensures.lens in
     let logs_len = lens.0 in
     let images_len = lens.1 in
     let slots_len = lens.2 in
@@ -231,9 +231,9 @@ returns-clause-passes g c =
     let few = c.requires.slots.1 in
     let room = c.requires.slots.2 in
     let count = c.len-count.ensures in
-    let some_image : 0 < length images = omega (arith, c.open_logs.new.images.ok.0) in
-    let counted : length images ≡ c.len-count.result = omega (arith, c.open_logs.new.images.ok.0) in
-    let as_logs : length images ≡ vec_len logs = omega (arith, c.open_logs.new.images.ok.0) in
+    let some_image : 0 < length images = omega (arith, c.in_ok-logs.images.ok.0) in
+    let counted : length images ≡ c.len-count.result = omega (arith, c.in_ok-logs.images.ok.0) in
+    let as_logs : length images ≡ vec_len logs = omega (arith, c.in_ok-logs.images.ok.0) in
     let first : c.index.result.now ≡ fresh_book c.in-Ok.history about 0 = first_fresh c.in-Ok.history about (length images) c.in-Ok.books.items c.index.result.now are some_image c.index.ensures in
     let plan = c.in-Ok-make_plan.ensures in
     let made = c.opened_with.ensures in
@@ -244,11 +244,11 @@ returns-clause-passes g c =
 
 pub returns-clause-ready : goal.returns-clause-ready
 returns-clause-ready g c =
-    let images = c.open_logs.new.images.items in
-    let logs = c.open_logs.new.logs in
+    let images = c.in_ok-logs.images.items in
+    let logs = c.in_ok-logs.logs in
     let about = about_of images c.args.passes c.args.limits c.args.capacity in
     let are : c.in-Ok.books.items ≡ fresh_books c.in-Ok.history about (length images) = c.in-Ok.ensures.books ∙ ap (λ m. fresh_books c.in-Ok.history (about_of m c.args.passes c.args.limits c.args.capacity) (length m)) c.deref.ensures.value in
-    let lens = c.in_default.ensures.lens in
+    let lens = c.in_ok-logs.ensures.lens in
     let logs_len = lens.0 in
     let images_len = lens.1 in
     let slots_len = lens.2 in
@@ -256,9 +256,9 @@ returns-clause-ready g c =
     let few = c.requires.slots.1 in
     let room = c.requires.slots.2 in
     let count = c.len-count.ensures in
-    let some_image : 0 < length images = omega (arith, c.open_logs.new.images.ok.0) in
-    let counted : length images ≡ c.len-count.result = omega (arith, c.open_logs.new.images.ok.0) in
-    let as_logs : length images ≡ vec_len logs = omega (arith, c.open_logs.new.images.ok.0) in
+    let some_image : 0 < length images = omega (arith, c.in_ok-logs.images.ok.0) in
+    let counted : length images ≡ c.len-count.result = omega (arith, c.in_ok-logs.images.ok.0) in
+    let as_logs : length images ≡ vec_len logs = omega (arith, c.in_ok-logs.images.ok.0) in
     let first : c.index.result.now ≡ fresh_book c.in-Ok.history about 0 = first_fresh c.in-Ok.history about (length images) c.in-Ok.books.items c.index.result.now are some_image c.index.ensures in
     let plan = c.in-Ok-make_plan.ensures in
     let made = c.opened_with.ensures in

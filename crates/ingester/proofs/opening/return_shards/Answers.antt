@@ -13,12 +13,12 @@ loop-last-preserved g c =
     let inv = c.loop-last.invariant in
     let shard = c.in-Some-last.shard in
     let all = c.in-Some.ensures.items ∙ ap (λ x. c.pop.new.self.items ++ x ∷ []) c.in-Some-last.is in
-    let front = c.put_front.ensures in
+    let front = c.push_front_reserved.ensures in
     let popped = c.in-Some.ensures.len in
     let pushed = front.len in
     let len = inv.len in
     record {
-      items = ap (λ l. map disks (logs_in c.pop.new.self.items) ++ l) (front.items ∙ ap (λ x. x ∷ c.loop-last.slots.items) c.into_slots-back.ensures.slots)
+      items = ap (λ l. map disks (logs_in c.pop.new.self.items) ++ l) (front.items ∙ ap (λ x. x ∷ c.loop-last.slots.items) c.into_slots.ensures.slots)
           ∙ (moved_shard c.pop.new.self.items c.loop-last.shards.items shard c.loop-last.slots.items all ∙ inv.items);
       there = there_front c.pop.new.self.items _ (subst AreThere all inv.there);
       len = omega arith;

@@ -1,0 +1,3 @@
+pub mod Moving
+pub mod Ordered
+pub mod Trying

@@ -1,0 +1,103 @@
+//! What becomes of a shard's slots.
+ghost use Rattle.std.specs.Prelude.{◌≡◌, ◌<◌, ◌≤◌, ◌*◌, ◌^◌, ◌∷◌, []};
+ghost use Rattle.std.specs.Mem.{type_size};
+ghost use Rattle.segment.specs.Segments.{owner_of};
+ghost use Rattle.openings.specs.Places.{IsGiven, IsHere, IsTried, slots_in, refusal_in};
+
+use accept::Image;
+use disk::Disk;
+use std::alloc::Global;
+use std::mem;
+use wal::{OpenFault, Wal};
+
+// The slots of a shard, and what became of them. While a thread opens them they are out.
+#[derive(Drop)]
+pub(crate) enum Place<D: Disk + Drop> {
+    Given(D, D),
+    Out,
+    Opened(Wal<D>, Image),
+    Refused(OpenFault, D, D),
+}
+
+// Slot 0 and slot 1.
+fn both<D>(slots: [D; 2]) -> (D, D)
+    ensures { slots ≡ result.0 ∷ result.1 ∷ [] }
+{
+    let [first, second] = slots;
+    (first, second)
+}
+
+// A place for the slots of a shard.
+pub(crate) fn given_place<D: Disk + Drop>(slots: [D; 2]) -> Place<D>
+    ensures given { IsGiven result }
+    ensures slots { slots_in result ≡ slots }
+{
+    let (first, second) = both(slots);
+    Place::Given(first, second)
+}
+
+// Opens the log over these slots of a shard.
+fn open_slots<D: Disk + Drop>(
+    alloc: Global,
+    given: [D; 2],
+    shard: u32,
+    count: u32,
+    capacity: u64,
+) -> Place<D>
+    requires shard { (shard < count) × (count ≤ 64) }
+    requires capacity { capacity ≤ 2 ^ 30 }
+    ensures { IsTried D.sight D.follows (owner_of shard count) capacity given result }
+{
+    match Wal::open(alloc, given, shard, count, capacity) {
+        Ok((log, image)) => Place::Opened(log, image),
+        Err(refusal) => {
+            let fault = refusal.0;
+            let back = refusal.1;
+            let (first, second) = both(back);
+            Place::Refused(fault, first, second)
+        }
+    }
+}
+
+// Opens the log over the slots in this place.
+pub(crate) fn open_place<D: Disk + Drop>(
+    alloc: Global,
+    place: &mut Place<D>,
+    shard: u32,
+    count: u32,
+    capacity: u64,
+)
+    requires fits { 2 * type_size D.row < 2 ^ 63 }
+    requires given { IsGiven place.old }
+    requires shard { (shard < count) × (count ≤ 64) }
+    requires capacity { capacity ≤ 2 ^ 30 }
+    ensures { IsTried D.sight D.follows (owner_of shard count) capacity (slots_in place.old) place.new }
+{
+    let Place::Given(first, second) = mem::replace(place, Place::Out) else {
+        unreachable!();
+    };
+    *place = open_slots(alloc, [first, second], shard, count, capacity);
+}
+
+// Why the slots are refused, where they are.
+pub(crate) fn refusal_of<D: Disk + Drop>(place: &Place<D>) -> Option<OpenFault>
+    ensures { result ≡ refusal_in place.now }
+{
+    match place {
+        Place::Refused(fault, _, _) => Some(*fault),
+        _ => None,
+    }
+}
+
+// The slots that are in a place, or under its log.
+pub(crate) fn take_slots<D: Disk + Drop>(place: Place<D>) -> [D; 2]
+    requires { IsHere place }
+    ensures { result ≡ slots_in place }
+{
+    match place {
+        Place::Given(first, second) => [first, second],
+        Place::Out => unreachable!(),
+        Place::Opened(log, _) => log.into_slots(),
+        Place::Refused(_, first, second) => [first, second],
+    }
+}
