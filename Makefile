@@ -1,7 +1,6 @@
 # rt is the command of the Rattle toolchain.
 RT ?= rt
-# the server's shards, which stay the same for a folder, and how many connections it serves at a time
-SHARDS ?= 16
+# how many connections the server serves at a time
 WORKERS ?= 64
 
 .PHONY: help run demo sample test edits faults check check-docs fmt bench kill failed-disk roll-time deb deb-check \
@@ -17,10 +16,11 @@ help: ## prints this
 JEMALLOC = $(firstword $(wildcard /usr/lib/*/libjemalloc.so.2))
 TUNED = $(if $(JEMALLOC),LD_PRELOAD=$(JEMALLOC),GLIBC_TUNABLES=glibc.malloc.tcache_count=1000)
 
-run: ## the server on port 3100, with its log in ./data (SHARDS=16 WORKERS=64)
+# (without SHARDS, which stays the same for a folder, ./data keeps the number that it has, and a new one gets 8)
+run: ## the server on port 3100, with its log in ./data (SHARDS=8 WORKERS=64)
 	@RT='$(RT)' tests/build server
-	@deploy/fill-slots "$(CURDIR)/data" $(SHARDS) || true
-	@$(TUNED) exec crates/server/out/server "$(CURDIR)/data" 3100 $(SHARDS) $(WORKERS)
+	@SHARDS='$(SHARDS)' deploy/with-shards deploy/fill-slots "$(CURDIR)/data" {} || true
+	@SHARDS='$(SHARDS)' $(TUNED) exec deploy/with-shards crates/server/out/server "$(CURDIR)/data" 3100 {} $(WORKERS)
 
 demo: ## in another shell: pushes a line to that server, and reads it back
 	@tests/demo 3100
@@ -69,7 +69,7 @@ deb: ## the Debian package, in deploy/out
 	@RT='$(RT)' tests/build server ingestctl ingest1 walcat walsplit
 	@deploy/deb
 
-deb-check: ## the package on a fresh machine of Debian's systemd in a folder (as root, seven minutes)
+deb-check: ## the package on a fresh machine of Debian's systemd in a folder (as root, eight minutes)
 	@RT='$(RT)' tests/build server ingestctl ingest1 walcat walsplit
 	@tests/deb_check "$$(deploy/deb)"
 
@@ -125,7 +125,7 @@ metrics-check: ## the metrics and alerts with Debian's Prometheus, over a server
 metrics-cost: ## what a look for the metrics costs over 16 full shards, in 2 GiB of temporary files
 	@tests/metrics_cost
 
-fill-check: ## deploy/fill-slots under losses of power
+fill-check: ## deploy/fill-slots under losses of power, and the shards that deploy/with-shards finds
 	@RT='$(RT)' tests/build server walcat
 	@tests/fill_check
 
