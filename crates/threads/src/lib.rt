@@ -15,3 +15,5 @@ mod open_calls;
 mod queues;
 #[cfg(test)]
 mod shards;
+#[cfg(test)]
+mod together;

@@ -69,7 +69,7 @@ fn key(alloc: Global, value: &str) -> Option<StreamKey> {
 }
 
 /// An empty slot with this gate for its syncs.
-fn slot(alloc: Global, gate: &Gate) -> Result<Slot, Fail> {
+pub(crate) fn slot(alloc: Global, gate: &Gate) -> Result<Slot, Fail> {
     let disk = MemDisk::new(alloc, 8_192, 1_000, 65_536)?;
     Ok(GateDisk::new(disk, gate.try_clone()?))
 }
@@ -163,7 +163,7 @@ fn call<R: Wait>(
 }
 
 /// A push of one entry.
-fn push_of(alloc: Global, value: &str, time: u64) -> Option<Call> {
+pub(crate) fn push_of(alloc: Global, value: &str, time: u64) -> Option<Call> {
     let line = Line::new(value.to_string(alloc).ok()?);
     let mut entries = Vec::new(alloc);
     let meta = Meta::none();
