@@ -1,5 +1,5 @@
 //! How the logs of shards are opened side by side.
-ghost use Rattle.std.specs.Prelude.{◌≡◌, ◌<◌, ◌≤◌, ◌*◌, ◌^◌, [], All, map, length, vec_len, IfOk, IfErr};
+ghost use Rattle.std.specs.Prelude.{◌≡◌, ◌<◌, ◌≤◌, ◌+◌, ◌*◌, ◌^◌, ◌∷◌, ◌++◌, [], All, map, length, vec_len, IfOk, IfErr};
 ghost use Rattle.std.specs.Mem.{type_size};
 ghost use Rattle.std.specs.Vec.{vec_capacity};
 ghost use Rattle.std.specs.VecDeque.{deque_len, deque_capacity};
@@ -121,6 +121,17 @@ fn find_refused<D: Disk + Drop>(places: &Vec<Place<D>>) -> Option<(u32, OpenFaul
     None
 }
 
+// Puts the slots of a place behind others, where there is room.
+fn put_behind<D: Disk + Drop>(slots: &mut VecDeque<[D; 2]>, place: Place<D>)
+    requires here { IsHere place }
+    requires room { deque_len slots.old < deque_capacity slots.old }
+    ensures items { slots.new.items ≡ slots.old.items ++ slots_in place ∷ [] }
+    ensures len { deque_len slots.new ≡ deque_len slots.old + 1 }
+    ensures capacity { deque_capacity slots.new ≡ deque_capacity slots.old }
+{
+    slots.push_back_reserved(take_slots(place));
+}
+
 // Puts the slots of all places back, in their order.
 fn put_back<D: Disk + Drop>(slots: &mut VecDeque<[D; 2]>, places: Vec<Place<D>>)
     requires here { All IsHere places.items }
@@ -131,7 +142,7 @@ fn put_back<D: Disk + Drop>(slots: &mut VecDeque<[D; 2]>, places: Vec<Place<D>>)
 {
     let mut places = VecDeque::from_vec(places);
     while let Some(place) = places.pop_front() {
-        slots.push_back_reserved(take_slots(place));
+        put_behind(slots, place);
     }
 }
 
