@@ -77,7 +77,7 @@ fn slots_of(alloc: Global, load: Load) -> Result<Vec<[MemDisk; 2]>> {
 /// An ingester over empty slots, and its passes.
 fn open<R>(rt: &R, alloc: Global, load: Load) -> Result<(Ingester<MemDisk>, Vec<Pass>)>
 where
-    R: Threads + Wait + Copy + Send + 'static,
+    R: Threads + Wait + Copy + Send + Sync + 'static,
     ensures { IfOk result (λ it. (p : ℕ) (pass : Passed) → slice_get it.1.items p ≡ Some pass → IsPassOf it.0 pass) }
 {
     let slots = slots_of(alloc, load)?;

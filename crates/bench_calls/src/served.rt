@@ -116,7 +116,7 @@ fn slot(alloc: Global) -> Result<MemDisk, AllocError> {
 /// One shard over empty slots, and its passes.
 fn open_all<R>(rt: &R, alloc: Global) -> Result<(Ingester<MemDisk>, Vec<Pass>)>
 where
-    R: Threads + Wait + Copy + Send + 'static,
+    R: Threads + Wait + Copy + Send + Sync + 'static,
     ensures { IfOk result (λ it. (p : ℕ) (pass : Passed) → slice_get it.1.items p ≡ Some pass → IsPassOf it.0 pass) }
 {
     let mut slots = Vec::new(alloc);
@@ -130,7 +130,7 @@ where
 /// The same with its one pass.
 fn open<R>(rt: &R, alloc: Global) -> Result<(Ingester<MemDisk>, Pass)>
 where
-    R: Threads + Wait + Copy + Send + 'static,
+    R: Threads + Wait + Copy + Send + Sync + 'static,
     ensures { IfOk result (λ it. IsPassOf it.0 it.1) }
 {
     let (ingester, mut passes) = open_all(rt, alloc)?;
@@ -143,7 +143,7 @@ where
 /// Serves a load from empty slots on, and gives how long that took.
 fn time_serve<R>(rt: &R, load: &Load) -> Result<Duration>
 where
-    R: Clock + Threads + Wait + AllocGlobal + Copy + Send + 'static,
+    R: Clock + Threads + Wait + AllocGlobal + Copy + Send + Sync + 'static,
 {
     let (ingester, mut pass) = open(rt, rt.alloc())?;
     time_serve_over(rt, &ingester, &mut pass, load)
@@ -268,7 +268,7 @@ fn time_bodies<R: Clock + Wait + AllocGlobal>(
 /// The same of a load, from empty slots on.
 fn time_parts<R>(rt: &R, load: &Load) -> Result<(Duration, Duration)>
 where
-    R: Clock + Threads + Wait + AllocGlobal + Copy + Send + 'static,
+    R: Clock + Threads + Wait + AllocGlobal + Copy + Send + Sync + 'static,
 {
     let (ingester, mut pass) = open(rt, rt.alloc())?;
     time_bodies(rt, &ingester, &mut pass, &load.bodies)
@@ -307,7 +307,7 @@ fn compare<R: Print>(rt: &R, name: &str, serving: Duration, parts: [Duration; 2]
 
 fn time_load<R>(rt: &R, requests: u64, entries: u64) -> Result<()>
 where
-    R: Clock + Print + Threads + Wait + AllocGlobal + Copy + Send + 'static,
+    R: Clock + Print + Threads + Wait + AllocGlobal + Copy + Send + Sync + 'static,
 {
     let load = load_of(rt.alloc(), requests, entries)?;
     time_each(rt, &load, entries)
@@ -316,7 +316,7 @@ where
 /// Prints how fast a load of requests of `entries` lines is served, and its parts alone.
 fn time_each<R>(rt: &R, load: &Load, entries: u64) -> Result<()>
 where
-    R: Clock + Print + Threads + Wait + AllocGlobal + Copy + Send + 'static,
+    R: Clock + Print + Threads + Wait + AllocGlobal + Copy + Send + Sync + 'static,
 {
     let (mut serving, mut alone) = (Duration::MAX, Duration::MAX);
     let (mut reading, mut calling) = (Duration::MAX, Duration::MAX);
@@ -351,7 +351,7 @@ where
 /// Prints how fast connections are served.
 pub fn time<R>(rt: &R) -> Result<()>
 where
-    R: Clock + Print + Threads + Wait + AllocGlobal + Copy + Send + 'static,
+    R: Clock + Print + Threads + Wait + AllocGlobal + Copy + Send + Sync + 'static,
 {
     for (requests, entries) in LOADS {
         time_load(rt, requests, entries)?;
@@ -362,7 +362,7 @@ where
 /// Serves a short connection, and makes its calls alone.
 pub fn check<R>(rt: &R) -> Result<()>
 where
-    R: Clock + Print + Threads + Wait + AllocGlobal + Copy + Send + 'static,
+    R: Clock + Print + Threads + Wait + AllocGlobal + Copy + Send + Sync + 'static,
 {
     let load = load_of(rt.alloc(), 3, 2)?;
     check_load(rt, &load)
@@ -370,7 +370,7 @@ where
 
 fn check_load<R>(rt: &R, load: &Load) -> Result<()>
 where
-    R: Clock + Print + Threads + Wait + AllocGlobal + Copy + Send + 'static,
+    R: Clock + Print + Threads + Wait + AllocGlobal + Copy + Send + Sync + 'static,
 {
     time_serve(rt, load)?;
     time_reading(rt, &load.bodies)?;

@@ -27,7 +27,7 @@ fn main(rt: HostRuntime) -> Result<()> {
 
 fn judge_file<R>(rt: &R, name: &str, tally: &mut Tally) -> Result<()>
 where
-    R: Files + Print + Threads + Wait + AllocGlobal + Copy + Send + 'static,
+    R: Files + Print + Threads + Wait + AllocGlobal + Copy + Send + Sync + 'static,
 {
     let alloc = rt.alloc();
     let text = fs::read_to_string(rt, name)?;
@@ -39,7 +39,7 @@ where
 
 fn judge_row<R>(rt: &R, row: &Row<'_>, tally: &mut Tally) -> Result<()>
 where
-    R: Print + Threads + Wait + AllocGlobal + Copy + Send + 'static,
+    R: Print + Threads + Wait + AllocGlobal + Copy + Send + Sync + 'static,
 {
     let mut said = String::new(rt.alloc());
     take_row(rt, row, &mut said).context(format_args!("row {}", row.name))?;
@@ -49,7 +49,7 @@ where
 /// Does what the lines of a row say, and appends what is said to it.
 fn take_row<R>(rt: &R, row: &Row<'_>, said: &mut String) -> Result<()>
 where
-    R: Threads + Wait + AllocGlobal + Copy + Send + 'static,
+    R: Threads + Wait + AllocGlobal + Copy + Send + Sync + 'static,
 {
     let mut stage = Stage::new(rt.alloc())?;
     take_lines(rt, row, &mut stage, said)
@@ -57,7 +57,7 @@ where
 
 fn take_lines<R>(rt: &R, row: &Row<'_>, stage: &mut Stage, said: &mut String) -> Result<()>
 where
-    R: Threads + Wait + Copy + Send + 'static,
+    R: Threads + Wait + Copy + Send + Sync + 'static,
 {
     for line in row.given.iter() {
         stage.take_line(rt, line, said)?;

@@ -36,7 +36,7 @@ impl Opened {
         is_alone: bool,
     ) -> Result<Result<Opened, Refused>>
     where
-        R: Threads + Wait + Copy + Send + 'static,
+        R: Threads + Wait + Copy + Send + Sync + 'static,
     {
         if is_alone {
             return Opened::alone(alloc, only_of(pairs)?, settings);

@@ -49,7 +49,7 @@ impl Stage {
     /// Does what a line asks for, and appends what is to be said to it.
     pub fn take_line<R>(&mut self, rt: &R, line: &str, said: &mut String) -> Result<()>
     where
-        R: Threads + Wait + Copy + Send + 'static,
+        R: Threads + Wait + Copy + Send + Sync + 'static,
     {
         let (word, rest) = word_of(line);
         match word {
@@ -106,7 +106,7 @@ impl Stage {
     /// `open`: an ingester over all slots; `open alone`: the only shard without one.
     fn open<R>(&mut self, rt: &R, text: &str, said: &mut String) -> Result<()>
     where
-        R: Threads + Wait + Copy + Send + 'static,
+        R: Threads + Wait + Copy + Send + Sync + 'static,
     {
         self.before = calls_of(self.alloc, &self.pairs)?;
         let pairs = mem::replace(&mut self.pairs, Vec::new(self.alloc));
@@ -122,7 +122,7 @@ impl Stage {
     /// `opens`: opens all slots as `open` does, and closes them where that was not refused.
     fn open_and_close<R>(&mut self, rt: &R, text: &str, said: &mut String) -> Result<()>
     where
-        R: Threads + Wait + Copy + Send + 'static,
+        R: Threads + Wait + Copy + Send + Sync + 'static,
     {
         self.open(rt, text, said)?;
         match self.opened {

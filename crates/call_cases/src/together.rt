@@ -77,7 +77,7 @@ impl Together {
         settings: Settings,
     ) -> Result<Result<Together, (OpenFault, Vec<Pair>)>>
     where
-        R: Threads + Wait + Copy + Send + 'static,
+        R: Threads + Wait + Copy + Send + Sync + 'static,
     {
         let Settings {
             limits,

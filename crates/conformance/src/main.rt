@@ -26,7 +26,7 @@ fn main(rt: HostRuntime) -> Result<()> {
 
 fn take_file<R>(rt: &R, file: &str, tally: &mut Tally) -> Result<()>
 where
-    R: Files + Print + Threads + Wait + AllocGlobal + Copy + Send + 'static,
+    R: Files + Print + Threads + Wait + AllocGlobal + Copy + Send + Sync + 'static,
 {
     let alloc = rt.alloc();
     let text = fs::read_to_string(rt, file)?;
@@ -41,7 +41,7 @@ where
 /// A row whose first line is a `reply` asks for its answer. Any other row asks for connections.
 fn take_row<R>(rt: &R, row: &Row<'_>, said: &mut String) -> Result<()>
 where
-    R: Threads + Wait + AllocGlobal + Copy + Send + 'static,
+    R: Threads + Wait + AllocGlobal + Copy + Send + Sync + 'static,
 {
     let alloc = rt.alloc();
     match row.given.split_first() {

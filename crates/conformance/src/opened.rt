@@ -60,7 +60,7 @@ impl Opened {
     /// Fewer than 1 or more than 64 shards; want of memory; a thread that could not be started.
     pub fn open<R>(rt: &R, alloc: Global, plan: &Plan) -> Result<Opened>
     where
-        R: Threads + Wait + Copy + Send + 'static,
+        R: Threads + Wait + Copy + Send + Sync + 'static,
     {
         let slots = slots_of(alloc, plan.shards, plan.stops)?;
         if slots.is_empty() || slots.len() > 64 {

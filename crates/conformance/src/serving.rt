@@ -15,7 +15,7 @@ use wire::{Each, Groups};
 /// Want of memory; a thread that could not be started.
 pub fn serve_plan<R>(rt: &R, alloc: Global, plan: &Plan, said: &mut String) -> Result<()>
 where
-    R: Threads + Wait + Copy + Send + 'static,
+    R: Threads + Wait + Copy + Send + Sync + 'static,
 {
     let mut opened = Opened::open(rt, alloc, plan)?;
     serve_visits(rt, alloc, &mut opened, plan, said)?;

@@ -36,7 +36,7 @@ pub fn run_ctl<R, I: Read, W: Write, E: Write>(
     errors: &mut E,
 ) -> u8
 where
-    R: Files<File = File> + Threads + Wait + Copy + Send + 'static,
+    R: Files<File = File> + Threads + Wait + Copy + Send + Sync + 'static,
     ensures status { result ≤ 3 }
     ensures usage { (result ≡ 2) ↔ (¬ (GiveCall words.now × GivesCapacity (option_map (λ s. s.now) setting.entry))) }
     ensures ends { CallEnds (Watched FileDisk) words.now (option_map (λ s. s.now) setting.entry) (I.remaining input.old)
@@ -71,7 +71,7 @@ fn call_and_print<R, I: Read, W: Write>(
     output: &mut W,
 ) -> Result<u8, Stopped>
 where
-    R: Files<File = File> + Threads + Wait + Copy + Send + 'static,
+    R: Files<File = File> + Threads + Wait + Copy + Send + Sync + 'static,
     requires { capacity ≤ 2 ^ 30 }
     ensures few { IfOk result (λ status. status ≤ 1) }
     ensures answered { IfOk result (λ status. (answer : Answer) × (body : List ℕ)
@@ -107,7 +107,7 @@ fn call_folder<R, I: Read>(
     input: &mut I,
 ) -> Result<Answer, Stopped>
 where
-    R: Files<File = File> + Threads + Wait + Copy + Send + 'static,
+    R: Files<File = File> + Threads + Wait + Copy + Send + Sync + 'static,
     requires { capacity ≤ 2 ^ 30 }
     ensures { IfOk result (λ answer. (body : List ℕ) × IfSome (I.remaining input.old) (λ bytes. body ≡ bytes)
         × IsAnswerDue (Watched FileDisk) words.entry capacity body answer) }

@@ -51,7 +51,7 @@ pub fn run_ingest1<R, I: Read, W: Write, E: Write>(
     errors: &mut E,
 ) -> u8
 where
-    R: Threads + Wait + Copy + Send + 'static,
+    R: Threads + Wait + Copy + Send + Sync + 'static,
     ensures status { result ≤ 3 }
     ensures usage { (result ≡ 2) ↔ (¬ GiveClock words.now) }
     ensures ends { PushEnds (W.contents output.old) (W.contents output.new) result }
@@ -76,7 +76,7 @@ fn push_and_read<R, I: Read, W: Write>(
     output: &mut W,
 ) -> Result<(), Stopped>
 where
-    R: Threads + Wait + Copy + Send + 'static,
+    R: Threads + Wait + Copy + Send + Sync + 'static,
     requires { now < 2 ^ 63 }
     ensures pushed { OnOk result ((answer : Answer) × (back : List ℕ)
         × Appends (W.contents output.old) (W.contents output.new) (answer_lines answer ++ back)) }

@@ -3,7 +3,8 @@ ghost use Rattle.std.specs.Prelude.{◌≡◌, ◌<◌, ◌≤◌, ◌^◌, ◌�
 ghost use Rattle.history.specs.Handles.{Passed};
 ghost use Rattle.ingester.specs.Calls.{IsPassOf};
 ghost use Rattle.ingester.specs.declared.refusal.OpenFault.{OpenFault};
-ghost use Rattle.ingester.specs.Findings.{AreOpenedFrom, IsUnmade};
+ghost use Rattle.openings.specs.Findings.{AreOpenedFrom};
+ghost use Rattle.ingester.specs.Findings.{IsUnmade};
 ghost use Rattle.ingesterd.specs.Openings.{IsProfiled};
 
 use crate::stopped::Stopped;
@@ -26,7 +27,7 @@ pub fn open_shards<D, R>(
 ) -> Result<(Ingester<D>, Vec<Pass>), Stopped>
 where
     D: Disk + Drop + Send + 'static,
-    R: Threads + Wait + Copy + Send + 'static,
+    R: Threads + Wait + Copy + Send + Sync + 'static,
     requires slots { (0 < vec_len slots) × (vec_len slots ≤ 64) }
     requires passes { (0 < passes) × (passes ≤ 64) }
     requires capacity { capacity ≤ 2 ^ 30 }
@@ -53,7 +54,7 @@ pub fn open_for_one<D, R>(
 ) -> Result<(Ingester<D>, Pass), Stopped>
 where
     D: Disk + Drop + Send + 'static,
-    R: Threads + Wait + Copy + Send + 'static,
+    R: Threads + Wait + Copy + Send + Sync + 'static,
     requires slots { (0 < vec_len slots) × (vec_len slots ≤ 64) }
     requires capacity { capacity ≤ 2 ^ 30 }
     ensures profiled { IfOk result (λ it. IsProfiled (vec_len slots) 1 capacity it.0 (it.1 ∷ [])) }

@@ -1,11 +1,12 @@
 //! How the logs of shards are opened side by side.
-ghost use Rattle.std.specs.Prelude.{◌≡◌, ◌<◌, ◌≤◌, ◌*◌, ◌^◌, [], All, map, length, vec_len, IfOk, IfErr};
+ghost use Rattle.std.specs.Prelude.{◌≡◌, ◌<◌, ◌≤◌, ◌+◌, ◌*◌, ◌^◌, ◌∷◌, ◌++◌, [], All, map, vec_len, IfOk, IfErr};
 ghost use Rattle.std.specs.Mem.{type_size};
 ghost use Rattle.std.specs.Vec.{vec_capacity};
 ghost use Rattle.std.specs.VecDeque.{deque_len, deque_capacity};
 ghost use Rattle.segment.specs.Segments.{owner_of};
 ghost use Rattle.openings.specs.Findings.{AreOpenedFrom, AreRefused};
-ghost use Rattle.openings.specs.Places.{IsGiven, IsOpened, IsHere, IsTried, AreTried, slots_in, logs_in, images_in, first_refused};
+ghost use Rattle.openings.specs.Places.{IsGiven, IsOpened, IsHere, IsTried, AreTried};
+ghost use Rattle.openings.specs.Places.{slots_in, logs_in, images_in, first_refused};
 
 use crate::fault::LogsFault;
 use crate::place::{Place, given_place, open_place, refusal_of, take_slots};
@@ -22,8 +23,8 @@ use wal::{OpenFault, Wal};
 ///
 /// # Errors
 ///
-/// The first shard by number that is refused, and why, whichever ended first; or want of memory before any slot was read.
-/// All slots come back in their order.
+/// The first shard by number that is refused, and why, whichever ended first; or want of memory before any slot was
+/// read. All slots come back in their order.
 pub fn open_logs<D: Disk + Drop + Send, R: Threads + Sync>(
     rt: &R,
     alloc: Global,
@@ -61,7 +62,8 @@ pub fn open_logs<D: Disk + Drop + Send, R: Threads + Sync>(
 
 // Moves the slots of each shard to a place.
 fn fill_places<D: Disk + Drop>(slots: &mut VecDeque<[D; 2]>, places: &mut Vec<Place<D>>)
-    requires places { (places.old.items ≡ []) × (vec_len places.old ≡ 0) × (deque_len slots.old ≤ vec_capacity places.old) }
+    requires none { (places.old.items ≡ []) × (vec_len places.old ≡ 0) }
+    requires room { deque_len slots.old ≤ vec_capacity places.old }
     ensures given { All IsGiven places.new.items }
     ensures slots { map slots_in places.new.items ≡ slots.old.items }
     ensures none { (slots.new.items ≡ []) × (deque_len slots.new ≡ 0) }
@@ -121,6 +123,17 @@ fn find_refused<D: Disk + Drop>(places: &Vec<Place<D>>) -> Option<(u32, OpenFaul
     None
 }
 
+// Puts the slots of a place behind others, where there is room.
+fn put_behind<D: Disk + Drop>(slots: &mut VecDeque<[D; 2]>, place: Place<D>)
+    requires here { IsHere place }
+    requires room { deque_len slots.old < deque_capacity slots.old }
+    ensures items { slots.new.items ≡ slots.old.items ++ slots_in place ∷ [] }
+    ensures len { deque_len slots.new ≡ deque_len slots.old + 1 }
+    ensures capacity { deque_capacity slots.new ≡ deque_capacity slots.old }
+{
+    slots.push_back_reserved(take_slots(place));
+}
+
 // Puts the slots of all places back, in their order.
 fn put_back<D: Disk + Drop>(slots: &mut VecDeque<[D; 2]>, places: Vec<Place<D>>)
     requires here { All IsHere places.items }
@@ -131,7 +144,7 @@ fn put_back<D: Disk + Drop>(slots: &mut VecDeque<[D; 2]>, places: Vec<Place<D>>)
 {
     let mut places = VecDeque::from_vec(places);
     while let Some(place) = places.pop_front() {
-        slots.push_back_reserved(take_slots(place));
+        put_behind(slots, place);
     }
 }
 

@@ -34,7 +34,7 @@ const TIMES: u32 = 10;
 /// Makes all calls of an ingester over empty slots, and closes it.
 pub fn run<R>(rt: &R) -> Result<()>
 where
-    R: Print + Threads + Wait + AllocGlobal + Copy + Send + 'static,
+    R: Print + Threads + Wait + AllocGlobal + Copy + Send + Sync + 'static,
 {
     let (ingester, mut passes) = open(rt, rt.alloc())?;
     make_all(rt, &ingester, &mut passes)?;
@@ -44,7 +44,7 @@ where
 /// An ingester over empty slots, and its passes.
 fn open<R>(rt: &R, alloc: Global) -> Result<(Ingester<MemDisk>, Vec<Pass>)>
 where
-    R: Threads + Wait + Copy + Send + 'static,
+    R: Threads + Wait + Copy + Send + Sync + 'static,
     ensures passes { IfOk result (λ it. (p : ℕ) (pass : Passed) → slice_get it.1.items p ≡ Some pass
         → IsPassOf it.0 pass) }
     ensures shards { IfOk result (λ it. it.0.about.shards ≡ 2) }

@@ -31,6 +31,16 @@ impl<D: Disk> Watched<D> {
     }
 }
 
+// Says that a shard is being read, in one write, since several shards are read at once.
+fn say_reading(mut terminal: Stderr, shard: u32, bytes: usize) {
+    let mut line = [0; 64];
+    let mut rest = line.as_mut_slice();
+    if writeln!(rest, "shard {shard:02}: reading {bytes} bytes").is_ok() {
+        let length = 64usize.saturating_sub(rest.len());
+        let _ = terminal.write_all(&line[..length]);
+    }
+}
+
 // Says that a shard stops answering, in one write, since several shards may stop at once.
 fn say_unavailable(errors: Option<Stderr>, shard: u32) {
     let Some(mut errors) = errors else {
@@ -57,10 +67,9 @@ impl<D: Disk> Disk for Watched<D> {
 
     fn read(&mut self, at: u64, buf: &mut [u8]) -> Result<usize, DeviceFault> {
         if buf.len() > LONG
-            && let Some(mut terminal) = terminal_in(self.errors)
+            && let Some(terminal) = terminal_in(self.errors)
         {
-            let (shard, bytes) = (self.shard, buf.len());
-            let _ = writeln!(terminal, "shard {shard:02}: reading {bytes} bytes");
+            say_reading(terminal, self.shard, buf.len());
         }
         self.inner.read(at, buf)
     }

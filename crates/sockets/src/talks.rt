@@ -393,7 +393,7 @@ where
 /// What `ingestctl` does with the words of this line, while there is no server.
 fn run_line<R>(rt: &R, alloc: Global, line: &str, body: &str) -> Result<Ended, Fail>
 where
-    R: Files<File = File> + Threads + Wait + Copy + Send + 'static,
+    R: Files<File = File> + Threads + Wait + Copy + Send + Sync + 'static,
 {
     let words = words_of(alloc, line)?;
     let (mut output, mut errors) = (Vec::new(alloc), Vec::new(alloc));

@@ -101,7 +101,7 @@ pub(crate) fn open<R>(
     passes: u32,
 ) -> Result<(Ingester<Slot>, Vec<Pass>), Fail>
 where
-    R: Threads + Wait + Copy + Send + 'static,
+    R: Threads + Wait + Copy + Send + Sync + 'static,
     requires slots { (0 < vec_len slots) × (vec_len slots ≤ 64) }
     requires passes { (0 < passes) × (passes ≤ 64) }
     ensures passes { IfOk result (λ it. (p : ℕ) (pass : Passed) → slice_get it.1.items p ≡ Some pass
@@ -133,7 +133,7 @@ fn open_three<R>(
     slots: Vec<[Slot; 2]>,
 ) -> Result<(Ingester<Slot>, Pass, Pass, Pass), Fail>
 where
-    R: Threads + Wait + Copy + Send + 'static,
+    R: Threads + Wait + Copy + Send + Sync + 'static,
     requires { (0 < vec_len slots) × (vec_len slots ≤ 64) }
     ensures passes { IfOk result (λ it. IsPassOf it.0 it.1 × IsPassOf it.0 it.2 × IsPassOf it.0 it.3) }
     ensures shards { IfOk result (λ it. it.0.about.shards ≡ vec_len slots) }
