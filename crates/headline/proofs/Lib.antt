@@ -1,0 +1,5 @@
+pub mod Among
+pub mod Counting
+pub mod Living
+pub mod Leaving
+pub mod Saying
