@@ -1,5 +1,5 @@
 -- What a crash leaves, and what the next opening finds in it.
-use Rattle.std.proofs.Common.{◌≡◌, ℕ, zero, suc, ◌+◌, Bool, List, [], ◌∷◌, subst, arith, Some, None}
+use Rattle.std.proofs.Common.{◌≡◌, ℕ, zero, suc, ◌+◌, List, [], ◌∷◌, length, refl, subst, arith, Some, None}
 use Rattle.std.specs.Prelude.{slice_get}
 use Rattle.accept.specs.declared.limits.Limits.{Limits}
 use Rattle.accept.specs.declared.history.Ask.{Ask}
@@ -10,10 +10,10 @@ use Rattle.segment.specs.declared.owner.Owner.{Owner}
 use Rattle.segment.specs.Segments.{owner_of}
 use Rattle.wal.specs.declared.log.Wal.{Wal}
 use Rattle.wal.specs.Logs.{Follow}
-use Rattle.wal.specs.Covers.{Covers, IsAfter}
-use Rattle.wal.specs.Opening.{slots_of, AllFollow}
+use Rattle.wal.specs.Covers.{Covers}
+use Rattle.wal.specs.Opening.{slots_of}
 use Rattle.ingester.specs.Findings.{IsOpenedFrom, AreOpenedFrom}
-use Rattle.headline.specs.Lives.{AreLeftBy, AreAllLeftBy, LogsFollow, SlotsFollow}
+use Rattle.headline.specs.Lives.{End, AreLeftBy, LeftAt, AreLeftAt, LogsFollow}
 
 module _ {D : Type 0} (sight : D → Sight) (follows : D → Type 0) where
   -- what is left of slots that keep a history keeps it
@@ -29,45 +29,66 @@ module _ {D : Type 0} (sight : D → Sight) (follows : D → Type 0) where
   covered_left owner limits (a ∷ b ∷ []) (x ∷ y ∷ z ∷ new) h doubt l c = absurd l.1.1
   covered_left owner limits (a ∷ b ∷ d ∷ old) (x ∷ y ∷ []) h doubt l c = absurd l.1.1
 
-  -- a shard that was handed out, with its slots as a crash left them, and the log that was opened over these
-  pub record IsFoundAgain (count capacity k : ℕ) (handed : List D × Bool) (m : Streams) : Type 0 where
+  -- the end of a shard, with its slots as a crash left them, and the log that was opened over these
+  pub record IsFoundAgain (count capacity k : ℕ) (end : End D) (m : Streams) : Type 0 where
     pub left : List D
     pub log : Wal D
-    pub crash : AreLeftBy sight follows handed.0 left
+    pub crash : LeftAt sight follows end left
     pub opened : IsOpenedFrom sight follows (owner_of k count) capacity left log m
     pub follow : Follow follows log
-    pub follows_old : AllFollow follows handed.0
 
-  found_again : (count capacity k j i : ℕ) (handed : List (List D × Bool)) (left : List (List D)) (logs : List (Wal D)) (ms : List Streams) (it : List D × Bool) (m : Streams) → k ≡ j + i
-      → AreAllLeftBy sight follows handed left → AreOpenedFrom sight follows count capacity j left logs ms → LogsFollow sight follows logs → SlotsFollow sight follows handed
-      → slice_get handed i ≡ Some it → slice_get ms i ≡ Some m → IsFoundAgain count capacity k it m
-  found_again count capacity k j i [] left logs ms it m e a o f s h g = let never : None ≡ Some it = h in absurd (cc)
-  found_again count capacity k j i (x ∷ handed) [] logs ms it m e a o f s h g = absurd a
-  found_again count capacity k j i (x ∷ handed) (l ∷ left) [] [] it m e a o f s h g = absurd o
-  found_again count capacity k j i (x ∷ handed) (l ∷ left) [] (n ∷ ms) it m e a o f s h g = absurd o
-  found_again count capacity k j i (x ∷ handed) (l ∷ left) (w ∷ logs) [] it m e a o f s h g = absurd o
-  found_again count capacity k j zero (x ∷ handed) (l ∷ left) (w ∷ logs) (n ∷ ms) it m e a o f s h g =
-      let same : x ≡ it = cc in
+  found_again : (count capacity k j i : ℕ) (ends : List (End D)) (left : List (List D)) (logs : List (Wal D)) (ms : List Streams) (end : End D) (m : Streams) → k ≡ j + i
+      → AreLeftAt sight follows ends left → AreOpenedFrom sight follows count capacity j left logs ms → LogsFollow sight follows logs
+      → slice_get ends i ≡ Some end → slice_get ms i ≡ Some m → IsFoundAgain count capacity k end m
+  found_again count capacity k j i [] left logs ms end m e a o f h g = let never : None ≡ Some end = h in absurd (cc)
+  found_again count capacity k j i (x ∷ ends) [] logs ms end m e a o f h g = absurd a
+  found_again count capacity k j i (x ∷ ends) (l ∷ left) [] [] end m e a o f h g = absurd o
+  found_again count capacity k j i (x ∷ ends) (l ∷ left) [] (n ∷ ms) end m e a o f h g = absurd o
+  found_again count capacity k j i (x ∷ ends) (l ∷ left) (w ∷ logs) [] end m e a o f h g = absurd o
+  found_again count capacity k j zero (x ∷ ends) (l ∷ left) (w ∷ logs) (n ∷ ms) end m e a o f h g =
+      let same : x ≡ end = cc in
       let here : n ≡ m = cc in
       let at : j ≡ k = omega arith in
       record {
         left = l;
         log = w;
-        crash = subst (λ (y : List D × Bool). AreLeftBy sight follows y.0 l) same a.0;
+        crash = subst (λ (y : End D). LeftAt sight follows y l) same a.0;
         opened = subst (λ (i : ℕ). IsOpenedFrom sight follows (owner_of i count) capacity l w m) at (subst (IsOpenedFrom sight follows (owner_of j count) capacity l w) here o.0);
         follow = f.0;
-        follows_old = subst (λ (y : List D × Bool). AllFollow follows y.0) same s.0;
       }
-  found_again count capacity k j (suc i) (x ∷ handed) (l ∷ left) (w ∷ logs) (n ∷ ms) it m e a o f s h g =
-      found_again count capacity k (j + 1) i handed left logs ms it m (omega arith) a.1 o.1 f.1 s.1 h g
+  found_again count capacity k j (suc i) (x ∷ ends) (l ∷ left) (w ∷ logs) (n ∷ ms) end m e a o f h g =
+      found_again count capacity k (j + 1) i ends left logs ms end m (omega arith) a.1 o.1 f.1 h g
 
-  pub found_at : (count capacity k : ℕ) (handed : List (List D × Bool)) (left : List (List D)) (logs : List (Wal D)) (ms : List Streams) (it : List D × Bool) (m : Streams)
-      → AreAllLeftBy sight follows handed left → AreOpenedFrom sight follows count capacity 0 left logs ms → LogsFollow sight follows logs → SlotsFollow sight follows handed
-      → slice_get handed k ≡ Some it → slice_get ms k ≡ Some m → IsFoundAgain count capacity k it m
-  found_at count capacity k handed left logs ms it m a o f s h g = found_again count capacity k 0 k handed left logs ms it m (omega arith) a o f s h g
+  pub found_at : (count capacity k : ℕ) (ends : List (End D)) (left : List (List D)) (logs : List (Wal D)) (ms : List Streams) (end : End D) (m : Streams)
+      → AreLeftAt sight follows ends left → AreOpenedFrom sight follows count capacity 0 left logs ms → LogsFollow sight follows logs
+      → slice_get ends k ≡ Some end → slice_get ms k ≡ Some m → IsFoundAgain count capacity k end m
+  found_at count capacity k ends left logs ms end m a o f h g = found_again count capacity k 0 k ends left logs ms end m (omega arith) a o f h g
 
-  -- it has the meaning of the history and a beginning of the calls in doubt
-  pub after_crash : (count capacity k : ℕ) (handed : List D × Bool) (limits : Limits) (h : History) (doubt : List Ask) (m : Streams) → IsFoundAgain count capacity k handed m
-      → (AllFollow follows handed.0 → Covers (owner_of k count) limits (slots_of sight handed.0) h doubt) → IsAfter limits h doubt m
-  after_crash count capacity k handed limits h doubt m found covers =
-      found.opened.covered found.follow limits h doubt (covered_left (owner_of k count) limits handed.0 found.left h doubt found.crash (covers found.follows_old))
+  pub left_length : (ends : List (End D)) (left : List (List D)) → AreLeftAt sight follows ends left → length left ≡ length ends
+  left_length [] [] a = refl
+  left_length [] (l ∷ left) a = absurd a
+  left_length (x ∷ ends) [] a = absurd a
+  left_length (x ∷ ends) (l ∷ left) a = let more = left_length ends left a.1 in omega arith
+
+  -- the log that was opened over the slots of shard k, and what it found there
+  pub record IsOpenedAt (count capacity k : ℕ) (log : Wal D) (bases : List Streams) : Type 0 where
+    pub given : List D
+    pub m : Streams
+    pub there : slice_get bases k ≡ Some m
+    pub opened : IsOpenedFrom sight follows (owner_of k count) capacity given log m
+
+  opened_again : (count capacity k j i : ℕ) (given : List (List D)) (logs : List (Wal D)) (ms : List Streams) (log : Wal D) → k ≡ j + i → AreOpenedFrom sight follows count capacity j given logs ms → slice_get logs i ≡ Some log
+      → (one : List D) × (m : Streams) × (slice_get ms i ≡ Some m) × IsOpenedFrom sight follows (owner_of k count) capacity one log m
+  opened_again count capacity k j i given [] ms log e o h = let never : None ≡ Some log = h in absurd (cc)
+  opened_again count capacity k j i [] (w ∷ logs) ms log e o h = absurd o
+  opened_again count capacity k j i (x ∷ given) (w ∷ logs) [] log e o h = absurd o
+  opened_again count capacity k j zero (x ∷ given) (w ∷ logs) (n ∷ ms) log e o h =
+      let same : w ≡ log = cc in
+      let at : j ≡ k = omega arith in
+      (x, n, λ q. Some n, subst (λ (i : ℕ). IsOpenedFrom sight follows (owner_of i count) capacity x log n) at (subst (λ (l : Wal D). IsOpenedFrom sight follows (owner_of j count) capacity x l n) same o.0))
+  opened_again count capacity k j (suc i) (x ∷ given) (w ∷ logs) (n ∷ ms) log e o h = opened_again count capacity k (j + 1) i given logs ms log (omega arith) o.1 h
+
+  pub opened_at : (count capacity k : ℕ) (given : List (List D)) (logs : List (Wal D)) (ms : List Streams) (log : Wal D) → AreOpenedFrom sight follows count capacity 0 given logs ms → slice_get logs k ≡ Some log → IsOpenedAt count capacity k log ms
+  opened_at count capacity k given logs ms log o h =
+      let t = opened_again count capacity k 0 k given logs ms log (omega arith) o h in
+      record { given = t.0; m = t.1; there = t.2; opened = t.3 }

@@ -3,3 +3,5 @@ pub mod Counting
 pub mod Living
 pub mod Leaving
 pub mod Saying
+pub mod Turning
+pub mod Ending

@@ -1,8 +1,7 @@
 -- The headline, of one opening.
-use Rattle.std.proofs.Common.{◌≡◌, ℕ, suc, ◌+◌, ◌<◌, ◌≤◌, Bool, true, false, cond, eqb, List, [], ◌∷◌, ◌++◌, length, take, drop, filter, refl, sym, ap, ◌∙◌, subst, inl, ⊎_elim, append_assoc, append-nil, eq-eqb, arith, Some, None, take-append-drop}
+use Rattle.std.proofs.Common.{◌≡◌, ℕ, suc, ◌+◌, ◌<◌, Bool, true, false, cond, eqb, List, [], ◌∷◌, ◌++◌, take, drop, filter, refl, sym, ap, ◌∙◌, subst, inl, ⊎_elim, append_assoc, append-nil, eq-eqb, Some, take-append-drop}
 use Rattle.std.specs.Prelude.{slice_get, Ok, Err}
 use Rattle.std.proofs.lemmas.Bool.{false≢true}
-use Rattle.std.proofs.lemmas.Option.{slice_get_cases}
 use Rattle.accept.specs.declared.call.Call.{Call}
 use Rattle.accept.specs.declared.call.Reply.{Reply}
 use Rattle.accept.specs.declared.call.Reply.TheVariants.{NoRoom, Unavailable}
@@ -15,13 +14,10 @@ use Rattle.accept.specs.Rooms.{Streams}
 use Rattle.accept.specs.Histories.{answer, reply_to, MayFollow, is_step_of}
 use Rattle.accept.proofs.Legal.{legal-last}
 use Rattle.accept.proofs.OtherKeys.{answer-only_about}
-use Rattle.disk.specs.Sight.{Sight}
-use Rattle.segment.specs.Segments.{owner_of}
-use Rattle.wal.specs.Covers.{Covers, IsAfter}
-use Rattle.wal.specs.Opening.{slots_of, AllFollow}
+use Rattle.wal.specs.Covers.{IsAfter}
 use Rattle.history.specs.declared.views.About.{About}
 use Rattle.history.specs.declared.views.Caller.{Caller}
-use Rattle.history.specs.Histories.{IsBeginning, IsLegalAt, IsByPasses, terms_of, history_of, shard_in, step_of, steps_by, steps_on, doubt_of, HaveNumbersBelow, HaveNumbersAbove, IsRising}
+use Rattle.history.specs.Histories.{IsBeginning, IsLegalAt, IsByPasses, terms_of, history_of, shard_in, step_of, steps_by, steps_on, HaveNumbersBelow, HaveNumbersAbove, IsRising}
 use Rattle.history.specs.Plays.{seen_at, ask_of, Extends, HasStepsOf}
 use Rattle.history.specs.Handles.{Passed}
 use Rattle.history.proofs.Lists.{begins_trans}
@@ -29,14 +25,12 @@ use Rattle.history.proofs.Past.{below_more, below_middle, rising_back, legal_fro
 use Rattle.history.proofs.Sharding.{shard_below}
 use Rattle.owners.specs.Openings.{Opening}
 use Rattle.ingester.specs.Calls.{IsAnswered, shard_for}
-use Rattle.ingester.specs.Closings.{IsHandedOut, IsTold}
-use Rattle.headline.specs.Threads.{What, Called, Looked, Met, Happening, Happens, Thread, AnsweredCall, answers_by, ends_of, happened_to}
+use Rattle.ingester.specs.Closings.{IsTold}
+use Rattle.headline.specs.Threads.{What, Called, Looked, Met, Happening, Happens, Thread, IsThread, AnsweredCall, answers_by, ends_of, happened_to}
 use Rattle.headline.specs.Headline.{IsOneOf, ask_in, shard_at, step_in, steps_in, before, WasAnswered, is_refusal, IsReplay, IsHeadline}
-use Rattle.headline.specs.Lives.{IsLife, IsReplayed}
 use Rattle.headline.proofs.Among.{among_right, among_part}
 use Rattle.headline.proofs.Counting.{one_step, above_open, before_one}
 use Rattle.headline.proofs.Living.{IsSound, Grows, given_answer, IsOnTheWay, on_the_way, sound_on, fresh_sound}
-use Rattle.headline.proofs.Leaving.{found_at, after_crash}
 
 not_refused : (marked full : Bool) (reply r : Reply) → reply ≡ cond marked Unavailable (cond full NoRoom r) → is_refusal reply ≡ false → reply ≡ r
 not_refused true full reply r e n = absurd (false≢true (sym n ∙ ap is_refusal e))
@@ -106,7 +100,7 @@ module _ (about : About) (old new end : Passed) (call : Call) (reply : Reply) (s
         due = may.0 ∙ ap (λ l. reply_to (terms_of about k) (history_of about k l) call) (sym here);
       }
 
-end_among : (t : Thread) (ts : List Thread) → IsOneOf t ts → (i : ℕ) × (slice_get (ends_of ts) i ≡ Some t.end)
+pub end_among : (t : Thread) (ts : List Thread) → IsOneOf t ts → (i : ℕ) × (slice_get (ends_of ts) i ≡ Some t.end)
 end_among t [] h = absurd h
 end_among t (u ∷ ts) h = ⊎_elim
     (λ (e : t ≡ u). (0, ap (λ (v : Thread). Some v.end) (sym e)))
@@ -120,40 +114,14 @@ called c (Called call (Err fault)) a h = absurd h
 called c (Looked k) a h = absurd h
 called c (Met other theirs) a h = absurd h
 
-module _ {D : Type 0} (sight : D → Sight) (follows : D → Type 0) (opening : Opening D) (threads : List Thread) (handed : List (List D × Bool)) (life : IsLife sight follows opening threads handed) where
-  -- the history of a shard that was handed out
-  pub record IsGood (k : ℕ) (items : List Item) : Type 0 where
-    pub it : List D × Bool
-    pub there : slice_get handed k ≡ Some it
-    pub legal : IsLegalAt opening.about k items
-    pub by_passes : IsByPasses opening.about.passes items
-    pub told : (t : Thread) → IsOneOf t threads → IsTold k items t.end
-    pub covers : AllFollow follows it.0 → Covers (owner_of k opening.about.shards) opening.about.limits (slots_of sight it.0) (history_of opening.about k items) (doubt_of items)
+-- what is known of the history of a shard
+pub record IsKnown {D : Type 0} (opening : Opening D) (threads : List Thread) (k : ℕ) (items : List Item) : Type 0 where
+  pub legal : IsLegalAt opening.about k items
+  pub by_passes : IsByPasses opening.about.passes items
+  pub told : (t : Thread) → IsOneOf t threads → IsTold k items t.end
 
-  good_of : (k : ℕ) (it : List D × Bool) (e : slice_get handed k ≡ Some it) → IsGood k (life.taken k it e).items
-  good_of k it e =
-      let out : IsHandedOut sight follows opening (ends_of threads) k it = life.taken k it e in
-      record {
-        it = it;
-        there = e;
-        legal = out.legal;
-        by_passes = out.by_passes;
-        told = λ t h. let i = end_among t threads h in out.told i.0 t.end i.1;
-        covers = out.covers;
-      }
-
-  pub history_at : (k : ℕ) → (items : List Item) × (k < opening.about.shards → IsGood k items)
-  history_at k = ⊎_elim
-      (λ (t : (it : List D × Bool) × (k < length handed) × (slice_get handed k ≡ Some it) × _). ((life.taken k t.0 t.2).items, λ lt. good_of k t.0 t.2))
-      (λ (t : (length handed ≤ k) × (slice_get handed k ≡ None)). ([], λ lt. absurd (let all = life.all_taken in let le = t.0 in omega arith)))
-      (slice_get_cases handed k).1
-
-  abbrev pub histories : ℕ → List Item
-  histories k = (history_at k).0
-
-  good : (k : ℕ) → k < opening.about.shards → IsGood k (histories k)
-  good k lt = (history_at k).1 lt
-
+module _ {D : Type 0} (opening : Opening D) (threads : List Thread) (threads_are : (t : Thread) → IsOneOf t threads → IsThread opening t) (some_shard : 0 < opening.about.shards) (histories : ℕ → List Item)
+    (good : (k : ℕ) → k < opening.about.shards → IsKnown opening threads k (histories k)) where
   -- an answered call, in the life of its pass
   record IsMadeIn (old : Passed) (call : Call) (reply : Reply) : Type 0 where
     pub thread : Thread
@@ -165,10 +133,10 @@ module _ {D : Type 0} (sight : D → Sight) (follows : D → Type 0) (opening : 
     pub ends : IsSound opening.about thread.end
 
   way : (t : Thread) → IsOneOf t threads → (h : Happening) → IsOneOf h t.happened → IsOnTheWay opening h t.end
-  way t of h one = on_the_way opening false _ t.end t.happened h (λ e. absurd (false≢true e)) (fresh_sound opening t.number) (life.threads_are t of).happen one
+  way t of h one = on_the_way opening false _ t.end t.happened h (λ e. absurd (false≢true e)) (fresh_sound opening t.number) (threads_are t of).happen one
 
   ends_sound : (t : Thread) → IsOneOf t threads → IsSound opening.about t.end
-  ends_sound t of = sound_on opening false _ t.end t.happened (λ e. absurd (false≢true e)) (fresh_sound opening t.number) (life.threads_are t of).happen
+  ends_sound t of = sound_on opening false _ t.end t.happened (λ e. absurd (false≢true e)) (fresh_sound opening t.number) (threads_are t of).happen
 
   -- what holds of each call that was made and answered so holds of each answered call
   each_call : (P : AnsweredCall → Type 0) → ((old : Passed) (call : Call) (reply : Reply) → IsMadeIn old call reply → P (record { knew = old.caller; call = call; reply = reply })) → (a : AnsweredCall) → WasAnswered threads a → P a
@@ -188,18 +156,12 @@ module _ {D : Type 0} (sight : D → Sight) (follows : D → Type 0) (opening : 
         ends = ends_sound t.0 t.1;
       }))
 
-  some_shard : 0 < opening.about.shards
-  some_shard = let a = life.some_shard in let b = life.shards in omega arith
-
-  shard_there : (a : AnsweredCall) → shard_at opening.about a < opening.about.shards
-  shard_there a = shard_below opening.about (ask_in a) some_shard
-
   stands_at : (a : AnsweredCall) → WasAnswered threads a → IsPlaced opening.about (seen_at a.knew (shard_at opening.about a)) (histories (shard_at opening.about a)) (ask_in a) a.reply
   stands_at a one = each_call
       (λ a. IsPlaced opening.about (seen_at a.knew (shard_at opening.about a)) (histories (shard_at opening.about a)) (ask_in a) a.reply)
       (λ old call reply m.
       let k : ℕ = shard_in opening.about (ask_of old.caller (old.caller.last + 1) call) in
-      let g : IsGood k (histories k) = good k (shard_below opening.about (ask_of old.caller (old.caller.last + 1) call) some_shard) in
+      let g : IsKnown opening threads k (histories k) = good k (shard_below opening.about (ask_of old.caller (old.caller.last + 1) call) some_shard) in
       placed opening.about old m.new m.thread.end call reply m.sound m.answered m.later m.ends (histories k) g.legal (g.told m.thread m.of))
       a one
 
@@ -216,36 +178,33 @@ module _ {D : Type 0} (sight : D → Sight) (follows : D → Type 0) (opening : 
       subst (IsOneOf (step_in a)) (sym p.stands) (among_right (step_in a) (before (ask_in a) (histories (shard_at opening.about a))) (step_in a ∷ p.behind) (inl refl)) in
       subst (λ j. IsOneOf (step_in a) (histories j)) e here
 
-  replayed : (k : ℕ) → k < opening.about.shards → (state : Streams) → IsReplayed sight follows opening handed k state → IsReplay opening.about threads k (histories k) (doubt_of (histories k)) state
-  replayed k lt state r =
-      let g = good k lt in
-      let doubt : List Ask = doubt_of (histories k) in
-      let found = found_at sight follows opening.about.shards r.capacity k handed r.left r.logs r.states g.it state r.crash r.found r.follow life.follow g.there r.there in
-      let after : IsAfter opening.about.limits (history_of opening.about k (histories k)) doubt state =
-      after_crash sight follows opening.about.shards r.capacity k g.it opening.about.limits (history_of opening.about k (histories k)) doubt state found g.covers in
-      record {
-        beginning = histories k;
-        more = take after.0 doubt;
-        the_state_after = after.2;
-        a_beginning_of_that_history = record { rest = []; is = sym (append-nil (histories k)) };
-        continued_only_by_calls_being_written = record { rest = drop after.0 doubt; is = sym (take-append-drop after.0 doubt) };
-        holds_every_answered_call = λ a one e. held a one k e;
-      }
+  module _ (writing : ℕ → List Ask) (replay : ℕ → Streams → Type 0) (after : (k : ℕ) → k < opening.about.shards → (state : Streams) → replay k state → IsAfter opening.about.limits (history_of opening.about k (histories k)) (writing k) state) where
+    replayed : (k : ℕ) → k < opening.about.shards → (state : Streams) → replay k state → IsReplay opening.about threads k (histories k) (writing k) state
+    replayed k lt state r =
+        let found = after k lt state r in
+        record {
+          beginning = histories k;
+          more = take found.0 (writing k);
+          the_state_after = found.2;
+          a_beginning_of_that_history = record { rest = []; is = sym (append-nil (histories k)) };
+          continued_only_by_calls_being_written = record { rest = drop found.0 (writing k); is = sym (take-append-drop found.0 (writing k)) };
+          holds_every_answered_call = λ a one e. held a one k e;
+        }
 
-  pub says : IsHeadline opening.about threads histories (λ k. doubt_of (histories k)) (IsReplayed sight follows opening handed)
-  says = record {
-    each_shards_calls = λ k lt. let g = good k lt in (g.legal, g.by_passes);
-    one_growing_history = λ h one k lt.
-        let t = among_part (λ (u : Thread). u.happened) h threads one in
-        let w = way t.0 t.1 h t.2 in
-        (w.grows.seen k, begins_trans (w.later.seen k) ((good k lt).told t.0 t.1).begins);
-    each_answered_call_once = once_at;
-    and_no_others = λ t of k lt. ((good k lt).told t of).steps;
-    after_all_its_pass_had_seen = λ a one. (stands_at a one).had_seen;
-    the_reply = λ a one answered.
-        let k : ℕ = shard_at opening.about a in
-        let h : History = history_of opening.about k (before (ask_in a) (histories k)) in
-        not_refused _ _ a.reply (answer opening.about.limits h a.call) (stands_at a one).due answered ∙ sym (answer-only_about opening.about.limits h a.call);
-    a_refusal_in_its_stated_place = λ a one. (stands_at a one).due;
-    whatever_crash_comes = replayed;
-  }
+    pub says : IsHeadline opening.about threads histories writing replay
+    says = record {
+      each_shards_calls = λ k lt. let g = good k lt in (g.legal, g.by_passes);
+      one_growing_history = λ h one k lt.
+          let t = among_part (λ (u : Thread). u.happened) h threads one in
+          let w = way t.0 t.1 h t.2 in
+          (w.grows.seen k, begins_trans (w.later.seen k) ((good k lt).told t.0 t.1).begins);
+      each_answered_call_once = once_at;
+      and_no_others = λ t of k lt. ((good k lt).told t of).steps;
+      after_all_its_pass_had_seen = λ a one. (stands_at a one).had_seen;
+      the_reply = λ a one answered.
+          let k : ℕ = shard_at opening.about a in
+          let h : History = history_of opening.about k (before (ask_in a) (histories k)) in
+          not_refused _ _ a.reply (answer opening.about.limits h a.call) (stands_at a one).due answered ∙ sym (answer-only_about opening.about.limits h a.call);
+      a_refusal_in_its_stated_place = λ a one. (stands_at a one).due;
+      whatever_crash_comes = replayed;
+    }

@@ -1,48 +1,69 @@
--- An opening from its start to its end, and what a crash then leaves.
-use Rattle.std.specs.Prelude.{◌≡◌, ℕ, ◌≤◌, List, [], ◌∷◌, Bool, Some, length, slice_get}
+-- An opening until it is closed or a crash comes, and what is then left of its slots.
+use Rattle.std.specs.Prelude.{◌≡◌, ℕ, ◌≤◌, List, [], ◌∷◌, Bool, Option, Some, None, length, slice_get}
 use Rattle.accept.specs.declared.limits.Limits.{Limits}
+use Rattle.accept.specs.declared.history.Ask.{Ask}
+use Rattle.accept.specs.declared.history.Item.{Item}
 use Rattle.accept.specs.Rooms.{Streams}
 use Rattle.disk.specs.Sight.{Sight}
 use Rattle.wal.specs.declared.log.Wal.{Wal}
 use Rattle.wal.specs.Logs.{Follow}
 use Rattle.wal.specs.Opening.{AllFollow}
+use Rattle.history.specs.Histories.{doubt_of}
 use Rattle.history.specs.Handles.{about_of}
 use Rattle.owners.specs.Openings.{Opening}
 use Rattle.ingester.specs.Findings.{AreOpenedFrom}
 use Rattle.ingester.specs.Closings.{IsHandedOut}
 use Rattle.headline.specs.Threads.{Thread, IsThread, ends_of}
 use Rattle.headline.specs.Headline.{IsOneOf}
+use Rattle.headline.specs.Turns.{Stretch, IsStretch, IsLeftThen, writing_then}
 
--- A crash left the new disk of the old one: what may be left of it now might have been left of the old one. So it is
--- where the disk was left in good order, or where a power cut left one of the contents that it may leave.
+-- The end of a shard: `Closed::take` handed out its slots, or a crash came at some moment before.
+pub data End (D : Type 0) : Type 0 where
+  HandedOut : List D × Bool → End D
+  CutAt : Stretch D → End D
+
+-- the calls that are then being written, where these items are the shard's history
+abbrev pub writing_at : {D : Type 0} → Option (End D) → List Item → List Ask
+writing_at None items = []
+writing_at (Some (HandedOut it)) items = doubt_of items
+writing_at (Some (CutAt st)) items = writing_then st.moment
+
+abbrev pub writing_in : {D : Type 0} → List (End D) → (ℕ → List Item) → ℕ → List Ask
+writing_in ends history k = writing_at (slice_get ends k) (history k)
+
+-- A crash left the new disk of the old one: what may be left of it from now on might have been left of the old one. So
+-- it is where nothing happened in between, and where one of the contents that the old disk may leave is all there is.
 pub record IsLeftBy (old new : Sight) : Type 0 where
   pub crash : (c : List ℕ) → new.may_leave c → old.may_leave c
 
 module _ {D : Type 0} (sight : D → Sight) (follows : D → Type 0) where
-  -- so are the slots of a shard
   abbrev pub AreLeftBy : List D → List D → Type 0
   AreLeftBy [] [] = Unit {0}
   AreLeftBy (old ∷ olds) (new ∷ news) = IsLeftBy (sight old) (sight new) × AreLeftBy olds news
   AreLeftBy olds news = ⊥
 
-  -- and those of each shard
-  abbrev pub AreAllLeftBy : List (List D × Bool) → List (List D) → Type 0
-  AreAllLeftBy [] [] = Unit {0}
-  AreAllLeftBy (old ∷ olds) (new ∷ news) = AreLeftBy old.0 new × AreAllLeftBy olds news
-  AreAllLeftBy olds news = ⊥
+  -- a crash left these slots of a shard
+  abbrev pub LeftAt : End D → List D → Type 0
+  LeftAt (HandedOut it) left = AreLeftBy it.0 left
+  LeftAt (CutAt st) left = IsLeftThen sight follows st.moment left
 
-  -- each log, and each slot that was handed out, has followed the model so far
+  -- and of each shard
+  abbrev pub AreLeftAt : List (End D) → List (List D) → Type 0
+  AreLeftAt [] [] = Unit {0}
+  AreLeftAt (end ∷ ends) (left ∷ all) = LeftAt end left × AreLeftAt ends all
+  AreLeftAt ends all = ⊥
+
   abbrev pub LogsFollow : List (Wal D) → Type 0
   LogsFollow [] = Unit {0}
   LogsFollow (log ∷ logs) = Follow follows log × LogsFollow logs
 
-  abbrev pub SlotsFollow : List (List D × Bool) → Type 0
-  SlotsFollow [] = Unit {0}
-  SlotsFollow (it ∷ all) = AllFollow follows it.0 × SlotsFollow all
+  -- What is so of the end of shard k. Of slots that were handed out, the disks have followed the model.
+  abbrev pub IsEnd : Opening D → List Thread → ℕ → End D → Type 0
+  IsEnd opening threads k (HandedOut it) = IsHandedOut sight follows opening (ends_of threads) k it × AllFollow follows it.0
+  IsEnd opening threads k (CutAt st) = IsStretch sight follows opening threads k st
 
-  -- The opening was made over some slots, this happened to its passes, and this was handed out once it was closed.
-  pub record IsLife (opening : Opening D) (threads : List Thread) (handed : List (List D × Bool)) : Type 0 where
-    pub given : List (List D)
+  -- `Ingester::open` opened it over these slots, this happened to its passes, and so its shards ended
+  pub record IsLife (given : List (List D)) (opening : Opening D) (threads : List Thread) (ends : List (End D)) : Type 0 where
     pub passes : ℕ
     pub limits : Limits
     pub capacity : ℕ
@@ -51,18 +72,16 @@ module _ {D : Type 0} (sight : D → Sight) (follows : D → Type 0) where
     pub found : AreOpenedFrom sight follows (length given) capacity 0 given opening.logs opening.about.bases
     pub about : opening.about ≡ about_of opening.about.bases passes limits capacity
     pub threads_are : (t : Thread) → IsOneOf t threads → IsThread opening t
-    pub all_taken : length handed ≡ opening.about.shards
-    pub taken : (k : ℕ) (it : List D × Bool) → slice_get handed k ≡ Some it
-        → IsHandedOut sight follows opening (ends_of threads) k it
-    pub follow : SlotsFollow handed
+    pub ends_of_all : length ends ≡ length given
+    pub ends_are : (k : ℕ) (end : End D) → slice_get ends k ≡ Some end → IsEnd opening threads k end
 
-  -- a crash then left slots of which the next opening has these streams of a shard
-  pub record IsReplayed (opening : Opening D) (handed : List (List D × Bool)) (k : ℕ) (state : Streams) : Type 0 where
+  -- a crash left slots over which the next opening has these streams of shard k
+  pub record IsReplayed (ends : List (End D)) (k : ℕ) (state : Streams) : Type 0 where
     pub left : List (List D)
+    pub crash : AreLeftAt ends left
+    pub capacity : ℕ
     pub logs : List (Wal D)
     pub states : List Streams
-    pub capacity : ℕ
-    pub crash : AreAllLeftBy handed left
-    pub found : AreOpenedFrom sight follows opening.about.shards capacity 0 left logs states
+    pub found : AreOpenedFrom sight follows (length left) capacity 0 left logs states
     pub follow : LogsFollow logs
     pub there : slice_get states k ≡ Some state

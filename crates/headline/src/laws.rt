@@ -1,22 +1,21 @@
 //! The headline. The functions do nothing: each contract is a law.
-ghost use Rattle.std.specs.Prelude.{◌≡◌, ℕ, List, Bool};
+ghost use Rattle.std.specs.Prelude.{ℕ, List};
 ghost use Rattle.accept.specs.declared.history.Item.{Item};
 ghost use Rattle.disk.specs.Sight.{IsSynced};
-ghost use Rattle.history.specs.Histories.{doubt_of};
 ghost use Rattle.owners.specs.Openings.{Opening};
 ghost use Rattle.headline.specs.Threads.{Thread};
 ghost use Rattle.headline.specs.Headline.{IsHeadline};
-ghost use Rattle.headline.specs.Lives.{IsLeftBy, IsLife, IsReplayed};
+ghost use Rattle.headline.specs.Lives.{End, IsLeftBy, IsLife, IsReplayed, writing_in};
 
 use disk::Disk;
 
-/// The headline: of any opening, whatever happened to its passes, and whatever a crash left of the slots that were
-/// handed out at its end.
+/// The headline: of any opening, whatever happened to its passes, whether it was closed or cut at any moment, and
+/// whatever a crash then left of its slots.
 pub fn headline<D: Disk>()
-    ensures says { (opening : Opening D) (threads : List Thread) (handed : List (List D × Bool))
-        → IsLife D.sight D.follows opening threads handed
-        → (history : ℕ → List Item) × IsHeadline opening.about threads history (λ k. doubt_of (history k))
-        (IsReplayed D.sight D.follows opening handed) }
+    ensures says { (given : List (List D)) (opening : Opening D) (threads : List Thread) (ends : List (End D))
+        → IsLife D.sight D.follows given opening threads ends
+        → (history : ℕ → List Item) × IsHeadline opening.about threads history (writing_in ends history)
+        (IsReplayed D.sight D.follows ends) }
     ensures cut { (old new : D) → (D.sight old).may_leave (D.sight new).seen → IsSynced (D.sight new)
         → IsLeftBy (D.sight old) (D.sight new) }
     ensures whole { (disk : D) → IsLeftBy (D.sight disk) (D.sight disk) }

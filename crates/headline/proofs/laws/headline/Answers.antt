@@ -1,5 +1,8 @@
-use Rattle.headline.proofs.Saying.{histories, says}
+use Rattle.headline.proofs.Ending.{histories, says}
 use Rattle.headline.proofs.laws.headline.Goals as goal
 
 pub returns-clause-says : goal.returns-clause-says
-returns-clause-says g c = λ opening threads handed life. (histories g.D.Disk.sight g.D.Disk.follows opening threads handed life, says g.D.Disk.sight g.D.Disk.follows opening threads handed life)
+returns-clause-says g c = λ given opening threads ends life. (
+  histories g.D.Disk.sight g.D.Disk.follows g.met.D.Disk.only_now given opening threads ends life,
+  says g.D.Disk.sight g.D.Disk.follows g.met.D.Disk.only_now given opening threads ends life,
+)
