@@ -5,3 +5,4 @@ pub mod Leaving
 pub mod Saying
 pub mod Turning
 pub mod Ending
+pub mod Telling

@@ -32,7 +32,7 @@ use Rattle.headline.proofs.Among.{among_right, among_part}
 use Rattle.headline.proofs.Counting.{one_step, above_open, before_one}
 use Rattle.headline.proofs.Living.{IsSound, Grows, given_answer, IsOnTheWay, on_the_way, sound_on, fresh_sound}
 
-not_refused : (marked full : Bool) (reply r : Reply) → reply ≡ cond marked Unavailable (cond full NoRoom r) → is_refusal reply ≡ false → reply ≡ r
+pub not_refused : (marked full : Bool) (reply r : Reply) → reply ≡ cond marked Unavailable (cond full NoRoom r) → is_refusal reply ≡ false → reply ≡ r
 not_refused true full reply r e n = absurd (false≢true (sym n ∙ ap is_refusal e))
 not_refused false true reply r e n = absurd (false≢true (sym n ∙ ap is_refusal e))
 not_refused false false reply r e n = e

@@ -1,11 +1,13 @@
 //! The headline. The functions do nothing: each contract is a law.
 ghost use Rattle.std.specs.Prelude.{ℕ, List};
+ghost use Rattle.accept.specs.declared.limits.Limits.{Limits};
 ghost use Rattle.accept.specs.declared.history.Item.{Item};
 ghost use Rattle.disk.specs.Sight.{IsSynced};
 ghost use Rattle.owners.specs.Openings.{Opening};
 ghost use Rattle.headline.specs.Threads.{Thread};
 ghost use Rattle.headline.specs.Headline.{IsHeadline};
 ghost use Rattle.headline.specs.Lives.{End, IsLeftBy, IsLife, IsReplayed, writing_in};
+ghost use Rattle.headline.specs.Eras.{Era, AreEras, IsHeadlineOfEras};
 
 use disk::Disk;
 
@@ -19,4 +21,12 @@ pub fn headline<D: Disk>()
     ensures cut { (old new : D) → (D.sight old).may_leave (D.sight new).seen → IsSynced (D.sight new)
         → IsLeftBy (D.sight old) (D.sight new) }
     ensures whole { (disk : D) → IsLeftBy (D.sight disk) (D.sight disk) }
+{}
+
+/// The same over any number of openings and crashes: each has its history, and what is found in the end is what a
+/// one-thread ingester has that got the answered calls of all of them, one after another, and after those of each
+/// opening a beginning of the calls that were being written when it ended.
+pub fn headline_of_openings<D: Disk>()
+    ensures { (n : ℕ) (limits : Limits) (eras : List (Era D)) → AreEras D.sight D.follows n limits eras
+        → IsHeadlineOfEras D.sight D.follows n limits eras }
 {}

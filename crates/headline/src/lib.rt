@@ -3,4 +3,4 @@
 
 mod laws;
 
-pub use laws::headline;
+pub use laws::{headline, headline_of_openings};

@@ -1,0 +1,96 @@
+-- One opening after another, each over what a crash left of the one before.
+use Rattle.std.specs.Prelude.{◌≡◌, ℕ, ◌<◌, List, [], ◌∷◌, ◌++◌, length, if◌then◌else◌}
+use Rattle.accept.specs.declared.limits.Limits.{Limits}
+use Rattle.accept.specs.declared.history.Ask.{Ask}
+use Rattle.accept.specs.declared.history.Item.{Item}
+use Rattle.accept.specs.declared.history.Item.TheVariants.{Answered, Failed}
+use Rattle.accept.specs.Rooms.{Streams}
+use Rattle.accept.specs.Histories.{meaning, answered_to}
+use Rattle.disk.specs.Sight.{Sight}
+use Rattle.history.specs.Histories.{IsBeginning, base_at}
+use Rattle.owners.specs.Openings.{Opening}
+use Rattle.headline.specs.Threads.{Thread, AnsweredCall}
+use Rattle.headline.specs.Headline.{IsOneOf, WasAnswered, IsHeadline, is_refusal, shard_at, step_in}
+use Rattle.headline.specs.Lives.{End, IsLife, IsReplayed, AreLeftAt, LogsFollow, writing_in}
+
+-- an opening: over which slots, what happened to its passes, and how its shards ended
+pub record Era (D : Type 0) : Type 0 where
+  pub given : List (List D)
+  pub opening : Opening D
+  pub threads : List Thread
+  pub ends : List (End D)
+
+-- what was found of a shard's history after an era: a beginning of it, and calls that were being written
+pub record Part : Type 0 where
+  pub beginning : List Item
+  pub more : List Ask
+
+-- the calls that were answered, and not refused
+abbrev pub answered_in : List Item → List Ask
+answered_in [] = []
+answered_in (Answered s ∷ items) = if is_refusal s.reply then answered_in items else s.ask ∷ answered_in items
+answered_in (Failed doubt ∷ items) = answered_in items
+
+-- the calls of all eras, one after another
+abbrev pub calls_in : List Part → List Ask
+calls_in [] = []
+calls_in (p ∷ parts) = (answered_in p.beginning ++ p.more) ++ calls_in parts
+
+-- so much of a history was found, with each call that was answered in the era
+pub record IsPart {D : Type 0} (k : ℕ) (e : Era D) (history : ℕ → List Item) (p : Part) : Type 0 where
+  pub a_beginning_of_that_history : IsBeginning p.beginning (history k)
+  pub continued_only_by_calls_being_written : IsBeginning p.more (writing_in e.ends history k)
+  pub holds_every_answered_call : (a : AnsweredCall) → WasAnswered e.threads a → shard_at e.opening.about a ≡ k
+      → IsOneOf (step_in a) p.beginning
+
+abbrev pub AreParts : {D : Type 0} → ℕ → List (Era D) → List (ℕ → List Item) → List Part → Type 0
+AreParts k [] [] [] = Unit {0}
+AreParts k (e ∷ eras) (h ∷ histories) (p ∷ parts) = IsPart k e h p × AreParts k eras histories parts
+AreParts k eras histories parts = ⊥
+
+-- what the first of the eras found of shard k
+abbrev pub base_in : {D : Type 0} → ℕ → List (Era D) → Streams → Streams
+base_in k [] m = m
+base_in k (e ∷ eras) m = base_at e.opening.about k
+
+-- What was found of shard k in the end is what a one-thread ingester has that got all these calls, one after another.
+pub record IsTale {D : Type 0} (limits : Limits) (k : ℕ) (eras : List (Era D)) (histories : List (ℕ → List Item))
+    (state : Streams) : Type 0 where
+  pub parts : List Part
+  pub parts_are : AreParts k eras histories parts
+  pub the_state_after : state
+      ≡ meaning (answered_to limits (record { base = base_in k eras state; items = [] }) (calls_in parts))
+
+module _ {D : Type 0} (sight : D → Sight) (follows : D → Type 0) where
+  -- the next opening is over slots that a crash left
+  abbrev pub IsNext : Era D → List (Era D) → Type 0
+  IsNext e [] = Unit {0}
+  IsNext e (next ∷ eras) = AreLeftAt sight follows e.ends next.given × LogsFollow sight follows next.opening.logs
+
+  -- openings of n shards under these limits, one after another
+  abbrev pub AreEras : ℕ → Limits → List (Era D) → Type 0
+  AreEras n limits [] = Unit {0}
+  AreEras n limits (e ∷ eras) = IsLife sight follows e.given e.opening e.threads e.ends × (length e.given ≡ n)
+      × (e.opening.about.limits ≡ limits) × IsNext e eras × AreEras n limits eras
+
+  -- after the last of them a crash left slots of which the next opening has these streams of shard k
+  abbrev pub IsFoundLast : List (Era D) → ℕ → Streams → Type 0
+  IsFoundLast [] k state = ⊥
+  IsFoundLast (e ∷ []) k state = IsReplayed sight follows e.ends k state
+  IsFoundLast (e ∷ next ∷ eras) k state = IsFoundLast (next ∷ eras) k state
+
+  -- each era by itself
+  abbrev pub AreHeadlines : List (Era D) → List (ℕ → List Item) → Type 0
+  AreHeadlines [] [] = Unit {0}
+  AreHeadlines (e ∷ eras) (h ∷ histories) =
+      IsHeadline e.opening.about e.threads h (writing_in e.ends h) (IsReplayed sight follows e.ends)
+      × AreHeadlines eras histories
+  AreHeadlines eras histories = ⊥
+
+  -- There is a history of each era as the headline says, and whatever crash comes in the end, replay gives the state
+  -- after the calls of all of them.
+  pub record IsHeadlineOfEras (n : ℕ) (limits : Limits) (eras : List (Era D)) : Type 0 where
+    pub histories : List (ℕ → List Item)
+    pub each : AreHeadlines eras histories
+    pub whatever_crash_comes : (k : ℕ) → k < n → (state : Streams) → IsFoundLast eras k state
+        → IsTale limits k eras histories state
