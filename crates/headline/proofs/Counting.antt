@@ -9,7 +9,7 @@ use Rattle.accept.specs.Histories.{is_step_of}
 use Rattle.history.specs.declared.views.About.{About}
 use Rattle.history.specs.Histories.{shard_in, steps_by, steps_on, HaveNumbersBelow, HaveNumbersAbove, IsAmong, AreAmong}
 use Rattle.history.proofs.Past.{on_append, below_on}
-use Rattle.headline.specs.Headline.{before}
+use Rattle.headline.specs.Headline.{before_step}
 
 -- the steps of a call
 abbrev steps_of : Ask → List Item → List Item
@@ -112,12 +112,12 @@ nothing_more (z ∷ xs) ys x e = absurd (never xs e)
     never [] f = cc
     never (w ∷ ws) f = cc
 
-skips : (a : Ask) (xs ys : List Item) → steps_of a xs ≡ [] → before a (xs ++ ys) ≡ xs ++ before a ys
+skips : (a : Ask) (xs ys : List Item) → steps_of a xs ≡ [] → before_step a (xs ++ ys) ≡ xs ++ before_step a ys
 skips a [] ys none = refl
 skips a (x ∷ xs) ys none = ⊎_elim
     (λ (e : is_step_of a x ≡ true). let one = ap (λ b. cond b (x ∷ steps_of a xs) (steps_of a xs)) e in absurd (let both = sym one ∙ none in cc))
     (λ (e : is_step_of a x ≡ false).
-    ap (λ b. cond b [] (x ∷ before a (xs ++ ys))) e
+    ap (λ b. cond b [] (x ∷ before_step a (xs ++ ys))) e
     ∙ ap (λ l. x ∷ l) (skips a xs ys (sym (ap (λ b. cond b (x ∷ steps_of a xs) (steps_of a xs)) e) ∙ none)))
     (either (is_step_of a x))
   where
@@ -126,11 +126,11 @@ skips a (x ∷ xs) ys none = ⊎_elim
     either false = inr refl
 
 -- what stands before the one step of a call
-pub before_one : (s : Step) (xs ys : List Item) → steps_of s.ask (xs ++ Answered s ∷ ys) ≡ Answered s ∷ [] → before s.ask (xs ++ Answered s ∷ ys) ≡ xs
+pub before_one : (s : Step) (xs ys : List Item) → steps_of s.ask (xs ++ Answered s ∷ ys) ≡ Answered s ∷ [] → before_step s.ask (xs ++ Answered s ∷ ys) ≡ xs
 before_one s xs ys once =
     let parts : steps_of s.ask xs ++ Answered s ∷ steps_of s.ask ys ≡ Answered s ∷ [] =
     ap (λ l. steps_of s.ask xs ++ l) (sym (ap (λ b. cond b (Answered s ∷ steps_of s.ask ys) (steps_of s.ask ys)) (own_step s)))
     ∙ sym (filter-append (is_step_of s.ask) xs (Answered s ∷ ys)) ∙ once in
     skips s.ask xs (Answered s ∷ ys) (nothing_more (steps_of s.ask xs) (steps_of s.ask ys) (Answered s) parts)
-    ∙ ap (λ b. xs ++ cond b [] (Answered s ∷ before s.ask ys)) (own_step s)
+    ∙ ap (λ b. xs ++ cond b [] (Answered s ∷ before_step s.ask ys)) (own_step s)
     ∙ append-nil xs

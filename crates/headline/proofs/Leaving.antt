@@ -13,7 +13,7 @@ use Rattle.wal.specs.Logs.{Follow}
 use Rattle.wal.specs.Covers.{Covers}
 use Rattle.wal.specs.Opening.{slots_of}
 use Rattle.ingester.specs.Findings.{IsOpenedFrom, AreOpenedFrom}
-use Rattle.headline.specs.Lives.{End, AreLeftBy, LeftAt, AreLeftAt, LogsFollow}
+use Rattle.headline.specs.Lives.{ShardEnd, AreLeftBy, LeftAt, AreLeftAt, LogsFollow}
 
 module _ {D : Type 0} (sight : D → Sight) (follows : D → Type 0) where
   -- what is left of slots that keep a history keeps it
@@ -30,14 +30,14 @@ module _ {D : Type 0} (sight : D → Sight) (follows : D → Type 0) where
   covered_left owner limits (a ∷ b ∷ d ∷ old) (x ∷ y ∷ []) h doubt l c = absurd l.1.1
 
   -- the end of a shard, with its slots as a crash left them, and the log that was opened over these
-  pub record IsFoundAgain (count capacity k : ℕ) (end : End D) (m : Streams) : Type 0 where
+  pub record IsFoundAgain (count capacity k : ℕ) (end : ShardEnd D) (m : Streams) : Type 0 where
     pub left : List D
     pub log : Wal D
     pub crash : LeftAt sight follows end left
     pub opened : IsOpenedFrom sight follows (owner_of k count) capacity left log m
     pub follow : Follow follows log
 
-  found_again : (count capacity k j i : ℕ) (ends : List (End D)) (left : List (List D)) (logs : List (Wal D)) (ms : List Streams) (end : End D) (m : Streams) → k ≡ j + i
+  found_again : (count capacity k j i : ℕ) (ends : List (ShardEnd D)) (left : List (List D)) (logs : List (Wal D)) (ms : List Streams) (end : ShardEnd D) (m : Streams) → k ≡ j + i
       → AreLeftAt sight follows ends left → AreOpenedFrom sight follows count capacity j left logs ms → LogsFollow sight follows logs
       → slice_get ends i ≡ Some end → slice_get ms i ≡ Some m → IsFoundAgain count capacity k end m
   found_again count capacity k j i [] left logs ms end m e a o f h g = let never : None ≡ Some end = h in absurd (cc)
@@ -52,19 +52,19 @@ module _ {D : Type 0} (sight : D → Sight) (follows : D → Type 0) where
       record {
         left = l;
         log = w;
-        crash = subst (λ (y : End D). LeftAt sight follows y l) same a.0;
+        crash = subst (λ (y : ShardEnd D). LeftAt sight follows y l) same a.0;
         opened = subst (λ (i : ℕ). IsOpenedFrom sight follows (owner_of i count) capacity l w m) at (subst (IsOpenedFrom sight follows (owner_of j count) capacity l w) here o.0);
         follow = f.0;
       }
   found_again count capacity k j (suc i) (x ∷ ends) (l ∷ left) (w ∷ logs) (n ∷ ms) end m e a o f h g =
       found_again count capacity k (j + 1) i ends left logs ms end m (omega arith) a.1 o.1 f.1 h g
 
-  pub found_at : (count capacity k : ℕ) (ends : List (End D)) (left : List (List D)) (logs : List (Wal D)) (ms : List Streams) (end : End D) (m : Streams)
+  pub found_at : (count capacity k : ℕ) (ends : List (ShardEnd D)) (left : List (List D)) (logs : List (Wal D)) (ms : List Streams) (end : ShardEnd D) (m : Streams)
       → AreLeftAt sight follows ends left → AreOpenedFrom sight follows count capacity 0 left logs ms → LogsFollow sight follows logs
       → slice_get ends k ≡ Some end → slice_get ms k ≡ Some m → IsFoundAgain count capacity k end m
   found_at count capacity k ends left logs ms end m a o f h g = found_again count capacity k 0 k ends left logs ms end m (omega arith) a o f h g
 
-  pub left_length : (ends : List (End D)) (left : List (List D)) → AreLeftAt sight follows ends left → length left ≡ length ends
+  pub left_length : (ends : List (ShardEnd D)) (left : List (List D)) → AreLeftAt sight follows ends left → length left ≡ length ends
   left_length [] [] a = refl
   left_length [] (l ∷ left) a = absurd a
   left_length (x ∷ ends) [] a = absurd a

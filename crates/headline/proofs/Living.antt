@@ -18,7 +18,7 @@ use Rattle.owners.specs.Openings.{Opening}
 use Rattle.ingester.specs.declared.fault.CallFault.{CallFault}
 use Rattle.ingester.specs.declared.fault.CallFault.TheVariants.{Memory, PassClosed, LogSpent, InDoubt}
 use Rattle.ingester.specs.Calls.{IsAnswered, IsRefused, IsGiven, IsGivenAfter, next_step, shard_for, without_next, with_next, closed_now}
-use Rattle.headline.specs.Threads.{What, Called, Looked, Met, Happening, Happens, HappenAfter, IsLooked, IsMet, leaves_doubt}
+use Rattle.headline.specs.Threads.{What, Called, Looked, Met, Happening, Happens, HappenAfter, IsLooked, IsMet, leaves_call_in_doubt}
 use Rattle.headline.specs.Headline.{IsOneOf}
 use Rattle.headline.proofs.Counting.{AreFrom}
 
@@ -212,7 +212,7 @@ module _ {D : Type 0} (opening : Opening D) where
   given_grows old new call (Ok reply) is = answered_grows old new call reply is.answered
   given_grows old new call (Err fault) is = refused_grows old new call fault is.refused
 
-  given_closed : (old new : Passed) (call : Call) (outcome : Result Reply CallFault) → IsGiven opening old call outcome new → ClosedIf (leaves_doubt (Called call outcome)) new
+  given_closed : (old new : Passed) (call : Call) (outcome : Result Reply CallFault) → IsGiven opening old call outcome new → ClosedIf (leaves_call_in_doubt (Called call outcome)) new
   given_closed old new call (Ok reply) is e = absurd (false≢true e)
   given_closed old new call (Err Memory) is e = absurd (false≢true e)
   given_closed old new call (Err PassClosed) is e = absurd (false≢true e)
@@ -225,7 +225,7 @@ module _ {D : Type 0} (opening : Opening D) where
     pub grows : Grows old new
     pub closed : ClosedIf lost new
 
-  called : (lost : Bool) (old new : Passed) (call : Call) (outcome : Result Reply CallFault) → ClosedIf lost old → IsSound opening.about old → IsGivenAfter lost opening old call outcome new → Goes opening.about old new (leaves_doubt (Called call outcome))
+  called : (lost : Bool) (old new : Passed) (call : Call) (outcome : Result Reply CallFault) → ClosedIf lost old → IsSound opening.about old → IsGivenAfter lost opening old call outcome new → Goes opening.about old new (leaves_call_in_doubt (Called call outcome))
   called false old new call outcome up s is = record { sound = given_sound opening.about old new call outcome s is; grows = given_grows old new call outcome is; closed = given_closed old new call outcome is }
   called true old new call outcome up s (inl is) = record { sound = given_sound opening.about old new call outcome s is; grows = given_grows old new call outcome is; closed = given_closed old new call outcome is }
   called true old new call outcome up s (inr is) = record {
@@ -287,7 +287,7 @@ module _ {D : Type 0} (opening : Opening D) where
     closed = λ e. absurd (false≢true e);
   }
 
-  goes : (lost : Bool) (old new : Passed) (what : What) → ClosedIf lost old → IsSound opening.about old → Happens lost opening old what new → Goes opening.about old new (leaves_doubt what)
+  goes : (lost : Bool) (old new : Passed) (what : What) → ClosedIf lost old → IsSound opening.about old → Happens lost opening old what new → Goes opening.about old new (leaves_call_in_doubt what)
   goes lost old new (Called call outcome) up s is = called lost old new call outcome up s is
   goes lost old new (Looked k) up s is = looked old new k s is
   goes lost old new (Met other theirs) up s is = met old new other theirs s is
@@ -297,13 +297,13 @@ module _ {D : Type 0} (opening : Opening D) where
   grows_on lost start end [] up s is = grows_as start start end is (grows_same start)
   grows_on lost start end (h ∷ hs) up s is =
       let g = goes lost h.before h.after h.what (λ e. ap (λ (p : Passed). p.closed) is.0 ∙ up e) (sound_as opening.about start h.before is.0 s) is.1 in
-      grows_more start h.after end (subst (λ p. Grows p h.after) is.0 g.grows) (grows_on (leaves_doubt h.what) h.after end hs g.closed g.sound is.2)
+      grows_more start h.after end (subst (λ p. Grows p h.after) is.0 g.grows) (grows_on (leaves_call_in_doubt h.what) h.after end hs g.closed g.sound is.2)
 
   pub sound_on : (lost : Bool) (start end : Passed) (hs : List Happening) → ClosedIf lost start → IsSound opening.about start → HappenAfter lost opening start hs end → IsSound opening.about end
   sound_on lost start end [] up s is = sound_as opening.about start end is s
   sound_on lost start end (h ∷ hs) up s is =
       let g = goes lost h.before h.after h.what (λ e. ap (λ (p : Passed). p.closed) is.0 ∙ up e) (sound_as opening.about start h.before is.0 s) is.1 in
-      sound_on (leaves_doubt h.what) h.after end hs g.closed g.sound is.2
+      sound_on (leaves_call_in_doubt h.what) h.after end hs g.closed g.sound is.2
 
   -- one that happened, on the way to the end
   pub record IsOnTheWay (h : Happening) (end : Passed) : Type 0 where
@@ -324,9 +324,9 @@ module _ {D : Type 0} (opening : Opening D) where
         before = before;
         happens = is.1;
         grows = first.grows;
-        later = grows_on (leaves_doubt g.what) g.after end hs first.closed first.sound is.2;
+        later = grows_on (leaves_call_in_doubt g.what) g.after end hs first.closed first.sound is.2;
       }))
-      (λ (t : IsOneOf h hs). on_the_way (leaves_doubt g.what) g.after end hs h first.closed first.sound is.2 t)
+      (λ (t : IsOneOf h hs). on_the_way (leaves_call_in_doubt g.what) g.after end hs h first.closed first.sound is.2 t)
       one
 
   pub fresh_sound : (p : ℕ) → IsSound opening.about (fresh_pass opening.table opening.about p)

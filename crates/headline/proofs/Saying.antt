@@ -26,8 +26,8 @@ use Rattle.history.proofs.Sharding.{shard_below}
 use Rattle.owners.specs.Openings.{Opening}
 use Rattle.ingester.specs.Calls.{IsAnswered, shard_for}
 use Rattle.ingester.specs.Closings.{IsTold}
-use Rattle.headline.specs.Threads.{What, Called, Looked, Met, Happening, Happens, Thread, IsThread, AnsweredCall, answers_by, ends_of, happened_to}
-use Rattle.headline.specs.Headline.{IsOneOf, ask_in, shard_at, step_in, steps_in, before, WasAnswered, is_refusal, IsReplay, IsHeadline}
+use Rattle.headline.specs.Threads.{What, Called, Looked, Met, Happening, Happens, Thread, IsThread, AnsweredCall, answers_by, last_passes, happened_to}
+use Rattle.headline.specs.Headline.{IsOneOf, ask_for, shard_at, step_for, steps_for, before_step, WasAnswered, is_refusal, IsReplay, IsHeadline}
 use Rattle.headline.proofs.Among.{among_right, among_part}
 use Rattle.headline.proofs.Counting.{one_step, above_open, before_one}
 use Rattle.headline.proofs.Living.{IsSound, Grows, given_answer, IsOnTheWay, on_the_way, sound_on, fresh_sound}
@@ -40,9 +40,9 @@ not_refused false false reply r e n = e
 -- where the one step of a call stands
 record IsPlaced (about : About) (seen items : List Item) (ask : Ask) (reply : Reply) : Type 0 where
   pub behind : List Item
-  pub had_seen : IsBeginning seen (before ask items)
-  pub stands : items ≡ before ask items ++ Answered (step_of ask reply) ∷ behind
-  pub due : reply ≡ reply_to (terms_of about (shard_in about ask)) (history_of about (shard_in about ask) (before ask items)) ask.call
+  pub had_seen : IsBeginning seen (before_step ask items)
+  pub stands : items ≡ before_step ask items ++ Answered (step_of ask reply) ∷ behind
+  pub due : reply ≡ reply_to (terms_of about (shard_in about ask)) (history_of about (shard_in about ask) (before_step ask items)) ask.call
 
 -- one answered call of a pass that went on to its end
 module _ (about : About) (old new end : Passed) (call : Call) (reply : Reply) (sound : IsSound about old) (is : IsAnswered old new call reply) (later : Grows new end) (ends : IsSound about end) where
@@ -90,7 +90,7 @@ module _ (about : About) (old new end : Passed) (call : Call) (reply : Reply) (s
       let whole : items ≡ (front ++ Answered the_step ∷ []) ++ begins.rest = begins.is ∙ ap (λ l. l ++ begins.rest) extended.is in
       let stands : items ≡ front ++ Answered the_step ∷ begins.rest = whole ∙ append_assoc front (Answered the_step ∷ []) begins.rest in
       let one : filter (is_step_of the_ask) items ≡ Answered the_step ∷ [] = once k items told.steps ∙ ap (λ b. cond b (Answered the_step ∷ []) []) (eq-eqb k k refl) in
-      let here : before the_ask items ≡ front = ap (before the_ask) stands ∙ before_one the_step front begins.rest (ap (filter (is_step_of the_ask)) (sym stands) ∙ one) in
+      let here : before_step the_ask items ≡ front = ap (before_step the_ask) stands ∙ before_one the_step front begins.rest (ap (filter (is_step_of the_ask)) (sym stands) ∙ one) in
       let upto : IsLegalAt about k (front ++ Answered the_step ∷ []) = legal_front about k (front ++ Answered the_step ∷ []) items (record { rest = begins.rest; is = whole }) legal in
       let may : MayFollow (terms_of about k) (history_of about k front) (Answered the_step) = legal-last (terms_of about k) (history_of about k front) (Answered the_step) upto.is in
       record {
@@ -100,7 +100,7 @@ module _ (about : About) (old new end : Passed) (call : Call) (reply : Reply) (s
         due = may.0 ∙ ap (λ l. reply_to (terms_of about k) (history_of about k l) call) (sym here);
       }
 
-pub end_among : (t : Thread) (ts : List Thread) → IsOneOf t ts → (i : ℕ) × (slice_get (ends_of ts) i ≡ Some t.end)
+pub end_among : (t : Thread) (ts : List Thread) → IsOneOf t ts → (i : ℕ) × (slice_get (last_passes ts) i ≡ Some t.end)
 end_among t [] h = absurd h
 end_among t (u ∷ ts) h = ⊎_elim
     (λ (e : t ≡ u). (0, ap (λ (v : Thread). Some v.end) (sym e)))
@@ -156,27 +156,27 @@ module _ {D : Type 0} (opening : Opening D) (threads : List Thread) (threads_are
         ends = ends_sound t.0 t.1;
       }))
 
-  stands_at : (a : AnsweredCall) → WasAnswered threads a → IsPlaced opening.about (seen_at a.knew (shard_at opening.about a)) (histories (shard_at opening.about a)) (ask_in a) a.reply
+  stands_at : (a : AnsweredCall) → WasAnswered threads a → IsPlaced opening.about (seen_at a.knew (shard_at opening.about a)) (histories (shard_at opening.about a)) (ask_for a) a.reply
   stands_at a one = each_call
-      (λ a. IsPlaced opening.about (seen_at a.knew (shard_at opening.about a)) (histories (shard_at opening.about a)) (ask_in a) a.reply)
+      (λ a. IsPlaced opening.about (seen_at a.knew (shard_at opening.about a)) (histories (shard_at opening.about a)) (ask_for a) a.reply)
       (λ old call reply m.
       let k : ℕ = shard_in opening.about (ask_of old.caller (old.caller.last + 1) call) in
       let g : IsKnown opening threads k (histories k) = good k (shard_below opening.about (ask_of old.caller (old.caller.last + 1) call) some_shard) in
       placed opening.about old m.new m.thread.end call reply m.sound m.answered m.later m.ends (histories k) g.legal (g.told m.thread m.of))
       a one
 
-  once_at : (a : AnsweredCall) → WasAnswered threads a → (k : ℕ) → k < opening.about.shards → steps_in a (histories k) ≡ cond (eqb k (shard_at opening.about a)) (step_in a ∷ []) []
+  once_at : (a : AnsweredCall) → WasAnswered threads a → (k : ℕ) → k < opening.about.shards → steps_for a (histories k) ≡ cond (eqb k (shard_at opening.about a)) (step_for a ∷ []) []
   once_at a one = each_call
-      (λ a. (k : ℕ) → k < opening.about.shards → steps_in a (histories k) ≡ cond (eqb k (shard_at opening.about a)) (step_in a ∷ []) [])
+      (λ a. (k : ℕ) → k < opening.about.shards → steps_for a (histories k) ≡ cond (eqb k (shard_at opening.about a)) (step_for a ∷ []) [])
       (λ old call reply m k lt. once opening.about old m.new m.thread.end call reply m.sound m.answered m.later m.ends k (histories k) ((good k lt).told m.thread m.of).steps)
       a one
 
-  held : (a : AnsweredCall) → WasAnswered threads a → (k : ℕ) → shard_at opening.about a ≡ k → IsOneOf (step_in a) (histories k)
+  held : (a : AnsweredCall) → WasAnswered threads a → (k : ℕ) → shard_at opening.about a ≡ k → IsOneOf (step_for a) (histories k)
   held a one k e =
       let p = stands_at a one in
-      let here : IsOneOf (step_in a) (histories (shard_at opening.about a)) =
-      subst (IsOneOf (step_in a)) (sym p.stands) (among_right (step_in a) (before (ask_in a) (histories (shard_at opening.about a))) (step_in a ∷ p.behind) (inl refl)) in
-      subst (λ j. IsOneOf (step_in a) (histories j)) e here
+      let here : IsOneOf (step_for a) (histories (shard_at opening.about a)) =
+      subst (IsOneOf (step_for a)) (sym p.stands) (among_right (step_for a) (before_step (ask_for a) (histories (shard_at opening.about a))) (step_for a ∷ p.behind) (inl refl)) in
+      subst (λ j. IsOneOf (step_for a) (histories j)) e here
 
   module _ (writing : ℕ → List Ask) (replay : ℕ → Streams → Type 0) (after : (k : ℕ) → k < opening.about.shards → (state : Streams) → replay k state → IsAfter opening.about.limits (history_of opening.about k (histories k)) (writing k) state) where
     replayed : (k : ℕ) → k < opening.about.shards → (state : Streams) → replay k state → IsReplay opening.about threads k (histories k) (writing k) state
@@ -203,7 +203,7 @@ module _ {D : Type 0} (opening : Opening D) (threads : List Thread) (threads_are
       after_all_its_pass_had_seen = λ a one. (stands_at a one).had_seen;
       the_reply = λ a one answered.
           let k : ℕ = shard_at opening.about a in
-          let h : History = history_of opening.about k (before (ask_in a) (histories k)) in
+          let h : History = history_of opening.about k (before_step (ask_for a) (histories k)) in
           not_refused _ _ a.reply (answer opening.about.limits h a.call) (stands_at a one).due answered ∙ sym (answer-only_about opening.about.limits h a.call);
       a_refusal_in_its_stated_place = λ a one. (stands_at a one).due;
       whatever_crash_comes = replayed;

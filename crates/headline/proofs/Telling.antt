@@ -1,4 +1,4 @@
--- The calls of all eras, one after another.
+-- The calls of all openings, one after another.
 use Rattle.std.proofs.Common.{◌≡◌, ◌⊎◌, ℕ, zero, suc, ◌+◌, ◌<◌, Bool, true, false, cond, List, [], ◌∷◌, ◌++◌, length, refl, sym, ap, ◌∙◌, subst, inl, inr, ⊎_elim, append_assoc, append-nil, arith, Some}
 use Rattle.std.specs.Prelude.{slice_get, slice_index_or}
 use Rattle.std.specs.FinMap as finite
@@ -23,8 +23,8 @@ use Rattle.history.specs.Histories.{IsLegalAt, base_at, terms_of, history_of}
 use Rattle.history.proofs.Past.{legal_front}
 use Rattle.ingester.specs.Findings.{AreOpenedFrom}
 use Rattle.headline.specs.Headline.{is_refusal, IsReplay, IsHeadline}
-use Rattle.headline.specs.Lives.{IsLife, IsReplayed, writing_in}
-use Rattle.headline.specs.Eras.{Era, Part, answered_in, calls_in, IsPart, AreParts, base_in, IsNext, AreEras, IsFoundLast, AreHeadlines, IsHeadlineOfEras}
+use Rattle.headline.specs.Lives.{Life, IsLife, MayBeReplayed, writing_in}
+use Rattle.headline.specs.Chains.{Part, answered_in, calls_found, IsPart, AreParts, base_in, IsContinued, AreLives, IsFoundLast, AreHeadlines, IsHeadlineOfLives}
 use Rattle.headline.proofs.Saying.{not_refused}
 use Rattle.headline.proofs.Ending.{histories, says}
 
@@ -126,8 +126,8 @@ module _ {D : Type 0} (sight : D → Sight) (follows : D → Type 0) (only_now :
   as_many count capacity j (x ∷ given) (w ∷ logs) [] o = absurd o
   as_many count capacity j (x ∷ given) (w ∷ logs) (m ∷ ms) o = let more = as_many count capacity (j + 1) given logs ms o.1 in omega arith
 
-  -- the next era's base is what a crash left of this one
-  next_base : (e next : Era D) (k : ℕ) → IsLife sight follows next.given next.opening next.threads next.ends → IsNext sight follows e (next ∷ []) → k < length next.given → IsReplayed sight follows e.ends k (base_at next.opening.about k)
+  -- the next opening's base is what a crash left of this one
+  next_base : (e next : Life D) (k : ℕ) → IsLife sight follows next → IsContinued sight follows e (next ∷ []) → k < length next.given → MayBeReplayed sight follows e.ends k (base_at next.opening.about k)
   next_base e next k life is lt = record {
     left = next.given;
     crash = is.0;
@@ -139,14 +139,14 @@ module _ {D : Type 0} (sight : D → Sight) (follows : D → Type 0) (only_now :
     there = there_in next.opening.about.bases k finite.empty (let n = as_many (length next.given) life.capacity 0 next.given next.opening.logs next.opening.about.bases life.found in omega arith);
   }
 
-  -- what is found after an era is what it began with, and its calls
-  record IsOneMore (limits : Limits) (k : ℕ) (e : Era D) (history : ℕ → List Item) (h : History) (state : Streams) : Type 0 where
+  -- what is found after an opening is what it began with, and its calls
+  record IsOneMore (limits : Limits) (k : ℕ) (e : Life D) (history : ℕ → List Item) (h : History) (state : Streams) : Type 0 where
     pub part : Part
     pub is_part : IsPart k e history part
     pub state_is : state ≡ meaning (answered_to limits h (answered_in part.beginning ++ part.more))
 
-  one_more : (limits : Limits) (k : ℕ) (e : Era D) (history : ℕ → List Item) (h : History) (state : Streams) → IsHeadline e.opening.about e.threads history (writing_in e.ends history) (IsReplayed sight follows e.ends) → k < e.opening.about.shards
-      → e.opening.about.limits ≡ limits → IsWithin limits h → meaning h ≡ base_at e.opening.about k → IsReplayed sight follows e.ends k state → IsOneMore limits k e history h state
+  one_more : (limits : Limits) (k : ℕ) (e : Life D) (history : ℕ → List Item) (h : History) (state : Streams) → IsHeadline e.opening.about e.threads history (writing_in e.ends history) (MayBeReplayed sight follows e.ends) → k < e.opening.about.shards
+      → e.opening.about.limits ≡ limits → IsWithin limits h → meaning h ≡ base_at e.opening.about k → MayBeReplayed sight follows e.ends k state → IsOneMore limits k e history h state
   one_more limits k e history h state says lt same within base replay =
       let about : About = e.opening.about in
       let r : IsReplay about e.threads k (history k) (writing_in e.ends history k) state = says.whatever_crash_comes k lt state replay in
@@ -164,13 +164,13 @@ module _ {D : Type 0} (sight : D → Sight) (follows : D → Type 0) (only_now :
       }
 
   -- and so after all of them
-  record IsTold (limits : Limits) (k : ℕ) (eras : List (Era D)) (hs : List (ℕ → List Item)) (h : History) (state : Streams) : Type 0 where
+  record IsTold (limits : Limits) (k : ℕ) (lives : List (Life D)) (hs : List (ℕ → List Item)) (h : History) (state : Streams) : Type 0 where
     pub parts : List Part
-    pub parts_are : AreParts k eras hs parts
-    pub state_is : state ≡ meaning (answered_to limits h (calls_in parts))
+    pub parts_are : AreParts k lives hs parts
+    pub state_is : state ≡ meaning (answered_to limits h (calls_found parts))
 
-  tells : (n : ℕ) (limits : Limits) (k : ℕ) (eras : List (Era D)) (hs : List (ℕ → List Item)) (h : History) (state : Streams) → AreEras sight follows n limits eras → AreHeadlines sight follows eras hs → k < n → IsWithin limits h → meaning h ≡ base_in k eras state
-      → IsFoundLast sight follows eras k state → IsTold limits k eras hs h state
+  tells : (n : ℕ) (limits : Limits) (k : ℕ) (lives : List (Life D)) (hs : List (ℕ → List Item)) (h : History) (state : Streams) → AreLives sight follows n limits lives → AreHeadlines sight follows lives hs → k < n → IsWithin limits h → meaning h ≡ base_in k lives state
+      → IsFoundLast sight follows lives k state → IsTold limits k lives hs h state
   tells n limits k [] hs h state are says lt within base found = absurd found
   tells n limits k (e ∷ []) [] h state are says lt within base found = absurd says
   tells n limits k (e ∷ []) (x ∷ y ∷ hs) h state are says lt within base found = absurd says.1
@@ -182,36 +182,36 @@ module _ {D : Type 0} (sight : D → Sight) (follows : D → Type 0) (only_now :
         parts_are = (one.is_part, tt);
         state_is = one.state_is ∙ alone limits h (answered_in one.part.beginning ++ one.part.more);
       }
-  tells n limits k (e ∷ f ∷ eras) [] h state are says lt within base found = absurd says
-  tells n limits k (e ∷ f ∷ eras) (x ∷ hs) h state are says lt within base found =
+  tells n limits k (e ∷ f ∷ lives) [] h state are says lt within base found = absurd says
+  tells n limits k (e ∷ f ∷ lives) (x ∷ hs) h state are says lt within base found =
       let here : k < e.opening.about.shards = let s = are.0.shards in let c = are.1 in omega arith in
       let there : k < length f.given = let c = are.4.1 in omega arith in
       let one = one_more limits k e x h (base_at f.opening.about k) says.0 here are.2 within base (next_base e f k are.4.0 are.3 there) in
       let calls : List Ask = answered_in one.part.beginning ++ one.part.more in
-      let more = tells n limits k (f ∷ eras) hs (answered_to limits h calls) state are.4 says.1 lt (within-answered_to limits h calls within) (sym one.state_is) found in
+      let more = tells n limits k (f ∷ lives) hs (answered_to limits h calls) state are.4 says.1 lt (within-answered_to limits h calls within) (sym one.state_is) found in
       record {
         parts = one.part ∷ more.parts;
         parts_are = (one.is_part, more.parts_are);
-        state_is = more.state_is ∙ joined limits h calls (calls_in more.parts);
+        state_is = more.state_is ∙ joined limits h calls (calls_found more.parts);
       }
 
-  -- each era has its history
-  headlines : (n : ℕ) (limits : Limits) (eras : List (Era D)) → AreEras sight follows n limits eras → (hs : List (ℕ → List Item)) × AreHeadlines sight follows eras hs
+  -- each opening has its history
+  headlines : (n : ℕ) (limits : Limits) (lives : List (Life D)) → AreLives sight follows n limits lives → (hs : List (ℕ → List Item)) × AreHeadlines sight follows lives hs
   headlines n limits [] are = ([], tt)
-  headlines n limits (e ∷ eras) are =
-      let rest = headlines n limits eras are.4 in (
-        histories sight follows only_now e.given e.opening e.threads e.ends are.0 ∷ rest.0,
-        (says sight follows only_now e.given e.opening e.threads e.ends are.0, rest.1),
+  headlines n limits (e ∷ lives) are =
+      let rest = headlines n limits lives are.4 in (
+        histories sight follows only_now e are.0 ∷ rest.0,
+        (says sight follows only_now e are.0, rest.1),
       )
 
-  pub all_says : (n : ℕ) (limits : Limits) (eras : List (Era D)) → AreEras sight follows n limits eras → IsHeadlineOfEras sight follows n limits eras
-  all_says n limits eras are =
-      let hs = headlines n limits eras are in
+  pub all_says : (n : ℕ) (limits : Limits) (lives : List (Life D)) → AreLives sight follows n limits lives → IsHeadlineOfLives sight follows n limits lives
+  all_says n limits lives are =
+      let hs = headlines n limits lives are in
       record {
         histories = hs.0;
         each = hs.1;
         whatever_crash_comes = λ k lt state found.
-            let base : Streams = base_in k eras state in
-            let told = tells n limits k eras hs.0 (over base []) state are hs.1 lt (within-nothing limits base) (meaning-nothing base) found in
+            let base : Streams = base_in k lives state in
+            let told = tells n limits k lives hs.0 (over base []) state are hs.1 lt (within-nothing limits base) (meaning-nothing base) found in
             record { parts = told.parts; parts_are = told.parts_are; the_state_after = told.state_is };
       }

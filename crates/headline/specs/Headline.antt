@@ -28,26 +28,26 @@ is_refusal NoRoom = true
 is_refusal Unavailable = true
 
 -- an answered call under its pass and number, as its step, and all steps of it among some items
-abbrev pub ask_in : AnsweredCall → Ask
-ask_in a = ask_of a.knew (a.knew.last + 1) a.call
+abbrev pub ask_for : AnsweredCall → Ask
+ask_for a = ask_of a.knew (a.knew.last + 1) a.call
 
-abbrev pub step_in : AnsweredCall → Item
-step_in a = Answered (step_of (ask_in a) a.reply)
+abbrev pub step_for : AnsweredCall → Item
+step_for a = Answered (step_of (ask_for a) a.reply)
 
-abbrev pub steps_in : AnsweredCall → List Item → List Item
-steps_in a items = filter (is_step_of (ask_in a)) items
+abbrev pub steps_for : AnsweredCall → List Item → List Item
+steps_for a items = filter (is_step_of (ask_for a)) items
 
 -- what stands before the first step of a call
-abbrev pub before : Ask → List Item → List Item
-before ask [] = []
-before ask (i ∷ is) = if is_step_of ask i then [] else i ∷ before ask is
+abbrev pub before_step : Ask → List Item → List Item
+before_step ask [] = []
+before_step ask (i ∷ is) = if is_step_of ask i then [] else i ∷ before_step ask is
 
 -- the shard of an answered call, and what stands before its step there
 abbrev pub shard_at : About → AnsweredCall → ℕ
-shard_at about a = shard_in about (ask_in a)
+shard_at about a = shard_in about (ask_for a)
 
 abbrev pub items_before : About → (ℕ → List Item) → AnsweredCall → List Item
-items_before about history a = before (ask_in a) (history (shard_at about a))
+items_before about history a = before_step (ask_for a) (history (shard_at about a))
 
 abbrev pub history_before : About → (ℕ → List Item) → AnsweredCall → History
 history_before about history a = history_of about (shard_at about a) (items_before about history a)
@@ -65,7 +65,7 @@ pub record IsReplay (about : About) (threads : List Thread) (k : ℕ) (history :
   pub a_beginning_of_that_history : IsBeginning beginning history
   pub continued_only_by_calls_being_written : IsBeginning more writing
   pub holds_every_answered_call : (a : AnsweredCall) → WasAnswered threads a → shard_at about a ≡ k
-      → IsOneOf (step_in a) beginning
+      → IsOneOf (step_for a) beginning
 
 -- However many threads call, each shard's calls stand in one growing history, each answered call once, after all its
 -- pass had seen, with the reply a one-thread ingester computes from the earlier steps on that stream or a refusal in its
@@ -78,7 +78,7 @@ pub record IsHeadline (about : About) (threads : List Thread) (history : ℕ →
       → IsBeginning (seen_at h.before.caller k) (seen_at h.after.caller k)
       × IsBeginning (seen_at h.after.caller k) (history k)
   pub each_answered_call_once : (a : AnsweredCall) → WasAnswered threads a → (k : ℕ) → k < about.shards
-      → steps_in a (history k) ≡ (if k == shard_at about a then step_in a ∷ [] else [])
+      → steps_for a (history k) ≡ (if k == shard_at about a then step_for a ∷ [] else [])
   pub and_no_others : (t : Thread) → IsOneOf t threads → (k : ℕ) → k < about.shards
       → HasStepsOf t.end.caller k (history k)
   pub after_all_its_pass_had_seen : (a : AnsweredCall) → WasAnswered threads a

@@ -2,4 +2,4 @@ pub mod Threads
 pub mod Headline
 pub mod Turns
 pub mod Lives
-pub mod Eras
+pub mod Chains

@@ -13,22 +13,29 @@ use Rattle.history.specs.Handles.{about_of}
 use Rattle.owners.specs.Openings.{Opening}
 use Rattle.ingester.specs.Findings.{AreOpenedFrom}
 use Rattle.ingester.specs.Closings.{IsHandedOut}
-use Rattle.headline.specs.Threads.{Thread, IsThread, ends_of}
+use Rattle.headline.specs.Threads.{Thread, IsThread, last_passes}
 use Rattle.headline.specs.Headline.{IsOneOf}
 use Rattle.headline.specs.Turns.{Stretch, IsStretch, IsLeftThen, writing_then}
 
 -- The end of a shard: `Closed::take` handed out its slots, or a crash came at some moment before.
-pub data End (D : Type 0) : Type 0 where
-  HandedOut : List D × Bool → End D
-  CutAt : Stretch D → End D
+pub data ShardEnd (D : Type 0) : Type 0 where
+  HandedOut : List D × Bool → ShardEnd D
+  CutAt : Stretch D → ShardEnd D
+
+-- An opening: over which slots, what happened to its passes, and how each shard ended.
+pub record Life (D : Type 0) : Type 0 where
+  pub given : List (List D)
+  pub opening : Opening D
+  pub threads : List Thread
+  pub ends : List (ShardEnd D)
 
 -- the calls that are then being written, where these items are the shard's history
-abbrev pub writing_at : {D : Type 0} → Option (End D) → List Item → List Ask
+abbrev pub writing_at : {D : Type 0} → Option (ShardEnd D) → List Item → List Ask
 writing_at None items = []
 writing_at (Some (HandedOut it)) items = doubt_of items
 writing_at (Some (CutAt st)) items = writing_then st.moment
 
-abbrev pub writing_in : {D : Type 0} → List (End D) → (ℕ → List Item) → ℕ → List Ask
+abbrev pub writing_in : {D : Type 0} → List (ShardEnd D) → (ℕ → List Item) → ℕ → List Ask
 writing_in ends history k = writing_at (slice_get ends k) (history k)
 
 -- A crash left the new disk of the old one: what may be left of it from now on might have been left of the old one. So
@@ -43,12 +50,12 @@ module _ {D : Type 0} (sight : D → Sight) (follows : D → Type 0) where
   AreLeftBy olds news = ⊥
 
   -- a crash left these slots of a shard
-  abbrev pub LeftAt : End D → List D → Type 0
+  abbrev pub LeftAt : ShardEnd D → List D → Type 0
   LeftAt (HandedOut it) left = AreLeftBy it.0 left
   LeftAt (CutAt st) left = IsLeftThen sight follows st.moment left
 
   -- and of each shard
-  abbrev pub AreLeftAt : List (End D) → List (List D) → Type 0
+  abbrev pub AreLeftAt : List (ShardEnd D) → List (List D) → Type 0
   AreLeftAt [] [] = Unit {0}
   AreLeftAt (end ∷ ends) (left ∷ all) = LeftAt end left × AreLeftAt ends all
   AreLeftAt ends all = ⊥
@@ -58,25 +65,27 @@ module _ {D : Type 0} (sight : D → Sight) (follows : D → Type 0) where
   LogsFollow (log ∷ logs) = Follow follows log × LogsFollow logs
 
   -- What is so of the end of shard k. Of slots that were handed out, the disks have followed the model.
-  abbrev pub IsEnd : Opening D → List Thread → ℕ → End D → Type 0
-  IsEnd opening threads k (HandedOut it) = IsHandedOut sight follows opening (ends_of threads) k it × AllFollow follows it.0
+  abbrev pub IsEnd : Opening D → List Thread → ℕ → ShardEnd D → Type 0
+  IsEnd opening threads k (HandedOut it) = IsHandedOut sight follows opening (last_passes threads) k it × AllFollow follows it.0
   IsEnd opening threads k (CutAt st) = IsStretch sight follows opening threads k st
 
-  -- `Ingester::open` opened it over these slots, this happened to its passes, and so its shards ended
-  pub record IsLife (given : List (List D)) (opening : Opening D) (threads : List Thread) (ends : List (End D)) : Type 0 where
+  -- `Ingester::open` made the opening over these slots, this happened to its passes, and so its shards ended.
+  pub record IsLife (life : Life D) : Type 0 where
     pub passes : ℕ
     pub limits : Limits
     pub capacity : ℕ
-    pub some_shard : 1 ≤ length given
-    pub shards : opening.about.shards ≡ length given
-    pub found : AreOpenedFrom sight follows (length given) capacity 0 given opening.logs opening.about.bases
-    pub about : opening.about ≡ about_of opening.about.bases passes limits capacity
-    pub threads_are : (t : Thread) → IsOneOf t threads → IsThread opening t
-    pub ends_of_all : length ends ≡ length given
-    pub ends_are : (k : ℕ) (end : End D) → slice_get ends k ≡ Some end → IsEnd opening threads k end
+    pub some_shard : 1 ≤ length life.given
+    pub shards : life.opening.about.shards ≡ length life.given
+    pub found : AreOpenedFrom sight follows (length life.given) capacity 0 life.given life.opening.logs
+        life.opening.about.bases
+    pub about : life.opening.about ≡ about_of life.opening.about.bases passes limits capacity
+    pub threads_are : (t : Thread) → IsOneOf t life.threads → IsThread life.opening t
+    pub ends_of_all : length life.ends ≡ length life.given
+    pub ends_are : (k : ℕ) (end : ShardEnd D) → slice_get life.ends k ≡ Some end
+        → IsEnd life.opening life.threads k end
 
   -- a crash left slots over which the next opening has these streams of shard k
-  pub record IsReplayed (ends : List (End D)) (k : ℕ) (state : Streams) : Type 0 where
+  pub record MayBeReplayed (ends : List (ShardEnd D)) (k : ℕ) (state : Streams) : Type 0 where
     pub left : List (List D)
     pub crash : AreLeftAt ends left
     pub capacity : ℕ

@@ -47,16 +47,16 @@ Happens lost opening old (Looked k) new = IsLooked opening old k new
 Happens lost opening old (Met other theirs) new = IsMet opening old other theirs new
 
 -- whether it was a call that is in doubt
-abbrev pub leaves_doubt : What → Bool
-leaves_doubt (Called call outcome) = is_doubt outcome
-leaves_doubt (Looked k) = false
-leaves_doubt (Met other theirs) = false
+abbrev pub leaves_call_in_doubt : What → Bool
+leaves_call_in_doubt (Called call outcome) = is_doubt outcome
+leaves_call_in_doubt (Looked k) = false
+leaves_call_in_doubt (Met other theirs) = false
 
 -- these happened to a pass, one after another
 abbrev pub HappenAfter : {D : Type 0} → Bool → Opening D → Passed → List Happening → Passed → Type 0
 HappenAfter lost opening start [] end = end ≡ start
 HappenAfter lost opening start (h ∷ hs) end = (h.before ≡ start) × Happens lost opening h.before h.what h.after
-    × HappenAfter (leaves_doubt h.what) opening h.after hs end
+    × HappenAfter (leaves_call_in_doubt h.what) opening h.after hs end
 
 -- a pass from the opening on: its number, all that happened to it, and what it knows at the end
 pub record Thread : Type 0 where
@@ -68,9 +68,9 @@ pub record IsThread {D : Type 0} (opening : Opening D) (t : Thread) : Type 0 whe
   pub happen : HappenAfter false opening (fresh_pass opening.table opening.about t.number) t.happened t.end
 
 -- the passes at the end
-abbrev pub ends_of : List Thread → List Passed
-ends_of [] = []
-ends_of (t ∷ ts) = t.end ∷ ends_of ts
+abbrev pub last_passes : List Thread → List Passed
+last_passes [] = []
+last_passes (t ∷ ts) = t.end ∷ last_passes ts
 
 -- all that happened
 abbrev pub happened_to : List Thread → List Happening

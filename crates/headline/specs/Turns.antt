@@ -21,7 +21,7 @@ use Rattle.headline.specs.Threads.{Thread}
 use Rattle.headline.specs.Headline.{IsOneOf}
 
 -- a turn of a shard at some jobs
-pub record Turn (D : Type 0) : Type 0 where
+pub record OneTurn (D : Type 0) : Type 0 where
   pub old : Sharded D
   pub new : Sharded D
   pub jobs : List Job
@@ -31,17 +31,17 @@ pub record Turn (D : Type 0) : Type 0 where
   pub ended : Ended
 
 -- the jobs that it takes, from the first on
-abbrev pub taken_in : {D : Type 0} → Turn D → List Announced
+abbrev pub taken_in : {D : Type 0} → OneTurn D → List Announced
 taken_in t = take (length (tickets_of t.jobs) - length (tickets_of t.rest)) (tickets_of t.jobs)
 
 -- where the owner of a shard is: between two turns, or in the middle of one
 pub data Moment (D : Type 0) : Type 0 where
   Between : Sharded D → Moment D
-  Within : Turn D → Moment D
+  Within : OneTurn D → Moment D
 
 -- the turns that a shard made, and where its owner is then
 pub record Stretch (D : Type 0) : Type 0 where
-  pub turns : List (Turn D)
+  pub turns : List (OneTurn D)
   pub moment : Moment D
 
 -- the shard, without the turn that it is in
@@ -56,12 +56,12 @@ writing_then (Within t) = doubt_or t.old.book.items (changing_of t.old.book (ask
 
 module _ {D : Type 0} (sight : D → Sight) (follows : D → Type 0) where
   -- what `Shard::apply_group` says
-  pub record IsMade (t : Turn D) : Type 0 where
+  pub record IsMade (t : OneTurn D) : Type 0 where
     pub turn : IsTurn sight follows t.old t.new t.jobs t.rest t.was t.now t.ended
     pub covered : Follow follows t.new.log → Keeps (slots sight t.new.log) t.new.book (doubt_of t.new.book.items)
 
   -- these turns lead from one shard to another
-  abbrev pub Lead : Sharded D → List (Turn D) → Sharded D → Type 0
+  abbrev pub Lead : Sharded D → List (OneTurn D) → Sharded D → Type 0
   Lead start [] end = end ≡ start
   Lead start (t ∷ ts) end = (t.old ≡ start) × IsMade t × Lead t.new ts end
 

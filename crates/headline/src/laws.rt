@@ -3,21 +3,18 @@ ghost use Rattle.std.specs.Prelude.{ℕ, List};
 ghost use Rattle.accept.specs.declared.limits.Limits.{Limits};
 ghost use Rattle.accept.specs.declared.history.Item.{Item};
 ghost use Rattle.disk.specs.Sight.{IsSynced};
-ghost use Rattle.owners.specs.Openings.{Opening};
-ghost use Rattle.headline.specs.Threads.{Thread};
 ghost use Rattle.headline.specs.Headline.{IsHeadline};
-ghost use Rattle.headline.specs.Lives.{End, IsLeftBy, IsLife, IsReplayed, writing_in};
-ghost use Rattle.headline.specs.Eras.{Era, AreEras, IsHeadlineOfEras};
+ghost use Rattle.headline.specs.Lives.{Life, IsLeftBy, IsLife, MayBeReplayed, writing_in};
+ghost use Rattle.headline.specs.Chains.{AreLives, IsHeadlineOfLives};
 
 use disk::Disk;
 
 /// The headline: of any opening, whatever happened to its passes, whether it was closed or cut at any moment, and
 /// whatever a crash then left of its slots.
 pub fn headline<D: Disk>()
-    ensures says { (given : List (List D)) (opening : Opening D) (threads : List Thread) (ends : List (End D))
-        → IsLife D.sight D.follows given opening threads ends
-        → (history : ℕ → List Item) × IsHeadline opening.about threads history (writing_in ends history)
-        (IsReplayed D.sight D.follows ends) }
+    ensures says { (life : Life D) → IsLife D.sight D.follows life
+        → (history : ℕ → List Item) × IsHeadline life.opening.about life.threads history (writing_in life.ends history)
+        (MayBeReplayed D.sight D.follows life.ends) }
     ensures cut { (old new : D) → (D.sight old).may_leave (D.sight new).seen → IsSynced (D.sight new)
         → IsLeftBy (D.sight old) (D.sight new) }
     ensures whole { (disk : D) → IsLeftBy (D.sight disk) (D.sight disk) }
@@ -27,6 +24,6 @@ pub fn headline<D: Disk>()
 /// one-thread ingester has that got the answered calls of all of them, one after another, and after those of each
 /// opening a beginning of the calls that were being written when it ended.
 pub fn headline_of_openings<D: Disk>()
-    ensures { (n : ℕ) (limits : Limits) (eras : List (Era D)) → AreEras D.sight D.follows n limits eras
-        → IsHeadlineOfEras D.sight D.follows n limits eras }
+    ensures { (n : ℕ) (limits : Limits) (lives : List (Life D)) → AreLives D.sight D.follows n limits lives
+        → IsHeadlineOfLives D.sight D.follows n limits lives }
 {}
