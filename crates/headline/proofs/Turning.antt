@@ -1,0 +1,191 @@
+-- What a crash leaves of a shard between its opening and its end.
+use Rattle.std.proofs.Common.{◌≡◌, ◌⊎◌, ℕ, zero, suc, ◌-◌, Bool, true, false, List, [], ◌∷◌, ◌++◌, length, take, refl, sym, ap, ◌∙◌, subst, inl, inr, ⊎_elim, arith, Some, None, length-append}
+use Rattle.std.specs.Prelude.{slice_get, slice_index_or}
+use Rattle.accept.specs.declared.history.Ask.{Ask}
+use Rattle.accept.specs.Histories.{meaning, answered_to, is_marked, IsWithin}
+use Rattle.accept.proofs.Legal.{legal-within}
+use Rattle.accept.proofs.Meanings.{meaning-nothing}
+use Rattle.disk.specs.Sight.{Sight}
+use Rattle.segment.specs.declared.owner.Owner.{Owner}
+use Rattle.segment.specs.Segments.{owner_of}
+use Rattle.wal.specs.declared.log.Wal.{Wal}
+use Rattle.wal.specs.Logs.{Follow, slots, owner, IsSettled}
+use Rattle.wal.specs.Covers.{Allows, Covers}
+use Rattle.wal.specs.Recovery.{is_even, Recovers}
+use Rattle.wal.specs.Moments.{pair}
+use Rattle.wal.specs.Opening.{slots_of}
+use Rattle.wal.proofs.OneImage.{settled_covers}
+use Rattle.history.specs.declared.views.About.{About}
+use Rattle.history.specs.Histories.{base_at, terms_of, history_of, doubt_of, doubt_or}
+use Rattle.history.specs.Handles.{Booked, Announced, history_in, asks_of, fresh_book}
+use Rattle.history.proofs.Past.{doubt_marked, doubt_unmarked}
+use Rattle.shard.specs.Calls.{MayLeave, IsCommitted, IsLost}
+use Rattle.shard.specs.Groups.{with_steps, changing_of, MayLeaveAll}
+use Rattle.shard.specs.Jobs.{tickets_of}
+use Rattle.shard.specs.Keeping.{owner_in, IsAllowed, Keeps}
+use Rattle.shard.specs.Shards.{Sharded}
+use Rattle.shard.specs.Turns.{IsTurn}
+use Rattle.shard.proofs.Groups.{steps_mean, failed_means, step_written}
+use Rattle.owners.specs.Openings.{Opening}
+use Rattle.headline.specs.Threads.{Thread}
+use Rattle.headline.specs.Turns.{OneTurn, Moment, Between, Within, Stretch, shard_then, writing_then, IsMade, Lead, IsMoment, FollowThen, IsStretch, MayBeLeft, IsLeftThen}
+use Rattle.headline.proofs.Leaving.{IsOpenedAt}
+
+take_none : {A : Type 0} (j : ℕ) → take {A = A} j [] ≡ []
+take_none zero = refl
+take_none (suc j) = refl
+
+take_front : {A : Type 0} (xs ys : List A) → take (length xs) (xs ++ ys) ≡ xs
+take_front [] ys = refl
+take_front (x ∷ xs) ys = ap (λ l. x ∷ l) (take_front xs ys)
+
+take_whole : {A : Type 0} (xs : List A) → take (length xs) xs ≡ xs
+take_whole [] = refl
+take_whole (x ∷ xs) = ap (λ l. x ∷ l) (take_whole xs)
+
+-- the first of a list, by what is left
+front_of : {A : Type 0} (all front rest : List A) → all ≡ front ++ rest → take (length all - length rest) all ≡ front
+front_of all front rest e =
+    let n : length all - length rest ≡ length front = let l = length-append front rest in let m = ap length e in omega arith in
+    ap (λ k. take k all) n ∙ ap (take (length front)) e ∙ take_front front rest
+
+index_get : {A : Type 0} (xs : List A) (k : ℕ) (d x : A) → slice_get xs k ≡ Some x → slice_index_or xs k d ≡ x
+index_get [] k d x e = let never : None ≡ Some x = e in absurd (cc)
+index_get (y ∷ xs) zero d x e = let one : Some y ≡ Some x = e in cc
+index_get (y ∷ xs) (suc k) d x e = index_get xs k d x e
+
+either : (b : Bool) → (b ≡ true) ⊎ (b ≡ false)
+either true = inl refl
+either false = inr refl
+
+-- what a book's slots may hold, as the opening's
+as_opening : (about : About) (k : ℕ) (book : Booked) (doubt : List Ask) (a b : List ℕ) → book.about ≡ about → book.shard ≡ k → IsAllowed book doubt a b → Allows (owner_of k about.shards) about.limits (history_of about k book.items) doubt a b
+as_opening about k book doubt a b e f allowed =
+    subst (λ (j : ℕ). Allows (owner_of j about.shards) about.limits (history_of about j book.items) doubt a b) f
+    (subst (λ (x : About). Allows (owner_of book.shard x.shards) x.limits (history_of x book.shard book.items) doubt a b) e allowed)
+
+-- with no call in doubt, or with the mark's
+allowed_or : (book : Booked) (asks : List Ask) (a b : List ℕ) → IsAllowed book (doubt_of book.items) a b → IsAllowed book (doubt_or book.items asks) a b
+allowed_or book asks a b (j, le, found) = ⊎_elim
+    (λ (m : is_marked book.items ≡ true). subst (λ (d : List Ask). IsAllowed book d a b) (sym (doubt_marked book.items asks m)) (j, le, found))
+    (λ (m : is_marked book.items ≡ false).
+    let none : doubt_of book.items ≡ [] = doubt_unmarked book.items [] m in
+    let first : take j (doubt_of book.items) ≡ [] = ap (take j) none ∙ take_none j in
+    (0, omega arith, subst (λ (d : List Ask). Recovers (owner_in book) a b (meaning (answered_to book.about.limits (history_in book) d))) first found))
+    (either (is_marked book.items))
+
+-- the streams after all calls of a group are those after the calls that it writes
+all_allowed : (book : Booked) (asks : List Ask) (a b : List ℕ) → IsWithin book.about.limits (history_in book) → Recovers (owner_in book) a b (meaning (history_in (with_steps book asks))) → IsAllowed book (doubt_or book.items (changing_of book asks)) a b
+all_allowed book asks a b within found = ⊎_elim
+    (λ (m : is_marked book.items ≡ true). (0, omega arith, subst (Recovers (owner_in book) a b) (failed_means book asks within m) found))
+    (λ (m : is_marked book.items ≡ false).
+    let written : List Ask = changing_of book asks in
+    let its : IsAllowed book written a b = (
+      length written,
+      omega arith,
+      subst (λ (d : List Ask). Recovers (owner_in book) a b (meaning (answered_to book.about.limits (history_in book) d))) (sym (take_whole written))
+          (subst (Recovers (owner_in book) a b) (sym (steps_mean book asks within)) found),
+    ) in
+    subst (λ (d : List Ask). IsAllowed book d a b) (sym (doubt_unmarked book.items written m)) its)
+    (either (is_marked book.items))
+
+group_allowed : (book : Booked) (asks : List Ask) (a b : List ℕ) → IsWithin book.about.limits (history_in book) → MayLeaveAll book asks a b → IsAllowed book (doubt_or book.items (changing_of book asks)) a b
+group_allowed book asks a b within (inl old) = allowed_or book (changing_of book asks) a b old
+group_allowed book asks a b within (inr new) = all_allowed book asks a b within new
+
+-- a call that goes alone is a group of one
+one_group : (book : Booked) (ask : Ask) (a b : List ℕ) → MayLeave book ask.call a b → MayLeaveAll book (ask ∷ []) a b
+one_group book ask a b (inl old) = inl old
+one_group book ask a b (inr (w, found)) = inr (subst (Recovers (owner_in book) a b) (sym (step_written book ask w)) found)
+
+module _ {D : Type 0} (sight : D → Sight) (follows : D → Type 0) (only_now : (d : D) (c : List ℕ) → follows d → (sight d).left_since (sight d).moment c → (sight d).may_leave c) where
+  -- a crash since now leaves what a crash now may leave
+  since_now : (log : Wal D) (a b : List ℕ) → Follow follows log → (slots sight log).first.left_since (slots sight log).first.moment a → (slots sight log).second.left_since (slots sight log).second.moment b → (slots sight log).first.may_leave a × (slots sight log).second.may_leave b
+  since_now log a b f x y = by (is_even log.generation) x y
+    where
+      by : (even : Bool) → (pair even (sight log.active) (sight log.spare)).first.left_since (pair even (sight log.active) (sight log.spare)).first.moment a → (pair even (sight log.active) (sight log.spare)).second.left_since (pair even (sight log.active) (sight log.spare)).second.moment b
+          → (pair even (sight log.active) (sight log.spare)).first.may_leave a × (pair even (sight log.active) (sight log.spare)).second.may_leave b
+      by true p q = (only_now log.active a f.0 p, only_now log.spare b f.1 q)
+      by false p q = (only_now log.spare a f.1 p, only_now log.active b f.0 q)
+
+  -- a shard between two turns
+  pub record Rests (about : About) (k : ℕ) (s : Sharded D) : Type 0 where
+    pub about_is : s.book.about ≡ about
+    pub number : s.book.shard ≡ k
+    pub covers : Follow follows s.log → Keeps (slots sight s.log) s.book (doubt_of s.book.items)
+
+  same_book : (t : OneTurn D) → IsTurn sight follows t.old t.new t.jobs t.rest t.was t.now t.ended → (t.new.book.about ≡ t.old.book.about) × (t.new.book.shard ≡ t.old.book.shard)
+  same_book t (inl h) = ⊎_elim
+      (λ (c : _ × (t.new.book ≡ with_steps t.old.book (asks_of h.front)) × _). (ap (λ (b : Booked). b.about) c.1, ap (λ (b : Booked). b.shard) c.1))
+      (λ (c : _ × (t.new.book ≡ _) × _). (ap (λ (b : Booked). b.about) c.1, ap (λ (b : Booked). b.shard) c.1))
+      h.applied.stepped
+  same_book t (inr (inl h)) = ⊎_elim
+      (λ (c : IsCommitted (slots sight t.old.log) (slots sight t.new.log) t.old.book h.job.ticket t.new.book h.reply). (ap (λ (b : Booked). b.about) c.book, ap (λ (b : Booked). b.shard) c.book))
+      (λ (c : IsLost (slots sight t.old.log) (slots sight t.new.log) t.old.book h.job.ticket t.new.book h.reply). (ap (λ (b : Booked). b.about) c.book, ap (λ (b : Booked). b.shard) c.book))
+      h.applied.step
+  same_book t (inr (inr h)) = (ap (λ (s : Sharded D). s.book.about) h.same, ap (λ (s : Sharded D). s.book.shard) h.same)
+
+  made_rests : (about : About) (k : ℕ) (t : OneTurn D) → Rests about k t.old → IsMade sight follows t → Rests about k t.new
+  made_rests about k t r m =
+      let same = same_book t m.turn in
+      record { about_is = same.0 ∙ r.about_is; number = same.1 ∙ r.number; covers = m.covered }
+
+  lead_rests : (about : About) (k : ℕ) (start end : Sharded D) (ts : List (OneTurn D)) → Rests about k start → Lead sight follows start ts end → Rests about k end
+  lead_rests about k start end [] r l = subst (Rests about k) (sym l) r
+  lead_rests about k start end (t ∷ ts) r l = lead_rests about k t.new end ts (made_rests about k t (subst (Rests about k) (sym l.0) r) l.1) l.2
+
+  -- as it was opened
+  start_rests : (opening : Opening D) (count capacity k : ℕ) (log : Wal D) → opening.about.shards ≡ count → IsOpenedAt sight follows count capacity k log opening.about.bases
+      → Rests opening.about k (record { log = log; book = fresh_book opening.table opening.about k; opened = log })
+  start_rests opening count capacity k log counted o = record {
+    about_is = refl;
+    number = refl;
+    covers = λ f.
+        let base : base_at opening.about k ≡ o.m = index_get opening.about.bases k _ o.m o.there in
+        let means : o.m ≡ meaning (history_of opening.about k []) = sym (meaning-nothing (base_at opening.about k) ∙ base) in
+        let settled : IsSettled sight log (meaning (history_of opening.about k [])) = subst (IsSettled sight log) means (o.opened.settled f) in
+        let whose : owner log ≡ owner_of k opening.about.shards = o.opened.same_owner ∙ ap (owner_of k) (sym counted) in
+        subst (λ (w : Owner). Covers w opening.about.limits (slots sight log) (history_of opening.about k []) []) whose (settled_covers sight log opening.about.limits (history_of opening.about k []) [] settled);
+  }
+
+  -- in the middle of a turn a crash leaves the history before it and a beginning of the calls that it writes
+  within_turn : (about : About) (k : ℕ) (t : OneTurn D) (a b : List ℕ) → Rests about k t.old → IsMade sight follows t → Follow follows t.new.log → IsWithin t.old.book.about.limits (history_in t.old.book)
+      → MayBeLeft sight follows (Within t) a b → IsAllowed t.old.book (writing_then (Within t)) a b
+  within_turn about k t a b r m f within left = by m.turn
+    where
+      by : IsTurn sight follows t.old t.new t.jobs t.rest t.was t.now t.ended → IsAllowed t.old.book (writing_then (Within t)) a b
+      by (inl h) =
+          subst (λ (ts : List Announced). IsAllowed t.old.book (doubt_or t.old.book.items (changing_of t.old.book (asks_of ts))) a b)
+          (sym (front_of (tickets_of t.jobs) h.front (tickets_of t.rest) h.split))
+          (group_allowed t.old.book (asks_of h.front) a b within ((h.applied.any_moment f).each a b left.0 left.1))
+      by (inr (inl h)) =
+          subst (λ (ts : List Announced). IsAllowed t.old.book (doubt_or t.old.book.items (changing_of t.old.book (asks_of ts))) a b)
+          (sym (front_of (tickets_of t.jobs) (h.job.ticket ∷ []) (tickets_of t.rest) (ap tickets_of h.split)))
+          (group_allowed t.old.book (h.job.ticket.ask ∷ []) a b within (one_group t.old.book h.job.ticket.ask a b ((h.applied.any_moment f).each a b left.0 left.1)))
+      by (inr (inr h)) =
+          let g : Follow follows t.old.log = subst (λ (s : Sharded D). Follow follows s.log) h.same f in
+          let there = subst (λ (s : Sharded D). (slots sight s.log).first.left_since (slots sight t.old.log).first.moment a × (slots sight s.log).second.left_since (slots sight t.old.log).second.moment b) h.same left in
+          let now = since_now t.old.log a b g there.0 there.1 in
+          allowed_or t.old.book _ a b (r.covers g a b now.0 now.1)
+
+  -- at any moment
+  pub moment_covers : (about : About) (k : ℕ) (m : Moment D) (left : List D) → Rests about k (shard_then m) → IsMoment sight follows m → FollowThen sight follows m → IsWithin (shard_then m).book.about.limits (history_in (shard_then m).book)
+      → IsLeftThen sight follows m left → Covers (owner_of k about.shards) about.limits (slots_of sight left) (history_of about k (shard_then m).book.items) (writing_then m)
+  moment_covers about k (Between s) left r is f within l = λ a b x y.
+      let c = l.crash a b x y in
+      as_opening about k s.book (doubt_of s.book.items) a b r.about_is r.number (r.covers f a b c.0 c.1)
+  moment_covers about k (Within t) left r is f within l = λ a b x y.
+      as_opening about k t.old.book (writing_then (Within t)) a b r.about_is r.number (within_turn about k t a b r is f within (l.crash a b x y))
+
+  pub stretch_rests : (opening : Opening D) (threads : List Thread) (count capacity k : ℕ) (st : Stretch D) (is : IsStretch sight follows opening threads k st) → opening.about.shards ≡ count → IsOpenedAt sight follows count capacity k is.opened opening.about.bases → Rests opening.about k (shard_then st.moment)
+  stretch_rests opening threads count capacity k st is counted o = lead_rests opening.about k _ (shard_then st.moment) st.turns (start_rests opening count capacity k is.opened counted o) is.turned
+
+  pub stretch_covers : (opening : Opening D) (threads : List Thread) (count capacity k : ℕ) (st : Stretch D) (left : List D) (is : IsStretch sight follows opening threads k st) → opening.about.shards ≡ count → IsOpenedAt sight follows count capacity k is.opened opening.about.bases → IsLeftThen sight follows st.moment left
+      → Covers (owner_of k opening.about.shards) opening.about.limits (slots_of sight left) (history_of opening.about k (shard_then st.moment).book.items) (writing_then st.moment)
+  stretch_covers opening threads count capacity k st left is counted o l =
+      let r = stretch_rests opening threads count capacity k st is counted o in
+      let book : Booked = (shard_then st.moment).book in
+      let legal : IsWithin opening.about.limits (history_of opening.about k book.items) = legal-within (terms_of opening.about k) (history_of opening.about k book.items) is.legal.is in
+      let within : IsWithin book.about.limits (history_in book) =
+      subst (λ (x : About). IsWithin x.limits (history_of x book.shard book.items)) (sym r.about_is) (subst (λ (j : ℕ). IsWithin opening.about.limits (history_of opening.about j book.items)) (sym r.number) legal) in
+      moment_covers opening.about k st.moment left r is.moment is.follow within l

@@ -1,0 +1,88 @@
+-- One opening after another, each over what a crash left of the one before.
+use Rattle.std.specs.Prelude.{◌≡◌, ℕ, ◌<◌, List, [], ◌∷◌, ◌++◌, length, if◌then◌else◌}
+use Rattle.accept.specs.declared.limits.Limits.{Limits}
+use Rattle.accept.specs.declared.history.Ask.{Ask}
+use Rattle.accept.specs.declared.history.Item.{Item}
+use Rattle.accept.specs.declared.history.Item.TheVariants.{Answered, Failed}
+use Rattle.accept.specs.Rooms.{Streams}
+use Rattle.accept.specs.Histories.{meaning, answered_to}
+use Rattle.disk.specs.Sight.{Sight}
+use Rattle.history.specs.Histories.{IsBeginning, base_at}
+use Rattle.headline.specs.Threads.{AnsweredCall}
+use Rattle.headline.specs.Headline.{IsOneOf, WasAnswered, IsHeadline, is_refusal, shard_at, step_for}
+use Rattle.headline.specs.Lives.{Life, IsLife, MayBeReplayed, AreLeftAt, LogsFollow, writing_in}
+
+-- what was found of a shard's history after an opening: a beginning of it, and calls that were being written
+pub record Part : Type 0 where
+  pub beginning : List Item
+  pub more : List Ask
+
+-- the calls that were answered, and not refused
+abbrev pub answered_in : List Item → List Ask
+answered_in [] = []
+answered_in (Answered s ∷ items) = if is_refusal s.reply then answered_in items else s.ask ∷ answered_in items
+answered_in (Failed doubt ∷ items) = answered_in items
+
+-- the calls of all openings, one after another
+abbrev pub calls_found : List Part → List Ask
+calls_found [] = []
+calls_found (p ∷ parts) = (answered_in p.beginning ++ p.more) ++ calls_found parts
+
+-- so much of a history was found, with each call that was answered in that opening
+pub record IsPart {D : Type 0} (k : ℕ) (e : Life D) (history : ℕ → List Item) (p : Part) : Type 0 where
+  pub a_beginning_of_that_history : IsBeginning p.beginning (history k)
+  pub continued_only_by_calls_being_written : IsBeginning p.more (writing_in e.ends history k)
+  pub holds_every_answered_call : (a : AnsweredCall) → WasAnswered e.threads a → shard_at e.opening.about a ≡ k
+      → IsOneOf (step_for a) p.beginning
+
+abbrev pub AreParts : {D : Type 0} → ℕ → List (Life D) → List (ℕ → List Item) → List Part → Type 0
+AreParts k [] [] [] = Unit {0}
+AreParts k (e ∷ lives) (h ∷ histories) (p ∷ parts) = IsPart k e h p × AreParts k lives histories parts
+AreParts k lives histories parts = ⊥
+
+-- what the first of them found of shard k
+abbrev pub base_in : {D : Type 0} → ℕ → List (Life D) → Streams → Streams
+base_in k [] m = m
+base_in k (e ∷ lives) m = base_at e.opening.about k
+
+-- What was found of shard k in the end is what a one-thread ingester has that got all these calls, one after another.
+pub record IsTale {D : Type 0} (limits : Limits) (k : ℕ) (lives : List (Life D)) (histories : List (ℕ → List Item))
+    (state : Streams) : Type 0 where
+  pub parts : List Part
+  pub parts_are : AreParts k lives histories parts
+  pub the_state_after : state
+      ≡ meaning (answered_to limits (record { base = base_in k lives state; items = [] }) (calls_found parts))
+
+module _ {D : Type 0} (sight : D → Sight) (follows : D → Type 0) where
+  -- the next opening is over slots that a crash left
+  abbrev pub IsContinued : Life D → List (Life D) → Type 0
+  IsContinued e [] = Unit {0}
+  IsContinued e (next ∷ lives) = AreLeftAt sight follows e.ends next.given × LogsFollow sight follows next.opening.logs
+
+  -- openings of n shards under these limits, one after another
+  abbrev pub AreLives : ℕ → Limits → List (Life D) → Type 0
+  AreLives n limits [] = Unit {0}
+  AreLives n limits (e ∷ lives) = IsLife sight follows e × (length e.given ≡ n)
+      × (e.opening.about.limits ≡ limits) × IsContinued e lives × AreLives n limits lives
+
+  -- after the last of them a crash left slots of which the next opening has these streams of shard k
+  abbrev pub IsFoundLast : List (Life D) → ℕ → Streams → Type 0
+  IsFoundLast [] k state = ⊥
+  IsFoundLast (e ∷ []) k state = MayBeReplayed sight follows e.ends k state
+  IsFoundLast (e ∷ next ∷ lives) k state = IsFoundLast (next ∷ lives) k state
+
+  -- each by itself
+  abbrev pub AreHeadlines : List (Life D) → List (ℕ → List Item) → Type 0
+  AreHeadlines [] [] = Unit {0}
+  AreHeadlines (e ∷ lives) (h ∷ histories) =
+      IsHeadline e.opening.about e.threads h (writing_in e.ends h) (MayBeReplayed sight follows e.ends)
+      × AreHeadlines lives histories
+  AreHeadlines lives histories = ⊥
+
+  -- There is a history of each opening as the headline says, and whatever crash comes in the end, replay gives the state
+  -- after the calls of all of them.
+  pub record IsHeadlineOfLives (n : ℕ) (limits : Limits) (lives : List (Life D)) : Type 0 where
+    pub histories : List (ℕ → List Item)
+    pub each : AreHeadlines lives histories
+    pub whatever_crash_comes : (k : ℕ) → k < n → (state : Streams) → IsFoundLast lives k state
+        → IsTale limits k lives histories state

@@ -1,0 +1,91 @@
+-- The sentence on the front page, word by word.
+use Rattle.std.specs.Prelude.{◌≡◌, ◌⊎◌, ℕ, ◌+◌, ◌<◌, ◌==◌, Bool, true, false, List, [], ◌∷◌, filter, if◌then◌else◌}
+use Rattle.accept.specs.declared.call.Reply.{Reply}
+use Rattle.accept.specs.declared.call.Reply.TheVariants.{Verdict, Entries, Trimmed, TrimTooNew, NoStream, NoRoom, Unavailable}
+use Rattle.accept.specs.declared.history.Ask.{Ask}
+use Rattle.accept.specs.declared.history.Item.{Item}
+use Rattle.accept.specs.declared.history.Item.TheVariants.{Answered}
+use Rattle.accept.specs.declared.history.History.{History}
+use Rattle.accept.specs.Rooms.{Streams}
+use Rattle.accept.specs.Histories.{key_of, answer, meaning, reply_to, answered_to, is_step_of}
+use Rattle.accept.specs.OneKey.{only_about}
+use Rattle.history.specs.declared.views.About.{About}
+use Rattle.history.specs.Histories.{IsBeginning, IsLegalAt, IsByPasses, terms_of, history_of, shard_in, step_of}
+use Rattle.history.specs.Plays.{seen_at, ask_of, HasStepsOf}
+use Rattle.headline.specs.Threads.{Happening, Thread, AnsweredCall, happened_to, calls_answered_to}
+
+abbrev pub IsOneOf : {A : Type 0} → A → List A → Type 0
+IsOneOf x [] = ⊥
+IsOneOf x (y ∷ ys) = (x ≡ y) ⊎ IsOneOf x ys
+
+abbrev pub is_refusal : Reply → Bool
+is_refusal (Verdict outcomes) = false
+is_refusal (Entries entries) = false
+is_refusal (Trimmed removed) = false
+is_refusal TrimTooNew = false
+is_refusal NoStream = false
+is_refusal NoRoom = true
+is_refusal Unavailable = true
+
+-- an answered call under its pass and number, as its step, and all steps of it among some items
+abbrev pub ask_for : AnsweredCall → Ask
+ask_for a = ask_of a.knew (a.knew.last + 1) a.call
+
+abbrev pub step_for : AnsweredCall → Item
+step_for a = Answered (step_of (ask_for a) a.reply)
+
+abbrev pub steps_for : AnsweredCall → List Item → List Item
+steps_for a items = filter (is_step_of (ask_for a)) items
+
+-- what stands before the first step of a call
+abbrev pub before_step : Ask → List Item → List Item
+before_step ask [] = []
+before_step ask (i ∷ is) = if is_step_of ask i then [] else i ∷ before_step ask is
+
+-- the shard of an answered call, and what stands before its step there
+abbrev pub shard_at : About → AnsweredCall → ℕ
+shard_at about a = shard_in about (ask_for a)
+
+abbrev pub items_before : About → (ℕ → List Item) → AnsweredCall → List Item
+items_before about history a = before_step (ask_for a) (history (shard_at about a))
+
+abbrev pub history_before : About → (ℕ → List Item) → AnsweredCall → History
+history_before about history a = history_of about (shard_at about a) (items_before about history a)
+
+abbrev pub WasAnswered : List Thread → AnsweredCall → Type 0
+WasAnswered threads a = IsOneOf a (calls_answered_to threads)
+
+-- .. replay gives the state after a beginning of that history, continued only by calls then being written, that holds
+-- every answered call.
+pub record IsReplay (about : About) (threads : List Thread) (k : ℕ) (history : List Item) (writing : List Ask)
+    (state : Streams) : Type 0 where
+  pub beginning : List Item
+  pub more : List Ask
+  pub the_state_after : state ≡ meaning (answered_to about.limits (history_of about k beginning) more)
+  pub a_beginning_of_that_history : IsBeginning beginning history
+  pub continued_only_by_calls_being_written : IsBeginning more writing
+  pub holds_every_answered_call : (a : AnsweredCall) → WasAnswered threads a → shard_at about a ≡ k
+      → IsOneOf (step_for a) beginning
+
+-- However many threads call, each shard's calls stand in one growing history, each answered call once, after all its
+-- pass had seen, with the reply a one-thread ingester computes from the earlier steps on that stream or a refusal in its
+-- stated place; and whatever crash comes, ..
+pub record IsHeadline (about : About) (threads : List Thread) (history : ℕ → List Item) (writing : ℕ → List Ask)
+    (replay : ℕ → Streams → Type 0) : Type 0 where
+  pub each_shards_calls : (k : ℕ) → k < about.shards
+      → IsLegalAt about k (history k) × IsByPasses about.passes (history k)
+  pub one_growing_history : (h : Happening) → IsOneOf h (happened_to threads) → (k : ℕ) → k < about.shards
+      → IsBeginning (seen_at h.before.caller k) (seen_at h.after.caller k)
+      × IsBeginning (seen_at h.after.caller k) (history k)
+  pub each_answered_call_once : (a : AnsweredCall) → WasAnswered threads a → (k : ℕ) → k < about.shards
+      → steps_for a (history k) ≡ (if k == shard_at about a then step_for a ∷ [] else [])
+  pub and_no_others : (t : Thread) → IsOneOf t threads → (k : ℕ) → k < about.shards
+      → HasStepsOf t.end.caller k (history k)
+  pub after_all_its_pass_had_seen : (a : AnsweredCall) → WasAnswered threads a
+      → IsBeginning (seen_at a.knew (shard_at about a)) (items_before about history a)
+  pub the_reply : (a : AnsweredCall) → WasAnswered threads a → is_refusal a.reply ≡ false
+      → a.reply ≡ answer about.limits (only_about (key_of a.call) (history_before about history a)) a.call
+  pub a_refusal_in_its_stated_place : (a : AnsweredCall) → WasAnswered threads a
+      → a.reply ≡ reply_to (terms_of about (shard_at about a)) (history_before about history a) a.call
+  pub whatever_crash_comes : (k : ℕ) → k < about.shards → (state : Streams) → replay k state
+      → IsReplay about threads k (history k) (writing k) state

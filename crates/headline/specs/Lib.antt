@@ -1,0 +1,5 @@
+pub mod Threads
+pub mod Headline
+pub mod Turns
+pub mod Lives
+pub mod Chains

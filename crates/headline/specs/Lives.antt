@@ -1,0 +1,96 @@
+-- An opening until it is closed or a crash comes, and what is then left of its slots.
+use Rattle.std.specs.Prelude.{◌≡◌, ℕ, ◌≤◌, List, [], ◌∷◌, Bool, Option, Some, None, length, slice_get}
+use Rattle.accept.specs.declared.limits.Limits.{Limits}
+use Rattle.accept.specs.declared.history.Ask.{Ask}
+use Rattle.accept.specs.declared.history.Item.{Item}
+use Rattle.accept.specs.Rooms.{Streams}
+use Rattle.disk.specs.Sight.{Sight}
+use Rattle.wal.specs.declared.log.Wal.{Wal}
+use Rattle.wal.specs.Logs.{Follow}
+use Rattle.wal.specs.Opening.{AllFollow}
+use Rattle.history.specs.Histories.{doubt_of}
+use Rattle.history.specs.Handles.{about_of}
+use Rattle.owners.specs.Openings.{Opening}
+use Rattle.openings.specs.Findings.{AreOpenedFrom}
+use Rattle.ingester.specs.Closings.{IsHandedOut}
+use Rattle.headline.specs.Threads.{Thread, IsThread, last_passes}
+use Rattle.headline.specs.Headline.{IsOneOf}
+use Rattle.headline.specs.Turns.{Stretch, IsStretch, IsLeftThen, writing_then}
+
+-- The end of a shard: `Closed::take` handed out its slots, or a crash came at some moment before.
+pub data ShardEnd (D : Type 0) : Type 0 where
+  HandedOut : List D × Bool → ShardEnd D
+  CutAt : Stretch D → ShardEnd D
+
+-- An opening: over which slots, what happened to its passes, and how each shard ended.
+pub record Life (D : Type 0) : Type 0 where
+  pub given : List (List D)
+  pub opening : Opening D
+  pub threads : List Thread
+  pub ends : List (ShardEnd D)
+
+-- the calls that are then being written, where these items are the shard's history
+abbrev pub writing_at : {D : Type 0} → Option (ShardEnd D) → List Item → List Ask
+writing_at None items = []
+writing_at (Some (HandedOut it)) items = doubt_of items
+writing_at (Some (CutAt st)) items = writing_then st.moment
+
+abbrev pub writing_in : {D : Type 0} → List (ShardEnd D) → (ℕ → List Item) → ℕ → List Ask
+writing_in ends history k = writing_at (slice_get ends k) (history k)
+
+-- A crash left the new disk of the old one: what may be left of it from now on might have been left of the old one. So
+-- it is where nothing happened in between, and where one of the contents that the old disk may leave is all there is.
+pub record IsLeftBy (old new : Sight) : Type 0 where
+  pub crash : (c : List ℕ) → new.may_leave c → old.may_leave c
+
+module _ {D : Type 0} (sight : D → Sight) (follows : D → Type 0) where
+  abbrev pub AreLeftBy : List D → List D → Type 0
+  AreLeftBy [] [] = Unit {0}
+  AreLeftBy (old ∷ olds) (new ∷ news) = IsLeftBy (sight old) (sight new) × AreLeftBy olds news
+  AreLeftBy olds news = ⊥
+
+  -- a crash left these slots of a shard
+  abbrev pub LeftAt : ShardEnd D → List D → Type 0
+  LeftAt (HandedOut it) left = AreLeftBy it.0 left
+  LeftAt (CutAt st) left = IsLeftThen sight follows st.moment left
+
+  -- and of each shard
+  abbrev pub AreLeftAt : List (ShardEnd D) → List (List D) → Type 0
+  AreLeftAt [] [] = Unit {0}
+  AreLeftAt (end ∷ ends) (left ∷ all) = LeftAt end left × AreLeftAt ends all
+  AreLeftAt ends all = ⊥
+
+  abbrev pub LogsFollow : List (Wal D) → Type 0
+  LogsFollow [] = Unit {0}
+  LogsFollow (log ∷ logs) = Follow follows log × LogsFollow logs
+
+  -- What is so of the end of shard k. Of slots that were handed out, the disks have followed the model.
+  abbrev pub IsEnd : Opening D → List Thread → ℕ → ShardEnd D → Type 0
+  IsEnd opening threads k (HandedOut it) = IsHandedOut sight follows opening (last_passes threads) k it × AllFollow follows it.0
+  IsEnd opening threads k (CutAt st) = IsStretch sight follows opening threads k st
+
+  -- `Ingester::open` made the opening over these slots, this happened to its passes, and so its shards ended.
+  pub record IsLife (life : Life D) : Type 0 where
+    pub passes : ℕ
+    pub limits : Limits
+    pub capacity : ℕ
+    pub some_shard : 1 ≤ length life.given
+    pub shards : life.opening.about.shards ≡ length life.given
+    pub found : AreOpenedFrom sight follows (length life.given) capacity 0 life.given life.opening.logs
+        life.opening.about.bases
+    pub about : life.opening.about ≡ about_of life.opening.about.bases passes limits capacity
+    pub threads_are : (t : Thread) → IsOneOf t life.threads → IsThread life.opening t
+    pub ends_of_all : length life.ends ≡ length life.given
+    pub ends_are : (k : ℕ) (end : ShardEnd D) → slice_get life.ends k ≡ Some end
+        → IsEnd life.opening life.threads k end
+
+  -- a crash left slots over which the next opening has these streams of shard k
+  pub record MayBeReplayed (ends : List (ShardEnd D)) (k : ℕ) (state : Streams) : Type 0 where
+    pub left : List (List D)
+    pub crash : AreLeftAt ends left
+    pub capacity : ℕ
+    pub logs : List (Wal D)
+    pub states : List Streams
+    pub found : AreOpenedFrom sight follows (length left) capacity 0 left logs states
+    pub follow : LogsFollow logs
+    pub there : slice_get states k ≡ Some state

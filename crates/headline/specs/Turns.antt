@@ -1,0 +1,99 @@
+-- A shard between its opening and its end: the turns that its owner made, and what a crash then leaves.
+use Rattle.std.specs.Prelude.{◌≡◌, ◌-◌, ℕ, List, [], ◌∷◌, take, length, Some, slice_get}
+use Rattle.accept.specs.declared.history.Ask.{Ask}
+use Rattle.disk.specs.Sight.{Sight}
+use Rattle.wal.specs.declared.log.Wal.{Wal}
+use Rattle.wal.specs.Logs.{Follow, slots}
+use Rattle.wal.specs.Opening.{slots_of}
+use Rattle.history.specs.Histories.{IsLegalAt, IsByPasses, doubt_of, doubt_or}
+use Rattle.history.specs.Handles.{Announced, asks_of, fresh_book}
+use Rattle.shard.specs.declared.front.Job.{Job}
+use Rattle.shard.specs.declared.front.Ended.{Ended}
+use Rattle.shard.specs.declared.group.Settled.{Settled}
+use Rattle.shard.specs.Groups.{changing_of}
+use Rattle.shard.specs.Jobs.{tickets_of}
+use Rattle.shard.specs.Keeping.{Keeps}
+use Rattle.shard.specs.Shards.{Sharded}
+use Rattle.shard.specs.Turns.{IsTurn}
+use Rattle.owners.specs.Openings.{Opening}
+use Rattle.ingester.specs.Closings.{IsTold}
+use Rattle.headline.specs.Threads.{Thread}
+use Rattle.headline.specs.Headline.{IsOneOf}
+
+-- a turn of a shard at some jobs
+pub record OneTurn (D : Type 0) : Type 0 where
+  pub old : Sharded D
+  pub new : Sharded D
+  pub jobs : List Job
+  pub rest : List Job
+  pub was : List Settled
+  pub now : List Settled
+  pub ended : Ended
+
+-- the jobs that it takes, from the first on
+abbrev pub taken_in : {D : Type 0} → OneTurn D → List Announced
+taken_in t = take (length (tickets_of t.jobs) - length (tickets_of t.rest)) (tickets_of t.jobs)
+
+-- where the owner of a shard is: between two turns, or in the middle of one
+pub data Moment (D : Type 0) : Type 0 where
+  Between : Sharded D → Moment D
+  Within : OneTurn D → Moment D
+
+-- the turns that a shard made, and where its owner is then
+pub record Stretch (D : Type 0) : Type 0 where
+  pub turns : List (OneTurn D)
+  pub moment : Moment D
+
+-- the shard, without the turn that it is in
+abbrev pub shard_then : {D : Type 0} → Moment D → Sharded D
+shard_then (Between s) = s
+shard_then (Within t) = t.old
+
+-- the calls that are then being written: those in doubt by the mark, or those of the turn that change something
+abbrev pub writing_then : {D : Type 0} → Moment D → List Ask
+writing_then (Between s) = doubt_of s.book.items
+writing_then (Within t) = doubt_or t.old.book.items (changing_of t.old.book (asks_of (taken_in t)))
+
+module _ {D : Type 0} (sight : D → Sight) (follows : D → Type 0) where
+  -- what `Shard::apply_group` says
+  pub record IsMade (t : OneTurn D) : Type 0 where
+    pub turn : IsTurn sight follows t.old t.new t.jobs t.rest t.was t.now t.ended
+    pub covered : Follow follows t.new.log → Keeps (slots sight t.new.log) t.new.book (doubt_of t.new.book.items)
+
+  -- these turns lead from one shard to another
+  abbrev pub Lead : Sharded D → List (OneTurn D) → Sharded D → Type 0
+  Lead start [] end = end ≡ start
+  Lead start (t ∷ ts) end = (t.old ≡ start) × IsMade t × Lead t.new ts end
+
+  -- of a moment, what there is to say of the turn that it is in
+  abbrev pub IsMoment : Moment D → Type 0
+  IsMoment (Between s) = Unit {0}
+  IsMoment (Within t) = IsMade t
+
+  -- the disks have followed the model so far
+  abbrev pub FollowThen : Moment D → Type 0
+  FollowThen (Between s) = Follow follows s.log
+  FollowThen (Within t) = Follow follows t.new.log
+
+  -- Shard k from the opening on. The book was compared with each of the passes (`Shard::settle`).
+  pub record IsStretch (opening : Opening D) (threads : List Thread) (k : ℕ) (st : Stretch D) : Type 0 where
+    pub opened : Wal D
+    pub opened_as : slice_get opening.logs k ≡ Some opened
+    pub turned : Lead (record { log = opened; book = fresh_book opening.table opening.about k; opened = opened })
+        st.turns (shard_then st.moment)
+    pub moment : IsMoment st.moment
+    pub follow : FollowThen st.moment
+    pub legal : IsLegalAt opening.about k (shard_then st.moment).book.items
+    pub by_passes : IsByPasses opening.about.passes (shard_then st.moment).book.items
+    pub told : (t : Thread) → IsOneOf t threads → IsTold k (shard_then st.moment).book.items t.end
+
+  -- what a crash leaves of both slots: now, or at any moment from the turn's start on
+  abbrev pub MayBeLeft : Moment D → List ℕ → List ℕ → Type 0
+  MayBeLeft (Between s) a b = (slots sight s.log).first.may_leave a × (slots sight s.log).second.may_leave b
+  MayBeLeft (Within t) a b = (slots sight t.new.log).first.left_since (slots sight t.old.log).first.moment a
+      × (slots sight t.new.log).second.left_since (slots sight t.old.log).second.moment b
+
+  -- slots of which only that may be left from now on
+  pub record IsLeftThen (moment : Moment D) (left : List D) : Type 0 where
+    pub crash : (a b : List ℕ) → (slots_of sight left).first.may_leave a → (slots_of sight left).second.may_leave b
+        → MayBeLeft moment a b

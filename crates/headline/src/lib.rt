@@ -1,0 +1,6 @@
+//! The headline as laws, over what the public calls of an ingester promise.
+#![tactic(auto)]
+
+mod laws;
+
+pub use laws::{headline, headline_of_openings};
