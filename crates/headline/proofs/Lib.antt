@@ -6,3 +6,4 @@ pub mod Saying
 pub mod Turning
 pub mod Ending
 pub mod Telling
+pub mod Sample
