@@ -7,3 +7,4 @@ pub mod Turning
 pub mod Ending
 pub mod Telling
 pub mod Sample
+pub mod Together
