@@ -5,7 +5,7 @@ WORKERS ?= 64
 
 .PHONY: help run demo sample test edits faults check check-docs fmt bench kill failed-disk roll-time deb deb-check \
 	edge-check drain-check pictures deb-lint metrics-check metrics-cost fill-check split-check \
-	power-loss sync-check outside-check soak scale-check start-time default-shards
+	power-loss sync-check outside-check soak scale-check start-time default-shards theorem-check
 
 help: ## prints this
 	@sed -nE 's/^([a-z][a-z-]*):.*## (.*)/\1\t\2/p' Makefile | while IFS='	' read -r name words; do \
@@ -95,6 +95,9 @@ test: ## the merge gate: every proof from nothing, edits, tests, cases, refused 
 
 edits: ## tries all wrong bodies, and prints the goal that each leaves open (CRATES="labels accept" JOBS=2)
 	@RT='$(RT)' tests/edits $(if $(JOBS),--jobs $(JOBS)) $(CRATES)
+
+theorem-check: ## tries wrong headlines, each of which a small run refutes and the law must not prove
+	@RT='$(RT)' tests/theorem_check $(NAMES)
 
 faults: ## hostile bytes, refused memory, bad files, slow clients, held to the definitions (some minutes)
 	@RT='$(RT)' tests/build bench ingest1 call_cases conformance quiet_calls ingestctl server walcat walsplit

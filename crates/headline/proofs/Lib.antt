@@ -6,3 +6,5 @@ pub mod Saying
 pub mod Turning
 pub mod Ending
 pub mod Telling
+pub mod Sample
+pub mod Together

@@ -58,6 +58,12 @@ HappenAfter lost opening start [] end = end ≡ start
 HappenAfter lost opening start (h ∷ hs) end = (h.before ≡ start) × Happens lost opening h.before h.what h.after
     × HappenAfter (leaves_call_in_doubt h.what) opening h.after hs end
 
+-- these calls, and what came of each
+abbrev pub calls_with : List Call → List (Result Reply CallFault) → List What
+calls_with [] outcomes = []
+calls_with (call ∷ calls) [] = []
+calls_with (call ∷ calls) (outcome ∷ outcomes) = Called call outcome ∷ calls_with calls outcomes
+
 -- a pass from the opening on: its number, all that happened to it, and what it knows at the end
 pub record Thread : Type 0 where
   pub number : ℕ

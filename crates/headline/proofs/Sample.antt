@@ -1,0 +1,206 @@
+-- Small runs of which the record holds, so that a changed record can be refuted by them.
+use Rattle.std.proofs.Common.{◌≡◌, ℕ, zero, suc, ◌<◌, Bool, true, false, List, [], ◌∷◌, ◌++◌, take, refl, sym, ap, ◌∙◌, subst, inl, inr, ⊎_elim, arith, Some, None}
+use Rattle.std.specs.Prelude.{slice_get, slice_index_or, ◌==◌, if◌then◌else◌, is_some, Ok}
+use Rattle.std.specs.FinMap as finite
+use Rattle.std.proofs.lemmas.Bool.{true≢false}
+use Rattle.labels.specs.declared.key.StreamKey.{StreamKey}
+use Rattle.accept.specs.declared.call.Call.TheVariants.{Push}
+use Rattle.accept.specs.declared.call.Reply.TheVariants.{Unavailable}
+use Rattle.accept.specs.declared.history.Ask.{Ask}
+use Rattle.accept.specs.declared.history.Step.{Step}
+use Rattle.accept.specs.declared.history.Item.{Item}
+use Rattle.accept.specs.declared.history.Item.TheVariants.{Answered, Failed}
+use Rattle.accept.specs.Rooms.{Streams}
+use Rattle.accept.specs.Histories.{meaning, stream_of, MayFollow, answered_to, reply_to}
+use Rattle.accept.proofs.Meanings.{get-meaning}
+use Rattle.history.specs.declared.views.About.{About}
+use Rattle.history.specs.Shards.{shard_of}
+use Rattle.history.specs.Histories.{IsBeginning, IsLegalAt, IsByPasses, terms_of, history_of}
+use Rattle.history.specs.Plays.{seen_at, HasStepsOf}
+use Rattle.history.specs.Handles.{Passed}
+use Rattle.headline.specs.Threads.{Called, Happening, Thread, AnsweredCall, happened_to}
+use Rattle.headline.specs.Headline.{IsOneOf, WasAnswered, IsReplay, IsHeadline, is_refusal, shard_at, step_for, steps_for, items_before, history_before}
+
+abbrev pub key : ℕ → StreamKey
+key n = record { tenant = 97 ∷ []; labels = n ∷ [] }
+
+-- a push of one entry on the key of this number, which is also the call's
+abbrev pub push : ℕ → Ask
+push n = record { pass = 0; number = n; call = Push (key n) 5 (record { time = 5; line = 108 ∷ []; meta = [] } ∷ []) }
+
+abbrev pub about : About
+about = record { shards = 1; passes = 1; limits = record { line = 100; half_age = 10; max_old = 100; max_ahead = 100 }; capacity = 1000; bases = [] }
+
+-- The one call of the one pass: a device failed while it was written, and it was answered so.
+abbrev pub step : Step
+step = record { ask = push 1; reply = Unavailable }
+
+abbrev pub items : List Item
+items = Failed (push 1 ∷ []) ∷ Answered step ∷ []
+
+abbrev pub failed : ℕ → List Item
+failed k = items
+
+abbrev pub in_doubt : ℕ → List Ask
+in_doubt k = push 1 ∷ []
+
+-- it was found
+abbrev pub found : ℕ → Streams → Type 0
+found k state = state ≡ meaning (answered_to about.limits (history_of about k items) (push 1 ∷ []))
+
+module _ (any : Passed) where
+  abbrev pub knows : ℕ → List Item → List Step → Passed
+  knows last seen made = record {
+    table = any.table;
+    caller = record { about = about; pass = 0; last = last; seen = seen ∷ []; made = made; withdrawn = []; pending = [] };
+    closed = false;
+  }
+
+  abbrev pub happening : Happening
+  happening = record { before = knows 0 [] []; what = Called step.ask.call (Ok step.reply); after = knows 1 items (step ∷ []) }
+
+  abbrev pub threads : List Thread
+  threads = record { number = 0; happened = happening ∷ []; end = knows 1 items (step ∷ []) } ∷ []
+
+  abbrev pub answered : AnsweredCall
+  answered = record { knew = (knows 0 [] []).caller; call = step.ask.call; reply = step.reply }
+
+  may_fail : MayFollow (terms_of about 0) (history_of about 0 []) (Failed (push 1 ∷ []))
+  unfolding shard_of
+  may_fail = (refl, refl)
+
+  may_answer : MayFollow (terms_of about 0) (history_of about 0 (Failed (push 1 ∷ []) ∷ [])) (Answered step)
+  unfolding shard_of
+  may_answer = (refl, refl, refl)
+
+  legal : IsLegalAt about 0 items
+  legal = record { is = at }
+    where
+      at : (n : ℕ) (i : Item) → slice_get items n ≡ Some i → MayFollow (terms_of about 0) (history_of about 0 (take n items)) i
+      at zero i e = let same : Failed (push 1 ∷ []) ≡ i = cc in subst (MayFollow (terms_of about 0) (history_of about 0 [])) same may_fail
+      at (suc zero) i e = let same : Answered step ≡ i = cc in subst (MayFollow (terms_of about 0) (history_of about 0 (Failed (push 1 ∷ []) ∷ []))) same may_answer
+      at (suc (suc n)) i e = let never : None ≡ Some i = e in absurd (cc)
+
+  only_happening : (h : Happening) → IsOneOf h (happened_to threads) → h ≡ happening
+  only_happening h one = ⊎_elim (λ (e : h ≡ happening). e) (λ (n : ⊥). absurd n) one
+
+  only_call : (a : AnsweredCall) → WasAnswered threads a → a ≡ answered
+  only_call a one = ⊎_elim (λ (e : a ≡ answered). e) (λ (n : ⊥). absurd n) one
+
+  grows : (k : ℕ) → k < 1 → IsBeginning (slice_index_or ([] ∷ []) k []) (slice_index_or (items ∷ []) k []) × IsBeginning (slice_index_or (items ∷ []) k []) items
+  grows zero lt = (record { rest = items; is = refl }, record { rest = []; is = refl })
+  grows (suc k) lt = absurd (omega arith)
+
+  once : (k : ℕ) → k < 1 → steps_for answered items ≡ (if k == shard_at about answered then Answered step ∷ [] else [])
+  unfolding shard_of
+  once zero lt = refl
+  once (suc k) lt = absurd (omega arith)
+
+  its : (k : ℕ) → k < 1 → HasStepsOf (knows 1 items (step ∷ [])).caller k items
+  unfolding shard_of
+  its zero lt = record { rest = []; is = refl; among = tt; rises = tt; told = (inl (inl refl), tt) }
+  its (suc k) lt = absurd (omega arith)
+
+  seen_before : IsBeginning (seen_at answered.knew (shard_at about answered)) (items_before about failed answered)
+  unfolding shard_of
+  seen_before = record { rest = Failed (push 1 ∷ []) ∷ []; is = refl }
+
+  due : Unavailable ≡ reply_to (terms_of about (shard_at about answered)) (history_before about failed answered) answered.call
+  unfolding shard_of
+  due = refl
+
+  pub stands : IsHeadline about threads failed in_doubt found
+  stands = record {
+    each_shards_calls = each;
+    one_growing_history = λ h one k lt. subst (λ (g : Happening). IsBeginning (seen_at g.before.caller k) (seen_at g.after.caller k) × IsBeginning (seen_at g.after.caller k) items) (sym (only_happening h one)) (grows k lt);
+    each_answered_call_once = λ a one. subst (λ (b : AnsweredCall). (k : ℕ) → k < 1 → steps_for b items ≡ (if k == shard_at about b then step_for b ∷ [] else [])) (sym (only_call a one)) once;
+    and_no_others = λ t one. ⊎_elim (λ (e : t ≡ _). subst (λ (u : Thread). (k : ℕ) → k < 1 → HasStepsOf u.end.caller k items) (sym e) its) (λ (n : ⊥). absurd n) one;
+    after_all_its_pass_had_seen = λ a one. subst (λ (b : AnsweredCall). IsBeginning (seen_at b.knew (shard_at about b)) (items_before about failed b)) (sym (only_call a one)) seen_before;
+    the_reply = λ a one e. absurd (true≢false (ap (λ (b : AnsweredCall). is_refusal b.reply) (sym (only_call a one)) ∙ e));
+    a_refusal_in_its_stated_place = λ a one. subst (λ (b : AnsweredCall). b.reply ≡ reply_to (terms_of about (shard_at about b)) (history_before about failed b) b.call) (sym (only_call a one)) due;
+    whatever_crash_comes = λ k lt state e. replayed k lt state e;
+  }
+    where
+      each : (k : ℕ) → k < 1 → IsLegalAt about k items × IsByPasses 1 items
+      each zero lt = (legal, ((omega arith, tt), (omega arith, tt)))
+      each (suc k) lt = absurd (omega arith)
+
+      replayed : (k : ℕ) → k < 1 → (state : Streams) → found k state → IsReplay about threads k items (push 1 ∷ []) state
+      replayed zero lt state e = record {
+        beginning = items;
+        more = push 1 ∷ [];
+        the_state_after = e;
+        a_beginning_of_that_history = record { rest = []; is = refl };
+        continued_only_by_calls_being_written = record { rest = []; is = refl };
+        holds_every_answered_call = λ a one s. subst (λ (b : AnsweredCall). IsOneOf (step_for b) items) (sym (only_call a one)) (inr (inl refl));
+      }
+      replayed (suc k) lt state e = absurd (omega arith)
+
+-- Two calls were being written, and the first of them was found.
+abbrev pub nothing : ℕ → List Item
+nothing k = []
+
+abbrev pub two : ℕ → List Ask
+two k = push 1 ∷ push 2 ∷ []
+
+abbrev pub one_found : ℕ → Streams → Type 0
+one_found k state = state ≡ meaning (answered_to about.limits (history_of about k []) (push 1 ∷ []))
+
+pub also_stands : IsHeadline about [] nothing two one_found
+also_stands = record {
+  each_shards_calls = λ k lt. (record { is = λ n i e. let never : None ≡ Some i = e in absurd (cc) }, tt);
+  one_growing_history = λ h one. absurd one;
+  each_answered_call_once = λ a one. absurd one;
+  and_no_others = λ t one. absurd one;
+  after_all_its_pass_had_seen = λ a one. absurd one;
+  the_reply = λ a one. absurd one;
+  a_refusal_in_its_stated_place = λ a one. absurd one;
+  whatever_crash_comes = λ k lt state e. record {
+    beginning = [];
+    more = push 1 ∷ [];
+    the_state_after = e;
+    a_beginning_of_that_history = record { rest = []; is = refl };
+    continued_only_by_calls_being_written = record { rest = push 2 ∷ []; is = refl };
+    holds_every_answered_call = λ a one. absurd one;
+  };
+}
+
+-- whether there is a stream on the key of this number
+abbrev pub has_stream : ℕ → List Ask → Bool
+has_stream n asks = is_some (stream_of (answered_to about.limits (history_of about 0 []) asks) (key n))
+
+one_one : has_stream 1 (push 1 ∷ []) ≡ true
+one_one = simp finite.get-empty
+
+one_none : has_stream 1 [] ≡ false
+one_none = simp finite.get-empty
+
+two_one : has_stream 2 (push 1 ∷ []) ≡ false
+two_one = simp finite.get-empty
+
+two_two : has_stream 2 (push 2 ∷ []) ≡ true
+two_two = simp finite.get-empty
+
+two_both : has_stream 2 (push 2 ∷ push 1 ∷ []) ≡ true
+two_both = simp finite.get-empty
+
+-- calls that lead to the same state lead to the same streams
+same_streams : (n : ℕ) (xs ys : List Ask) → meaning (answered_to about.limits (history_of about 0 []) xs) ≡ meaning (answered_to about.limits (history_of about 0 []) ys) → has_stream n xs ≡ has_stream n ys
+same_streams n xs ys e =
+    ap is_some (sym (get-meaning (answered_to about.limits (history_of about 0 []) xs) (key n)))
+    ∙ ap (λ m. is_some (finite.get m (key n))) e
+    ∙ ap is_some (get-meaning (answered_to about.limits (history_of about 0 []) ys) (key n))
+
+-- no beginning of the two calls in the other order leads to what was found
+pub other_found : (front : List Item) → IsBeginning front [] → (more : List Ask) → IsBeginning more (push 2 ∷ push 1 ∷ []) → meaning (answered_to about.limits (history_of about 0 []) (push 1 ∷ [])) ≡ meaning (answered_to about.limits (history_of about 0 front) more) → ⊥
+other_found (x ∷ front) b more o e = let never : [] ≡ x ∷ (front ++ b.rest) = b.is in cc
+other_found [] b [] o e = true≢false (sym one_one ∙ same_streams 1 (push 1 ∷ []) [] e ∙ one_none)
+other_found [] b (x ∷ []) o e =
+    let one : push 2 ≡ x = let is : push 2 ∷ push 1 ∷ [] ≡ x ∷ o.rest = o.is in cc in
+    true≢false (sym two_two ∙ ap (λ a. has_stream 2 (a ∷ [])) one ∙ sym (same_streams 2 (push 1 ∷ []) (x ∷ []) e) ∙ two_one)
+other_found [] b (x ∷ y ∷ []) o e =
+    let both : push 2 ∷ push 1 ∷ [] ≡ x ∷ y ∷ o.rest = o.is in
+    let one : push 2 ≡ x = cc in
+    let other : push 1 ≡ y = cc in
+    true≢false (sym two_both ∙ ap (λ a. has_stream 2 (a ∷ push 1 ∷ [])) one ∙ ap (λ a. has_stream 2 (x ∷ a ∷ [])) other ∙ sym (same_streams 2 (push 1 ∷ []) (x ∷ y ∷ []) e) ∙ two_one)
+other_found [] b (x ∷ y ∷ z ∷ more) o e = let never : push 2 ∷ push 1 ∷ [] ≡ x ∷ y ∷ z ∷ (more ++ o.rest) = o.is in cc

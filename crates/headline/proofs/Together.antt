@@ -1,0 +1,23 @@
+-- Calls that are made together happen one after another.
+use Rattle.std.proofs.Common.{◌≡◌, Bool, false, List, [], ◌∷◌, map, refl, ap}
+use Rattle.std.specs.Prelude.{Result}
+use Rattle.accept.specs.declared.call.Call.{Call}
+use Rattle.accept.specs.declared.call.Reply.{Reply}
+use Rattle.history.specs.Handles.{Passed}
+use Rattle.owners.specs.Openings.{Opening}
+use Rattle.ingester.specs.declared.fault.CallFault.{CallFault}
+use Rattle.ingester.specs.Calls.{AreGivenAfter}
+use Rattle.headline.specs.Threads.{Called, Happening, HappenAfter, calls_with}
+
+module _ {D : Type 0} (opening : Opening D) where
+  pub in_order : (lost : Bool) (old new : Passed) (calls : List Call) (outcomes : List (Result Reply CallFault)) → AreGivenAfter lost opening old calls outcomes new
+      → (hs : List Happening) × HappenAfter lost opening old hs new × (map (λ h. h.what) hs ≡ calls_with calls outcomes)
+  in_order lost old new [] [] is = ([], is, refl)
+  in_order lost old new [] (r ∷ rs) is = absurd is
+  in_order lost old new (call ∷ calls) [] is = absurd is
+  in_order lost old new (call ∷ calls) (r ∷ rs) is =
+      let rest = in_order _ is.0 new calls rs is.2 in (
+        record { before = old; what = Called call r; after = is.0 } ∷ rest.0,
+        (refl, is.1, rest.1),
+        ap (λ l. Called call r ∷ l) rest.2
+      )

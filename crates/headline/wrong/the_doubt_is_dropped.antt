@@ -1,0 +1,4 @@
+refuted : IsHeadline about [] nothing two one_found → ⊥
+refuted h =
+    let r = h.whatever_crash_comes 0 (omega arith) _ refl in
+    other_found r.beginning r.a_beginning_of_that_history [] (record { rest = push 2 ∷ push 1 ∷ []; is = refl }) r.the_state_after
