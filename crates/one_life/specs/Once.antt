@@ -1,0 +1,20 @@
+-- What the public calls of an ingester promise of a small life.
+use Rattle.std.specs.Prelude.{◌≡◌, List, [], ◌∷◌, Bool, map, Result}
+use Rattle.accept.specs.declared.call.Call.{Call}
+use Rattle.accept.specs.declared.call.Reply.{Reply}
+use Rattle.disk.specs.Sight.{Sight}
+use Rattle.wal.specs.Opening.{AllFollow}
+use Rattle.ingester.specs.declared.fault.CallFault.{CallFault}
+use Rattle.headline.specs.Threads.{Called, happened_to}
+use Rattle.headline.specs.Lives.{Life, HandedOut, IsLife}
+
+-- a life of an opening over these slots: this one call was made, and the one shard was handed out, of which the disks have
+-- followed the model
+pub record IsLivedOnce {D : Type 0} (sight : D → Sight) (follows : D → Type 0) (given : List (List D)) (call : Call)
+    (handed : List D × Bool) : Type 0 where
+  pub life : Life D
+  pub is_life : AllFollow follows handed.0 → IsLife sight follows life
+  pub given_are : life.given ≡ given
+  pub ends_are : life.ends ≡ HandedOut handed ∷ []
+  pub outcome : Result Reply CallFault
+  pub happened : map (λ h. h.what) (happened_to life.threads) ≡ Called call outcome ∷ []

@@ -1,0 +1,45 @@
+//! One opening, one call, and the end.
+ghost use Rattle.std.specs.Prelude.{◌≡◌, ◌≤◌, ◌^◌, vec_len, IfSome};
+ghost use Rattle.accept.specs.OneStream.{AreLimits};
+ghost use Rattle.accept.specs.Calls.{AreNumbers};
+ghost use Rattle.one_life.specs.Once.{IsLivedOnce};
+
+use accept::{Call, Limits};
+use disk::Disk;
+use ingester::Ingester;
+use std::alloc::Global;
+use std::sync::Wait;
+use std::thread::Threads;
+
+/// Opens one shard, makes one call, and closes: what comes out is the life of an opening.
+///
+/// # Errors
+///
+/// None where the opening is refused; its slots are then dropped.
+pub fn live_once<D: Disk + Drop, R, H>(
+    rt: &R,
+    handle: H,
+    alloc: Global,
+    slots: Vec<[D; 2]>,
+    limits: Limits,
+    capacity: u64,
+    call: Call,
+) -> Option<([D; 2], bool)>
+where
+    D: Send + 'static,
+    R: Threads + Wait + Sync,
+    H: Wait + Copy + Send + 'static,
+    requires slots { vec_len slots ≡ 1 }
+    requires limits { AreLimits limits }
+    requires capacity { capacity ≤ 2 ^ 30 }
+    requires numbers { AreNumbers call }
+    ensures { IfSome result (λ handed. IsLivedOnce D.sight D.follows slots.items call handed) }
+{
+    let Ok((ingester, mut passes)) = Ingester::open(rt, handle, alloc, slots, 1, limits, capacity)
+    else {
+        return None;
+    };
+    let _ = ingester.call(rt, alloc, &mut passes[0], call);
+    let mut closed = ingester.close(rt, passes);
+    closed.take()
+}
