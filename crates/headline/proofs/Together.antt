@@ -1,5 +1,5 @@
 -- Calls that are made together happen one after another.
-use Rattle.std.proofs.Common.{◌≡◌, Bool, false, List, [], ◌∷◌, map, refl, ap}
+use Rattle.std.proofs.Common.{◌≡◌, Bool, List, [], ◌∷◌, map, refl, ap}
 use Rattle.std.specs.Prelude.{Result}
 use Rattle.accept.specs.declared.call.Call.{Call}
 use Rattle.accept.specs.declared.call.Reply.{Reply}
@@ -19,5 +19,5 @@ module _ {D : Type 0} (opening : Opening D) where
       let rest = in_order _ is.0 new calls rs is.2 in (
         record { before = old; what = Called call r; after = is.0 } ∷ rest.0,
         (refl, is.1, rest.1),
-        ap (λ l. Called call r ∷ l) rest.2
+        ap (λ l. Called call r ∷ l) rest.2,
       )

@@ -29,21 +29,21 @@ calls_found [] = []
 calls_found (p ∷ parts) = (answered_in p.beginning ++ p.more) ++ calls_found parts
 
 -- so much of a history was found, with each call that was answered in that opening
-pub record IsPart {D : Type 0} (k : ℕ) (e : Life D) (history : ℕ → List Item) (p : Part) : Type 0 where
+pub record IsPart {D : Type 0} (k : ℕ) (life : Life D) (history : ℕ → List Item) (p : Part) : Type 0 where
   pub a_beginning_of_that_history : IsBeginning p.beginning (history k)
-  pub continued_only_by_calls_being_written : IsBeginning p.more (writing_in e.ends history k)
-  pub holds_every_answered_call : (a : AnsweredCall) → WasAnswered e.threads a → shard_at e.opening.about a ≡ k
+  pub continued_only_by_calls_being_written : IsBeginning p.more (writing_in life.ends history k)
+  pub holds_every_answered_call : (a : AnsweredCall) → WasAnswered life.threads a → shard_at life.opening.about a ≡ k
       → IsOneOf (step_for a) p.beginning
 
 abbrev pub AreParts : {D : Type 0} → ℕ → List (Life D) → List (ℕ → List Item) → List Part → Type 0
 AreParts k [] [] [] = Unit {0}
-AreParts k (e ∷ lives) (h ∷ histories) (p ∷ parts) = IsPart k e h p × AreParts k lives histories parts
+AreParts k (life ∷ lives) (h ∷ histories) (p ∷ parts) = IsPart k life h p × AreParts k lives histories parts
 AreParts k lives histories parts = ⊥
 
 -- what the first of them found of shard k
 abbrev pub base_in : {D : Type 0} → ℕ → List (Life D) → Streams → Streams
 base_in k [] m = m
-base_in k (e ∷ lives) m = base_at e.opening.about k
+base_in k (life ∷ lives) m = base_at life.opening.about k
 
 -- What was found of shard k in the end is what a one-thread ingester has that got all these calls, one after another.
 pub record IsTale {D : Type 0} (limits : Limits) (k : ℕ) (lives : List (Life D)) (histories : List (ℕ → List Item))
@@ -56,30 +56,30 @@ pub record IsTale {D : Type 0} (limits : Limits) (k : ℕ) (lives : List (Life D
 module _ {D : Type 0} (sight : D → Sight) (follows : D → Type 0) where
   -- the next opening is over slots that a crash left
   abbrev pub IsContinued : Life D → List (Life D) → Type 0
-  IsContinued e [] = Unit {0}
-  IsContinued e (next ∷ lives) = AreLeftAt sight follows e.ends next.given × LogsFollow sight follows next.opening.logs
+  IsContinued life [] = Unit {0}
+  IsContinued life (next ∷ lives) = AreLeftAt sight follows life.ends next.given × LogsFollow sight follows next.opening.logs
 
   -- openings of n shards under these limits, one after another
   abbrev pub AreLives : ℕ → Limits → List (Life D) → Type 0
   AreLives n limits [] = Unit {0}
-  AreLives n limits (e ∷ lives) = IsLife sight follows e × (length e.given ≡ n)
-      × (e.opening.about.limits ≡ limits) × IsContinued e lives × AreLives n limits lives
+  AreLives n limits (life ∷ lives) = IsLife sight follows life × (length life.given ≡ n)
+      × (life.opening.about.limits ≡ limits) × IsContinued life lives × AreLives n limits lives
 
   -- after the last of them a crash left slots of which the next opening has these streams of shard k
   abbrev pub IsFoundLast : List (Life D) → ℕ → Streams → Type 0
   IsFoundLast [] k state = ⊥
-  IsFoundLast (e ∷ []) k state = MayBeReplayed sight follows e.ends k state
-  IsFoundLast (e ∷ next ∷ lives) k state = IsFoundLast (next ∷ lives) k state
+  IsFoundLast (life ∷ []) k state = MayBeReplayed sight follows life.ends k state
+  IsFoundLast (life ∷ next ∷ lives) k state = IsFoundLast (next ∷ lives) k state
 
   -- each by itself
   abbrev pub AreHeadlines : List (Life D) → List (ℕ → List Item) → Type 0
   AreHeadlines [] [] = Unit {0}
-  AreHeadlines (e ∷ lives) (h ∷ histories) =
-      IsHeadline e.opening.about e.threads h (writing_in e.ends h) (MayBeReplayed sight follows e.ends)
+  AreHeadlines (life ∷ lives) (h ∷ histories) =
+      IsHeadline life.opening.about life.threads h (writing_in life.ends h) (MayBeReplayed sight follows life.ends)
       × AreHeadlines lives histories
   AreHeadlines lives histories = ⊥
 
-  -- There is a history of each opening as the headline says, and whatever crash comes in the end, replay gives the state
+  -- There are histories of each opening as the headline says. Whatever crash comes in the end, replay gives the state
   -- after the calls of all of them.
   pub record IsHeadlineOfLives (n : ℕ) (limits : Limits) (lives : List (Life D)) : Type 0 where
     pub histories : List (ℕ → List Item)

@@ -68,8 +68,8 @@ pub record IsReplay (about : About) (threads : List Thread) (k : ℕ) (history :
       → IsOneOf (step_for a) beginning
 
 -- However many threads call, each shard's calls stand in one growing history, each answered call once, after all its
--- pass had seen, with the reply a one-thread ingester computes from the earlier steps on that stream or a refusal in its
--- stated place; and whatever crash comes, ..
+-- pass had seen, with the reply a one-thread ingester computes from the earlier steps on that stream or a refusal in
+-- its stated place; and whatever crash comes, ..
 pub record IsHeadline (about : About) (threads : List Thread) (history : ℕ → List Item) (writing : ℕ → List Ask)
     (replay : ℕ → Streams → Type 0) : Type 0 where
   pub each_shards_calls : (k : ℕ) → k < about.shards

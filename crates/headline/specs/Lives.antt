@@ -44,6 +44,7 @@ pub record IsLeftBy (old new : Sight) : Type 0 where
   pub crash : (c : List ℕ) → new.may_leave c → old.may_leave c
 
 module _ {D : Type 0} (sight : D → Sight) (follows : D → Type 0) where
+  -- each disk of these
   abbrev pub AreLeftBy : List D → List D → Type 0
   AreLeftBy [] [] = Unit {0}
   AreLeftBy (old ∷ olds) (new ∷ news) = IsLeftBy (sight old) (sight new) × AreLeftBy olds news
@@ -60,13 +61,15 @@ module _ {D : Type 0} (sight : D → Sight) (follows : D → Type 0) where
   AreLeftAt (end ∷ ends) (left ∷ all) = LeftAt end left × AreLeftAt ends all
   AreLeftAt ends all = ⊥
 
+  -- the disks of these logs have followed the model so far
   abbrev pub LogsFollow : List (Wal D) → Type 0
   LogsFollow [] = Unit {0}
   LogsFollow (log ∷ logs) = Follow follows log × LogsFollow logs
 
   -- What is so of the end of shard k. Of slots that were handed out, the disks have followed the model.
   abbrev pub IsEnd : Opening D → List Thread → ℕ → ShardEnd D → Type 0
-  IsEnd opening threads k (HandedOut it) = IsHandedOut sight follows opening (last_passes threads) k it × AllFollow follows it.0
+  IsEnd opening threads k (HandedOut it) =
+      IsHandedOut sight follows opening (last_passes threads) k it × AllFollow follows it.0
   IsEnd opening threads k (CutAt st) = IsStretch sight follows opening threads k st
 
   -- `Ingester::open` made the opening over these slots, this happened to its passes, and so its shards ended.

@@ -8,8 +8,8 @@ use Rattle.ingester.specs.declared.fault.CallFault.{CallFault}
 use Rattle.headline.specs.Threads.{Called, happened_to}
 use Rattle.headline.specs.Lives.{Life, HandedOut, IsLife}
 
--- a life of an opening over these slots: this one call was made, and the one shard was handed out, of which the disks have
--- followed the model
+-- a life of an opening over these slots, where the disks have followed the model: this one call was made, and this was
+-- handed out
 pub record IsLivedOnce {D : Type 0} (sight : D → Sight) (follows : D → Type 0) (given : List (List D)) (call : Call)
     (handed : List D × Bool) : Type 0 where
   pub life : Life D
