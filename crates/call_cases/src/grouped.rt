@@ -3,12 +3,14 @@
 use crate::alone::answer_of;
 use accept::Reply;
 use anyhow::Result;
-use call_words::{Counted, Gathered, write_reply};
+use call_slots::Pair;
+use call_words::{Counted, Gathered, Settings, write_reply};
 use disk::MemDisk;
 use lone_shard::{Grouped, LoneShard, Turn};
 use shard::{ApplyFault, Ended};
 use std::alloc::Global;
 use std::fmt::Write;
+use wal::OpenFault;
 
 /// Calls that are made one after another, or as a group, and a read of the stream of each.
 #[derive(Drop)]
@@ -86,6 +88,30 @@ pub fn say_group(
     let (shard, grouped) = Box::into_inner(shard).group(alloc, &mut jobs)?;
     say_grouped(alloc, &grouped, said)?;
     Ok(Box::new(alloc, shard)?)
+}
+
+/// Opens the shard in these slots, and makes the calls as a group, each by a pass of its own. Says their answers and the
+/// turns, a line each. A refusal says why, and gives the slots back.
+pub fn open_apart(
+    alloc: Global,
+    pair: Pair,
+    settings: Settings,
+    calls: &Gathered,
+    said: &mut String,
+) -> Result<Result<Box<LoneShard<MemDisk>>, (OpenFault, Pair)>> {
+    let Settings {
+        limits,
+        capacity,
+        ..
+    } = settings;
+    let mut calls = calls.calls(alloc)?;
+    match LoneShard::open_apart(alloc, pair.into_slots(), limits, capacity, &mut calls)? {
+        Ok((shard, grouped)) => {
+            say_grouped(alloc, &grouped, said)?;
+            Ok(Ok(Box::new(alloc, shard)?))
+        }
+        Err(refusal) => Ok(Err((refusal.0, Pair::of_slots(refusal.1)))),
+    }
 }
 
 fn say_grouped(alloc: Global, grouped: &Grouped, said: &mut String) -> Result<()> {

@@ -1,5 +1,5 @@
 use crate::alone::{left_of, open_alone, say_call};
-use crate::grouped::say_group;
+use crate::grouped::{open_apart, say_group};
 use crate::together::Together;
 use anyhow::{Result, bail};
 use call_slots::{Left, Pair};
@@ -10,6 +10,7 @@ use std::alloc::Global;
 use std::fmt::Write;
 use std::sync::Wait;
 use std::thread::Threads;
+use wal::OpenFault;
 
 /// What makes the calls of a row.
 #[derive(Drop)]
@@ -51,7 +52,27 @@ impl Opened {
     }
 
     fn alone(alloc: Global, pair: Pair, settings: Settings) -> Result<Result<Opened, Refused>> {
-        match open_alone(alloc, pair, settings)? {
+        Opened::of_alone(alloc, open_alone(alloc, pair, settings)?)
+    }
+
+    /// Opens the only shard without an ingester, and makes the calls as a group, each by a pass of its own. Says what
+    /// became of them.
+    pub fn apart(
+        alloc: Global,
+        pairs: Vec<Pair>,
+        settings: Settings,
+        calls: &Gathered,
+        said: &mut String,
+    ) -> Result<Result<Opened, Refused>> {
+        let opened = open_apart(alloc, only_of(pairs)?, settings, calls, said)?;
+        Opened::of_alone(alloc, opened)
+    }
+
+    fn of_alone(
+        alloc: Global,
+        opened: Result<Box<LoneShard<MemDisk>>, (OpenFault, Pair)>,
+    ) -> Result<Result<Opened, Refused>> {
+        match opened {
             Ok(shard) => Ok(Ok(Opened::Alone(shard))),
             Err((fault, pair)) => {
                 let pairs = vec![in alloc; pair]?;

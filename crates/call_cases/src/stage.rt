@@ -103,14 +103,21 @@ impl Stage {
         }
     }
 
-    /// `open`: an ingester over all slots; `open alone`: the only shard without one.
+    /// `open`: an ingester over all slots; `open alone`: the only shard without one; `open apart`: the same, and the
+    /// calls that were gathered are made as a group, each by a pass of its own.
     fn open<R>(&mut self, rt: &R, text: &str, said: &mut String) -> Result<()>
     where
         R: Threads + Wait + Copy + Send + 'static,
     {
-        self.before = calls_of(self.alloc, &self.pairs)?;
-        let pairs = mem::replace(&mut self.pairs, Vec::new(self.alloc));
-        match Opened::open(rt, self.alloc, pairs, self.settings, text == "alone")? {
+        let alloc = self.alloc;
+        self.before = calls_of(alloc, &self.pairs)?;
+        let pairs = mem::replace(&mut self.pairs, Vec::new(alloc));
+        let opened = if text == "apart" {
+            Opened::apart(alloc, pairs, self.settings, &self.take_gathered(), said)?
+        } else {
+            Opened::open(rt, alloc, pairs, self.settings, text == "alone")?
+        };
+        match opened {
             Ok(opened) => {
                 self.opened = Some(opened);
                 Ok(())

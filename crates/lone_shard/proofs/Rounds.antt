@@ -20,11 +20,11 @@ use Rattle.shard.specs.declared.group.Settled.{Settled}
 use Rattle.shard.specs.declared.group.Settled.TheVariants.{Answered, Refused}
 use Rattle.shard.specs.Groups.{HaveStepsOr, with_step}
 use Rattle.shard.specs.Jobs.{tickets_of, jobs_by, jobs_but, AreLawful, AreInPassTurn}
-use Rattle.shard.specs.Parts.{IsApplied}
 use Rattle.shard.specs.Queues.{settled_of}
 use Rattle.shard.specs.Shards.{Sharded}
 use Rattle.shard.specs.Turns.{AreReady, AreStepped, IsAlone, IsGivenBack, IsTurn, refused_of}
 use Rattle.shard.proofs.Turning.{of_both}
+use Rattle.lone_shard.proofs.Books.{alone_same}
 use Rattle.lone_shard.specs.Rounds.{asks_settled, AreOwn, AreSettled, IsOpen}
 
 -- Lists.
@@ -119,7 +119,7 @@ own_turn table c call items ts t is pending own =
     subst (λ (l : List Ask). HaveStepsOr t.before items l) by
     (subst (λ (l : List Ask). HaveStepsOr l items (asks_of ts)) same (asks_on_or c.about k items [] (asks_of ts)))
 
-ready_more : (book : Booked) (jobs : List Job) (t : Announced) (call : Call) → AreReady book jobs → t.table ≡ book.table → shard_in book.about t.ask ≡ book.shard → t.ask.call ≡ call → AreNumbers call
+pub ready_more : (book : Booked) (jobs : List Job) (t : Announced) (call : Call) → AreReady book jobs → t.table ≡ book.table → shard_in book.about t.ask ≡ book.shard → t.ask.call ≡ call → AreNumbers call
     → HaveStepsOr t.before book.items (of_pass t.ask.pass (asks_of (tickets_of jobs))) → AreReady book (jobs ++ record { ticket = t; call = call } ∷ [])
 ready_more book jobs t call ready table here is numbers turn =
     let j : Job = record { ticket = t; call = call } in
@@ -240,20 +240,9 @@ module _ {D : Type 0} (sight : D → Sight) (follows : D → Type 0) (table : Ta
     same_shard = ap (λ (b : Booked). b.shard) lost.1;
   }
 
-  record SameBook : Type 0 where
-    pub same_table : new.book.table ≡ old.book.table
-    pub same_about : new.book.about ≡ old.book.about
-    pub same_shard : new.book.shard ≡ old.book.shard
-
-  alone_book : (t : Announced) (reply : Reply) (receipt : Received) → IsApplied sight follows old new t reply receipt → SameBook
-  alone_book t reply receipt h = elim h.step [
-    | inl m ↦ record { same_table = ap (λ (b : Booked). b.table) m.book; same_about = ap (λ (b : Booked). b.about) m.book; same_shard = ap (λ (b : Booked). b.shard) m.book }
-    | inr l ↦ record { same_table = ap (λ (b : Booked). b.table) l.book; same_about = ap (λ (b : Booked). b.about) l.book; same_shard = ap (λ (b : Booked). b.shard) l.book }
-  ]
-
   alone_gone : IsAlone sight follows old new jobs rest was now ended → HasGone table p old.book new.book jobs rest was now
   alone_gone h =
-      let b = alone_book h.job.ticket h.reply h.receipt h.applied in
+      let b = alone_same sight follows old new h.job.ticket h.reply h.receipt h.applied in
       let is = h.applied.receipt_is in
       record {
         gone = h.job.ticket ∷ [];
@@ -262,9 +251,9 @@ module _ {D : Type 0} (sight : D → Sight) (follows : D → Type 0) (table : Ta
         now_is = h.settled;
         asks = ap (λ (r : Received). r.step.ask ∷ []) is;
         own = λ o. ((ap (λ (r : Received). r.table) is ∙ o.0.0, ap (λ (r : Received). r.step.ask.pass) is ∙ o.0.1), tt);
-        same_table = b.same_table;
-        same_about = b.same_about;
-        same_shard = b.same_shard;
+        same_table = b.table;
+        same_about = b.about;
+        same_shard = b.shard;
       }
 
   back_gone : AreOwn table p (tickets_of jobs) → IsGivenBack old new jobs rest was now ended → HasGone table p old.book new.book jobs rest was now

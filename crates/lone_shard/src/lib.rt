@@ -1,6 +1,7 @@
 //! A shard alone, without an ingester: its calls from announcement to answer, one by one or as a group.
 #![tactic(auto)]
 
+mod apart;
 mod grouped;
 mod lone;
 mod round;

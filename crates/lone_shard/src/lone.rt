@@ -1,7 +1,8 @@
-ghost use Rattle.std.specs.Prelude.{◌≡◌, []};
+ghost use Rattle.std.specs.Prelude.{◌≡◌, ◌≤◌, [], IfOk, All};
 ghost use Rattle.accept.specs.Calls.{AreNumbers};
 ghost use Rattle.accept.specs.Histories.{is_marked};
 ghost use Rattle.wal.specs.Opening.{disks};
+ghost use Rattle.lone_shard.specs.Passes.{IsIdle};
 
 use accept::{Call, Limits, Reply};
 use anyhow::{Result, bail};
@@ -22,6 +23,42 @@ pub struct LoneShard<D: Disk> {
     ghost idle: { pass.caller.pending ≡ [] },
 }
 
+/// Opens the shard, with this many passes: the last is its own, and the others come beside it.
+pub(crate) fn opened<D: Disk + Drop>(
+    alloc: Global,
+    slots: [D; 2],
+    limits: Limits,
+    capacity: u64,
+    passes: u32,
+) -> Result<Result<(LoneShard<D>, Vec<Pass>), (OpenFault, [D; 2])>>
+    requires passes { passes ≤ 64 }
+    ensures idle { IfOk result (λ opened. IfOk opened (λ it. All (IsIdle it.0.history) it.1.items)) }
+{
+    if !limits.are_lawful() || capacity > 1 << 30 {
+        bail!("a limit is out of its bounds");
+    }
+    let (log, image) = match Wal::open(alloc, slots, 0, 1, capacity) {
+        Ok(opened) => opened,
+        Err(refusal) => return Ok(Err(refusal)),
+    };
+    let mut bases = vec![in alloc; image]?;
+    let (history, mut books, mut others) = History::new(alloc, &bases, passes, limits, capacity)?;
+    let (Some(book), Some(pass), Some(image)) = (books.pop(), others.pop(), bases.pop()) else {
+        bail!("an opening of one shard has a book and a pass");
+    };
+    match Shard::open(alloc, log, image, book, limits) {
+        Ok(shard) => {
+            let lone = LoneShard {
+                history,
+                shard,
+                pass,
+            };
+            Ok(Ok((lone, others)))
+        }
+        Err(_log) => bail!("out of memory"),
+    }
+}
+
 impl<D: Disk + Drop> LoneShard<D> {
     /// Opens the shard in slot 0 and slot 1, with segments of at most this many bytes. A refusal says why, and gives
     /// the slots back.
@@ -34,25 +71,9 @@ impl<D: Disk + Drop> LoneShard<D> {
         limits: Limits,
         capacity: u64,
     ) -> Result<Result<LoneShard<D>, (OpenFault, [D; 2])>> {
-        if !limits.are_lawful() || capacity > 1 << 30 {
-            bail!("a limit is out of its bounds");
-        }
-        let (log, image) = match Wal::open(alloc, slots, 0, 1, capacity) {
-            Ok(opened) => opened,
-            Err(refusal) => return Ok(Err(refusal)),
-        };
-        let mut bases = vec![in alloc; image]?;
-        let (history, mut books, mut passes) = History::new(alloc, &bases, 1, limits, capacity)?;
-        let (Some(book), Some(pass), Some(image)) = (books.pop(), passes.pop(), bases.pop()) else {
-            bail!("an opening of one shard has a book and a pass");
-        };
-        match Shard::open(alloc, log, image, book, limits) {
-            Ok(shard) => Ok(Ok(LoneShard {
-                history,
-                shard,
-                pass,
-            })),
-            Err(_log) => bail!("out of memory"),
+        match opened(alloc, slots, limits, capacity, 1)? {
+            Ok((lone, _)) => Ok(Ok(lone)),
+            Err(refusal) => Ok(Err(refusal)),
         }
     }
 
