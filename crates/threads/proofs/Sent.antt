@@ -12,7 +12,7 @@ use Rattle.disk.specs.declared.device.Disk as disk
 use Rattle.ingester.proofs.Sent.{ingester_sync}
 use Rattle.ingester.specs.contracts.opened.Ingester as ingester
 
-abbrev slots : disk.Ghosts (slot.the_row memory.the_row).Denot
+abbrev pub slots : disk.Ghosts (slot.the_row memory.the_row).Denot
 slots = slot_disk.ghosts memory.the_row memory_disk.ghosts slot_disk.no_dict
 
 slot_send : IsSend (slot.the_row memory.the_row)

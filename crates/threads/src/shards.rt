@@ -46,16 +46,6 @@ const FREE: Pushes = Pushes {
     count: 1,
 };
 
-/// What another thread makes pushes with.
-#[derive(Drop)]
-struct Caller<'a, R> {
-    rt: &'a R,
-    alloc: Global,
-    ingester: &'a Ingester<Slot>,
-    pass: Pass,
-    pushes: Pushes,
-}
-
 /// The key of `{a=VALUE}` for the tenant `t`.
 fn key(alloc: Global, value: &str) -> Option<StreamKey> {
     let mut pairs = Vec::new(alloc);
@@ -233,20 +223,6 @@ pub(crate) fn push_all<R: Wait>(
     Some(pass)
 }
 
-/// Makes its pushes: whether each is stored.
-fn push_all_there<R: Wait>(caller: Caller<R>) -> bool
-    requires { IsPassOf caller.ingester.now caller.pass }
-{
-    let Caller {
-        rt,
-        alloc,
-        ingester,
-        pass,
-        pushes,
-    } = caller;
-    push_all(rt, alloc, ingester, pass, pushes).is_some()
-}
-
 /// Makes these pushes, or waits for a while, and looks at shard 0.
 fn act_and_look<R: Wait + Clock>(
     rt: &R,
@@ -287,7 +263,7 @@ fn act_and_open<R: Wait + Clock>(
 }
 
 /// One pass makes pushes in its own thread. Meanwhile the other makes pushes too, or waits for a while, looks at shard
-/// 0, and opens the gate. Gives the other pass, and the number of steps that it saw.
+/// 0, and opens the gate. Gives both passes, and the number of steps that the other saw.
 fn push_together<R: Threads + Wait + Clock + Sync>(
     rt: &R,
     alloc: Global,
@@ -297,35 +273,29 @@ fn push_together<R: Threads + Wait + Clock + Sync>(
     pushes: Pushes,
     two: Pass,
     meanwhile: Option<Pushes>,
-) -> Result<(Pass, u64), Fail>
+) -> Result<(Pass, Pass, u64), Fail>
     requires one { IsPassOf ingester.now one }
     requires two { CanLook ingester.now two }
-    ensures { IfOk result (λ it. IsPassOf ingester.now it.0) }
+    ensures { IfOk result (λ it. IsPassOf ingester.now it.0 × IsPassOf ingester.now it.1) }
 {
-    let one = Caller {
-        rt,
-        alloc,
-        ingester,
-        pass: one,
-        pushes,
-    };
     let (one, two) = join(
         rt,
-        move || -> bool
-            requires { IsPassOf one.ingester.now one.pass }
-        { push_all_there(one) },
+        move || -> Option<Pass>
+            requires { IsPassOf ingester.now one }
+            ensures { IfSome result (IsPassOf ingester.entry.now) }
+        { push_all(rt, alloc, ingester, one, pushes) },
         move || -> Option<(Pass, u64)>
             requires { CanLook ingester.now two }
             ensures { IfSome result (λ it. IsPassOf ingester.entry.now it.0) }
         { act_and_open(rt, alloc, gate, ingester, two, meanwhile) },
     );
-    if !one {
+    let Some(one) = one else {
         return Err(Fail::from("the first thread's pushes"));
-    }
-    let Some(looked) = two else {
+    };
+    let Some((two, seen)) = two else {
         return Err(Fail::from("the second thread's pushes"));
     };
-    Ok(looked)
+    Ok((one, two, seen))
 }
 
 /// What a read of all times gives, if it has entries: for each a time and a line.
@@ -379,15 +349,25 @@ fn gate_two_shards(rt: HostRuntime) -> Result<(), Fail> {
     let gate = Gate::new(alloc)?;
     let (ingester, one, two, mut three) = open_three(&rt, alloc, slots_of_two(alloc, &gate)?)?;
     gate.close();
-    let (mut two, seen) = push_together(&rt, alloc, &gate, &ingester, one, HELD, two, Some(FREE))?;
+    let (mut one, mut two, seen) = push_together(
+        &rt,
+        alloc,
+        &gate,
+        &ingester,
+        one,
+        HELD,
+        two,
+        Some(FREE),
+    )?;
     assert_eq!(rt; seen, 0);
+    assert_eq!(rt; lengths(&ingester, &mut one), (1, 1));
     assert_eq!(rt; lengths(&ingester, &mut two), (1, 1));
     assert_eq!(rt; lengths(&ingester, &mut three), (1, 1));
-    ingester.meet(&mut two, &mut three);
+    ingester.meet(&mut one, &mut two);
+    let free = read(&rt, alloc, &ingester, &mut one, "2");
+    assert!(rt; are_of(free, FREE));
     let held = read(&rt, alloc, &ingester, &mut two, "1");
     assert!(rt; are_of(held, HELD));
-    let free = read(&rt, alloc, &ingester, &mut three, "2");
-    assert!(rt; are_of(free, FREE));
     Ok(())
 }
 
@@ -397,7 +377,7 @@ fn gate_look_while_held(rt: HostRuntime) -> Result<(), Fail> {
     let gate = Gate::new(alloc)?;
     let (ingester, one, two, _) = open_three(&rt, alloc, slots_of_two(alloc, &gate)?)?;
     gate.close();
-    let (mut two, seen) = push_together(&rt, alloc, &gate, &ingester, one, HELD, two, None)?;
+    let (_, mut two, seen) = push_together(&rt, alloc, &gate, &ingester, one, HELD, two, None)?;
     assert_eq!(rt; (seen, ingester.look(&mut two, 0)), (0, 1));
     Ok(())
 }
@@ -417,7 +397,16 @@ fn two_threads_push_to_one_stream(rt: HostRuntime) -> Result<(), Fail> {
         first: 1_100,
         count: 100,
     };
-    let (mut two, _) = push_together(&rt, alloc, &free, &ingester, one, first, two, Some(second))?;
+    let (_, mut two, _) = push_together(
+        &rt,
+        alloc,
+        &free,
+        &ingester,
+        one,
+        first,
+        two,
+        Some(second),
+    )?;
     assert_eq!(rt; ingester.look(&mut two, 0), 200);
     let all = Pushes {
         value: "1",

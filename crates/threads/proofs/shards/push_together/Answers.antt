@@ -1,24 +1,31 @@
+use denote.Exit.{no}
+use denote.Param.{param}
+use denote.Param.Send.{IsSend, IsSync, param_send, arg_send, recorded_send, struct_send, sendable}
 use denote.RattleType.{RattleType}
-use denote.Param.Send.{IsSend, IsSync, AllSend, recorded_send, struct_send, given_send, sendable}
-use denote.Ref.{NamedLft}
+use denote.Ref.{NamedLft, ShrRef}
 use denote.Struct.Declared as declared
 use denote.Struct.Struct.{Struct}
-use Rattle.std.proofs.Common.{subst}
-use Rattle.std.specs.Prelude.{IfSome}
+use denote.Struct.Tuple.{TupleAt, type_at}
+use mir.Syntax.{Sym}
+use mathlib.Core.List.{[], ◌∷◌}
+use Rattle.std.proofs.alloc.Global.TheSendSync as heap
+use Rattle.disk.specs.contracts.gate.GateDisk as slot
+use Rattle.disk.specs.contracts.memory.MemDisk as memory
 use Rattle.history.proofs.handles.Pass.TheSendSync as pass
-use Rattle.ingester.specs.Calls.{IsPassOf}
-use Rattle.threads.proofs.Sent.{ingester_moves}
-use Rattle.threads.specs.contracts.shards.Caller as caller
+use Rattle.ingester.specs.contracts.opened.Ingester as ingester
+use Rattle.threads.proofs.Sent.{slots, ingester_moves}
+use Rattle.threads.specs.contracts.shards.Pushes as pushes
 use Rattle.threads.proofs.shards.push_together.Goals as goal
 
-fields_send : (κ : NamedLft) (R : RattleType) → IsSync R → AllSend (declared.fields (caller.the_type κ R))
-fields_send κ R r = (search (r, sendable), (search sendable, (ingester_moves κ, (pass.the_send, (search sendable, tt)))))
+-- What the first closure captures goes to its thread.
+closure_moves : (ν : Sym) (κ μ : NamedLft) (R G Q P : RattleType) → IsSync R → IsSend G → IsSend Q → IsSend P → IsSend (TupleAt ν (ShrRef κ.mir κ.lft R ∷ G ∷ ShrRef μ.mir μ.lft (ingester.the_row (slot.the_row memory.the_row) slots) ∷ Q ∷ P ∷ []))
+closure_moves ν κ μ R G Q P r g q p =
+    let T = type_at ν (ShrRef κ.mir κ.lft R ∷ G ∷ ShrRef μ.mir μ.lft (ingester.the_row (slot.the_row memory.the_row) slots) ∷ Q ∷ P ∷ []) in
+    recorded_send (Struct (declared.shape T)) T.D T.to T.to_one (struct_send (declared.shape T) (search (r, sendable), (g, (ingester_moves μ, (q, (p, tt))))))
 
-caller_send : (κ : NamedLft) (R : RattleType) → IsSync R → IsSend (caller.the_row κ R)
-caller_send κ R r = let T = caller.the_type κ R in recorded_send (Struct (declared.shape T)) T.D T.to T.to_one (struct_send (declared.shape T) (fields_send κ R r))
+pushes_send : IsSend pushes.the_row
+pushes_send = search sendable depth 20
 
 pub join-one-requires-send-F : goal.join-one-requires-send-F
-join-one-requires-send-F g c κs within = search (caller_send, given_send, sendable) depth 20
-
-pub returns : goal.returns
-returns g c = subst (λ o. IfSome o (λ it. IsPassOf c.args.ingester.now it.0)) c.in-Some.is c.join-one.ensures.second
+join-one-requires-send-F g c κs within =
+    param_send 1 _ (arg_send _ no _ (closure_moves _ _ _ (param 0 g.row.R) _ _ _ (search (c.type_bounds.sync-R, sendable)) heap.the_send pass.the_send pushes_send))
