@@ -1,5 +1,5 @@
 -- A turn leaves a book of the same shard.
-use Rattle.std.proofs.Common.{◌≡◌, ◌⊎◌, List, inl, inr, ap, ◌∙◌}
+use Rattle.std.proofs.Common.{List, inl, inr, ap, ◌∙◌}
 use Rattle.accept.specs.declared.call.Reply.{Reply}
 use Rattle.disk.specs.Sight.{Sight}
 use Rattle.history.specs.Handles.{Announced, Booked, Received}

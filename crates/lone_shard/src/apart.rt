@@ -1,4 +1,4 @@
-//! Calls of as many passes, which are made as a group.
+//! Calls that are made as a group, each by a pass of its own.
 ghost use Rattle.std.specs.Prelude.{◌≡◌, ◌≤◌, IfOk, All};
 ghost use Rattle.lone_shard.specs.Passes.{IsIdle, IsSameBook};
 ghost use Rattle.shard.specs.Turns.{AreReady};
@@ -14,7 +14,7 @@ use std::alloc::Global;
 use std::collections::VecDeque;
 use wal::OpenFault;
 
-/// The most calls of a group whose calls are of as many passes: the shard's own pass makes none of them.
+/// The most calls of such a group: there are at most 64 passes, and the shard keeps one.
 const MOST_APART: usize = 63;
 
 impl Grouped {
@@ -91,7 +91,7 @@ impl<D: Disk + Drop> LoneShard<D> {
         calls: &mut VecDeque<Call>,
     ) -> Result<Result<(LoneShard<D>, Grouped), (OpenFault, [D; 2])>> {
         if calls.len() > MOST_APART {
-            bail!("a group of as many passes has at most 63 calls");
+            bail!("such a group has at most 63 calls");
         }
         let passes = (calls.len() as u32).wrapping_add(1);
         let (mut lone, others) = match opened(alloc, slots, limits, capacity, passes)? {

@@ -17,10 +17,11 @@ use Rattle.threads.proofs.Sent.{slots, ingester_moves}
 use Rattle.threads.specs.contracts.shards.Pushes as pushes
 use Rattle.threads.proofs.shards.push_together.Goals as goal
 
-closure_moves : (ν : Sym) (κ λ₂ : NamedLft) (R G Q P : RattleType) → IsSync R → IsSend G → IsSend Q → IsSend P → IsSend (TupleAt ν (ShrRef κ.mir κ.lft R ∷ G ∷ ShrRef λ₂.mir λ₂.lft (ingester.the_row (slot.the_row memory.the_row) slots) ∷ Q ∷ P ∷ []))
-closure_moves ν κ λ₂ R G Q P r g q p =
-    let T = type_at ν (ShrRef κ.mir κ.lft R ∷ G ∷ ShrRef λ₂.mir λ₂.lft (ingester.the_row (slot.the_row memory.the_row) slots) ∷ Q ∷ P ∷ []) in
-    recorded_send (Struct (declared.shape T)) T.D T.to T.to_one (struct_send (declared.shape T) (search (r, sendable), (g, (ingester_moves λ₂, (q, (p, tt))))))
+-- What the first closure captures goes to its thread.
+closure_moves : (ν : Sym) (κ μ : NamedLft) (R G Q P : RattleType) → IsSync R → IsSend G → IsSend Q → IsSend P → IsSend (TupleAt ν (ShrRef κ.mir κ.lft R ∷ G ∷ ShrRef μ.mir μ.lft (ingester.the_row (slot.the_row memory.the_row) slots) ∷ Q ∷ P ∷ []))
+closure_moves ν κ μ R G Q P r g q p =
+    let T = type_at ν (ShrRef κ.mir κ.lft R ∷ G ∷ ShrRef μ.mir μ.lft (ingester.the_row (slot.the_row memory.the_row) slots) ∷ Q ∷ P ∷ []) in
+    recorded_send (Struct (declared.shape T)) T.D T.to T.to_one (struct_send (declared.shape T) (search (r, sendable), (g, (ingester_moves μ, (q, (p, tt))))))
 
 pushes_send : IsSend pushes.the_row
 pushes_send = search sendable depth 20
