@@ -451,7 +451,10 @@ fn each_time_is_a_new_reading(rt: HostRuntime) -> Result<(), Fail> {
     let first = front::Clock::now(&mut clock);
     thread::sleep(&rt, Duration::from_millis(20));
     let passed = front::Clock::now(&mut clock).saturating_sub(first);
-    assert!(rt; passed >= 10_000_000 && passed < 60_000_000_000, "20 ms, in nanoseconds");
+    assert!(rt;
+        passed >= 10_000_000 && passed < 60_000_000_000,
+        "20 ms, in nanoseconds"
+    );
     Ok(())
 }
 
