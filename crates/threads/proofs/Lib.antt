@@ -1,3 +1,2 @@
 mod Reading
 mod Windows
-mod Sent

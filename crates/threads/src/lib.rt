@@ -1,10 +1,8 @@
-//! Tests over threads and gates: locks, queues, histories, disks and shards, each called by several threads at once.
+//! Tests over threads and gates: locks, queues, histories and disks, each called by several threads at once.
 #![tactic(auto)]
 
 #[cfg(test)]
 mod gates;
-#[cfg(test)]
-mod groups;
 #[cfg(test)]
 mod locks;
 #[cfg(test)]
@@ -13,7 +11,3 @@ mod meetings;
 mod open_calls;
 #[cfg(test)]
 mod queues;
-#[cfg(test)]
-mod shards;
-#[cfg(test)]
-mod together;

@@ -2,7 +2,7 @@
 ghost use Rattle.std.specs.Prelude.{◌≡◌, ◌<◌, ◌≤◌, ℕ, Some, slice_get, vec_len, IfOk, IfSome};
 ghost use Rattle.history.specs.Handles.{Passed};
 ghost use Rattle.ingester.specs.Calls.{IsPassOf};
-ghost use Rattle.threads.specs.Looks.{CanLook};
+ghost use Rattle.shard_threads.specs.Looks.{CanLook};
 
 use accept::{Call, Entry, EntryList, Limits, Line, Meta, Outcome, Reply};
 use disk::{Gate, GateDisk, MemDisk};

@@ -13,9 +13,9 @@ use Rattle.disk.specs.contracts.gate.GateDisk as slot
 use Rattle.disk.specs.contracts.memory.MemDisk as memory
 use Rattle.history.proofs.handles.Pass.TheSendSync as pass
 use Rattle.ingester.specs.contracts.opened.Ingester as ingester
-use Rattle.threads.proofs.Sent.{slots, ingester_moves}
-use Rattle.threads.specs.contracts.shards.Pushes as pushes
-use Rattle.threads.proofs.shards.push_together.Goals as goal
+use Rattle.shard_threads.proofs.Sent.{slots, ingester_moves}
+use Rattle.shard_threads.specs.contracts.shards.Pushes as pushes
+use Rattle.shard_threads.proofs.shards.push_together.Goals as goal
 
 -- What the first closure captures goes to its thread.
 closure_moves : (ν : Sym) (κ μ : NamedLft) (R G Q P : RattleType) → IsSync R → IsSend G → IsSend Q → IsSend P → IsSend (TupleAt ν (ShrRef κ.mir κ.lft R ∷ G ∷ ShrRef μ.mir μ.lft (ingester.the_row (slot.the_row memory.the_row) slots) ∷ Q ∷ P ∷ []))

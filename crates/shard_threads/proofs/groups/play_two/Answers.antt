@@ -4,9 +4,9 @@ use denote.Ref.{NamedLft}
 use denote.Struct.Declared as declared
 use denote.Struct.Struct.{Struct}
 use Rattle.history.proofs.handles.Pass.TheSendSync as pass
-use Rattle.threads.specs.contracts.groups.Part as part
-use Rattle.threads.proofs.Sent.{ingester_moves}
-use Rattle.threads.proofs.groups.play_four.Goals as goal
+use Rattle.shard_threads.specs.contracts.groups.Part as part
+use Rattle.shard_threads.proofs.Sent.{ingester_moves}
+use Rattle.shard_threads.proofs.groups.play_two.Goals as goal
 
 part_fields : (κ : NamedLft) (R : RattleType) → IsSync R → AllSend (declared.fields (part.the_type κ R))
 part_fields κ R r = (search (r, sendable), (search sendable, (ingester_moves κ, (pass.the_send, (search sendable depth 30, tt)))))

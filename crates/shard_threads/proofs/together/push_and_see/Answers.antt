@@ -4,9 +4,9 @@ use denote.Ref.{NamedLft}
 use denote.Struct.Declared as declared
 use denote.Struct.Struct.{Struct}
 use Rattle.history.proofs.handles.Pass.TheSendSync as pass
-use Rattle.threads.proofs.Sent.{ingester_moves}
-use Rattle.threads.specs.contracts.together.Caller as caller
-use Rattle.threads.proofs.together.push_and_see.Goals as goal
+use Rattle.shard_threads.proofs.Sent.{ingester_moves}
+use Rattle.shard_threads.specs.contracts.together.Caller as caller
+use Rattle.shard_threads.proofs.together.push_and_see.Goals as goal
 
 fields_send : (κ : NamedLft) (R : RattleType) → IsSync R → AllSend (declared.fields (caller.the_type κ R))
 fields_send κ R r = (search (r, sendable), (search sendable, (ingester_moves κ, (pass.the_send, tt))))
