@@ -262,22 +262,22 @@ fn act_and_open<R: Wait + Clock>(
     looked
 }
 
-/// One pass makes pushes in its own thread. Meanwhile the other makes pushes too, or waits for a while, looks at shard
-/// 0, and opens the gate. Gives both passes, and the number of steps that the other saw.
+/// The first pass makes the first pushes in its own thread. Meanwhile the second makes the others, or waits for a while,
+/// looks at shard 0, and opens the gate. Gives both passes, and the number of steps that the second saw.
 fn push_together<R: Threads + Wait + Clock + Sync>(
     rt: &R,
     alloc: Global,
     gate: &Gate,
     ingester: &Ingester<Slot>,
-    one: Pass,
-    pushes: Pushes,
-    two: Pass,
-    meanwhile: Option<Pushes>,
+    passes: (Pass, Pass),
+    pushes: (Pushes, Option<Pushes>),
 ) -> Result<(Pass, Pass, u64), Fail>
-    requires one { IsPassOf ingester.now one }
-    requires two { CanLook ingester.now two }
+    requires one { IsPassOf ingester.now passes.0 }
+    requires two { CanLook ingester.now passes.1 }
     ensures { IfOk result (λ it. IsPassOf ingester.now it.0 × IsPassOf ingester.now it.1) }
 {
+    let (one, two) = passes;
+    let (pushes, meanwhile) = pushes;
     let (one, two) = join(
         rt,
         move || -> Option<Pass>
@@ -354,10 +354,8 @@ fn gate_two_shards(rt: HostRuntime) -> Result<(), Fail> {
         alloc,
         &gate,
         &ingester,
-        one,
-        HELD,
-        two,
-        Some(FREE),
+        (one, two),
+        (HELD, Some(FREE)),
     )?;
     assert_eq!(rt; seen, 0);
     assert_eq!(rt; lengths(&ingester, &mut one), (1, 1));
@@ -377,7 +375,7 @@ fn gate_look_while_held(rt: HostRuntime) -> Result<(), Fail> {
     let gate = Gate::new(alloc)?;
     let (ingester, one, two, _) = open_three(&rt, alloc, slots_of_two(alloc, &gate)?)?;
     gate.close();
-    let (_, mut two, seen) = push_together(&rt, alloc, &gate, &ingester, one, HELD, two, None)?;
+    let (_, mut two, seen) = push_together(&rt, alloc, &gate, &ingester, (one, two), (HELD, None))?;
     assert_eq!(rt; (seen, ingester.look(&mut two, 0)), (0, 1));
     Ok(())
 }
@@ -402,10 +400,8 @@ fn two_threads_push_to_one_stream(rt: HostRuntime) -> Result<(), Fail> {
         alloc,
         &free,
         &ingester,
-        one,
-        first,
-        two,
-        Some(second),
+        (one, two),
+        (first, Some(second)),
     )?;
     assert_eq!(rt; ingester.look(&mut two, 0), 200);
     let all = Pushes {
