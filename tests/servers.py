@@ -265,8 +265,8 @@ def write(path, data):
         file.write(data)
 
 
-def bytes_of(path):
-    """The bytes of a file, none where it isn't there."""
+def bytes_of(path, most=-1):
+    """The bytes of a file, or the first of them, none where it isn't there."""
     with contextlib.suppress(FileNotFoundError), open(path, "rb") as file:
-        return file.read()
+        return file.read(most)
     return b""
