@@ -19,7 +19,7 @@ PLACES = {"rattle": "bin/rattle", "link": "bin/rattle-link", "rlibs": "rlibs", "
 FLAGS = ["--crate-name", "--extern", "-L <dependency=DIR>", "--antt-project", "--logic-built", "--incremental",
          "--statements", "--toolchain", "rattle-link --target TRIPLE --toolchain DIR -o PROGRAM FILE.o"]
 # what it runs ends with the thread that started it
-UNDER = ("setpriv", "--pdeathsig", "KILL")
+UNDER = ("setpriv", "--pdeathsig", "KILL") if shutil.which("setpriv") else ()
 
 
 def said(*words):
