@@ -7,8 +7,8 @@ which crates it is at and how many are left, and, where a crate isn't proved, wh
 
 A library is proved from nothing, and its statements alone are kept, in its out/statements (`rattle build --help`): those
 above it load them sooner than its proofs. What was built here from the same text is left as it is. What `rt` builds for
-its checks isn't taken: it stands on what earlier checks kept, and a verdict may not. Where the kit is none that
-toolchain.py knows, `rt run` builds the programs."""
+its checks isn't taken: it stands on what earlier checks kept, and a verdict may not. What HANDLES allows is held by
+`rt ci` alone. Where the kit is none that toolchain.py knows, `rt run` builds the programs."""
 import contextlib
 import fcntl
 import hashlib

@@ -12,7 +12,8 @@ import sys
 import tempfile
 
 TOP = os.path.dirname(os.path.dirname(os.path.realpath(__file__)))
-RT = os.environ.get("RT") or "rt"
+RT = shutil.which(os.environ.get("RT") or "rt")
+RT = RT and os.path.abspath(RT)
 PARTS = ("src", "specs", "proofs")
 PLACES = {"rattle": "bin/rattle", "link": "bin/rattle-link", "rlibs": "rlibs", "logic": "rattle/logic/antt-project.json",
           "logic_built": "logic_built", "toolchain": "toolchain", "c": "c/libos_c.a", "more_c": "c/liblibc_c.a"}
@@ -34,8 +35,8 @@ def version():
 @functools.lru_cache(None)
 def kit():
     """Each of PLACES by its name. None where this kit has another place or flag, which is said."""
-    if not shutil.which(RT):
-        sys.exit(f"{RT} is not on the path: README says what it is")
+    if not RT:
+        sys.exit("the toolchain's rt is not on the path: README says what it is")
     top = os.path.dirname(said(RT, "doc"))
     lacks = [it for it in PLACES.values() if not os.path.exists(f"{top}/{it}")]
     help_text = "" if lacks else " ".join(said(f"{top}/bin/rattle", "build", "--help").split())
