@@ -115,7 +115,7 @@ class Builder:
 
 def sum_of(crate):
     """What a crate is made from: the kit, its name and text, and the libraries below as they are."""
-    # (an rlib's file `format` names the crate, and holds the sum of its files)
+    # (--extern: "must be the crate that DIR/format names". The file holds the sum of the rlib's files too)
     texts = [(it.removeprefix(crate.folder), read(it)) for it in crate.files]
     below = [read(f"{it.rlib}/format") for it in crate.below]
     return hashlib.sha256(repr((version(), crate.name, crate.of_kit, texts, below)).encode()).hexdigest()
@@ -137,6 +137,7 @@ def make(crate, jobs):
     before, places, program = sum_of(crate), kit(), f"{crate.folder}/out/{crate.name}"
     shutil.rmtree(f"{crate.folder}/out/statements", ignore_errors=True)
     os.makedirs(os.path.dirname(program if crate.is_program else crate.rlib), exist_ok=True)
+    # (--statements: "have the library's rlib hold its statements, and not its checked proofs")
     kind = ["--toolchain", places["toolchain"], "-o", f"{program}.o"] if crate.is_program else ["--statements", "-o", crate.rlib]
     words = lambda jobs: [places["rattle"], "build", *crate.words("--jobs", str(jobs), *kind)]
     status, text = crate.call(*words(jobs))

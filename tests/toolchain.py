@@ -64,6 +64,8 @@ class Crate:
 
     def words(self, *flags):
         """What `rattle check` and `rattle build` take: the crate, the libraries as they stand in `out/statements`, the logic."""
+        # (--extern: "a library this crate depends on, built: its name and its rlib, a directory"; -L: "a directory where
+        # a built library's own libraries are found"; --logic-built: "loads the program logic's modules from DIR")
         places = kit()
         words = ["--crate-name", self.name, f"src/{'main' if self.is_program else 'lib'}.rt", "-L", f"dependency={places['rlibs']}"]
         for it in self.of_kit:
