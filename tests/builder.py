@@ -2,8 +2,8 @@
 
 There are as many at a time as there are processors and memory for, first those with the longest chain of others after
 them. On the longest chain, which all else waits for, a crate gets as many jobs as there are processors. One that isn't
-nearly on it gets a single job and a lower priority, so that it holds the chain up little. Each half minute is printed
-which crates it is at and how many are left, and, where a crate isn't proved, what the prover says of it.
+nearly on it gets a single job and a lower priority, so that it holds the chain up little. What the prover says of a crate
+that isn't proved is printed, and after half a minute in which none ended which crates it is at.
 
 A library is proved from nothing, and its statements alone are kept, in its out/statements (`rattle build --help`): those
 above it load them sooner than its proofs. What was built here from the same text is left as it is. What `rt` builds for
@@ -15,7 +15,6 @@ import hashlib
 import os
 import shutil
 import signal
-import threading
 import time
 from concurrent.futures import FIRST_COMPLETED, ThreadPoolExecutor, wait
 
@@ -45,72 +44,52 @@ def room():
     return 0.85 * free
 
 
-class Builder:
-    def __init__(self, crates):
-        self.crates, self.left, self.at, self.processors = crates, [it.name for it in crates], [], processors()
-        self.start, self.saying = time.monotonic(), threading.Lock()
-        work = {it: it.lines + LOADING * sum(below.lines for below in it.below) for it in crates}
-        # (lowest first, so a crate comes before all that stand on it)
-        self.chains = {**work}
-        for crate in reversed(crates):
-            for below in {*crate.below} & {*work}:
-                self.chains[below] = max(self.chains[below], work[below] + self.chains[crate])
+def chains_of(crates):
+    """What waits for each crate: the work of the longest chain of others after it, with its own. Lowest crates first."""
+    work = {it: it.lines + LOADING * sum(below.lines for below in it.below) for it in crates}
+    chains = {**work}
+    for crate in reversed(crates):
+        for below in {*crate.below} & {*work}:
+            chains[below] = max(chains[below], work[below] + chains[crate])
+    return chains
 
-    def say(self, line):
-        with self.saying:
-            print(f"{time.monotonic() - self.start:5.0f} s  {line}", flush=True)
 
-    def watch(self):
-        while self.left:
-            time.sleep(EACH)
-            left = len(self.left)
-            self.say(f"at {', '.join(self.at)}; {left} crate{'s' * (left != 1)} left")
+def jobs_for(crate, share, lanes, memory):
+    """As many jobs as there are processors for a crate on the longest chain, half of them for one on a chain nearly as
+    long, and one for another, since two take a fifth more of the processors: as far as there is memory, so none where
+    there is too little of it for one. The share is that of the crate's chain in the longest one."""
+    wanted = 1 if os.environ.get("RT_JOBS") or share < NEARLY else lanes // 2 if share < AS_LONG else lanes
+    return min(max(wanted, 1), int((memory / crate.memory - 1) // FURTHER) + 1)
 
-    def is_behind(self, crate, share):
-        """Whether others than this crate hold up the whole: its chain is below this share of the longest left."""
-        return self.chains[crate] < share * max(self.chains[it] for it in self.crates if it.name in self.left)
 
-    def jobs_for(self, crate, memory):
-        """As many jobs as there are processors for a crate on the longest chain, half of them for one on a chain nearly
-        as long, and one for another, since two take a fifth more of the processors: as far as there is memory, so none
-        where there is too little of it for one."""
-        is_alone = os.environ.get("RT_JOBS") or self.is_behind(crate, NEARLY)
-        wanted = 1 if is_alone else self.processors // 2 if self.is_behind(crate, AS_LONG) else self.processors
-        return min(max(wanted, 1), int((memory / crate.memory - 1) // FURTHER) + 1)
-
-    def run(self):
-        """Builds each crate once those below it stand, as many side by side as there are processors and memory for, and
-        returns those that don't stand in the end."""
-        waiting, running, stands = sorted(self.crates, key=lambda it: -self.chains[it]), {}, {}
-        memory = room()
-        with ThreadPoolExecutor(self.processors) as pool:
-            while waiting or running:
-                for crate in [it for it in waiting if {*it.below} & {*self.crates} <= {*stands}]:
-                    left = memory - sum(held for _, held in running.values())
-                    jobs = max(self.jobs_for(crate, left), int(not running))
-                    if jobs > 0 and len(running) < self.processors:
-                        waiting.remove(crate)
-                        lacks = not all(stands.get(it, True) for it in crate.below)
-                        held = crate.memory * (1 + FURTHER * (jobs - 1))
-                        running[pool.submit(self.build, crate, jobs, lacks)] = crate, held
-                for ended in wait(running, return_when=FIRST_COMPLETED).done:
-                    stands[running.pop(ended)[0]] = ended.result()
-        return [it for it in self.crates if not stands[it]]
-
-    def build(self, crate, jobs, lacks):
-        """Builds a crate, unless one below it doesn't stand, and returns whether it stands."""
-        if lacks:
-            return False
-        self.at.append(crate.name)
-        # (a thread's priority is that of the commands that it starts, and who lowered it can't raise it)
-        lowered = (os.nice, (LOWER,)) if self.is_behind(crate, NEARLY) else ()
-        with ThreadPoolExecutor(1, "", *lowered) as alone:
-            status, text = alone.submit(make, crate, jobs).result()
-        if status:
-            self.say(f"{crate.name} is not proved:\n{text}")
-        self.at.remove(crate.name)
-        self.left.remove(crate.name)
-        return not status
+def run(crates, say):
+    """Builds each crate once those below it stand, as many side by side as there are processors and memory for, and
+    returns those that don't stand in the end."""
+    chains, lanes, memory = chains_of(crates), processors(), room()
+    waiting, running, stands = sorted(crates, key=lambda it: -chains[it]), {}, {}
+    with ThreadPoolExecutor(lanes) as pool:
+        while waiting or running:
+            longest = max(chains[it] for it in crates if it not in stands)
+            for crate in [it for it in waiting if {*it.below} & {*crates} <= {*stands}]:
+                left, share = memory - sum(held for _, held in running.values()), chains[crate] / longest
+                jobs = max(jobs_for(crate, share, lanes, left), int(not running))
+                if not all(stands.get(it, True) for it in crate.below):
+                    waiting.remove(crate)
+                    stands[crate] = False
+                elif jobs > 0 and len(running) < lanes:
+                    waiting.remove(crate)
+                    held = crate.memory * (1 + FURTHER * (jobs - 1))
+                    running[pool.submit(make, crate, jobs, share < NEARLY)] = crate, held
+            ended = wait(running, EACH, FIRST_COMPLETED).done
+            for it in ended:
+                crate, (status, text) = running.pop(it)[0], it.result()
+                stands[crate] = not status
+                if status:
+                    say(f"{crate.name} is not proved:\n{text}")
+            if running and not ended:
+                at = ", ".join(crate.name for crate, _ in running.values())
+                say(f"at {at}; {len(waiting) + len(running)} crate{'s' * (len(waiting) + len(running) != 1)} left")
+    return [it for it in crates if not stands[it]]
 
 
 def sum_of(crate):
@@ -129,7 +108,7 @@ def is_made(crate):
     return False
 
 
-def make(crate, jobs):
+def make(crate, jobs, is_lowered):
     """Proves a crate from nothing, and builds it: a library as its statements alone. Exit status, and what is said."""
     # (what is made of a crate whose proof fails, or whose text changes meanwhile, has no stamp)
     with contextlib.suppress(FileNotFoundError):
@@ -139,7 +118,8 @@ def make(crate, jobs):
     os.makedirs(os.path.dirname(program if crate.is_program else crate.rlib), exist_ok=True)
     # (--statements: "have the library's rlib hold its statements, and not its checked proofs")
     kind = ["--toolchain", places["toolchain"], "-o", f"{program}.o"] if crate.is_program else ["--statements", "-o", crate.rlib]
-    words = lambda jobs: [places["rattle"], "build", *crate.words("--jobs", str(jobs), *kind)]
+    nice = ["nice", "-n", str(LOWER)] if is_lowered else []
+    words = lambda jobs: [*nice, places["rattle"], "build", *crate.words("--jobs", str(jobs), *kind)]
     status, text = crate.call(*words(jobs))
     if status == -signal.SIGKILL and jobs > 1:
         # (most likely for memory)
@@ -168,11 +148,11 @@ def build(needed):
             return []
         # (with its own handler Python would wait for the threads' commands)
         usual = signal.signal(signal.SIGINT, signal.SIG_DFL)
-        builder = Builder(crates)
-        builder.say(f"{len(crates)} of {len(needed)} crates to prove and build")
-        threading.Thread(target=builder.watch, daemon=True).start()
-        lacking = [it.name for it in builder.run()]
-        builder.say(f"not built: {', '.join(lacking)}" if lacking else "built")
+        start = time.monotonic()
+        say = lambda line: print(f"{time.monotonic() - start:5.0f} s  {line}", flush=True)
+        say(f"{len(crates)} of {len(needed)} crates to prove and build")
+        lacking = [it.name for it in run(crates, say)]
+        say(f"not built: {', '.join(lacking)}" if lacking else "built")
         signal.signal(signal.SIGINT, usual)
         return lacking
 
