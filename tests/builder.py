@@ -2,8 +2,8 @@
 
 There are as many at a time as there are processors and memory for, first those with the longest chain of others after
 them. On the longest chain, which all else waits for, a crate gets as many jobs as there are processors. One that isn't
-nearly on it gets a single job and a lower priority, so that it holds the chain up little. What the prover says of a crate
-that isn't proved is printed, and after half a minute in which none ended which crates it is at.
+nearly on it gets a single job and a lower priority, so that it holds the chain up little. Each half minute is printed
+which crates it is at and how many are left, and, where a crate isn't proved, what the prover says of it.
 
 A library is proved from nothing, and its statements alone are kept, in its out/statements (`rattle build --help`): those
 above it load them sooner than its proofs. What was built here from the same text is left as it is. What `rt` builds for
@@ -80,7 +80,7 @@ def run(crates, say):
                     waiting.remove(crate)
                     held = crate.memory * (1 + FURTHER * (jobs - 1))
                     running[pool.submit(make, crate, jobs, share < NEARLY)] = crate, held
-            ended = wait(running, EACH, FIRST_COMPLETED).done
+            ended = wait(running, EACH - time.monotonic() % EACH, FIRST_COMPLETED).done
             for it in ended:
                 crate, (status, text) = running.pop(it)[0], it.result()
                 stands[crate] = not status
