@@ -38,7 +38,7 @@ def processors():
 
 def room():
     """How much memory there is for checks, in bytes, under the control group's limit too."""
-    free = next(1024 * int(line.split()[1]) for line in open("/proc/meminfo", encoding="ascii") if line.startswith("MemAvailable"))
+    free = next(1024 * int(line.split()[1]) for line in read("/proc/meminfo").split(b"\n") if line.startswith(b"MemAvailable"))
     with contextlib.suppress(OSError, ValueError):
         free = min(free, int(read("/sys/fs/cgroup/memory.max")) - int(read("/sys/fs/cgroup/memory.current")))
     return 0.85 * free
@@ -117,7 +117,8 @@ def make(crate, jobs, is_lowered):
     shutil.rmtree(f"{crate.folder}/out/statements", ignore_errors=True)
     os.makedirs(os.path.dirname(program if crate.is_program else crate.rlib), exist_ok=True)
     # (--statements: "have the library's rlib hold its statements, and not its checked proofs")
-    kind = ["--toolchain", places["toolchain"], "-o", f"{program}.o"] if crate.is_program else ["--statements", "-o", crate.rlib]
+    of_program = ["--toolchain", places["toolchain"], "-o", f"{program}.o"]
+    kind = of_program if crate.is_program else ["--statements", "-o", crate.rlib]
     nice = ["nice", "-n", str(LOWER)] if is_lowered else []
     words = lambda jobs: [*nice, places["rattle"], "build", *crate.words("--jobs", str(jobs), *kind)]
     status, text = crate.call(*words(jobs))
@@ -125,8 +126,8 @@ def make(crate, jobs, is_lowered):
         # (most likely for memory)
         status, text = crate.call(*words(1))
     if crate.is_program and not status:
-        status, text = crate.call(places["link"], "--target", "x86_64-unknown-linux-gnu", "--toolchain", places["toolchain"],
-                                  "-o", program, f"{program}.o", places["c"], places["more_c"])
+        status, text = crate.call(places["link"], "--target", "x86_64-unknown-linux-gnu", *of_program[:2], "-o", program,
+                                  f"{program}.o", places["c"], places["more_c"])
     made = program if crate.is_program else f"{crate.rlib}/format"
     if not status and before == sum_of(crate):
         with open(crate.stamp, "w", encoding="ascii") as file:

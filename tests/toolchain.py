@@ -55,7 +55,8 @@ class Crate:
         self.is_program = os.path.isfile(f"{self.folder}/src/main.rt")
         self.below = list(dict.fromkeys(it for dep in deps for it in [*dep.below, dep]))
         self.rlib, self.stamp = f"{self.folder}/out/statements/{name}.rlib", f"{self.folder}/out/{name}.stamp"
-        self.files = [f"{at}/{it}" for part in PARTS for at, _, names in sorted(os.walk(f"{self.folder}/{part}")) for it in sorted(names)]
+        places = [it for part in PARTS for it in sorted(os.walk(f"{self.folder}/{part}"))]
+        self.files = [f"{at}/{it}" for at, _, names in places for it in sorted(names)]
         lines = {it: read(it).count(b"\n") for it in self.files}
         self.lines = sum(count for it, count in lines.items() if it.endswith(".rt"))
         # (what a check from nothing was seen to take, of the code, the proofs and the libraries)
@@ -63,11 +64,12 @@ class Crate:
                        + 100_000 * sum(it.lines for it in self.below))
 
     def words(self, *flags):
-        """What `rattle check` and `rattle build` take: the crate, the libraries as they stand in `out/statements`, the logic."""
+        """What `rattle check` and `rattle build` take: the crate, the libraries in `out/statements`, the logic."""
         # (--extern: "a library this crate depends on, built: its name and its rlib, a directory"; -L: "a directory where
         # a built library's own libraries are found"; --logic-built: "loads the program logic's modules from DIR")
         places = kit()
-        words = ["--crate-name", self.name, f"src/{'main' if self.is_program else 'lib'}.rt", "-L", f"dependency={places['rlibs']}"]
+        words = ["--crate-name", self.name, f"src/{'main' if self.is_program else 'lib'}.rt"]
+        words += ["-L", f"dependency={places['rlibs']}"]
         for it in self.of_kit:
             words += ["--extern", f"{it}={places['rlibs']}/{it}.rlib"]
         for it in self.deps:
