@@ -5,7 +5,7 @@ WORKERS ?= 64
 
 .PHONY: help run demo sample test edits faults check check-docs fmt bench kill failed-disk roll-time deb deb-check \
 	edge-check drain-check pictures deb-lint metrics-check metrics-cost fill-check split-check \
-	power-loss sync-check outside-check soak scale-check start-time default-shards theorem-check
+	power-loss sync-check outside-check soak scale-check start-time default-shards theorem-check kit-check
 
 help: ## prints this
 	@sed -nE 's/^([a-z][a-z-]*):.*## (.*)/\1\t\2/p' Makefile | while IFS='	' read -r name words; do \
@@ -93,8 +93,11 @@ sample: ## judges a push body on an empty shard in memory, and reads it back
 test: ## the merge gate: every proof from nothing, edits, tests, cases, refused memory, documents
 	@RT='$(RT)' tests/gate
 
-edits: ## tries all wrong bodies, and prints the goal that each leaves open (CRATES="labels accept" JOBS=2)
+edits: ## tries all wrong bodies, also those that rt ci tries, and prints the goal that each leaves open (CRATES="labels accept" JOBS=2)
 	@RT='$(RT)' tests/edits $(if $(JOBS),--jobs $(JOBS)) $(CRATES)
+
+kit-check: ## the scripts that build and try edits, by the kit that they know and by rt alone, over two small crates
+	@RT='$(RT)' tests/kit_check
 
 theorem-check: ## tries wrong headlines, each of which a small run refutes and the law must not prove
 	@RT='$(RT)' tests/theorem_check $(NAMES)

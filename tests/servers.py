@@ -16,10 +16,12 @@ import threading
 
 sys.dont_write_bytecode = True
 import judges
+from bodies import MOST_TIME, canonical, entries_of
+from bodies import shard_of as shard_of_key
 
 TOP = os.path.dirname(os.path.dirname(os.path.realpath(__file__)))
 SECONDS = 60
-HOUR, MOST_TIME = judges.HALF_AGE, judges.MOST_TIME
+HOUR = judges.HALF_AGE
 PUSH, READ, TRIM = "/loki/api/v1/push", "/ingester/v1/read", "/ingester/v1/trim"
 
 
@@ -104,11 +106,11 @@ def try_faults(faults):
 
 def text_of(labels):
     """The canonical text of labels, as bytes."""
-    return judges.canonical([(name.encode(), value.encode()) for name, value in labels.items()])
+    return canonical([(name.encode(), value.encode()) for name, value in labels.items()])
 
 
 def shard_of(tenant, labels, count):
-    return judges.shard_of(tenant.encode(), text_of(labels), count)
+    return shard_of_key(tenant.encode(), text_of(labels), count)
 
 
 def labels_in(shard, count, tenant="t", name="s"):
@@ -188,12 +190,6 @@ def value_of(entry):
     return [str(time), line, *more]
 
 
-def entry_of(value):
-    time, line, *more = value
-    pairs = sorted((name.encode(), text.encode()) for name, text in (more[0] if more else {}).items())
-    return int(time), line, tuple(pairs)
-
-
 def push_body(streams):
     """The body of a push of pairs of labels and entries."""
     return {"streams": [{"stream": labels, "values": list(map(value_of, entries))} for labels, entries in streams]}
@@ -264,17 +260,13 @@ class Client:
         return status, text.decode()
 
 
-def entries_of(status, text):
-    return [entry_of(it) for it in json.loads(text)["values"]] if status == 200 else status
-
-
 def write(path, data):
     with open(path, "wb") as file:
         file.write(data)
 
 
-def bytes_of(path):
-    """The bytes of a file, none where it isn't there."""
+def bytes_of(path, most=-1):
+    """The bytes of a file, or the first of them, none where it isn't there."""
     with contextlib.suppress(FileNotFoundError), open(path, "rb") as file:
-        return file.read()
+        return file.read(most)
     return b""

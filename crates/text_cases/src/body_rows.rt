@@ -22,6 +22,16 @@ enum Kind {
 }
 
 /// Runs a row of bodies.
+///
+/// - `push TEXT`, `query TEXT`, `trim TEXT`: what the body gives: `streams N`, `stream a=1 ..`, `entry TIME:LINE`;
+///   `from .. to ..`; `bound ..`; or the fault. Of more than 20 streams, or entries of a stream, the count is said
+/// - `cut push TEXT` and the like: the same of each beginning of the body, a byte more each time: how often each
+///   answer came, and then of the whole
+/// - `put TEXT`, `put* COUNT TEXT`: a text, once or COUNT times, before the next body
+/// - `law`: calls `one_answer`
+/// - `memory`: the text of the fault for want of memory
+///
+/// In what is said of labels blanks and `=` are escapes, in what is said of metadata also `,`, `*` and braces.
 pub fn take_row(alloc: Global, row: &Row<'_>, said: &mut String) -> Result<()> {
     let mut draft = Draft::new(alloc);
     for line in &row.given {

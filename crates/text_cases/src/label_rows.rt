@@ -21,6 +21,24 @@ struct Made {
 }
 
 /// Runs a row of labels, tenants and keys.
+///
+/// - `labels NAME=VALUE ..`: makes a set, and says its canonical text, or the fault
+/// - `text`, `back`, `equal`: a copy of the last set's text; whether its text, parsed, is the set; whether the last
+///   two sets are equal
+/// - `tenant TEXT`: makes a tenant, and says it, or the fault
+/// - `key TENANT NAME=VALUE ..`: makes a key
+/// - `order`, `shards COUNT ..`: how each key stands to each of them; the shards of the last key among COUNT shards
+/// - `copies`: how many copies of all that was made are equal to their sources
+/// - `parse TEXT`: the set whose canonical text this is, or the fault
+/// - `cut TEXT`: the same of each beginning, a character more each time: how often each answer came, and then of the
+///   whole
+/// - `meta {NAME=VALUE,..}`, `in_order {NAME=VALUE,..}`: metadata of pairs in whatever order, or as they stand: it,
+///   `metadata name twice`, `no order`; `of no line` after it if no line may have it
+/// - `put TEXT`, `put* COUNT TEXT`: a text, once or COUNT times, before the next text
+/// - `memory`: the text of the fault for want of memory
+///
+/// A name or value is a word: a blank in it is `\x20`, pieces of it stand between bars, and `x*5` is `xxxxx`. Of a
+/// text of more than 200 bytes its length is said, except of metadata.
 pub fn take_row(alloc: Global, row: &Row<'_>, said: &mut String) -> Result<()> {
     let mut made = Made {
         alloc,

@@ -21,6 +21,26 @@ struct Opened {
 }
 
 /// Runs a row of calls on a stream. At first it is new, and has the profile's limits.
+///
+/// - `limits NAME=NUMBER ..`: the profile's limits except these (`line`, `half_age`, `max_old`, `max_ahead`), and
+///   whether they are lawful
+/// - `push NOW ENTRY ..`: judges the entries at this clock, stores those to store, and says what became of each
+/// - `judge NOW ENTRY ..`: the same without storing: what would become of each, and which entries are to store
+/// - `read FROM TO`: `found ..`, the entries with FROM <= time < TO
+/// - `buckets FROM TO`: how many buckets such a read looks into
+/// - `trim BOUND`: `removed N`, `above oldest` or `no such stream`
+/// - `state`: whether the stream is new, its highest time, the entry stored last, and the kept ones
+/// - `reopen`: takes the stream apart, and makes it of its parts again
+/// - `shuffled COUNT SEED RANGES`: stores COUNT entries at drawn times below COUNT in a stream of its own, by pushes
+///   of 1 to 40 lines and a few of up to 700, and in a plain list. Then compares RANGES reads with the list, filtered
+///   and sorted by time; after each tenth a trim, and pushes once more; after each 17th reopens, pushes once more,
+///   and compares the kept entries. Says how many reads and trims agree and, at the end, how many kept entries, or
+///   what differs first. That number follows from the draws alone, which are in `shuffled_rows`
+/// - `rising ..`, `late ..`, `crowded ..`: the same with times that never fall, three of them equal; that rise,
+///   except that each tenth may be any earlier one; that are below 6
+///
+/// A line is a word: a blank in it is `\x20`, pieces of it stand between bars, and `x*5` is `xxxxx`. Of a line of
+/// more than 200 bytes its length is said.
 pub fn take_row(alloc: Global, row: &Row<'_>, said: &mut String) -> Result<()> {
     let mut opened = Opened {
         alloc,
