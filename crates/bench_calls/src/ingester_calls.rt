@@ -3,6 +3,7 @@ ghost use Rattle.std.specs.Prelude.{◌≡◌, ℕ, Some, slice_get, IfOk};
 ghost use Rattle.history.specs.Handles.{Passed};
 ghost use Rattle.ingester.specs.Calls.{IsPassOf};
 
+use crate::pushes::{LINE, LINES, is_stored, key_of, pushes_of};
 use accept::{Call, Limits};
 use anyhow::{Result, bail};
 use crossbeam_channel::{Receiver, Sender, bounded};
@@ -10,7 +11,6 @@ use disk::MemDisk;
 use history::Pass;
 use ingester::Ingester;
 use labels::shard_of;
-use pushes::{LINE, LINES, is_stored, key_of, pushes_of};
 use std::alloc::Global;
 use std::rt::Clock;
 use std::sync::Wait;

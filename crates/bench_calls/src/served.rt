@@ -5,6 +5,7 @@ ghost use Rattle.history.specs.Handles.{Passed};
 ghost use Rattle.accept.specs.Calls.{AreNumbers};
 ghost use Rattle.ingester.specs.Calls.{IsPassOf};
 
+use crate::pushes::{LINE, START, is_stored};
 use accept::{Call, Limits};
 use anyhow::{Result, anyhow, bail};
 use disk::MemDisk;
@@ -12,7 +13,6 @@ use front::{Served, serve};
 use history::Pass;
 use ingester::Ingester;
 use labels::{LabelSet, StreamKey, Tenant};
-use pushes::{LINE, START, is_stored};
 use pushjson::{RawBatch, read_push};
 use std::alloc::{AllocError, Global};
 use std::io::{self, Write};
@@ -243,30 +243,26 @@ fn time_reading<R: Clock + AllocGlobal>(rt: &R, bodies: &[Vec<u8>]) -> Result<Du
     Ok(before.elapsed(rt)?)
 }
 
-/// Reads the bodies and makes their calls, one body after another. Gives how long the reading and how long the calls
-/// took.
+/// Makes the calls of bodies, one body after another, and gives how long the calls took.
 fn time_bodies<R: Clock + Wait + AllocGlobal>(
     rt: &R,
     ingester: &Ingester<MemDisk>,
     pass: &mut Pass,
     bodies: &[Vec<u8>],
-) -> Result<(Duration, Duration)>
+) -> Result<Duration>
     requires { IsPassOf ingester.now pass.old }
 {
-    let mut reading = Duration::ZERO;
     let mut calling = Duration::ZERO;
     for body in bodies {
-        let before = Instant::now(rt)?;
         let batches = read_push(rt.alloc(), body)?;
-        reading = reading.saturating_add(before.elapsed(rt)?);
         let time = time_calls(rt, ingester, pass, batches)?;
         calling = calling.saturating_add(time);
     }
-    Ok((reading, calling))
+    Ok(calling)
 }
 
 /// The same of a load, from empty slots on.
-fn time_parts<R>(rt: &R, load: &Load) -> Result<(Duration, Duration)>
+fn time_calling<R>(rt: &R, load: &Load) -> Result<Duration>
 where
     R: Clock + Threads + Wait + AllocGlobal + Copy + Send + Sync + 'static,
 {
@@ -296,12 +292,16 @@ fn size_of_bodies(load: &Load) -> usize {
         .fold(0_usize, |size, body| size.saturating_add(body.len()))
 }
 
-/// Prints the time of serving as a share of the time of these parts.
-fn compare<R: Print>(rt: &R, name: &str, serving: Duration, parts: [Duration; 2]) -> Result<()> {
-    let [reading, calling] = parts;
+/// Prints the time of serving as a share of the time of its parts.
+fn compare<R: Print>(
+    rt: &R,
+    serving: Duration,
+    reading: Duration,
+    calling: Duration,
+) -> Result<()> {
     let both = reading.saturating_add(calling).as_micros().max(1);
     let percent = serving.as_micros().saturating_mul(100) / both;
-    rt.println(format_args!("  serve takes {percent} % of {name} and the calls"))?;
+    rt.println(format_args!("  serve takes {percent} % of read_push and the calls"))?;
     Ok(())
 }
 
@@ -318,14 +318,11 @@ fn time_each<R>(rt: &R, load: &Load, entries: u64) -> Result<()>
 where
     R: Clock + Print + Threads + Wait + AllocGlobal + Copy + Send + Sync + 'static,
 {
-    let (mut serving, mut alone) = (Duration::MAX, Duration::MAX);
-    let (mut reading, mut calling) = (Duration::MAX, Duration::MAX);
+    let (mut serving, mut reading, mut calling) = (Duration::MAX, Duration::MAX, Duration::MAX);
     for _ in 0..RUNS {
         serving = serving.min(time_serve(rt, load)?);
-        alone = alone.min(time_reading(rt, &load.bodies)?);
-        let (read, called) = time_parts(rt, load)?;
-        reading = reading.min(read);
-        calling = calling.min(called);
+        reading = reading.min(time_reading(rt, &load.bodies)?);
+        calling = calling.min(time_calling(rt, load)?);
     }
     let (count, size) = (load.bodies.len(), size_of_bodies(load));
     rt.println(format_args!(
@@ -333,19 +330,12 @@ where
     ))?;
     for (name, time) in [
         ("serve", serving),
-        ("read_push alone", alone),
-        ("read_push before each call", reading),
+        ("read_push", reading),
         ("the calls", calling),
     ] {
         report(rt, name, count, size, time)?;
     }
-    compare(rt, "read_push alone", serving, [alone, calling])?;
-    compare(
-        rt,
-        "read_push before each call",
-        serving,
-        [reading, calling],
-    )
+    compare(rt, serving, reading, calling)
 }
 
 /// Prints how fast connections are served.
@@ -374,7 +364,7 @@ where
 {
     time_serve(rt, load)?;
     time_reading(rt, &load.bodies)?;
-    time_parts(rt, load)?;
+    time_calling(rt, load)?;
     let (count, size) = (load.bodies.len(), size_of_bodies(load));
     rt.println(format_args!("served {count} requests with bodies of {size} bytes"))?;
     Ok(())

@@ -1,13 +1,23 @@
 //! `conformance FILE..`: serves connections over ingesters in memory, as the rows of the files say, and prints each row
-//! that does not say what it must.
+//! that does not say what it must. After the word `requests` come files of rows that take requests from bytes and write
+//! answers, without an ingester. `conformance quiet` makes calls that request no memory, and one that does, each kind
+//! between two lines of output.
 #![tactic(auto)]
 
+mod answering;
+mod case;
+mod named;
 mod opened;
 mod plan;
+mod quiet_ingester;
+mod quiet_log;
+mod quiet_stream;
 mod replies;
 mod serving;
+mod taking;
 mod visits;
 
+use crate::case::Case;
 use crate::plan::Plan;
 use anyhow::{Result, anyhow};
 use rows::{Row, Tally, rows_of};
@@ -16,15 +26,46 @@ use std::sync::Wait;
 use std::thread::Threads;
 use std::{env, fs};
 
-fn main(rt: HostRuntime) -> Result<()> {
-    let mut tally = Tally::new();
-    for file in env::args(&rt)?.skip(1) {
-        take_file(&rt, file.as_str(), &mut tally)?;
-    }
-    tally.end(&rt)
+/// What the rows of a file are about.
+#[derive(Clone, Copy)]
+enum Kind {
+    Connections,
+    Requests,
 }
 
-fn take_file<R>(rt: &R, file: &str, tally: &mut Tally) -> Result<()>
+fn main(rt: HostRuntime) -> Result<()> {
+    let words: Vec<String> = env::args(&rt)?.skip(1).collect(rt.alloc())?;
+    match words.as_slice() {
+        [word] if word.as_str() == "quiet" => make_quiet_calls(&rt),
+        _ => take_files(&rt, &words),
+    }
+}
+
+fn take_files<R>(rt: &R, words: &[String]) -> Result<()>
+where
+    R: Files + Print + Threads + Wait + AllocGlobal + Copy + Send + Sync + 'static,
+{
+    let mut tally = Tally::new();
+    let mut kind = Kind::Connections;
+    for word in words {
+        match word.as_str() {
+            "requests" => kind = Kind::Requests,
+            file => take_file(rt, kind, file, &mut tally)?,
+        }
+    }
+    tally.end(rt)
+}
+
+fn make_quiet_calls<R>(rt: &R) -> Result<()>
+where
+    R: Print + Threads + Wait + AllocGlobal + Copy + Send + Sync + 'static,
+{
+    quiet_ingester::run(rt)?;
+    quiet_stream::run(rt)?;
+    quiet_log::run(rt)
+}
+
+fn take_file<R>(rt: &R, kind: Kind, file: &str, tally: &mut Tally) -> Result<()>
 where
     R: Files + Print + Threads + Wait + AllocGlobal + Copy + Send + Sync + 'static,
 {
@@ -32,14 +73,24 @@ where
     let text = fs::read_to_string(rt, file)?;
     for row in rows_of(alloc, text.as_str())?.iter() {
         let mut said = String::new(alloc);
-        take_row(rt, row, &mut said).map_err(|error| anyhow!("{}: {error}", row.name))?;
+        take_row(rt, kind, row, &mut said).map_err(|error| anyhow!("{}: {error}", row.name))?;
         tally.judge(rt, row, said.as_str())?;
     }
     Ok(())
 }
 
+fn take_row<R>(rt: &R, kind: Kind, row: &Row<'_>, said: &mut String) -> Result<()>
+where
+    R: Threads + Wait + AllocGlobal + Copy + Send + Sync + 'static,
+{
+    match kind {
+        Kind::Connections => take_connections(rt, row, said),
+        Kind::Requests => take_requests(rt, row, said),
+    }
+}
+
 /// A row whose first line is a `reply` asks for its answer. Any other row asks for connections.
-fn take_row<R>(rt: &R, row: &Row<'_>, said: &mut String) -> Result<()>
+fn take_connections<R>(rt: &R, row: &Row<'_>, said: &mut String) -> Result<()>
 where
     R: Threads + Wait + AllocGlobal + Copy + Send + Sync + 'static,
 {
@@ -49,5 +100,16 @@ where
             replies::answer_reply(alloc, first, entries, said)
         }
         _ => serving::serve_plan(rt, alloc, &Plan::read(alloc, &row.given)?, said),
+    }
+}
+
+/// A row with answers says their bytes. Any other row says the requests of a connection.
+fn take_requests<R: AllocGlobal>(rt: &R, row: &Row<'_>, said: &mut String) -> Result<()> {
+    let alloc = rt.alloc();
+    let case = Case::read(alloc, &row.given)?;
+    if case.answers.is_empty() {
+        taking::take_case(alloc, &case, said)
+    } else {
+        answering::answer_case(alloc, &case, said)
     }
 }
