@@ -101,8 +101,8 @@ theorem-check: ## tries wrong headlines, each of which a small run refutes and t
 	@RT='$(RT)' tests/theorem_check $(NAMES)
 
 faults: ## hostile bytes, refused memory, bad files, slow clients, held to the definitions (some minutes)
-	@RT='$(RT)' tests/build bench ingest1 call_cases conformance ingestctl server walcat walsplit
-	@failed=0; for it in judge_rows mutations 'each_allocation_fails bench ingest1 call_cases conformance ingestctl server' refused_threads hostile_files hostile_clients; do \
+	@RT='$(RT)' tests/build bench ingest1 call_cases conformance answer_cases ingestctl server walcat walsplit
+	@failed=0; for it in judge_rows mutations 'each_allocation_fails bench ingest1 call_cases conformance answer_cases ingestctl server' refused_threads hostile_files hostile_clients; do \
 		tests/$$it || failed=1; done; exit $$failed
 
 program-rows: ## the programs over their words, streams, files and slots, as the rows of tests/rows/programs say

@@ -1,7 +1,6 @@
 //! `conformance FILE..`: serves connections over ingesters in memory, as the rows of the files say, and prints each row
 //! that does not say what it must. After the word `requests` come files of rows that take requests from bytes and write
-//! answers, without an ingester. `conformance quiet` makes calls that request no memory, and one that does, each kind
-//! between two lines of output.
+//! answers, without an ingester.
 #![tactic(auto)]
 
 mod answering;
@@ -9,9 +8,6 @@ mod case;
 mod named;
 mod opened;
 mod plan;
-mod quiet_ingester;
-mod quiet_log;
-mod quiet_stream;
 mod replies;
 mod serving;
 mod taking;
@@ -34,35 +30,15 @@ enum Kind {
 }
 
 fn main(rt: HostRuntime) -> Result<()> {
-    let words: Vec<String> = env::args(&rt)?.skip(1).collect(rt.alloc())?;
-    match words.as_slice() {
-        [word] if word.as_str() == "quiet" => make_quiet_calls(&rt),
-        _ => take_files(&rt, &words),
-    }
-}
-
-fn take_files<R>(rt: &R, words: &[String]) -> Result<()>
-where
-    R: Files + Print + Threads + Wait + AllocGlobal + Copy + Send + Sync + 'static,
-{
     let mut tally = Tally::new();
     let mut kind = Kind::Connections;
-    for word in words {
+    for word in env::args(&rt)?.skip(1) {
         match word.as_str() {
             "requests" => kind = Kind::Requests,
-            file => take_file(rt, kind, file, &mut tally)?,
+            file => take_file(&rt, kind, file, &mut tally)?,
         }
     }
-    tally.end(rt)
-}
-
-fn make_quiet_calls<R>(rt: &R) -> Result<()>
-where
-    R: Print + Threads + Wait + AllocGlobal + Copy + Send + Sync + 'static,
-{
-    quiet_ingester::run(rt)?;
-    quiet_stream::run(rt)?;
-    quiet_log::run(rt)
+    tally.end(&rt)
 }
 
 fn take_file<R>(rt: &R, kind: Kind, file: &str, tally: &mut Tally) -> Result<()>
