@@ -131,7 +131,7 @@ fn time_serve_over<R: Clock + Wait + AllocGlobal>(
     let mut clock = Standing;
     let mut reader = load.bytes.as_slice();
     let wanted = load.bodies.len().saturating_mul(NO_CONTENT.len());
-    let mut writer = Vec::with_capacity(rt.alloc(), wanted)?;
+    let mut writer: Vec<u8> = Vec::with_capacity(rt.alloc(), wanted)?;
     let before = Instant::now(rt)?;
     let end = serve(
         rt,
