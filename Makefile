@@ -5,7 +5,8 @@ WORKERS ?= 64
 
 .PHONY: help run demo sample test edits faults check check-docs fmt bench kill failed-disk roll-time deb deb-check \
 	edge-check drain-check pictures deb-lint metrics-check metrics-cost fill-check split-check \
-	power-loss sync-check outside-check soak scale-check start-time default-shards theorem-check kit-check
+	power-loss sync-check outside-check soak scale-check start-time default-shards theorem-check kit-check \
+	program-rows
 
 help: ## prints this
 	@sed -nE 's/^([a-z][a-z-]*):.*## (.*)/\1\t\2/p' Makefile | while IFS='	' read -r name words; do \
@@ -103,9 +104,13 @@ theorem-check: ## tries wrong headlines, each of which a small run refutes and t
 	@RT='$(RT)' tests/theorem_check $(NAMES)
 
 faults: ## hostile bytes, refused memory, bad files, slow clients, held to the definitions (some minutes)
-	@RT='$(RT)' tests/build bench ingest1 call_cases conformance quiet_calls ingestctl server walcat walsplit
-	@failed=0; for it in judge_rows mutations 'each_allocation_fails bench ingest1 call_cases conformance quiet_calls ingestctl server' refused_threads hostile_files hostile_clients; do \
+	@RT='$(RT)' tests/build bench ingest1 call_cases conformance answer_cases ingestctl server walcat walsplit
+	@failed=0; for it in judge_rows mutations 'each_allocation_fails bench ingest1 call_cases conformance answer_cases ingestctl server' refused_threads hostile_files hostile_clients; do \
 		tests/$$it || failed=1; done; exit $$failed
+
+program-rows: ## the programs over their words, streams, files and slots, as the rows of tests/rows/programs say
+	@RT='$(RT)' tests/build server ingestctl ingest1 walcat walsplit
+	@tests/program_rows
 
 check: ## proves every crate, lowest first, over the work of earlier checks
 	$(RT) all check
@@ -116,13 +121,13 @@ check-docs: ## checks the documents: links, names, targets, words of programs
 fmt: ## lays out the code of every crate
 	@for crate in crates/*/; do (cd "$$crate" && $(RT) fmt) || exit 1; done
 
-# (calls in memory that the process already has, since page faults would hide what a call costs)
+# (memory that the process already has, since page faults would hide what a call costs)
+HELD = glibc.malloc.mmap_max=0:glibc.malloc.trim_threshold=17179869184
+
 bench: ## how fast bodies are read, calls are made, and connections are served
-	@RT='$(RT)' tests/build bench bench_streams bench_calls bench_groups
-	@cd crates/bench && out/bench time
-	@GLIBC_TUNABLES=glibc.malloc.mmap_max=0:glibc.malloc.trim_threshold=17179869184 crates/bench_streams/out/bench_streams time
-	@GLIBC_TUNABLES=glibc.malloc.mmap_max=0:glibc.malloc.trim_threshold=17179869184 crates/bench_calls/out/bench_calls time
-	@GLIBC_TUNABLES=glibc.malloc.mmap_max=0:glibc.malloc.trim_threshold=17179869184 crates/bench_groups/out/bench_groups time "$(CURDIR)"
+	@RT='$(RT)' tests/build bench bench_calls
+	@cd crates/bench && GLIBC_TUNABLES=$(HELD) out/bench time
+	@GLIBC_TUNABLES=$(HELD) crates/bench_calls/out/bench_calls time "$(CURDIR)"
 
 metrics-check: ## the metrics and alerts with Debian's Prometheus, over a server that fills, is drained, is killed, and has a disk that fails
 	@RT='$(RT)' tests/build server walcat

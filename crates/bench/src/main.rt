@@ -1,8 +1,11 @@
-//! `bench time` prints how fast push bodies and segments are read, and how fast the log is; `bench check` reads a label
-//! text, a query, a trim body and a segment, and appends to a log in memory.
+//! `bench time` prints how fast push bodies and segments are read, how fast the log is, and how long calls on one stream
+//! take. `bench check` reads a label text, a query, a trim body and a segment, and appends to a log in memory;
+//! `bench stream` makes calls on a stream. Several words are taken one after another.
 #![tactic(auto)]
 
 mod slots;
+mod stream;
+mod streams;
 mod write_ahead;
 
 use anyhow::{Result, bail};
@@ -21,38 +24,42 @@ const RUNS: u32 = 20;
 /// The time of the first entry, and the clock: in nanoseconds, a day of 2023.
 const START: u64 = 1_700_000_000_000_000_000;
 
-/// What follows a line of the third body: 3 pairs of metadata, as a tracing library adds them.
-const METADATA: &str =
-    r#",{"level":"info","span_id":"00f067aa0ba902b7","trace_id":"4bf92f3577b34da6a3ce929d0e0e4736"}"#;
-
-/// Entries, bytes of a line, and what follows each line, of the bodies of about 1 MB, 4 MB and 1.5 MB. A body holds at
-/// most 10,000 entries, so the lines of the larger one are longer.
-const BODIES: [(u64, usize, &str); 3] = [
-    (4_600, 200, ""),
-    (9_600, 400, ""),
-    (4_600, 200, METADATA),
-];
+/// Entries and bytes of a line, of the bodies of about 1 MB and 4 MB. A body holds at most 10,000 entries, so the lines
+/// of the larger one are longer.
+const BODIES: [(u64, usize); 2] = [(4_600, 200), (9_600, 400)];
 
 fn main(rt: HostRuntime) -> Result<()> {
     let words: Vec<String> = env::args(&rt)?.skip(1).collect(rt.alloc())?;
-    match words.as_slice() {
-        [word] if word.as_str() == "time" => time(&rt),
-        [word] if word.as_str() == "check" => check(&rt),
-        _ => bail!("usage: bench time|check"),
+    for word in words.iter() {
+        run(&rt, word.as_str())?;
+    }
+    Ok(())
+}
+
+fn run<R: Clock + Print + Env + Files<File = File> + AllocGlobal>(
+    rt: &R,
+    word: &str,
+) -> Result<()> {
+    match word {
+        "time" => time(rt),
+        "check" => check(rt),
+        "stream" => streams::check(rt),
+        _ => bail!("usage: bench time|check|stream"),
     }
 }
 
 fn time<R: Clock + Print + Env + Files<File = File> + AllocGlobal>(rt: &R) -> Result<()> {
     time_bodies(rt)?;
     slots::time_slot(rt)?;
-    write_ahead::time(rt)
+    write_ahead::time(rt)?;
+    streams::time(rt)
 }
 
 fn time_bodies<R: Clock + Print + AllocGlobal>(rt: &R) -> Result<()> {
-    for (entries, line, more) in BODIES {
-        let body = body_of(rt.alloc(), entries, line, more)?;
+    for (entries, line) in BODIES {
+        let body = body_of(rt.alloc(), entries, line)?;
         let size = body.len();
-        rt.println(format_args!("{size} bytes: {entries} lines of {line} bytes{more}"))?;
+        rt.println(format_args!("{size} bytes: {entries} lines of {line} bytes"))?;
         report(rt, &body)?;
     }
     Ok(())
@@ -84,8 +91,8 @@ fn bounds_of(alloc: Global) -> Result<(u64, u64)> {
     Ok((query.from, query.to))
 }
 
-/// A push body of one stream. `more` follows each line.
-fn body_of(alloc: Global, entries: u64, line: usize, more: &str) -> Result<Vec<u8>> {
+/// A push body of one stream.
+fn body_of(alloc: Global, entries: u64, line: usize) -> Result<Vec<u8>> {
     let mut body = Vec::new(alloc);
     body.extend_from_slice(b"{\"streams\":[{\"stream\":{\"a\":\"1\"},\"values\":[")?;
     let text = vec![in alloc; b'x'; line]?;
@@ -93,19 +100,17 @@ fn body_of(alloc: Global, entries: u64, line: usize, more: &str) -> Result<Vec<u
         if entry > 0 {
             body.push(b',')?;
         }
-        put_entry(alloc, &mut body, START.saturating_add(entry), &text, more)?;
+        put_entry(alloc, &mut body, START.saturating_add(entry), &text)?;
     }
     body.extend_from_slice(b"]}]}")?;
     Ok(body)
 }
 
-fn put_entry(alloc: Global, body: &mut Vec<u8>, time: u64, text: &[u8], more: &str) -> Result<()> {
+fn put_entry(alloc: Global, body: &mut Vec<u8>, time: u64, text: &[u8]) -> Result<()> {
     let head = format!(in alloc; "[\"{time}\",\"")?;
     body.extend_from_slice(head.as_bytes())?;
     body.extend_from_slice(text)?;
-    body.push(b'"')?;
-    body.extend_from_slice(more.as_bytes())?;
-    Ok(body.push(b']')?)
+    Ok(body.extend_from_slice(b"\"]")?)
 }
 
 fn report<R: Clock + Print + AllocGlobal>(rt: &R, body: &[u8]) -> Result<()> {

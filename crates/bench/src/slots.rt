@@ -47,26 +47,20 @@ fn segment_of(alloc: Global, blocks: u64) -> Result<Vec<u8>> {
     Ok(slot)
 }
 
-/// Prints how fast a segment of 64 MiB is read, and how fast its bytes alone are looked at.
+/// Prints how fast a segment of 64 MiB is read.
 pub fn time_slot<R: Clock + Print + AllocGlobal>(rt: &R) -> Result<()> {
     report(rt, &segment_of(rt.alloc(), BLOCKS)?)
 }
 
 fn report<R: Clock + Print + AllocGlobal>(rt: &R, slot: &[u8]) -> Result<()> {
-    let mut bytes = Duration::MAX;
     let mut segment = Duration::MAX;
     let mut records = Duration::MAX;
-    let mut open_gates = 0;
     for _ in 0..RUNS {
-        let start = Instant::now(rt)?;
-        open_gates = slot.iter().filter(|byte| **byte == 1).count();
-        bytes = bytes.min(start.elapsed(rt)?);
         segment = segment.min(time_segment(rt, slot)?);
         records = records.min(time_records(rt, slot)?);
     }
     let size = slot.len();
-    rt.println(format_args!("a segment of {size} bytes, lines of 200, {open_gates} bytes of 1"))?;
-    report_speed(rt, "its bytes alone", size, bytes)?;
+    rt.println(format_args!("a segment of {size} bytes, lines of 200"))?;
     report_speed(rt, "read_segment", size, segment)?;
     report_speed(rt, "read_records", size, records)
 }

@@ -3,6 +3,7 @@ ghost use Rattle.std.specs.Prelude.{◌≡◌, ℕ, Some, slice_get, IfOk};
 ghost use Rattle.history.specs.Handles.{Passed};
 ghost use Rattle.ingester.specs.Calls.{IsPassOf};
 
+use crate::pushes::{LINE, LINES, is_stored, key_of, pushes_of};
 use accept::{Call, Limits};
 use anyhow::{Result, bail};
 use crossbeam_channel::{Receiver, Sender, bounded};
@@ -10,7 +11,6 @@ use disk::MemDisk;
 use history::Pass;
 use ingester::Ingester;
 use labels::shard_of;
-use pushes::{LINE, LINES, is_stored, key_of, pushes_of};
 use std::alloc::Global;
 use std::rt::Clock;
 use std::sync::Wait;
@@ -29,10 +29,10 @@ const PUSHES: u64 = 32_000;
 
 /// Who calls: the number of passes, each with a thread and a stream, of shards, and of pushes by each pass.
 #[derive(Clone, Copy)]
-struct Load {
-    passes: u32,
-    shards: u32,
-    pushes: u64,
+pub struct Load {
+    pub passes: u32,
+    pub shards: u32,
+    pub pushes: u64,
 }
 
 /// What the threads of a run share.
@@ -75,7 +75,7 @@ fn slots_of(alloc: Global, load: Load) -> Result<Vec<[MemDisk; 2]>> {
 }
 
 /// An ingester over empty slots, and its passes.
-fn open<R>(rt: &R, alloc: Global, load: Load) -> Result<(Ingester<MemDisk>, Vec<Pass>)>
+pub fn open<R>(rt: &R, alloc: Global, load: Load) -> Result<(Ingester<MemDisk>, Vec<Pass>)>
 where
     R: Threads + Wait + Copy + Send + Sync + 'static,
     ensures { IfOk result (λ it. (p : ℕ) (pass : Passed) → slice_get it.1.items p ≡ Some pass → IsPassOf it.0 pass) }

@@ -1,21 +1,21 @@
 //! How fast the requests of a connection are served over memory, compared with reading the same bodies and making the
 //! same calls alone.
-ghost use Rattle.std.specs.Prelude.{◌≡◌, ℕ, Some, slice_get, IfOk};
-ghost use Rattle.history.specs.Handles.{Passed};
+ghost use Rattle.std.specs.Prelude.{◌≡◌, IfOk};
 ghost use Rattle.accept.specs.Calls.{AreNumbers};
 ghost use Rattle.ingester.specs.Calls.{IsPassOf};
 
-use accept::{Call, Limits};
+use crate::ingester_calls::{self, Load as Callers};
+use crate::pushes::{LINE, START, is_stored};
+use accept::Call;
 use anyhow::{Result, anyhow, bail};
 use disk::MemDisk;
 use front::{Served, serve};
 use history::Pass;
 use ingester::Ingester;
 use labels::{LabelSet, StreamKey, Tenant};
-use pushes::{LINE, START, is_stored};
 use pushjson::{RawBatch, read_push};
-use std::alloc::{AllocError, Global};
-use std::io::{self, Write};
+use std::alloc::Global;
+use std::io::Write;
 use std::rt::Clock;
 use std::sync::Wait;
 use std::thread::Threads;
@@ -27,23 +27,22 @@ const RUNS: u32 = 10;
 /// How many requests a connection has, and of how many lines each: all in one stream, at times that rise.
 const LOADS: [(u64, u64); 2] = [(10_000, 10), (20, 5_000)];
 
-/// The bytes that a segment may have: more than the log of a load, so that only the first call rolls.
-const CAPACITY: u64 = 67_108_864;
-
-/// The bytes for which a disk and its record have room: more than the log of a load.
-const ROOM: u64 = 33_554_432;
-
-/// The writes and syncs that a disk has room for.
-const CALLS: u64 = 65_536;
+/// One pass over one shard, with room for more than the log of a load.
+const ONE: Callers = Callers {
+    passes: 1,
+    shards: 1,
+    pushes: 10_000,
+};
 
 /// The answer to a push whose entries are all stored.
 const NO_CONTENT: &str = "HTTP/1.1 204 No Content\r\n\r\n";
 
-/// The bytes of a connection, and the bodies of its requests.
+/// The bytes of a connection, and the bodies of its requests, with how many bytes these have together.
 #[derive(Drop)]
 struct Load {
     bytes: Vec<u8>,
     bodies: Vec<Vec<u8>>,
+    size: usize,
 }
 
 /// A clock that always tells the same time.
@@ -55,23 +54,6 @@ impl front::Clock for Standing {
 
     fn now(&mut self) -> u64 {
         START
-    }
-}
-
-/// A writer that counts what it is given.
-#[derive(Drop)]
-struct Counter {
-    bytes: usize,
-}
-
-impl Write for Counter {
-    fn write(&mut self, buf: &[u8]) -> io::Result<usize> {
-        self.bytes = self.bytes.saturating_add(buf.len());
-        Ok(buf.len())
-    }
-
-    fn flush(&mut self) -> io::Result<()> {
-        Ok(())
     }
 }
 
@@ -95,10 +77,12 @@ fn body_of(alloc: Global, first: u64, entries: u64) -> Result<Vec<u8>> {
 fn load_of(alloc: Global, requests: u64, entries: u64) -> Result<Load> {
     let mut bytes = Vec::new(alloc);
     let mut bodies = Vec::new(alloc);
+    let mut size: usize = 0;
     for request in 0..requests {
         let first = START.saturating_add(request.saturating_mul(entries));
         let body = body_of(alloc, first, entries)?;
         let length = body.len();
+        size = size.saturating_add(length);
         write!(
             bytes,
             "POST /loki/api/v1/push HTTP/1.1\r\nHost: 127.0.0.1:3100\r\nX-Scope-OrgID: t\r\nContent-Type: application/json\r\nContent-Length: {length}\r\n\r\n"
@@ -106,34 +90,20 @@ fn load_of(alloc: Global, requests: u64, entries: u64) -> Result<Load> {
         bytes.extend_from_slice(&body)?;
         bodies.push(body)?;
     }
-    Ok(Load { bytes, bodies })
+    Ok(Load {
+        bytes,
+        bodies,
+        size,
+    })
 }
 
-fn slot(alloc: Global) -> Result<MemDisk, AllocError> {
-    MemDisk::new(alloc, ROOM, CALLS, ROOM)
-}
-
-/// One shard over empty slots, and its passes.
-fn open_all<R>(rt: &R, alloc: Global) -> Result<(Ingester<MemDisk>, Vec<Pass>)>
-where
-    R: Threads + Wait + Copy + Send + Sync + 'static,
-    ensures { IfOk result (λ it. (p : ℕ) (pass : Passed) → slice_get it.1.items p ≡ Some pass → IsPassOf it.0 pass) }
-{
-    let mut slots = Vec::new(alloc);
-    slots.push([slot(alloc)?, slot(alloc)?])?;
-    match Ingester::open(rt, *rt, alloc, slots, 1, Limits::PROFILE, CAPACITY) {
-        Ok(opened) => Ok(opened),
-        Err(refusal) => Err(refusal.0.into()),
-    }
-}
-
-/// The same with its one pass.
+/// One shard over empty slots, and its one pass.
 fn open<R>(rt: &R, alloc: Global) -> Result<(Ingester<MemDisk>, Pass)>
 where
     R: Threads + Wait + Copy + Send + Sync + 'static,
     ensures { IfOk result (λ it. IsPassOf it.0 it.1) }
 {
-    let (ingester, mut passes) = open_all(rt, alloc)?;
+    let (ingester, mut passes) = ingester_calls::open(rt, alloc, ONE)?;
     match passes.pop() {
         Some(pass) => Ok((ingester, pass)),
         None => Err(anyhow!("no pass")),
@@ -160,7 +130,8 @@ fn time_serve_over<R: Clock + Wait + AllocGlobal>(
 {
     let mut clock = Standing;
     let mut reader = load.bytes.as_slice();
-    let mut writer = Counter { bytes: 0 };
+    let wanted = load.bodies.len().saturating_mul(NO_CONTENT.len());
+    let mut writer: Vec<u8> = Vec::with_capacity(rt.alloc(), wanted)?;
     let before = Instant::now(rt)?;
     let end = serve(
         rt,
@@ -172,8 +143,7 @@ fn time_serve_over<R: Clock + Wait + AllocGlobal>(
         &mut writer,
     )?;
     let time = before.elapsed(rt)?;
-    let wanted = load.bodies.len().saturating_mul(NO_CONTENT.len());
-    if end != Served::Ended || writer.bytes != wanted {
+    if end != Served::Ended || writer.len() != wanted {
         bail!("not all is stored");
     }
     Ok(time)
@@ -243,30 +213,26 @@ fn time_reading<R: Clock + AllocGlobal>(rt: &R, bodies: &[Vec<u8>]) -> Result<Du
     Ok(before.elapsed(rt)?)
 }
 
-/// Reads the bodies and makes their calls, one body after another. Gives how long the reading and how long the calls
-/// took.
+/// Makes the calls of bodies, one body after another, and gives how long the calls took.
 fn time_bodies<R: Clock + Wait + AllocGlobal>(
     rt: &R,
     ingester: &Ingester<MemDisk>,
     pass: &mut Pass,
     bodies: &[Vec<u8>],
-) -> Result<(Duration, Duration)>
+) -> Result<Duration>
     requires { IsPassOf ingester.now pass.old }
 {
-    let mut reading = Duration::ZERO;
     let mut calling = Duration::ZERO;
     for body in bodies {
-        let before = Instant::now(rt)?;
         let batches = read_push(rt.alloc(), body)?;
-        reading = reading.saturating_add(before.elapsed(rt)?);
         let time = time_calls(rt, ingester, pass, batches)?;
         calling = calling.saturating_add(time);
     }
-    Ok((reading, calling))
+    Ok(calling)
 }
 
 /// The same of a load, from empty slots on.
-fn time_parts<R>(rt: &R, load: &Load) -> Result<(Duration, Duration)>
+fn time_calling<R>(rt: &R, load: &Load) -> Result<Duration>
 where
     R: Clock + Threads + Wait + AllocGlobal + Copy + Send + Sync + 'static,
 {
@@ -289,28 +255,17 @@ fn report<R: Print>(
     Ok(())
 }
 
-/// The bytes of all bodies.
-fn size_of_bodies(load: &Load) -> usize {
-    load.bodies
-        .iter()
-        .fold(0_usize, |size, body| size.saturating_add(body.len()))
-}
-
-/// Prints the time of serving as a share of the time of these parts.
-fn compare<R: Print>(rt: &R, name: &str, serving: Duration, parts: [Duration; 2]) -> Result<()> {
-    let [reading, calling] = parts;
+/// Prints the time of serving as a share of the time of its parts.
+fn compare<R: Print>(
+    rt: &R,
+    serving: Duration,
+    reading: Duration,
+    calling: Duration,
+) -> Result<()> {
     let both = reading.saturating_add(calling).as_micros().max(1);
     let percent = serving.as_micros().saturating_mul(100) / both;
-    rt.println(format_args!("  serve takes {percent} % of {name} and the calls"))?;
+    rt.println(format_args!("  serve takes {percent} % of read_push and the calls"))?;
     Ok(())
-}
-
-fn time_load<R>(rt: &R, requests: u64, entries: u64) -> Result<()>
-where
-    R: Clock + Print + Threads + Wait + AllocGlobal + Copy + Send + Sync + 'static,
-{
-    let load = load_of(rt.alloc(), requests, entries)?;
-    time_each(rt, &load, entries)
 }
 
 /// Prints how fast a load of requests of `entries` lines is served, and its parts alone.
@@ -318,34 +273,24 @@ fn time_each<R>(rt: &R, load: &Load, entries: u64) -> Result<()>
 where
     R: Clock + Print + Threads + Wait + AllocGlobal + Copy + Send + Sync + 'static,
 {
-    let (mut serving, mut alone) = (Duration::MAX, Duration::MAX);
-    let (mut reading, mut calling) = (Duration::MAX, Duration::MAX);
+    let (mut serving, mut reading, mut calling) = (Duration::MAX, Duration::MAX, Duration::MAX);
     for _ in 0..RUNS {
         serving = serving.min(time_serve(rt, load)?);
-        alone = alone.min(time_reading(rt, &load.bodies)?);
-        let (read, called) = time_parts(rt, load)?;
-        reading = reading.min(read);
-        calling = calling.min(called);
+        reading = reading.min(time_reading(rt, &load.bodies)?);
+        calling = calling.min(time_calling(rt, load)?);
     }
-    let (count, size) = (load.bodies.len(), size_of_bodies(load));
+    let (count, size) = (load.bodies.len(), load.size);
     rt.println(format_args!(
         "{count} requests of {entries} lines of {LINE} bytes on one connection: {size} bytes of bodies"
     ))?;
     for (name, time) in [
         ("serve", serving),
-        ("read_push alone", alone),
-        ("read_push before each call", reading),
+        ("read_push", reading),
         ("the calls", calling),
     ] {
         report(rt, name, count, size, time)?;
     }
-    compare(rt, "read_push alone", serving, [alone, calling])?;
-    compare(
-        rt,
-        "read_push before each call",
-        serving,
-        [reading, calling],
-    )
+    compare(rt, serving, reading, calling)
 }
 
 /// Prints how fast connections are served.
@@ -354,7 +299,7 @@ where
     R: Clock + Print + Threads + Wait + AllocGlobal + Copy + Send + Sync + 'static,
 {
     for (requests, entries) in LOADS {
-        time_load(rt, requests, entries)?;
+        time_each(rt, &load_of(rt.alloc(), requests, entries)?, entries)?;
     }
     Ok(())
 }
@@ -374,8 +319,8 @@ where
 {
     time_serve(rt, load)?;
     time_reading(rt, &load.bodies)?;
-    time_parts(rt, load)?;
-    let (count, size) = (load.bodies.len(), size_of_bodies(load));
+    time_calling(rt, load)?;
+    let (count, size) = (load.bodies.len(), load.size);
     rt.println(format_args!("served {count} requests with bodies of {size} bytes"))?;
     Ok(())
 }

@@ -1,13 +1,19 @@
 //! `conformance FILE..`: serves connections over ingesters in memory, as the rows of the files say, and prints each row
-//! that does not say what it must.
+//! that does not say what it must. After the word `requests` come files of rows that take requests from bytes and write
+//! answers, without an ingester.
 #![tactic(auto)]
 
+mod answering;
+mod case;
+mod named;
 mod opened;
 mod plan;
 mod replies;
 mod serving;
+mod taking;
 mod visits;
 
+use crate::case::Case;
 use crate::plan::Plan;
 use anyhow::{Result, anyhow};
 use rows::{Row, Tally, rows_of};
@@ -16,15 +22,26 @@ use std::sync::Wait;
 use std::thread::Threads;
 use std::{env, fs};
 
+/// What the rows of a file are about.
+#[derive(Clone, Copy)]
+enum Kind {
+    Connections,
+    Requests,
+}
+
 fn main(rt: HostRuntime) -> Result<()> {
     let mut tally = Tally::new();
-    for file in env::args(&rt)?.skip(1) {
-        take_file(&rt, file.as_str(), &mut tally)?;
+    let mut kind = Kind::Connections;
+    for word in env::args(&rt)?.skip(1) {
+        match word.as_str() {
+            "requests" => kind = Kind::Requests,
+            file => take_file(&rt, kind, file, &mut tally)?,
+        }
     }
     tally.end(&rt)
 }
 
-fn take_file<R>(rt: &R, file: &str, tally: &mut Tally) -> Result<()>
+fn take_file<R>(rt: &R, kind: Kind, file: &str, tally: &mut Tally) -> Result<()>
 where
     R: Files + Print + Threads + Wait + AllocGlobal + Copy + Send + Sync + 'static,
 {
@@ -32,14 +49,24 @@ where
     let text = fs::read_to_string(rt, file)?;
     for row in rows_of(alloc, text.as_str())?.iter() {
         let mut said = String::new(alloc);
-        take_row(rt, row, &mut said).map_err(|error| anyhow!("{}: {error}", row.name))?;
+        take_row(rt, kind, row, &mut said).map_err(|error| anyhow!("{}: {error}", row.name))?;
         tally.judge(rt, row, said.as_str())?;
     }
     Ok(())
 }
 
+fn take_row<R>(rt: &R, kind: Kind, row: &Row<'_>, said: &mut String) -> Result<()>
+where
+    R: Threads + Wait + AllocGlobal + Copy + Send + Sync + 'static,
+{
+    match kind {
+        Kind::Connections => take_connections(rt, row, said),
+        Kind::Requests => take_requests(rt, row, said),
+    }
+}
+
 /// A row whose first line is a `reply` asks for its answer. Any other row asks for connections.
-fn take_row<R>(rt: &R, row: &Row<'_>, said: &mut String) -> Result<()>
+fn take_connections<R>(rt: &R, row: &Row<'_>, said: &mut String) -> Result<()>
 where
     R: Threads + Wait + AllocGlobal + Copy + Send + Sync + 'static,
 {
@@ -49,5 +76,16 @@ where
             replies::answer_reply(alloc, first, entries, said)
         }
         _ => serving::serve_plan(rt, alloc, &Plan::read(alloc, &row.given)?, said),
+    }
+}
+
+/// A row with answers says their bytes. Any other row says the requests of a connection.
+fn take_requests<R: AllocGlobal>(rt: &R, row: &Row<'_>, said: &mut String) -> Result<()> {
+    let alloc = rt.alloc();
+    let case = Case::read(alloc, &row.given)?;
+    if case.answers.is_empty() {
+        taking::take_case(alloc, &case, said)
+    } else {
+        answering::answer_case(alloc, &case, said)
     }
 }

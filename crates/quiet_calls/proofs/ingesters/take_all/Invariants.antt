@@ -1,4 +1,0 @@
-use Rattle.quiet_calls.proofs.ingesters.take_all.Given as goal
-
-abbrev pub decreases-loop-slots : goal.decreases-loop-slots
-decreases-loop-slots l = l.closed.left
