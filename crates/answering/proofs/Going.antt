@@ -22,7 +22,7 @@ use Rattle.answering.specs.Calls as cames
 use Rattle.answering.specs.Courses.{Course, Unread, Whole, Broken, fault_failure, first_failure, said_of, StreamGives, BodyStops, RequestGives}
 use Rattle.answering.specs.declared.calling.Uncalled.{Uncalled}
 use Rattle.answering.specs.declared.calling.Uncalled.TheVariants.{Body, Labels}
-use Rattle.answering.specs.Parts.{BodyIsRefused, BodyIsAnswered, AsksForCall, IsUncalled, IsOfOne}
+use Rattle.answering.specs.Parts.{BodyIsRefused, UncalledIsAnswered, BodyIsAnswered, AsksForCall, IsUncalled, IsOfOne}
 use Rattle.answering.specs.Replies.{one_status, one_text}
 use Rattle.answering.specs.Showing.{IsShown}
 use Rattle.answering.specs.Responses.{RequestEnds, RequestIsUnsaid, cames_status, cames_text, status_for, text_for, failure_in, fault_status, fault_text}
@@ -81,6 +81,12 @@ module _ {H : Type 0} (gives : Giving H) (now : ℕ) (tenant body : List ℕ) wh
       },
       refl,
     )
+
+  pub none_called : (route : Route) → IsOfOne route → (h : H) (why : Uncalled) (result : Result Answer Halt) → AsksForCall route tenant body (Err why) → UncalledIsAnswered why result → RequestEnds gives route now tenant body h result h
+  none_called route single h (Body fault) result asks is = refused route h fault result (asks now) is
+  none_called route single h (Labels fault) (Ok answer) (asked, asks, why) shows = one route single h h asked (asks now) (cames.Refused fault) answer (why, refl) refl shows
+  none_called route single h (Labels fault) (Err (Failed failure)) asks never = absurd never
+  none_called route single h (Labels fault) (Err GivenUp) (asked, asks, why) said = one_left route single h h asked (asks now) (cames.Refused fault) (why, refl) refl said
 
   pub push : (h h' : H) (all : List Asked) (result : Result Answer Halt) → AsksFor Push now body (Ok all) → BodyIsAnswered gives tenant h all result h' → RequestEnds gives Push now tenant body h result h'
   push h h' all (Ok answer) asks (cames, each, whole, shows) = (Whole cames, record { asked = Ok all; asks = asks; goes = (all, refl, each, whole) }, refl, shows)

@@ -13,9 +13,10 @@ use Rattle.answering.specs.declared.calling.Uncalled.TheVariants.{Body, Labels}
 use Rattle.answering.specs.declared.responding.Halt.{Halt}
 use Rattle.answering.specs.declared.responding.Halt.TheVariants.{Failed, GivenUp}
 use Rattle.answering.specs.Asking.{Asked, AsksFor, IsCallOf}
-use Rattle.answering.specs.Calls.{Giving, Came}
+use Rattle.answering.specs.Calls.{Giving, Came, Refused}
 use Rattle.answering.specs.Lines.{push_status, lines_from, came_lines}
 use Rattle.answering.specs.Courses.{fault_failure, first_failure, StreamsGive, BodyFails, BodyStops}
+use Rattle.answering.specs.Replies.{one_status, one_text}
 use Rattle.answering.specs.Responses.{fault_status, fault_text}
 use Rattle.answering.specs.Showing.{IsShown}
 
@@ -24,6 +25,13 @@ abbrev pub BodyIsRefused : PushFault → Result Answer Halt → Type 0
 BodyIsRefused fault (Ok answer) = (fault_failure fault ≡ None) × IsShown (fault_status fault) (fault_text fault) answer
 BodyIsRefused fault (Err (Failed failure)) = fault_failure fault ≡ Some failure
 BodyIsRefused fault (Err GivenUp) = fault_failure fault ≡ None
+
+-- no call is made of a body that asks for one
+abbrev pub UncalledIsAnswered : Uncalled → Result Answer Halt → Type 0
+UncalledIsAnswered (Body fault) result = BodyIsRefused fault result
+UncalledIsAnswered (Labels fault) (Ok answer) = IsShown (one_status (Refused fault)) (one_text (Refused fault)) answer
+UncalledIsAnswered (Labels fault) (Err (Failed failure)) = ⊥
+UncalledIsAnswered (Labels fault) (Err GivenUp) = one_text (Refused fault) ≢ []
 
 -- it asks for one stream
 abbrev pub IsOfOne : Route → Type 0

@@ -4,7 +4,7 @@ ghost use Rattle.std.specs.VecDeque.{deque_len};
 ghost use Rattle.accept.specs.Calls.{AreNumbers};
 ghost use Rattle.requests.specs.Answers.{failure_body};
 ghost use Rattle.answering.specs.Asking.{Asked};
-ghost use Rattle.answering.specs.Parts.{BodyIsRefused, BodyIsAnswered, AsksForCall, IsOfOne};
+ghost use Rattle.answering.specs.Parts.{BodyIsRefused, UncalledIsAnswered, BodyIsAnswered, AsksForCall, IsOfOne};
 ghost use Rattle.answering.specs.Responses.{RequestIsAnswered, RequestEnds, bad_time_text};
 ghost use Rattle.answering.specs.Showing.{IsShown};
 ghost use Rattle.answering.specs.Windows.{AreStreams, IsEmptyWindow, called};
@@ -143,6 +143,16 @@ fn push<S: Calls, R: Wait>(
     }
 }
 
+/// The answer to a body of which no call is made.
+fn answer_of_uncalled(alloc: Global, why: Uncalled) -> Result<Answer, Halt>
+    ensures { UncalledIsAnswered why result }
+{
+    match why {
+        Uncalled::Body(fault) => refuse(alloc, fault),
+        Uncalled::Labels(fault) => Ok(answer_of_refusal(alloc, fault)?),
+    }
+}
+
 /// The answer to a read or a trim, whose body asks for this call.
 fn answer_one<S: Calls, R: Wait>(
     rt: &R,
@@ -163,8 +173,7 @@ fn answer_one<S: Calls, R: Wait>(
             let reply = service.call(rt, alloc, pass, call)?;
             Ok(answer_of_moved(alloc, reply)?)
         }
-        Err(Uncalled::Body(fault)) => refuse(alloc, fault),
-        Err(Uncalled::Labels(fault)) => Ok(answer_of_refusal(alloc, fault)?),
+        Err(why) => answer_of_uncalled(alloc, why),
     }
 }
 
