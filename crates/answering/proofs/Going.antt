@@ -1,5 +1,5 @@
 -- From how the calls of a request went to its answer.
-use Rattle.std.proofs.Common.{◌≡◌, ◌≢◌, ℕ, ◌+◌, ◌<◌, ◌≤◌, ◌^◌, false, All, sum_by, List, [], ◌∷◌, map, length, None, Some, Result, Ok, Err, refl, sym, ap, ap₂, ◌∙◌, subst, inr, arith}
+use Rattle.std.proofs.Common.{◌≡◌, ◌≢◌, ℕ, ◌+◌, ◌<◌, ◌≤◌, ◌^◌, false, All, sum_by, List, [], ◌∷◌, map, length, None, Some, Result, Ok, Err, refl, sym, ap, ap₂, ◌∙◌, subst, arith}
 use Rattle.accept.specs.declared.call.Call.{Call}
 use Rattle.pushjson.specs.declared.fault.PushFault.{PushFault}
 use Rattle.pushjson.specs.declared.fault.PushFault.TheVariants.{NotJson, WrongShape, BadTime, TooManyEntries, Memory}
@@ -19,7 +19,7 @@ use Rattle.std.proofs.lemmas.List.{length-map}
 use Rattle.std.proofs.lemmas.List.Sums.{sum_by-cons, get_or-le-sum_by}
 use Rattle.answering.specs.Calls.{Giving, Came}
 use Rattle.answering.specs.Calls as cames
-use Rattle.answering.specs.Courses.{Course, Unread, Whole, Broken, fault_failure, first_failure, said_of, StreamGives, BodyStops, RequestGives}
+use Rattle.answering.specs.Courses.{Course, Unread, Whole, Broken, fault_failure, first_failure, said_of, StreamGives}
 use Rattle.answering.specs.declared.calling.Uncalled.{Uncalled}
 use Rattle.answering.specs.declared.calling.Uncalled.TheVariants.{Body, Labels}
 use Rattle.answering.specs.Parts.{BodyIsRefused, UncalledIsAnswered, BodyIsAnswered, AsksForCall, IsUncalled, IsOfOne}

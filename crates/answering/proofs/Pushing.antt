@@ -1,5 +1,5 @@
 -- From windows of streams to all of them.
-use Rattle.std.proofs.Common.{◌≡◌, ◌≢◌, ℕ, suc, ◌+◌, ◌<◌, ◌≤◌, Bool, false, All, List, [], ◌∷◌, ◌++◌, map, length, drop, get_or, Option, None, Some, Result, Ok, Err, refl, sym, ap, ◌∙◌, subst, append_assoc, length-append, add-one, drop-cons, arith}
+use Rattle.std.proofs.Common.{◌≡◌, ◌≢◌, ℕ, suc, ◌+◌, ◌<◌, ◌≤◌, Bool, false, All, List, [], ◌∷◌, ◌++◌, length, drop, get_or, Option, None, Some, Result, Ok, Err, refl, sym, ap, ◌∙◌, subst, append_assoc, add-one, drop-cons, arith}
 use Rattle.std.proofs.lemmas.List.{append-nil}
 use Rattle.std.proofs.lemmas.List.Elements.{All-nil, All-cons, All-head, All-tail}
 use Rattle.labels.specs.Faults.{first_fault}
@@ -32,7 +32,7 @@ module _ (tenant : List ℕ) (all : List Asked) (places : List (Option LabelFaul
         → (ps : List (Option LabelFault)) (cs : List Call) → AreStreams tenant more ps cs → AreStreams tenant all ((places ++ None ∷ []) ++ ps) ((calls ++ call ∷ []) ++ cs)
     called_more call is ps cs are =
         subst (λ l. AreStreams tenant all l ((calls ++ call ∷ []) ++ cs)) (sym (append_assoc places (None ∷ []) ps))
-            (subst (AreStreams tenant all (places ++ None ∷ ps)) (sym (append_assoc calls (call ∷ []) cs)) (so_far (None ∷ ps) (call ∷ cs) (is, are)))
+        (subst (AreStreams tenant all (places ++ None ∷ ps)) (sym (append_assoc calls (call ∷ []) cs)) (so_far (None ∷ ps) (call ∷ cs) (is, are)))
 
   pub streams_all : ((ps : List (Option LabelFault)) (cs : List Call) → AreStreams tenant [] ps cs → AreStreams tenant all (places ++ ps) (calls ++ cs)) → AreStreams tenant all places calls
   streams_all so_far = subst (λ l. AreStreams tenant all l calls) (append-nil places) (subst (AreStreams tenant all (places ++ [])) (append-nil calls) (so_far [] [] tt))
@@ -215,15 +215,17 @@ module _ {H : Type 0} (gives : Giving H) (tenant : List ℕ) where
           let (done, rest, is, each, others) = parts in
           let cs = merged window outcomes in
           let fails = noted taken.cames taken.tells taken.whole in
-          let below = few_behind cs failure (sym (failure_behind taken.cames cs taken.whole) ∙ fails) in
-          (taken.cames ++ cs, record {
-            done = done;
-            more = rest;
-            split = is;
-            each = each;
-            fails = fails;
-            few = subst (λ (n : ℕ). n < 64) (sym (same_behind taken.cames cs taken.whole)) (omega (arith, below, merged_length window outcomes due, few));
-          })
+          let below = few_behind cs failure (sym (failure_behind taken.cames cs taken.whole) ∙ fails) in (
+            taken.cames ++ cs,
+            record {
+              done = done;
+              more = rest;
+              split = is;
+              each = each;
+              fails = fails;
+              few = subst (λ (n : ℕ). n < 64) (sym (same_behind taken.cames cs taken.whole)) (omega (arith, below, merged_length window outcomes due, few));
+            },
+          )
       window_taken (Err GivenUp) noted =
           let (done, rest, is, each, others) = parts in
           let s = noted taken.cames taken.tells taken.whole in

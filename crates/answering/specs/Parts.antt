@@ -29,7 +29,8 @@ BodyIsRefused fault (Err GivenUp) = fault_failure fault ≡ None
 -- no call is made of a body that asks for one
 abbrev pub UncalledIsAnswered : Uncalled → Result Answer Halt → Type 0
 UncalledIsAnswered (Body fault) result = BodyIsRefused fault result
-UncalledIsAnswered (Labels fault) (Ok answer) = IsShown (one_status (Refused fault)) (one_text (Refused fault)) answer
+UncalledIsAnswered (Labels fault) (Ok answer) =
+    IsShown (one_status (Refused fault)) (one_text (Refused fault)) answer
 UncalledIsAnswered (Labels fault) (Err (Failed failure)) = ⊥
 UncalledIsAnswered (Labels fault) (Err GivenUp) = one_text (Refused fault) ≢ []
 
@@ -46,16 +47,18 @@ IsUncalled pairs (Labels fault) = first_fault pairs ≡ Some fault
 
 -- the body asks for this one call, or there is none
 abbrev pub AsksForCall : Route → List ℕ → List ℕ → Result Call Uncalled → Type 0
-AsksForCall route tenant body (Ok call) = (asked : Asked) × ((now : ℕ) → AsksFor route now body (Ok (asked ∷ [])))
-    × IsCallOf tenant asked call
+AsksForCall route tenant body (Ok call) = (asked : Asked)
+    × ((now : ℕ) → AsksFor route now body (Ok (asked ∷ []))) × IsCallOf tenant asked call
 AsksForCall route tenant body (Err (Body fault)) = (now : ℕ) → AsksFor route now body (Err fault)
 AsksForCall route tenant body (Err (Labels fault)) = (asked : Asked)
-    × ((now : ℕ) → AsksFor route now body (Ok (asked ∷ []))) × (first_fault asked.pairs ≡ Some fault)
+    × ((now : ℕ) → AsksFor route now body (Ok (asked ∷ [])))
+    × (first_fault asked.pairs ≡ Some fault)
 
 module _ {H : Type 0} (gives : Giving H) (tenant : List ℕ) where
   -- the streams of a push
   abbrev pub BodyIsAnswered : H → List Asked → Result Answer Halt → H → Type 0
   BodyIsAnswered h all (Ok answer) h' = (cames : List Came) × StreamsGive gives tenant h all cames h'
       × (first_failure cames ≡ None) × IsShown (push_status cames) (lines_from 0 cames) answer
-  BodyIsAnswered h all (Err (Failed failure)) h' = (cames : List Came) × BodyFails gives tenant h all cames failure h'
+  BodyIsAnswered h all (Err (Failed failure)) h' = (cames : List Came)
+      × BodyFails gives tenant h all cames failure h'
   BodyIsAnswered h all (Err GivenUp) h' = BodyStops gives tenant came_lines h all h'

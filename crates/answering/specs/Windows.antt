@@ -67,8 +67,10 @@ pub record StopsAmong (before cames : List Came) : Type 0 where
 
 -- behind others these came, and they were taken into the lines up to the first that failed
 abbrev pub AreNoted : List Came → List Came → Result (Unit {0}) Halt → PushLines → Type 0
-AreNoted before cames (Ok u) new = (first_failure (before ++ cames) ≡ None) × Tells (before ++ cames) new
-AreNoted before cames (Err (halts.Failed failure)) new = first_failure (before ++ cames) ≡ Some failure
+AreNoted before cames (Ok u) new = (first_failure (before ++ cames) ≡ None)
+    × Tells (before ++ cames) new
+AreNoted before cames (Err (halts.Failed failure)) new =
+    first_failure (before ++ cames) ≡ Some failure
 AreNoted before cames (Err halts.GivenUp) new = StopsAmong before cames
 
 -- the same so far, and these are left
@@ -81,8 +83,8 @@ pub record AreNotedTo (before cames left : List Came) (lines : PushLines) : Type
 
 module _ {H : Type 0} (gives : Giving H) (tenant : List ℕ) (h : H) (all : List Asked) where
   -- of these streams the first were taken, none of them failed, and these are left
-  pub record StreamsAreTaken (h' : H) (places : List (Option LabelFault)) (calls : List Call) (lines : PushLines)
-      : Type 0 where
+  pub record StreamsAreTaken (h' : H) (places : List (Option LabelFault)) (calls : List Call)
+      (lines : PushLines) : Type 0 where
     pub done : List Asked
     pub more : List Asked
     pub cames : List Came
@@ -93,6 +95,7 @@ module _ {H : Type 0} (gives : Giving H) (tenant : List ℕ) (h : H) (all : List
     pub tells : Tells cames lines
 
   -- the streams of a window were taken
-  abbrev pub WindowIsTaken : Result (Unit {0}) Halt → H → List (Option LabelFault) → List Call → PushLines → Type 0
+  abbrev pub WindowIsTaken : Result (Unit {0}) Halt → H → List (Option LabelFault) → List Call → PushLines
+      → Type 0
   WindowIsTaken (Ok u) h' places calls lines = StreamsAreTaken h' places calls lines
   WindowIsTaken (Err halt) h' places calls lines = BodyIsAnswered gives tenant h all (Err halt) h'

@@ -54,12 +54,15 @@ pub(crate) fn streams_of<O: Drop>(
     request: &RequestBody<'_>,
 ) -> Result<Streams<O>, PushFault>
     requires clock { request.now.time < 2 ^ 63 }
-    ensures ok { IfOk result (λ streams. AsksForStreams request.now.time request.now.tenant.now request.now.body.now
-        streams.places.items streams.windows.left.items) }
-    ensures cause { IfErr result (λ fault. AsksFor Push request.now.time request.now.body.now (Err fault)) }
+    ensures ok { IfOk result (λ streams. AsksForStreams request.now.time request.now.tenant.now
+        request.now.body.now streams.places.items streams.windows.left.items) }
+    ensures cause { IfErr result (λ fault.
+        AsksFor Push request.now.time request.now.body.now (Err fault)) }
     ensures numbers { IfOk result (λ streams. All AreNumbers streams.windows.left.items) }
-    ensures fresh { IfOk result (λ streams. IsEmptyWindow streams.windows.calls.items streams.windows.outcomes.items) }
-    ensures size { IfOk result (λ streams. streams.windows.size ≡ min 64 (deque_len streams.windows.left)) }
+    ensures fresh { IfOk result (λ streams.
+        IsEmptyWindow streams.windows.calls.items streams.windows.outcomes.items) }
+    ensures size { IfOk result (λ streams.
+        streams.windows.size ≡ min 64 (deque_len streams.windows.left)) }
 {
     let batches = read_push(alloc, request.body)?;
     let (places, left) = places_of(alloc, request.tenant, request.time, batches)?;
@@ -77,7 +80,8 @@ fn places_of(
     batches: Vec<RawBatch>,
 ) -> Result<(Vec<Option<LabelFault>>, VecDeque<Call>), PushFault>
     requires { All (λ b. HasNumbers (asked_push now b)) batches.items }
-    ensures ok { IfOk result (λ p. AreStreams tenant.now (map (asked_push now) batches.items) p.0.items p.1.items) }
+    ensures ok { IfOk result (λ p.
+        AreStreams tenant.now (map (asked_push now) batches.items) p.0.items p.1.items) }
     ensures cause { IfErr result (λ fault. fault ≡ PushFault.Memory) }
     ensures numbers { IfOk result (λ p. All AreNumbers p.1.items) }
 {
@@ -104,7 +108,8 @@ impl<O: Drop> Windows<O> {
     // Of these calls none was made.
     fn new(alloc: Global, left: VecDeque<Call>) -> Result<Windows<O>, AllocError>
         ensures left { IfOk result (λ windows. windows.left ≡ left) }
-        ensures fresh { IfOk result (λ windows. IsEmptyWindow windows.calls.items windows.outcomes.items) }
+        ensures fresh { IfOk result (λ windows.
+            IsEmptyWindow windows.calls.items windows.outcomes.items) }
         ensures size { IfOk result (λ windows. windows.size ≡ min 64 (deque_len left)) }
     {
         let size = MOST.min(left.len());
@@ -148,8 +153,10 @@ impl<O: Drop> Windows<O> {
         requires due { called places.now ≡ deque_len self.old.outcomes }
         requires few { lines.old.streams + length places.now < 2 ^ 64 }
         ensures noted { (before : List Came) → Tells before lines.old → first_failure before ≡ None
-            → AreNoted before (merged places.now (map S.told self.old.outcomes.items)) result lines.new }
-        ensures count { IfOk result (λ _. lines.new.streams ≡ lines.old.streams + length places.now) }
+            → AreNoted before (merged places.now (map S.told self.old.outcomes.items)) result
+            lines.new }
+        ensures count { IfOk result (λ _.
+            lines.new.streams ≡ lines.old.streams + length places.now) }
         ensures fresh { IfOk result (λ _. self.new.outcomes.items ≡ []) }
         ensures left { self.new.left ≡ self.old.left }
         ensures calls { self.new.calls ≡ self.old.calls }
@@ -186,15 +193,19 @@ impl<O: Drop> Windows<O> {
         requires room { (called places.now ≤ self.old.size) × (length places.now ≤ 64) }
         requires few { lines.old.streams + length places.now < 2 ^ 64 }
         ensures pass { S.is_ready service.now pass.new }
-        ensures goes { (h : S.Pass) (tenant : List ℕ) (all : List Asked) (more : List (Option LabelFault))
-            → StreamsAreTaken (S.gives service.now) tenant h all pass.old (places.now ++ more) self.old.left.items
-            lines.old
-            → WindowIsTaken (S.gives service.now) tenant h all result pass.new more self.new.left.items lines.new }
-        ensures fresh { IfOk result (λ _. IsEmptyWindow self.new.calls.items self.new.outcomes.items) }
+        ensures goes { (h : S.Pass) (tenant : List ℕ) (all : List Asked)
+            (more : List (Option LabelFault))
+            → StreamsAreTaken (S.gives service.now) tenant h all pass.old (places.now ++ more)
+            self.old.left.items lines.old
+            → WindowIsTaken (S.gives service.now) tenant h all result pass.new more
+            self.new.left.items lines.new }
+        ensures fresh { IfOk result (λ _.
+            IsEmptyWindow self.new.calls.items self.new.outcomes.items) }
         ensures numbers { All AreNumbers self.new.left.items }
         ensures left { deque_len self.new.left + called places.now ≡ deque_len self.old.left }
         ensures size { self.new.size ≡ self.old.size }
-        ensures count { IfOk result (λ _. lines.new.streams ≡ lines.old.streams + length places.now) }
+        ensures count { IfOk result (λ _.
+            lines.new.streams ≡ lines.old.streams + length places.now) }
     {
         self.fill(places);
         service.call_all(rt, alloc, pass, &mut self.calls, &mut self.outcomes);

@@ -1,6 +1,5 @@
-use Rattle.std.proofs.Common.{◌≡◌, ◌∙◌, ◌∷◌, ◌+◌, drop, map, refl, sym, ap, subst, arith}
+use Rattle.std.proofs.Common.{◌∙◌, ◌+◌, drop, map, refl, sym, ap, subst, arith}
 use Rattle.std.proofs.lemmas.Result.{err_from_is_err_and}
-use Rattle.std.specs.VecDeque.{deque_len}
 use Rattle.answering.specs.Calls.{Refused}
 use Rattle.answering.specs.Windows.{AreNotedTo, merged, came_of}
 use Rattle.answering.specs.declared.responding.Halt.TheVariants.{GivenUp}
