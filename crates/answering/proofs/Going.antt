@@ -1,5 +1,5 @@
 -- From how the calls of a request went to its answer.
-use Rattle.std.proofs.Common.{◌≡◌, ◌≢◌, ℕ, ◌+◌, ◌<◌, ◌≤◌, ◌^◌, false, All, sum_by, List, [], ◌∷◌, map, length, None, Some, Result, Ok, Err, refl, sym, ap, ap₂, ◌∙◌, subst, inr, arith}
+use Rattle.std.proofs.Common.{◌≡◌, ◌≢◌, ℕ, ◌+◌, ◌<◌, ◌≤◌, ◌^◌, false, All, sum_by, List, [], ◌∷◌, map, length, None, Some, Result, Ok, Err, refl, sym, ap, ap₂, ◌∙◌, subst, arith}
 use Rattle.accept.specs.declared.call.Call.{Call}
 use Rattle.pushjson.specs.declared.fault.PushFault.{PushFault}
 use Rattle.pushjson.specs.declared.fault.PushFault.TheVariants.{NotJson, WrongShape, BadTime, TooManyEntries, Memory}
@@ -11,33 +11,42 @@ use Rattle.requests.specs.declared.failure.Failure.TheVariants.{OutOfMemory}
 use Rattle.requests.specs.declared.status.Status.TheVariants.{InternalServerError}
 use Rattle.requests.specs.declared.route.Route.{Route}
 use Rattle.requests.specs.declared.route.Route.TheVariants.{Push, Read, Trim}
-use Rattle.answering.specs.declared.calling.Asked.{Asked}
-use Rattle.answering.specs.declared.calling.Came.{Came}
-use Rattle.answering.specs.declared.calling.Came.TheVariants as cames
 use Rattle.answering.specs.declared.responding.Halt.{Halt}
 use Rattle.answering.specs.declared.responding.Halt.TheVariants.{Failed, GivenUp}
-use Rattle.answering.specs.Asking.{AsksFor, IsCallOf, IsLawful, asked_push, one_of}
+use Rattle.answering.specs.Asking.{Asked, AsksFor, IsCallOf, HasNumbers, asked_push}
 use Rattle.pushjson.specs.Bodies.{Stream, batch_of, entry_of, entry_count}
 use Rattle.std.proofs.lemmas.List.{length-map}
 use Rattle.std.proofs.lemmas.List.Sums.{sum_by-cons, get_or-le-sum_by}
-use Rattle.answering.specs.Calls.{Giving}
-use Rattle.answering.specs.Courses.{Course, Unread, Whole, Broken, fault_failure, said_of, StreamEnds, BodyStops, RequestGives}
-use Rattle.answering.specs.Lines.{came_lines}
-use Rattle.answering.specs.Parts.{BodyIsRefused, StreamIsAnswered, OneIsAnswered, BodyIsAnswered}
+use Rattle.answering.specs.Calls.{Giving, Came}
+use Rattle.answering.specs.Calls as cames
+use Rattle.answering.specs.Courses.{Course, Unread, Whole, Broken, fault_failure, first_failure, said_of, StreamGives}
+use Rattle.answering.specs.declared.calling.Uncalled.{Uncalled}
+use Rattle.answering.specs.declared.calling.Uncalled.TheVariants.{Body, Labels}
+use Rattle.answering.specs.Parts.{BodyIsRefused, UncalledIsAnswered, BodyIsAnswered, AsksForCall, IsUncalled, IsOfOne}
 use Rattle.answering.specs.Replies.{one_status, one_text}
 use Rattle.answering.specs.Showing.{IsShown}
 use Rattle.answering.specs.Responses.{RequestEnds, RequestIsUnsaid, cames_status, cames_text, status_for, text_for, failure_in, fault_status, fault_text}
-
--- it asks for one stream
-abbrev pub IsOfOne : Route → Type 0
-IsOfOne Push = ⊥
-IsOfOne Read = Unit {0}
-IsOfOne Trim = Unit {0}
 
 shows_one : (route : Route) → IsOfOne route → (came : Came) (answer : Answer) → IsShown (one_status came) (one_text came) answer → IsShown (cames_status route (came ∷ [])) (cames_text route (came ∷ [])) answer
 shows_one Push never came answer shows = absurd never
 shows_one Read single came answer shows = shows
 shows_one Trim single came answer shows = shows
+
+-- there was no memory, which the body does not forbid
+unread : (route : Route) (now : ℕ) (body : List ℕ) → AsksFor route now body (Err Memory)
+unread Push now body = (Err Memory, tt, refl)
+unread Read now body = (Err Memory, tt, refl)
+unread Trim now body = (Err Memory, tt, refl)
+
+-- the labels of the one stream are no key, or there was no memory for one
+pub uncalled : (route : Route) (tenant body : List ℕ) (asked : Asked) (why : Uncalled) → ((now : ℕ) → AsksFor route now body (Ok (asked ∷ []))) → IsUncalled asked.pairs why → AsksForCall route tenant body (Err why)
+uncalled route tenant body asked (Body fault) asks memory = λ now. subst (λ f. AsksFor route now body (Err f)) (sym memory) (unread route now body)
+uncalled route tenant body asked (Labels fault) asks is = (asked, asks, is)
+
+says_one : (route : Route) → IsOfOne route → (came : Came) → one_text came ≢ [] → said_of route 0 came ≢ []
+says_one Push never came said = absurd never
+says_one Read single came said = said
+says_one Trim single came said = said
 
 module _ {H : Type 0} (gives : Giving H) (now : ℕ) (tenant body : List ℕ) where
   pub refused : (route : Route) (h : H) (fault : PushFault) (result : Result Answer Halt) → AsksFor route now body (Err fault) → BodyIsRefused fault result → RequestEnds gives route now tenant body h result h
@@ -45,28 +54,39 @@ module _ {H : Type 0} (gives : Giving H) (now : ℕ) (tenant body : List ℕ) wh
   refused route h fault (Err (Failed failure)) asks some = (Unread fault, record { asked = Err fault; asks = asks; goes = (refl, refl) }, some)
   refused route h fault (Err GivenUp) asks none = record { asked = Err fault; asks = asks; left = (none, refl) }
 
-  -- there was no memory, which the body does not forbid
-  unread : (route : Route) → AsksFor route now body (Err Memory)
-  unread Push = (Err Memory, tt, refl)
-  unread Read = (Err Memory, tt, refl)
-  unread Trim = (Err Memory, tt, refl)
-
   pub unsaid : (route : Route) (h : H) → RequestIsUnsaid gives route now tenant body h h
-  unsaid route h = (Unread Memory, record { asked = Err Memory; asks = unread route; goes = (refl, refl) }, refl, refl)
+  unsaid route h = (Unread Memory, record { asked = Err Memory; asks = unread route now body; goes = (refl, refl) }, refl, refl)
 
-  -- what is said of the one stream
-  one_left : (route : Route) → IsOfOne route → (h h' : H) (all : List Asked) → BodyStops gives tenant (λ i came. one_text came) h all h' → BodyStops gives tenant (said_of route) h all h'
-  one_left Push never h h' all s = absurd never
-  one_left Read single h h' all s = record { done = s.done; more = s.more; cames = s.cames; last = s.last; behind = s.behind; split = s.split; each = s.each; whole = s.whole; said = s.said; few = s.few }
-  one_left Trim single h h' all s = record { done = s.done; more = s.more; cames = s.cames; last = s.last; behind = s.behind; split = s.split; each = s.each; whole = s.whole; said = s.said; few = s.few }
+  -- a read or a trim: its one stream came to an answer, or there was no memory for one, or its call failed
+  module _ (route : Route) (single : IsOfOne route) (h h' : H) (asked : Asked) (asks : AsksFor route now body (Ok (asked ∷ []))) where
+    pub one : (came : Came) (answer : Answer) → StreamGives gives tenant false h asked came h' → first_failure (came ∷ []) ≡ None → IsShown (one_status came) (one_text came) answer
+        → RequestEnds gives route now tenant body h (Ok answer) h'
+    one came answer comes whole shows =
+        (Whole (came ∷ []), record { asked = Ok (asked ∷ []); asks = asks; goes = (asked ∷ [], refl, (h', comes, refl), whole) }, refl, shows_one route single came answer shows)
 
-  -- a read or a trim
-  pub one : (route : Route) → IsOfOne route → (h h' : H) (asked : Result Asked PushFault) (result : Result Answer Halt) → AsksFor route now body (one_of asked) → OneIsAnswered gives tenant h asked result h' → RequestEnds gives route now tenant body h result h'
-  one route single h h' (Err fault) result asks (is, same) = subst (λ k. RequestEnds gives route now tenant body h result k) (sym same) (refused route h fault result asks is)
-  one route single h h' (Ok asked) (Ok answer) asks (came, comes, whole, shows) =
-      (Whole (came ∷ []), record { asked = Ok (asked ∷ []); asks = asks; goes = (asked ∷ [], refl, (h', comes, refl), whole) }, refl, shows_one route single came answer shows)
-  one route single h h' (Ok asked) (Err (Failed failure)) asks (cames, ends) = (Broken cames failure, record { asked = Ok (asked ∷ []); asks = asks; goes = (asked ∷ [], refl, ends) }, refl)
-  one route single h h' (Ok asked) (Err GivenUp) asks stops = record { asked = Ok (asked ∷ []); asks = asks; left = one_left route single h h' (asked ∷ []) stops }
+    pub one_left : (came : Came) → StreamGives gives tenant false h asked came h' → first_failure (came ∷ []) ≡ None → one_text came ≢ [] → RequestEnds gives route now tenant body h (Err GivenUp) h'
+    one_left came comes whole said = record {
+      asked = Ok (asked ∷ []);
+      asks = asks;
+      left = record { done = asked ∷ []; more = []; cames = []; last = came; behind = []; split = refl; each = (h', comes, refl); whole = whole; said = says_one route single came said; few = omega arith };
+    }
+
+    pub one_fails : (call : Call) (failure : Failure) → IsCallOf tenant asked call → gives false h call (Err failure) h' → RequestEnds gives route now tenant body h (Err (Failed failure)) h'
+    one_fails call failure is given = (
+      Broken (cames.Failed failure ∷ []) failure,
+      record {
+        asked = Ok (asked ∷ []);
+        asks = asks;
+        goes = (asked ∷ [], refl, record { done = asked ∷ []; more = []; split = refl; each = (h', (call, is, given), refl); fails = refl; few = omega arith });
+      },
+      refl,
+    )
+
+  pub none_called : (route : Route) → IsOfOne route → (h : H) (why : Uncalled) (result : Result Answer Halt) → AsksForCall route tenant body (Err why) → UncalledIsAnswered why result → RequestEnds gives route now tenant body h result h
+  none_called route single h (Body fault) result asks is = refused route h fault result (asks now) is
+  none_called route single h (Labels fault) (Ok answer) (asked, asks, why) shows = one route single h h asked (asks now) (cames.Refused fault) answer (why, refl) refl shows
+  none_called route single h (Labels fault) (Err (Failed failure)) asks never = absurd never
+  none_called route single h (Labels fault) (Err GivenUp) (asked, asks, why) said = one_left route single h h asked (asks now) (cames.Refused fault) (why, refl) refl said
 
   pub push : (h h' : H) (all : List Asked) (result : Result Answer Halt) → AsksFor Push now body (Ok all) → BodyIsAnswered gives tenant h all result h' → RequestEnds gives Push now tenant body h result h'
   push h h' all (Ok answer) asks (cames, each, whole, shows) = (Whole cames, record { asked = Ok all; asks = asks; goes = (all, refl, each, whole) }, refl, shows)
@@ -90,29 +110,6 @@ is_500 route (Unread fault) failure e = fault_is_500 fault failure e
 is_500 route (Whole cames) failure e = absurd (cc)
 is_500 route (Broken cames other) failure e = let same : other ≡ failure = cc in (refl, ap failure_body (sym same))
 
-module _ {H : Type 0} (gives : Giving H) (tenant : List ℕ) (h : H) (asked : Asked) where
-  -- the one call of a read or a trim failed
-  pub fails : (h' : H) (call : Call) (failure : Failure) → IsCallOf tenant asked call → gives false h call (Err failure) h' → StreamEnds gives tenant h asked (Err failure) h'
-  fails h' call failure is given = (
-    cames.Failed failure ∷ [],
-    inr (record { done = asked ∷ []; more = []; split = refl; each = (h', (call, is, given), refl); fails = refl; few = omega arith }),
-  )
-
-  -- there was no memory for its answer
-  pub leaves : (h' : H) (came : Came) → StreamEnds gives tenant h asked (Ok came) h' → one_text came ≢ [] → StreamIsAnswered gives tenant h asked (Err GivenUp) h'
-  leaves h' came (comes, whole) said = record {
-    done = asked ∷ [];
-    more = [];
-    cames = [];
-    last = came;
-    behind = [];
-    split = refl;
-    each = (h', comes, refl);
-    whole = whole;
-    said = said;
-    few = omega arith;
-  }
-
 counted : (streams : List Stream) → sum_by (λ b. length b.entries) (map batch_of streams) ≡ entry_count streams
 counted [] = refl
 counted (s ∷ streams) =
@@ -121,8 +118,8 @@ counted (s ∷ streams) =
 
 -- what a push may be made of
 pub lawful : (now : ℕ) (batches : List RawBatch) (streams : List Stream) → now < 2 ^ 63 → All (λ b. All (λ e. e.time < 2 ^ 63) b.entries) batches
-    → entry_count streams ≤ 10000 → batches ≡ map batch_of streams → All (λ b. IsLawful (asked_push now b).want) batches
+    → entry_count streams ≤ 10000 → batches ≡ map batch_of streams → All (λ b. HasNumbers (asked_push now b)) batches
 lawful now batches streams clock range few is k d within =
     let here = get_or-le-sum_by (λ b. let b' : RawBatch = b in length b'.entries) batches k d within in
     let all = ap (sum_by (λ b. let b' : RawBatch = b in length b'.entries)) is ∙ counted streams in
-    (clock, range k d within, omega (arith, here, all, few))
+    λ key. (clock, range k d within, omega (arith, here, all, few))

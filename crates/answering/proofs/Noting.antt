@@ -1,10 +1,10 @@
 -- Lines that follow one another.
-use Rattle.std.proofs.Common.{◌≡◌, ◌≢◌, ℕ, zero, suc, ◌+◌, ◌<◌, Bool, ◌||◌, List, [], ◌∷◌, ◌++◌, length, get_or, drop, Result, Ok, Err, OnOk, sym, ap, ◌∙◌, refl, subst, append_assoc, add-one, add-zero, zero-add, drop-cons, arith}
+use Rattle.std.proofs.Common.{◌≡◌, ◌≢◌, ℕ, zero, suc, ◌+◌, ◌<◌, Bool, ◌||◌, List, [], ◌∷◌, ◌++◌, length, get_or, drop, Result, Ok, Err, OnOk, sym, ap, ◌∙◌, refl, subst, append_assoc, length-append, add-one, add-zero, zero-add, drop-cons, arith}
 use Rattle.std.proofs.Math.Bool.{or_assoc, or-false}
 use Rattle.std.proofs.lemmas.List.{append-nil}
 use Rattle.std.specs.List.{list_any}
 use Rattle.accept.specs.declared.outcome.Outcome.{Outcome}
-use Rattle.answering.specs.declared.calling.Came.{Came}
+use Rattle.answering.specs.Calls.{Came}
 use Rattle.answering.specs.declared.lines.PushLines.{PushLines}
 use Rattle.answering.specs.Lines.{outcome_line, outcome_lines, came_lines, lines_from, has_no_room, is_unavailable}
 use Rattle.answering.specs.Telling.{Tells}
@@ -45,10 +45,11 @@ pub on_ok : {E : Type 0} (r : Result (Unit {0}) E) (P Q : Type 0) → (P → Q) 
 on_ok (Ok u) P Q f p = f p
 on_ok (Err e) P Q f p = tt
 
-pub noted : (cames : List Came) (c : Came) (stream : ℕ) (old new : PushLines) → Tells cames old → stream ≡ length cames → new.text.items ≡ old.text.items ++ came_lines stream c
+pub noted : (cames : List Came) (c : Came) (old new : PushLines) → Tells cames old → new.streams ≡ old.streams + 1 → new.text.items ≡ old.text.items ++ came_lines old.streams c
     → new.no_room ≡ (old.no_room || has_no_room c) → new.unavailable ≡ (old.unavailable || is_unavailable c) → Tells (cames ++ c ∷ []) new
-noted cames c stream old new tells count text no_room unavailable = record {
-  text = text ∙ ap (λ l. l ++ came_lines stream c) tells.text ∙ ap (λ k. lines_from 0 cames ++ came_lines k c) (count ∙ sym (zero-add (length cames))) ∙ sym (lines_push 0 cames c);
+noted cames c old new tells count text no_room unavailable = record {
+  streams = omega (arith, count, tells.streams, length-append cames (c ∷ []));
+  text = text ∙ ap (λ l. l ++ came_lines old.streams c) tells.text ∙ ap (λ k. lines_from 0 cames ++ came_lines k c) (tells.streams ∙ sym (zero-add (length cames))) ∙ sym (lines_push 0 cames c);
   no_room = no_room ∙ ap (λ b. b || has_no_room c) tells.no_room ∙ sym (any_push has_no_room cames c);
   unavailable = unavailable ∙ ap (λ b. b || is_unavailable c) tells.unavailable ∙ sym (any_push is_unavailable cames c);
 }

@@ -1,5 +1,5 @@
 -- From what one call leaves to what the calls of requests leave.
-use Rattle.std.proofs.Common.{◌≡◌, ℕ, Bool, false, List, [], ◌∷◌, ◌++◌, Result, Ok, Err, refl, sym, ap, ◌∙◌, subst, inl, inr}
+use Rattle.std.proofs.Common.{◌≡◌, ℕ, Bool, false, List, [], ◌∷◌, ◌++◌, Result, Ok, Err, refl, sym, ap, ◌∙◌, subst}
 use Rattle.accept.specs.declared.call.Call.{Call as Asking}
 use Rattle.accept.specs.declared.call.Reply.{Reply}
 use Rattle.accept.specs.declared.history.Step.{Step}
@@ -7,12 +7,9 @@ use Rattle.pushjson.specs.declared.fault.PushFault.{PushFault}
 use Rattle.requests.specs.declared.failure.Failure.{Failure}
 use Rattle.requests.specs.declared.verdict.Verdict.{Verdict}
 use Rattle.requests.specs.declared.verdict.Verdict.TheVariants.{Fixed, Call, NoMemory}
-use Rattle.answering.specs.declared.calling.Asked.{Asked}
-use Rattle.answering.specs.declared.calling.Came.{Came}
-use Rattle.answering.specs.declared.calling.Came.TheVariants.{Refused, Replied, Failed}
-use Rattle.answering.specs.Asking.{IsCallOf}
-use Rattle.answering.specs.Calls.{Giving}
-use Rattle.answering.specs.Courses.{Course, Unread, Whole, Broken, doubt_behind, said_of, StreamsGiveAfter, BodyBreaks, BodyGives, BodyIsLeft}
+use Rattle.answering.specs.Asking.{Asked, IsCallOf}
+use Rattle.answering.specs.Calls.{Giving, Came, Refused, Replied, Failed}
+use Rattle.answering.specs.Courses.{Course, Unread, Whole, Broken, doubt_behind, said_of, StreamsGiveAfter, BodyGives, BodyIsLeft}
 use Rattle.answering.specs.Serving.{Exchange, World, VerdictGives, VerdictIsLeft, ConnectionGives, IsExchange, IsAbandoned}
 use Rattle.answering.specs.Steps.{AreSteps, AreStepsOf, AreFirstStepsOf, AreStepsBy, AreFirstStepsBy, AreTheirSteps}
 
@@ -37,20 +34,12 @@ module _ {H : Type 0} (gives : Giving H) (Gains : H → List Step → H → Type
       let (steps, gains, are) = each tenant false mid h' more cs others in
       (step ∷ steps, both h mid h' (step ∷ []) steps first gains, (subst (IsCallOf tenant a) (sym called) is, replied, are))
 
-  breaks : (tenant : List ℕ) (h h' : H) (all : List Asked) (cames : List Came) (failure : Failure) → BodyBreaks gives tenant h all cames failure h'
-      → (steps : List Step) × Gains h steps h' × AreStepsOf tenant (Ok all) (Broken cames failure) steps
-  breaks tenant h h' all cames failure (inl (none_came, memory, same)) =
-      ([], none h h' same, ([], all, refl, subst (λ l. AreSteps tenant [] l []) (sym none_came) refl))
-  breaks tenant h h' all cames failure (inr ends) =
-      let (steps, gains, are) = each tenant false h h' ends.done cames ends.each in
-      (steps, gains, (ends.done, ends.more, ap (λ l. Ok l) ends.split, are))
-
   goes : (tenant : List ℕ) (h h' : H) (asked : Result (List Asked) PushFault) (course : Course) → BodyGives gives tenant h asked course h' → (steps : List Step) × Gains h steps h' × AreStepsOf tenant asked course steps
   goes tenant h h' asked (Unread fault) (why, same) = ([], none h h' same, refl)
   goes tenant h h' asked (Whole cames) (all, is, went, whole) = let (steps, gains, are) = each tenant false h h' all cames went in (steps, gains, (all, is, are))
   goes tenant h h' asked (Broken cames failure) (all, is, ends) =
-      let (steps, gains, (done, more, split, are)) = breaks tenant h h' all cames failure ends in
-      (steps, gains, (done, more, is ∙ split, are))
+      let (steps, gains, are) = each tenant false h h' ends.done cames ends.each in
+      (steps, gains, (ends.done, ends.more, is ∙ ap (λ l. Ok l) ends.split, are))
 
   handled : (now : ℕ) (body : List ℕ) (h h' : H) (verdict : Verdict) (course : Course) → VerdictGives gives now body verdict h course h' → (steps : List Step) × Gains h steps h' × AreStepsBy now body verdict course steps
   handled now body h h' (Fixed answer) course (what, same) = ([], none h h' same, refl)

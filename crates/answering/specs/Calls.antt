@@ -1,5 +1,6 @@
 -- What came of calls that were made one after another.
 use Rattle.std.specs.Prelude.{◌≡◌, Bool, true, false, List, [], ◌∷◌, Result, Ok, Err}
+use Rattle.labels.specs.declared.fault.LabelFault.{LabelFault}
 use Rattle.accept.specs.declared.call.Call.{Call}
 use Rattle.accept.specs.declared.call.Reply.{Reply}
 use Rattle.requests.specs.declared.failure.Failure.{Failure}
@@ -9,6 +10,12 @@ use Rattle.requests.specs.declared.failure.Failure.TheVariants.{OutOfMemory, Pas
 -- and what is known then
 abbrev pub Giving : Type 0 → Type 1
 Giving H = Bool → H → Call → Result Reply Failure → H → Type 0
+
+-- what came of a stream: its labels were refused, and no call was made; its call had this reply; or it failed so
+pub data Came : Type 0 where
+  Refused : LabelFault → Came
+  Replied : Reply → Came
+  Failed : Failure → Came
 
 -- whether a call is in doubt of which this came
 abbrev pub leaves_doubt : Result Reply Failure → Bool

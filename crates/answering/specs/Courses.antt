@@ -1,5 +1,5 @@
 -- What comes of the streams that a request asks for, one call each in the order of the body.
-use Rattle.std.specs.Prelude.{◌≡◌, ◌≢◌, ◌⊎◌, ◌<◌, ℕ, Bool, false, List, [], ◌∷◌, ◌++◌, length, Result, Ok, Err, Option, None, Some}
+use Rattle.std.specs.Prelude.{◌≡◌, ◌≢◌, ◌<◌, ℕ, Bool, false, List, [], ◌∷◌, ◌++◌, length, Result, Ok, Err, Option, None, Some}
 use Rattle.labels.specs.Faults.{first_fault}
 use Rattle.accept.specs.declared.call.Call.{Call}
 use Rattle.pushjson.specs.declared.fault.PushFault.{PushFault}
@@ -8,11 +8,8 @@ use Rattle.requests.specs.declared.failure.Failure.{Failure}
 use Rattle.requests.specs.declared.failure.Failure.TheVariants.{OutOfMemory}
 use Rattle.requests.specs.declared.route.Route.{Route}
 use Rattle.requests.specs.declared.route.Route.TheVariants.{Push, Read, Trim}
-use Rattle.answering.specs.declared.calling.Asked.{Asked}
-use Rattle.answering.specs.declared.calling.Came.{Came}
-use Rattle.answering.specs.declared.calling.Came.TheVariants.{Refused, Replied, Failed}
-use Rattle.answering.specs.Asking.{AsksFor, IsCallOf}
-use Rattle.answering.specs.Calls.{Giving, leaves_doubt}
+use Rattle.answering.specs.Asking.{Asked, AsksFor, IsCallOf}
+use Rattle.answering.specs.Calls.{Giving, Came, Refused, Replied, Failed, leaves_doubt}
 use Rattle.answering.specs.Lines.{came_lines}
 use Rattle.answering.specs.Replies.{one_text}
 
@@ -38,8 +35,8 @@ behind_failure (Refused fault ∷ cs) = behind_failure cs
 behind_failure (Replied reply ∷ cs) = behind_failure cs
 behind_failure (Failed failure ∷ cs) = length cs
 
--- how the calls of a request went: its body was refused at its form; or this came of each stream; or the calls ended at
--- a failure, and this came of a beginning of the streams
+-- how the calls of a request went: its body was refused at its form, or there was no memory for what calls are made of;
+-- or this came of each stream; or the calls ended at a failure, and this came of a beginning of the streams
 pub data Course : Type 0 where
   Unread : PushFault → Course
   Whole : List Came → Course
@@ -88,11 +85,6 @@ module _ {H : Type 0} (gives : Giving H) (tenant : List ℕ) where
     pub fails : first_failure cames ≡ Some failure
     pub few : behind_failure cames < 64
 
-  -- the calls ended at this failure: there was no memory for what calls are made of, and none was made; or one failed
-  abbrev pub BodyBreaks : H → List Asked → List Came → Failure → H → Type 0
-  BodyBreaks h all cames failure h' = ((cames ≡ []) × (failure ≡ OutOfMemory) × (h' ≡ h))
-      ⊎ BodyFails h all cames failure h'
-
   -- of a beginning of these streams this came: none failed up to one of which there is something to say, and fewer
   -- than 64 stand behind that
   pub record BodyStops (says : ℕ → Came → List ℕ) (h : H) (all : List Asked) (h' : H) : Type 0 where
@@ -113,17 +105,12 @@ module _ {H : Type 0} (gives : Giving H) (tenant : List ℕ) where
   BodyGives h asked (Whole cames) h' = (all : List Asked) × (asked ≡ Ok all) × StreamsGive h all cames h'
       × (first_failure cames ≡ None)
   BodyGives h asked (Broken cames failure) h' = (all : List Asked) × (asked ≡ Ok all)
-      × BodyBreaks h all cames failure h'
+      × BodyFails h all cames failure h'
 
   -- it was given up at a stream of which there was something to say, or at a body's form that is not answered by a 500
   abbrev pub BodyIsLeft : (ℕ → Came → List ℕ) → H → Result (List Asked) PushFault → H → Type 0
   BodyIsLeft says h (Err fault) h' = (fault_failure fault ≡ None) × (h' ≡ h)
   BodyIsLeft says h (Ok all) h' = BodyStops says h all h'
-
-  -- for private clauses: the one stream went so
-  abbrev pub StreamEnds : H → Asked → Result Came Failure → H → Type 0
-  StreamEnds h asked (Ok came) h' = StreamGives false h asked came h' × (first_failure (came ∷ []) ≡ None)
-  StreamEnds h asked (Err failure) h' = (cames : List Came) × BodyBreaks h (asked ∷ []) cames failure h'
 
 -- the calls of a request with this route, clock, tenant and body went so
 pub record RequestGives {H : Type 0} (gives : Giving H) (route : Route) (now : ℕ) (tenant body : List ℕ) (h : H)

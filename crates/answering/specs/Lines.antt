@@ -9,8 +9,7 @@ use Rattle.accept.specs.declared.call.Reply.{Reply}
 use Rattle.accept.specs.declared.call.Reply.TheVariants as replies
 use Rattle.requests.specs.declared.status.Status.{Status}
 use Rattle.requests.specs.declared.status.Status.TheVariants as statuses
-use Rattle.answering.specs.declared.calling.Came.{Came}
-use Rattle.answering.specs.declared.calling.Came.TheVariants.{Refused, Replied, Failed}
+use Rattle.answering.specs.Calls.{Came, Refused, Replied, Failed}
 
 abbrev pub newline : List ℕ
 newline = 10 ∷ []

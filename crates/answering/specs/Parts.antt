@@ -1,15 +1,22 @@
 -- What the parts of an answer say; for private clauses.
-use Rattle.std.specs.Prelude.{◌≡◌, ℕ, false, List, [], ◌∷◌, None, Some, Result, Ok, Err}
+use Rattle.std.specs.Prelude.{◌≡◌, ◌≢◌, ℕ, List, [], ◌∷◌, None, Some, Result, Ok, Err}
+use Rattle.labels.specs.Labels.{Label}
+use Rattle.labels.specs.Faults.{first_fault}
+use Rattle.accept.specs.declared.call.Call.{Call}
 use Rattle.pushjson.specs.declared.fault.PushFault.{PushFault}
+use Rattle.pushjson.specs.declared.fault.PushFault.TheVariants.{Memory}
 use Rattle.requests.specs.declared.answer.Answer.{Answer}
-use Rattle.answering.specs.declared.calling.Asked.{Asked}
-use Rattle.answering.specs.declared.calling.Came.{Came}
+use Rattle.requests.specs.declared.route.Route.{Route}
+use Rattle.requests.specs.declared.route.Route.TheVariants.{Push, Read, Trim}
+use Rattle.answering.specs.declared.calling.Uncalled.{Uncalled}
+use Rattle.answering.specs.declared.calling.Uncalled.TheVariants.{Body, Labels}
 use Rattle.answering.specs.declared.responding.Halt.{Halt}
 use Rattle.answering.specs.declared.responding.Halt.TheVariants.{Failed, GivenUp}
-use Rattle.answering.specs.Calls.{Giving}
+use Rattle.answering.specs.Asking.{Asked, AsksFor, IsCallOf}
+use Rattle.answering.specs.Calls.{Giving, Came, Refused}
 use Rattle.answering.specs.Lines.{push_status, lines_from, came_lines}
+use Rattle.answering.specs.Courses.{fault_failure, first_failure, StreamsGive, BodyFails, BodyStops}
 use Rattle.answering.specs.Replies.{one_status, one_text}
-use Rattle.answering.specs.Courses.{fault_failure, first_failure, StreamGives, StreamsGive, BodyBreaks, BodyStops}
 use Rattle.answering.specs.Responses.{fault_status, fault_text}
 use Rattle.answering.specs.Showing.{IsShown}
 
@@ -19,23 +26,39 @@ BodyIsRefused fault (Ok answer) = (fault_failure fault ≡ None) × IsShown (fau
 BodyIsRefused fault (Err (Failed failure)) = fault_failure fault ≡ Some failure
 BodyIsRefused fault (Err GivenUp) = fault_failure fault ≡ None
 
+-- no call is made of a body that asks for one
+abbrev pub UncalledIsAnswered : Uncalled → Result Answer Halt → Type 0
+UncalledIsAnswered (Body fault) result = BodyIsRefused fault result
+UncalledIsAnswered (Labels fault) (Ok answer) =
+    IsShown (one_status (Refused fault)) (one_text (Refused fault)) answer
+UncalledIsAnswered (Labels fault) (Err (Failed failure)) = ⊥
+UncalledIsAnswered (Labels fault) (Err GivenUp) = one_text (Refused fault) ≢ []
+
+-- it asks for one stream
+abbrev pub IsOfOne : Route → Type 0
+IsOfOne Push = ⊥
+IsOfOne Read = Unit {0}
+IsOfOne Trim = Unit {0}
+
+-- why there is no call of a stream with these labels
+abbrev pub IsUncalled : List Label → Uncalled → Type 0
+IsUncalled pairs (Body fault) = fault ≡ Memory
+IsUncalled pairs (Labels fault) = first_fault pairs ≡ Some fault
+
+-- the body asks for this one call, or there is none
+abbrev pub AsksForCall : Route → List ℕ → List ℕ → Result Call Uncalled → Type 0
+AsksForCall route tenant body (Ok call) = (asked : Asked)
+    × ((now : ℕ) → AsksFor route now body (Ok (asked ∷ []))) × IsCallOf tenant asked call
+AsksForCall route tenant body (Err (Body fault)) = (now : ℕ) → AsksFor route now body (Err fault)
+AsksForCall route tenant body (Err (Labels fault)) = (asked : Asked)
+    × ((now : ℕ) → AsksFor route now body (Ok (asked ∷ [])))
+    × (first_fault asked.pairs ≡ Some fault)
+
 module _ {H : Type 0} (gives : Giving H) (tenant : List ℕ) where
-  -- the one stream of a read or a trim
-  abbrev pub StreamIsAnswered : H → Asked → Result Answer Halt → H → Type 0
-  StreamIsAnswered h asked (Ok answer) h' = (came : Came) × StreamGives gives tenant false h asked came h'
-      × (first_failure (came ∷ []) ≡ None) × IsShown (one_status came) (one_text came) answer
-  StreamIsAnswered h asked (Err (Failed failure)) h' = (cames : List Came)
-      × BodyBreaks gives tenant h (asked ∷ []) cames failure h'
-  StreamIsAnswered h asked (Err GivenUp) h' = BodyStops gives tenant (λ i came. one_text came) h (asked ∷ []) h'
-
-  -- a read or a trim whose body asks for this
-  abbrev pub OneIsAnswered : H → Result Asked PushFault → Result Answer Halt → H → Type 0
-  OneIsAnswered h (Ok asked) result h' = StreamIsAnswered h asked result h'
-  OneIsAnswered h (Err fault) result h' = BodyIsRefused fault result × (h' ≡ h)
-
   -- the streams of a push
   abbrev pub BodyIsAnswered : H → List Asked → Result Answer Halt → H → Type 0
   BodyIsAnswered h all (Ok answer) h' = (cames : List Came) × StreamsGive gives tenant h all cames h'
       × (first_failure cames ≡ None) × IsShown (push_status cames) (lines_from 0 cames) answer
-  BodyIsAnswered h all (Err (Failed failure)) h' = (cames : List Came) × BodyBreaks gives tenant h all cames failure h'
+  BodyIsAnswered h all (Err (Failed failure)) h' = (cames : List Came)
+      × BodyFails gives tenant h all cames failure h'
   BodyIsAnswered h all (Err GivenUp) h' = BodyStops gives tenant came_lines h all h'

@@ -10,8 +10,7 @@ use Rattle.accept.specs.declared.call.Reply.TheVariants as replies
 use Rattle.pushjson.specs.Bodies.{labels_tree}
 use Rattle.requests.specs.declared.status.Status.{Status}
 use Rattle.requests.specs.declared.status.Status.TheVariants as statuses
-use Rattle.answering.specs.declared.calling.Came.{Came}
-use Rattle.answering.specs.declared.calling.Came.TheVariants.{Refused, Replied, Failed}
+use Rattle.answering.specs.Calls.{Came, Refused, Replied, Failed}
 use Rattle.answering.specs.Lines.{push_status, lines_from}
 
 -- the object of the metadata, and nothing where there is none

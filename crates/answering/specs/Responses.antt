@@ -14,10 +14,9 @@ use Rattle.requests.specs.declared.route.Route.{Route}
 use Rattle.requests.specs.declared.route.Route.TheVariants.{Push, Read, Trim}
 use Rattle.requests.specs.declared.status.Status.{Status}
 use Rattle.requests.specs.declared.status.Status.TheVariants as statuses
-use Rattle.answering.specs.declared.calling.Came.{Came}
 use Rattle.answering.specs.declared.responding.Halt.{Halt}
 use Rattle.answering.specs.declared.responding.Halt.TheVariants.{Failed, GivenUp}
-use Rattle.answering.specs.Calls.{Giving}
+use Rattle.answering.specs.Calls.{Giving, Came}
 use Rattle.answering.specs.Lines.{push_status, lines_from}
 use Rattle.answering.specs.Replies.{one_status, one_text}
 use Rattle.answering.specs.Showing.{IsShown}

@@ -4,10 +4,8 @@ use Rattle.accept.specs.declared.history.Step.{Step}
 use Rattle.pushjson.specs.declared.fault.PushFault.{PushFault}
 use Rattle.requests.specs.declared.verdict.Verdict.{Verdict}
 use Rattle.requests.specs.declared.verdict.Verdict.TheVariants.{Fixed, Call, NoMemory}
-use Rattle.answering.specs.declared.calling.Asked.{Asked}
-use Rattle.answering.specs.declared.calling.Came.{Came}
-use Rattle.answering.specs.declared.calling.Came.TheVariants.{Refused, Replied, Failed}
-use Rattle.answering.specs.Asking.{AsksFor, IsCallOf}
+use Rattle.answering.specs.Asking.{Asked, AsksFor, IsCallOf}
+use Rattle.answering.specs.Calls.{Came, Refused, Replied, Failed}
 use Rattle.answering.specs.Courses.{Course, Unread, Whole, Broken}
 use Rattle.answering.specs.Serving.{Exchange}
 

@@ -1,18 +1,32 @@
 -- The answer to a push while its streams are taken; for private clauses.
-use Rattle.std.specs.Prelude.{◌≡◌, ℕ, List, [], ◌∷◌, ◌++◌, length, Result, OnOk}
+use Rattle.std.specs.Prelude.{◌≡◌, ◌≢◌, List, [], ◌∷◌, ◌++◌, None, length, Result, Ok, Err, OnOk}
 use Rattle.std.specs.declared.alloc.AllocError.{AllocError}
 use Rattle.std.specs.List.{list_any}
 use Rattle.answering.specs.declared.lines.PushLines.{PushLines}
-use Rattle.answering.specs.declared.calling.Came.{Came}
-use Rattle.answering.specs.Lines.{lines_from, has_no_room, is_unavailable}
+use Rattle.answering.specs.declared.responding.Halt.{Halt}
+use Rattle.answering.specs.declared.responding.Halt.TheVariants as halts
+use Rattle.answering.specs.Calls.{Came, Failed}
+use Rattle.answering.specs.Courses.{first_failure}
+use Rattle.answering.specs.Lines.{came_lines, lines_from, has_no_room, is_unavailable}
 
 -- this came of the streams so far
 pub record Tells (cames : List Came) (lines : PushLines) : Type 0 where
+  pub streams : lines.streams ≡ length cames
   pub text : lines.text.items ≡ lines_from 0 cames
   pub no_room : lines.no_room ≡ list_any has_no_room cames
   pub unavailable : lines.unavailable ≡ list_any is_unavailable cames
 
+-- the lines tell of one stream more
+abbrev pub TellsNext : Came → PushLines → PushLines → Type 0
+TellsNext came old new = (cames : List Came) → Tells cames old → Tells (cames ++ came ∷ []) new
+
 -- the next stream was taken in
-abbrev pub NotesNext : ℕ → Came → PushLines → PushLines → Result (Unit {0}) AllocError → Type 0
-NotesNext stream came old new result = (cames : List Came) → Tells cames old → stream ≡ length cames
-    → OnOk result (Tells (cames ++ came ∷ []) new)
+abbrev pub NotesNext : Came → PushLines → PushLines → Result (Unit {0}) AllocError → Type 0
+NotesNext came old new result = OnOk result (TellsNext came old new)
+
+-- this came of the next stream, and it was taken in, unless it failed
+abbrev pub CameIsNoted : Came → PushLines → Result (Unit {0}) Halt → PushLines → Type 0
+CameIsNoted came old (Ok u) new = (first_failure (came ∷ []) ≡ None) × TellsNext came old new
+CameIsNoted came old (Err (halts.Failed failure)) new = came ≡ Failed failure
+CameIsNoted came old (Err halts.GivenUp) new = (first_failure (came ∷ []) ≡ None)
+    × (came_lines old.streams came ≢ [])

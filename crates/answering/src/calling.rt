@@ -1,118 +1,83 @@
-//! One stream that a request asks for: its call, and what came of it.
-ghost use Rattle.std.specs.Prelude.{◌≡◌, ◌⊎◌, None, Some, IfOk, IfErr};
+//! The call that the body of a read or a trim asks for.
+ghost use Rattle.std.specs.Prelude.{◌≡◌, None, IfOk, IfErr};
 ghost use Rattle.labels.specs.Canonical.{IsTextOf};
 ghost use Rattle.labels.specs.Faults.{first_fault};
-ghost use Rattle.answering.specs.Asking.{IsLawful, call_on};
-ghost use Rattle.answering.specs.Courses.{StreamEnds};
-ghost use Rattle.answering.specs.Windows.{IsKeyed};
+ghost use Rattle.accept.specs.Calls.{AreNumbers};
+ghost use Rattle.requests.specs.declared.route.Route.TheVariants.{Read, Trim};
+ghost use Rattle.answering.specs.Parts.{AsksForCall, IsUncalled};
+ghost use Rattle.answering.specs.declared.calling.Uncalled.TheVariants.{Body};
 
-use crate::calls::Calls;
-use accept::{Call, EntryList, Reply};
+use accept::Call;
 use labels::{LabelFault, LabelPairs, LabelSet, StreamKey, Tenant};
-use requests::Failure;
+use pushjson::{PushFault, RawRead, RawTrim, read_query, read_trim};
 use std::alloc::Global;
-use std::sync::Wait;
 
-/// What is asked of a stream.
-#[derive(Debug, Drop)]
-pub(crate) enum Want {
-    Push { now: u64, entries: EntryList },
-    Read { from: u64, to: u64 },
-    Trim { bound: u64 },
+/// Why no call is made of a body that asks for one.
+#[derive(Clone, Copy, Debug)]
+pub(crate) enum Uncalled {
+    /// It is refused at its form, or there was no memory for a call.
+    Body(PushFault),
+    /// The labels of its stream are refused.
+    Labels(LabelFault),
 }
 
-impl Want {
-    /// The call on the stream of this key.
-    fn call(self, key: StreamKey) -> Call
-        ensures { result ≡ call_on key self }
-    {
-        match self {
-            Want::Push { now, entries } => Call::Push { key, now, entries },
-            Want::Read { from, to } => Call::Read { key, from, to },
-            Want::Trim { bound } => Call::Trim { key, bound },
-        }
+impl From<PushFault> for Uncalled {
+    ghost from_gives = { λ fault why. why ≡ Body fault };
+
+    fn from(fault: PushFault) -> Uncalled {
+        Uncalled::Body(fault)
     }
 }
 
-/// A stream by its labels, not yet tested, and what is asked of it.
-#[derive(Debug, Drop)]
-pub(crate) struct Asked {
-    pub(crate) pairs: LabelPairs,
-    pub(crate) want: Want,
-}
-
-/// What came of a stream.
-#[derive(Debug, Drop)]
-pub(crate) enum Came {
-    /// Its labels were refused, and no call was made.
-    Refused(LabelFault),
-    /// The reply to its call.
-    Replied(Reply),
-    /// Its call failed.
-    Failed(Failure),
-}
-
-/// What is made of a stream before any call.
-#[derive(Debug, Drop)]
-pub(crate) enum Keyed {
-    /// Its labels are refused.
-    Refused(LabelFault),
-    /// Its call.
-    Called(Call),
-}
-
-fn key_of(alloc: Global, tenant: &Tenant, pairs: LabelPairs) -> Result<StreamKey, LabelFault>
+/// The key of a stream.
+///
+/// # Errors
+///
+/// Why no call is made of it.
+pub(crate) fn key_of(
+    alloc: Global,
+    tenant: &Tenant,
+    pairs: LabelPairs,
+) -> Result<StreamKey, Uncalled>
     ensures ok { IfOk result (λ key. (first_fault pairs ≡ None) × IsTextOf key.labels pairs
         × (key.tenant ≡ tenant.now)) }
-    ensures cause { IfErr result (λ e. (e ≡ LabelFault.Memory) ⊎ (first_fault pairs ≡ Some e)) }
+    ensures cause { IfErr result (λ why. IsUncalled pairs why) }
 {
-    let labels = LabelSet::new(alloc, pairs)?;
-    let tenant = tenant.clone()?;
-    Ok(StreamKey { tenant, labels })
-}
-
-/// Reads the labels of a stream.
-///
-/// # Errors
-///
-/// Want of memory.
-pub(crate) fn keyed_of(alloc: Global, tenant: &Tenant, asked: Asked) -> Result<Keyed, Failure>
-    requires { IsLawful asked.want }
-    ensures ok { IfOk result (λ keyed. IsKeyed tenant.now asked keyed) }
-    ensures cause { IfErr result (λ e. e ≡ Failure.OutOfMemory) }
-{
-    let Asked { pairs, want } = asked;
-    match key_of(alloc, tenant, pairs) {
-        Ok(key) => Ok(Keyed::Called(want.call(key))),
-        Err(LabelFault::Memory) => Err(Failure::OutOfMemory),
-        Err(fault) => Ok(Keyed::Refused(fault)),
-    }
-}
-
-/// Makes the call of a stream, unless its labels are refused.
-///
-/// # Errors
-///
-/// Why the request ends here.
-pub(crate) fn take_stream<S: Calls, R: Wait>(
-    rt: &R,
-    alloc: Global,
-    service: &S,
-    pass: &mut S::Pass,
-    tenant: &Tenant,
-    asked: Asked,
-) -> Result<Came, Failure>
-    requires pass { S.is_ready service.now pass.old }
-    requires lawful { IsLawful asked.want }
-    ensures pass { S.is_ready service.now pass.new }
-    ensures goes { StreamEnds (S.gives service.now) tenant.now pass.old asked result pass.new }
-{
-    let call = match keyed_of(alloc, tenant, asked)? {
-        Keyed::Called(call) => call,
-        Keyed::Refused(fault) => return Ok(Came::Refused(fault)),
+    let labels = match LabelSet::new(alloc, pairs) {
+        Ok(labels) => labels,
+        Err(LabelFault::Memory) => return Err(Uncalled::Body(PushFault::Memory)),
+        Err(fault) => return Err(Uncalled::Labels(fault)),
     };
-    match service.call(rt, alloc, pass, call) {
-        Ok(reply) => Ok(Came::Replied(reply)),
-        Err(failure) => Err(failure),
+    match tenant.clone() {
+        Ok(tenant) => Ok(StreamKey { tenant, labels }),
+        Err(_) => Err(Uncalled::Body(PushFault::Memory)),
     }
+}
+
+/// The call that the body of a read asks for.
+///
+/// # Errors
+///
+/// Why there is none.
+pub(crate) fn call_of_read(alloc: Global, tenant: &Tenant, body: &[u8]) -> Result<Call, Uncalled>
+    ensures asks { AsksForCall Read tenant.now body.now result }
+    ensures numbers { IfOk result (λ call. AreNumbers call) }
+{
+    let RawRead { pairs, from, to } = read_query(alloc, body)?;
+    let key = key_of(alloc, tenant, pairs)?;
+    Ok(Call::Read { key, from, to })
+}
+
+/// The call that the body of a trim asks for.
+///
+/// # Errors
+///
+/// Why there is none.
+pub(crate) fn call_of_trim(alloc: Global, tenant: &Tenant, body: &[u8]) -> Result<Call, Uncalled>
+    ensures asks { AsksForCall Trim tenant.now body.now result }
+    ensures numbers { IfOk result (λ call. AreNumbers call) }
+{
+    let RawTrim { pairs, bound } = read_trim(alloc, body)?;
+    let key = key_of(alloc, tenant, pairs)?;
+    Ok(Call::Trim { key, bound })
 }

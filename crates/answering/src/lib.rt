@@ -9,8 +9,7 @@ mod lines;
 mod replies;
 mod responding;
 mod serving;
-mod taking;
-mod window;
+mod windows;
 
 pub use calls::Calls;
 pub use clock::Clock;

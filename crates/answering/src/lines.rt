@@ -1,11 +1,10 @@
 //! The lines of the answer to a push.
-ghost use Rattle.std.specs.Prelude.{◌≡◌, ◌≢◌, ◌++◌, [], List, decimal, OnOk, OnErr, codes};
+ghost use Rattle.std.specs.Prelude.{◌≡◌, ◌≢◌, ◌<◌, ◌+◌, ◌^◌, ◌++◌, [], List, decimal, OnOk, OnErr, codes};
+ghost use Rattle.answering.specs.Calls.{Came, Refused, Replied};
 ghost use Rattle.answering.specs.Lines.{label_words, stream_line, entry_front, entry_line, newline, outcome_line, outcome_lines, reply_lines, came_lines, reply_has_no_room, reply_is_unavailable, worst_status, push_status, lines_from};
 ghost use Rattle.answering.specs.Showing.{IsShown};
 ghost use Rattle.answering.specs.Telling.{Tells, NotesNext};
-ghost use Rattle.answering.specs.declared.calling.Came.{Came};
 
-use crate::calling::Came;
 use accept::{Outcome, Reply};
 use labels::LabelFault;
 use requests::{Answer, Status};
@@ -16,6 +15,8 @@ use std::io::Write;
 /// body, with streams and entries counted from 0.
 #[derive(Debug, Drop)]
 pub(crate) struct PushLines {
+    /// How many streams were taken in.
+    streams: usize,
     text: Vec<u8>,
     no_room: bool,
     unavailable: bool,
@@ -188,31 +189,34 @@ impl PushLines {
         ensures { Tells [] result }
     {
         PushLines {
+            streams: 0,
             text: Vec::new(alloc),
             no_room: false,
             unavailable: false,
         }
     }
 
-    /// Takes in what came of the next stream, which has this place in the body.
-    pub(crate) fn note(&mut self, stream: usize, came: &Came) -> Result<(), AllocError>
-        ensures next { NotesNext stream came.now self.old self.new result }
-        ensures said { OnErr result (came_lines stream came.now ≢ []) }
+    /// Takes in that the labels of the next stream are refused.
+    pub(crate) fn note_refusal(&mut self, fault: LabelFault) -> Result<(), AllocError>
+        requires few { self.old.streams + 1 < 2 ^ 64 }
+        ensures next { NotesNext (Refused fault) self.old self.new result }
+        ensures said { OnErr result (came_lines self.old.streams (Refused fault) ≢ []) }
+        ensures count { self.new.streams ≡ self.old.streams + 1 }
     {
-        match came {
-            Came::Refused(fault) => {
-                push_stream_line(&mut self.text, stream, label_words(*fault))
-            }
-            Came::Replied(reply) => self.note_reply(stream, reply),
-            Came::Failed(_) => Ok(()),
-        }
+        let stream = self.streams;
+        self.streams += 1;
+        push_stream_line(&mut self.text, stream, label_words(fault))
     }
 
     /// Takes in the reply to the call on the next stream.
-    pub(crate) fn note_reply(&mut self, stream: usize, reply: &Reply) -> Result<(), AllocError>
-        ensures next { NotesNext stream (Came.Replied reply.now) self.old self.new result }
-        ensures said { OnErr result (reply_lines stream reply.now ≢ []) }
+    pub(crate) fn note_reply(&mut self, reply: &Reply) -> Result<(), AllocError>
+        requires few { self.old.streams + 1 < 2 ^ 64 }
+        ensures next { NotesNext (Replied reply.now) self.old self.new result }
+        ensures said { OnErr result (came_lines self.old.streams (Replied reply.now) ≢ []) }
+        ensures count { self.new.streams ≡ self.old.streams + 1 }
     {
+        let stream = self.streams;
+        self.streams += 1;
         self.no_room |= has_no_room(reply);
         self.unavailable |= is_unavailable(reply);
         push_reply(&mut self.text, stream, reply)
@@ -223,6 +227,7 @@ impl PushLines {
         ensures { (cames : List Came) → Tells cames self → IsShown (push_status cames) (lines_from 0 cames) result }
     {
         let PushLines {
+            streams: _,
             text,
             no_room,
             unavailable,

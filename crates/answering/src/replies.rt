@@ -1,17 +1,16 @@
 //! The answers to reads and trims.
-ghost use Rattle.std.specs.Prelude.{◌≡◌, ◌≢◌, ◌∷◌, [], None, IfOk, IfErr, OnErr, map};
+ghost use Rattle.std.specs.Prelude.{◌≡◌, ◌≢◌, ◌∷◌, [], IfOk, IfErr, OnErr, map};
 ghost use Rattle.serde_json.specs.Data.{object};
 ghost use Rattle.serde_json.specs.View.{view};
 ghost use Rattle.serde_json.specs.Written.{compact_text};
 ghost use Rattle.labels.specs.Labels.{label_of};
 ghost use Rattle.labels.specs.Canonical.{NamesRise};
 ghost use Rattle.pushjson.specs.Bodies.{labels_tree};
-ghost use Rattle.answering.specs.Courses.{first_failure};
+ghost use Rattle.answering.specs.Calls.{Refused, Replied};
 ghost use Rattle.answering.specs.Lines.{push_status, lines_from};
-ghost use Rattle.answering.specs.Replies.{entry_tree, read_tree, trimmed_text, reply_status, reply_text, one_status, one_text};
+ghost use Rattle.answering.specs.Replies.{entry_tree, read_tree, trimmed_text, reply_status, reply_text};
 ghost use Rattle.answering.specs.Showing.{IsShown};
 
-use crate::calling::Came;
 use crate::lines::{PushLines, push_number};
 use accept::{Entry, EntryList, Reply};
 use labels::LabelFault;
@@ -32,27 +31,25 @@ pub fn answer_of_read(alloc: Global, reply: &Reply) -> Result<Answer, ServeFault
     Ok(answer_of_reply(alloc, reply)?)
 }
 
-/// The answer to a read or a trim of whose stream this came, which did not fail. Entries are moved into it.
-pub(crate) fn answer_of_came(alloc: Global, came: Came) -> Result<Answer, AllocError>
-    requires { first_failure (came ∷ []) ≡ None }
-    ensures shows { IfOk result (λ answer. IsShown (one_status came) (one_text came) answer) }
-    ensures said { OnErr result (one_text came ≢ []) }
+/// The answer to a read or a trim that got this reply. Entries are moved into it.
+pub(crate) fn answer_of_moved(alloc: Global, reply: Reply) -> Result<Answer, AllocError>
+    ensures shows { IfOk result (λ answer. IsShown (reply_status reply) (reply_text reply) answer) }
+    ensures said { OnErr result (reply_text reply ≢ []) }
 {
-    match came {
-        Came::Refused(fault) => answer_of_refusal(alloc, fault),
-        Came::Replied(Reply::Entries(entries)) => answer_of_entries(alloc, entries),
-        Came::Replied(reply) => answer_of_reply(alloc, &reply),
-        Came::Failed(_) => unreachable!(),
+    match reply {
+        Reply::Entries(entries) => answer_of_entries(alloc, entries),
+        other => answer_of_reply(alloc, &other),
     }
 }
 
-fn answer_of_refusal(alloc: Global, fault: LabelFault) -> Result<Answer, AllocError>
+/// The answer to a read or a trim of whose stream the labels are refused.
+pub(crate) fn answer_of_refusal(alloc: Global, fault: LabelFault) -> Result<Answer, AllocError>
     ensures shows { IfOk result (λ answer.
-        IsShown (push_status (Came.Refused fault ∷ [])) (lines_from 0 (Came.Refused fault ∷ [])) answer) }
-    ensures said { OnErr result (lines_from 0 (Came.Refused fault ∷ []) ≢ []) }
+        IsShown (push_status (Refused fault ∷ [])) (lines_from 0 (Refused fault ∷ [])) answer) }
+    ensures said { OnErr result (lines_from 0 (Refused fault ∷ []) ≢ []) }
 {
     let mut lines = PushLines::new(alloc);
-    lines.note(0, &Came::Refused(fault))?;
+    lines.note_refusal(fault)?;
     Ok(lines.into_answer())
 }
 
@@ -88,11 +85,11 @@ fn copy_of_entries(alloc: Global, entries: &[Entry]) -> Result<EntryList, AllocE
 
 fn answer_of_lines(alloc: Global, reply: &Reply) -> Result<Answer, AllocError>
     ensures shows { IfOk result (λ answer.
-        IsShown (push_status (Came.Replied reply.now ∷ [])) (lines_from 0 (Came.Replied reply.now ∷ [])) answer) }
-    ensures said { OnErr result (lines_from 0 (Came.Replied reply.now ∷ []) ≢ []) }
+        IsShown (push_status (Replied reply.now ∷ [])) (lines_from 0 (Replied reply.now ∷ [])) answer) }
+    ensures said { OnErr result (lines_from 0 (Replied reply.now ∷ []) ≢ []) }
 {
     let mut lines = PushLines::new(alloc);
-    lines.note_reply(0, reply)?;
+    lines.note_reply(reply)?;
     Ok(lines.into_answer())
 }
 

@@ -1,26 +1,25 @@
 //! The answer to a request after its head: its body, its calls in body order, status and body of its answer.
-ghost use Rattle.std.specs.Prelude.{◌≡◌, ◌<◌, ◌≤◌, ◌^◌, [], ℕ, List, All, IfOk, map, min, sum_by, length, vec_capacity};
+ghost use Rattle.std.specs.Prelude.{◌≡◌, ◌<◌, ◌≤◌, ◌^◌, [], ℕ, List, All, IfOk, min, length, vec_capacity};
 ghost use Rattle.std.specs.VecDeque.{deque_len};
-ghost use Rattle.accept.specs.OneStream.{AreTimes};
+ghost use Rattle.accept.specs.Calls.{AreNumbers};
 ghost use Rattle.requests.specs.Answers.{failure_body};
-ghost use Rattle.answering.specs.Asking.{AsksFor, IsLawful, asked_push, one_of};
-ghost use Rattle.answering.specs.Parts.{BodyIsRefused, StreamIsAnswered, OneIsAnswered, BodyIsAnswered};
+ghost use Rattle.answering.specs.Asking.{Asked};
+ghost use Rattle.answering.specs.Parts.{BodyIsRefused, UncalledIsAnswered, BodyIsAnswered, AsksForCall, IsOfOne};
 ghost use Rattle.answering.specs.Responses.{RequestIsAnswered, RequestEnds, bad_time_text};
 ghost use Rattle.answering.specs.Showing.{IsShown};
-ghost use Rattle.answering.specs.Windows.{AreKeyed, AreOfStreams, HoldsNoStreams};
+ghost use Rattle.answering.specs.Windows.{AreStreams, IsEmptyWindow, called};
 ghost use Rattle.answering.specs.declared.responding.Halt.TheVariants.{Failed, GivenUp};
 
-use crate::calling::{Asked, Keyed, Want, take_stream};
+use crate::calling::{Uncalled, call_of_read, call_of_trim};
 use crate::calls::Calls;
 use crate::lines::{PushLines, push_number};
-use crate::replies::{answer_of_came, answer_of_text};
-use crate::taking::keyed_of_all;
-use crate::window::Window;
+use crate::replies::{answer_of_moved, answer_of_refusal, answer_of_text};
+use crate::windows::{MOST, Streams, streams_of};
+use accept::Call;
 use labels::Tenant;
-use pushjson::{PushFault, RawBatch, RawRead, RawTrim, read_push, read_query, read_trim};
+use pushjson::PushFault;
 use requests::{Answer, Failure, Route, ServeFault, Status};
 use std::alloc::{AllocError, Global};
-use std::collections::VecDeque;
 use std::sync::Wait;
 
 /// How many bytes the longest text of a failure has.
@@ -99,64 +98,30 @@ fn take_windows<S: Calls, R: Wait>(
     alloc: Global,
     service: &S,
     pass: &mut S::Pass,
-    mut keyed: VecDeque<Keyed>,
-    mut window: Window<S::Outcome>,
+    streams: Streams<S::Outcome>,
 ) -> Result<Answer, Halt>
     requires pass { S.is_ready service.now pass.old }
-    requires keyed { AreOfStreams keyed.items }
-    requires empty { HoldsNoStreams window }
-    requires room { window.size ≡ min 64 (deque_len keyed) }
+    requires fresh { IsEmptyWindow streams.windows.calls.items streams.windows.outcomes.items }
+    requires numbers { All AreNumbers streams.windows.left.items }
+    requires size { streams.windows.size ≡ min 64 (deque_len streams.windows.left) }
+    requires enough { called streams.places.items ≤ deque_len streams.windows.left }
     ensures pass { S.is_ready service.now pass.new }
-    ensures goes { (tenant : List ℕ) (all : List Asked) → AreKeyed tenant all keyed.items
+    ensures goes { (tenant : List ℕ) (all : List Asked)
+        → AreStreams tenant all streams.places.items streams.windows.left.items
         → BodyIsAnswered (S.gives service.now) tenant pass.old all result pass.new }
 {
+    let Streams {
+        places,
+        mut windows,
+    } = streams;
     let mut lines = PushLines::new(alloc);
-    let mut stream = 0;
-    while !keyed.is_empty() {
-        stream = window.take(rt, alloc, service, pass, &mut keyed, stream, &mut lines)?;
+    let mut rest = places.as_slice();
+    while !rest.is_empty() {
+        let (window, more) = rest.split_at(MOST.min(rest.len()));
+        windows.take(rt, alloc, service, pass, window, &mut lines)?;
+        rest = more;
     }
     Ok(lines.into_answer())
-}
-
-/// Reads the labels of all streams of a push, and then makes their calls.
-fn push_streams<S: Calls, R: Wait>(
-    rt: &R,
-    alloc: Global,
-    service: &S,
-    pass: &mut S::Pass,
-    tenant: &Tenant,
-    now: u64,
-    batches: Vec<RawBatch>,
-) -> Result<Answer, Halt>
-    requires pass { S.is_ready service.now pass.old }
-    requires lawful { All (λ b. IsLawful (asked_push now b).want) batches.items }
-    ensures pass { S.is_ready service.now pass.new }
-    ensures goes { BodyIsAnswered (S.gives service.now) tenant.now pass.old (map (asked_push now) batches.items) result
-        pass.new }
-{
-    let keyed = keyed_of_all(alloc, tenant, now, batches)?;
-    let Ok(window) = Window::new(alloc, keyed.len()) else {
-        return Err(Halt::Failed(Failure::OutOfMemory));
-    };
-    take_windows(rt, alloc, service, pass, keyed, window)
-}
-
-/// Makes the call of the one stream of a read or a trim.
-fn take_one<S: Calls, R: Wait>(
-    rt: &R,
-    alloc: Global,
-    service: &S,
-    pass: &mut S::Pass,
-    tenant: &Tenant,
-    asked: Asked,
-) -> Result<Answer, Halt>
-    requires pass { S.is_ready service.now pass.old }
-    requires lawful { IsLawful asked.want }
-    ensures pass { S.is_ready service.now pass.new }
-    ensures goes { StreamIsAnswered (S.gives service.now) tenant.now pass.old asked result pass.new }
-{
-    let came = take_stream(rt, alloc, service, pass, tenant, asked)?;
-    Ok(answer_of_came(alloc, came)?)
 }
 
 fn push<S: Calls, R: Wait>(
@@ -172,65 +137,43 @@ fn push<S: Calls, R: Wait>(
     ensures responds { RequestEnds (S.gives service.now) Route.Push request.now.time request.now.tenant.now
         request.now.body.now pass.old result pass.new }
 {
-    match read_push(alloc, request.body) {
-        Ok(batches) => push_streams(
-            rt,
-            alloc,
-            service,
-            pass,
-            request.tenant,
-            request.time,
-            batches,
-        ),
+    match streams_of(alloc, request) {
+        Ok(streams) => take_windows(rt, alloc, service, pass, streams),
         Err(fault) => refuse(alloc, fault),
     }
 }
 
-// What the body of a read asks for.
-fn asked_by_read(alloc: Global, body: &[u8]) -> Result<Asked, PushFault>
-    ensures asks { (now : ℕ) → AsksFor Route.Read now body.now (one_of result) }
-    ensures lawful { IfOk result (λ asked. IsLawful asked.want) }
+/// The answer to a body of which no call is made.
+fn answer_of_uncalled(alloc: Global, why: Uncalled) -> Result<Answer, Halt>
+    ensures { UncalledIsAnswered why result }
 {
-    match read_query(alloc, body) {
-        Ok(RawRead { pairs, from, to }) => {
-            let want = Want::Read { from, to };
-            Ok(Asked { pairs, want })
-        }
-        Err(fault) => Err(fault),
+    match why {
+        Uncalled::Body(fault) => refuse(alloc, fault),
+        Uncalled::Labels(fault) => Ok(answer_of_refusal(alloc, fault)?),
     }
 }
 
-// What the body of a trim asks for.
-fn asked_by_trim(alloc: Global, body: &[u8]) -> Result<Asked, PushFault>
-    ensures asks { (now : ℕ) → AsksFor Route.Trim now body.now (one_of result) }
-    ensures lawful { IfOk result (λ asked. IsLawful asked.want) }
-{
-    match read_trim(alloc, body) {
-        Ok(RawTrim { pairs, bound }) => {
-            let want = Want::Trim { bound };
-            Ok(Asked { pairs, want })
-        }
-        Err(fault) => Err(fault),
-    }
-}
-
-/// The answer to a read or a trim, whose body asks for this.
+/// The answer to a read or a trim, whose body asks for this call.
 fn answer_one<S: Calls, R: Wait>(
     rt: &R,
     alloc: Global,
     service: &S,
     pass: &mut S::Pass,
-    tenant: &Tenant,
-    asked: Result<Asked, PushFault>,
+    asked: Result<Call, Uncalled>,
 ) -> Result<Answer, Halt>
     requires pass { S.is_ready service.now pass.old }
-    requires lawful { IfOk asked (λ one. IsLawful one.want) }
+    requires numbers { IfOk asked (λ call. AreNumbers call) }
     ensures pass { S.is_ready service.now pass.new }
-    ensures goes { OneIsAnswered (S.gives service.now) tenant.now pass.old asked result pass.new }
+    ensures responds { (route : Route) (now : ℕ) (tenant body : List ℕ) → IsOfOne route
+        → AsksForCall route tenant body asked
+        → RequestEnds (S.gives service.now) route now tenant body pass.old result pass.new }
 {
     match asked {
-        Ok(asked) => take_one(rt, alloc, service, pass, tenant, asked),
-        Err(fault) => refuse(alloc, fault),
+        Ok(call) => {
+            let reply = service.call(rt, alloc, pass, call)?;
+            Ok(answer_of_moved(alloc, reply)?)
+        }
+        Err(why) => answer_of_uncalled(alloc, why),
     }
 }
 
@@ -252,8 +195,14 @@ pub(crate) fn respond<S: Calls, R: Wait>(
     let body = request.body;
     match request.route {
         Route::Push => push(rt, alloc, service, pass, request),
-        Route::Read => answer_one(rt, alloc, service, pass, tenant, asked_by_read(alloc, body)),
-        Route::Trim => answer_one(rt, alloc, service, pass, tenant, asked_by_trim(alloc, body)),
+        Route::Read => {
+            let asked = call_of_read(alloc, tenant, body);
+            answer_one(rt, alloc, service, pass, asked)
+        }
+        Route::Trim => {
+            let asked = call_of_trim(alloc, tenant, body);
+            answer_one(rt, alloc, service, pass, asked)
+        }
     }
 }
 

@@ -1,40 +1,63 @@
-use Rattle.std.proofs.Common.{◌≡◌, ◌∙◌, [], refl, arith}
+use Rattle.std.proofs.Common.{◌≡◌, ◌≤◌, ◌+◌, ◌∙◌, [], length, refl, sym, ap, subst, arith}
 use Rattle.std.proofs.lemmas.Grind.{common_steps}
-use Rattle.std.proofs.lemmas.Result.{err_from_is_err_and}
-use Rattle.answering.proofs.Pushing.{starts, goes_on, halts, ends}
+use Rattle.std.specs.VecDeque.{deque_len}
+use Rattle.answering.specs.Windows.{AreStreams, StreamsAreTaken, called}
+use Rattle.answering.proofs.Pushing.{called_append, called_most, starts, ends}
 use Rattle.answering.proofs.responding.take_windows.Goals as goal
 
-pub loop-alloc-init : goal.loop-alloc-init
-loop-alloc-init g c = record {
+pub loop-rest-init : goal.loop-rest-init
+loop-rest-init g c = record {
   pass = c.requires.pass;
-  empty = c.requires.empty;
+  fresh = c.requires.fresh;
+  numbers = c.requires.numbers;
   size = refl;
-  taken = λ tenant all are. starts (g.S.Calls.gives c.args.service.now) tenant c.args.pass.now all c.args.keyed.items c.new-lines.result are;
-  fits = omega arith;
+  taken = λ tenant all are. starts (g.S.Calls.gives c.args.service.now) tenant c.args.pass.now all c.as_slice-rest.result.now c.args.streams.windows.left.items c.new-lines.result are c.new-lines.ensures;
+  fits = omega (arith, c.new-lines.ensures.streams);
+  enough = subst (λ l. called l ≤ deque_len c.args.streams.windows.left) (sym c.as_slice-rest.ensures.value) c.requires.enough;
+  most = omega arith;
 }
 
-pub loop-alloc-preserved : goal.loop-alloc-preserved
-loop-alloc-preserved g c =
-    let inv = c.loop-alloc.invariant in
-    let taken = c.in_ok-stream.ensures in
+pub take-requires-clause-enough : goal.take-requires-clause-enough
+take-requires-clause-enough g c =
+    let window = c.split_at.result.0.now in
+    let more = c.split_at.result.1.now in
+    let same : called c.loop-rest.rest.now ≡ called window + called more = ap called c.split_at.ensures.by_index.0 ∙ called_append window more in
+    omega (arith, same, c.loop-rest.invariant.enough)
+
+pub take-requires-clause-room : goal.take-requires-clause-room
+take-requires-clause-room g c =
+    let inv = c.loop-rest.invariant in
+    let window = c.split_at.result.0.now in
+    let more = c.split_at.result.1.now in
+    let same : called c.loop-rest.rest.now ≡ called window + called more = ap called c.split_at.ensures.by_index.0 ∙ called_append window more in
+    let most = called_most window in
+    let short : length window ≤ 64 = omega (arith, c.split_at.ensures.front_len, c.min.ensures) in
+    (omega (arith, same, most, short, inv.enough, inv.most, inv.size, c.requires.size), short)
+
+pub loop-rest-preserved : goal.loop-rest-preserved
+loop-rest-preserved g c =
+    let inv = c.loop-rest.invariant in
+    let window = c.split_at.result.0.now in
+    let more = c.split_at.result.1.now in
+    let split = c.split_at.ensures.by_index.0 in
+    let same : called c.loop-rest.rest.now ≡ called window + called more = ap called split ∙ called_append window more in
+    let t = c.in_ok-take.ensures in
     record {
       pass = c.take.ensures.pass;
-      empty = taken.empty;
-      size = taken.size ∙ inv.size;
+      fresh = t.fresh;
+      numbers = c.take.ensures.numbers;
+      size = c.take.ensures.size ∙ inv.size;
       taken = λ tenant all are.
-          let before = inv.taken tenant all are in
-          goes_on (g.S.Calls.gives c.args.service.now) tenant c.args.pass.now c.loop-alloc.pass all 0 c.new-lines.result c.loop-alloc.stream c.loop-alloc.keyed.items c.loop-alloc.lines before c.take.new.pass c.in_ok-stream.stream c.take.new.keyed.items c.take.new.lines (taken.goes tenant before.more before.keyed);
-      fits = omega (arith, inv.fits, taken.count);
+          t.goes c.args.pass.now tenant all more
+          (subst (λ l. StreamsAreTaken (g.S.Calls.gives c.args.service.now) tenant c.args.pass.now all c.loop-rest.pass l c.loop-rest.windows.left.items c.loop-rest.lines) split (inv.taken tenant all are));
+      fits = omega (arith, inv.fits, t.count, c.split_at.ensures.back_len, c.split_at.ensures.front_len);
+      enough = omega (arith, same, inv.enough, c.take.ensures.left);
+      most = omega (arith, inv.most, c.take.ensures.left);
     }
-
-pub returns-in_err-stream-clause-goes : goal.returns-in_err-stream-clause-goes
-returns-in_err-stream-clause-goes g c tenant all are =
-    let before = c.loop-alloc.invariant.taken tenant all are in
-    let p = err_from_is_err_and c.from_residual.result c.from_residual.ensures.1 in
-    rw (p.1, p.2) (halts (g.S.Calls.gives c.args.service.now) tenant c.args.pass.now c.loop-alloc.pass all 0 c.new-lines.result c.loop-alloc.stream c.loop-alloc.keyed.items c.loop-alloc.lines before refl c.take.new.pass c.in_err-stream.field-0.0 c.take.new.keyed.items c.take.new.lines
-    (c.in_err-stream.ensures.goes tenant before.more before.keyed))
 
 pub returns-clause-goes : goal.returns-clause-goes
 returns-clause-goes g c tenant all are =
-    let none : c.loop-alloc.keyed.items ≡ [] = grind (arith, common_steps) in
-    ends (g.S.Calls.gives c.args.service.now) tenant c.args.pass.now c.loop-alloc.pass all c.new-lines.result c.loop-alloc.stream c.loop-alloc.keyed.items c.loop-alloc.lines (c.loop-alloc.invariant.taken tenant all are) c.new-lines.ensures none c.into_answer.result c.into_answer.ensures
+    let none : c.loop-rest.rest.now ≡ [] = grind (arith, common_steps) in
+    let given = subst (λ l. AreStreams tenant all l c.args.streams.windows.left.items) (sym c.as_slice-rest.ensures.value) are in
+    let taken = subst (λ l. StreamsAreTaken (g.S.Calls.gives c.args.service.now) tenant c.args.pass.now all c.loop-rest.pass l c.loop-rest.windows.left.items c.loop-rest.lines) none (c.loop-rest.invariant.taken tenant all given) in
+    ends (g.S.Calls.gives c.args.service.now) tenant c.args.pass.now all c.loop-rest.pass c.loop-rest.windows.left.items c.loop-rest.lines taken c.into_answer.result c.into_answer.ensures

@@ -1,17 +1,21 @@
-use Rattle.std.proofs.Common.{◌≡◌, ℕ, ◌+◌, List}
+use Rattle.std.proofs.Common.{◌≡◌, ◌+◌, ◌≤◌, ℕ, All, List, length}
 use Rattle.std.specs.VecDeque.{deque_len}
-use Rattle.answering.specs.declared.calling.Asked.{Asked}
-use Rattle.answering.specs.Windows.{AreKeyed, HoldsNoStreams, StreamsAreTaken}
+use Rattle.accept.specs.Calls.{AreNumbers}
+use Rattle.answering.specs.Asking.{Asked}
+use Rattle.answering.specs.Windows.{AreStreams, IsEmptyWindow, StreamsAreTaken, called}
 use Rattle.answering.proofs.responding.take_windows.Given as goal
 
-abbrev pub invariant-loop-alloc : goal.invariant-loop-alloc
-invariant-loop-alloc g l = record {
+abbrev pub invariant-loop-rest : goal.invariant-loop-rest
+invariant-loop-rest g l = record {
   pass : g.S.Calls.is_ready l.service l.pass;
-  empty : HoldsNoStreams l.window;
-  size : l.window.size ≡ l.initial.window.size;
-  taken : (tenant : List ℕ) (all : List Asked) → AreKeyed tenant all l.initial.keyed.items → StreamsAreTaken (g.S.Calls.gives l.service) tenant l.initial.pass all 0 l.initial.lines l.stream l.pass l.keyed.items l.lines;
-  fits : l.stream + deque_len l.keyed ≡ deque_len l.initial.keyed;
+  fresh : IsEmptyWindow l.windows.calls.items l.windows.outcomes.items;
+  numbers : All AreNumbers l.windows.left.items;
+  size : l.windows.size ≡ l.initial.windows.size;
+  taken : (tenant : List ℕ) (all : List Asked) → AreStreams tenant all l.initial.rest l.initial.windows.left.items → StreamsAreTaken (g.S.Calls.gives l.service) tenant l.initial.pass all l.pass l.rest l.windows.left.items l.lines;
+  fits : l.lines.streams + length l.rest ≡ length l.initial.rest;
+  enough : called l.rest ≤ deque_len l.windows.left;
+  most : deque_len l.windows.left ≤ deque_len l.initial.windows.left;
 }
 
-abbrev pub decreases-loop-alloc : goal.decreases-loop-alloc
-decreases-loop-alloc g l = deque_len l.keyed
+abbrev pub decreases-loop-rest : goal.decreases-loop-rest
+decreases-loop-rest g l = length l.rest

@@ -1,0 +1,71 @@
+use Rattle.std.proofs.Common.{◌∙◌, ◌+◌, drop, map, refl, sym, ap, subst, arith}
+use Rattle.std.proofs.lemmas.Result.{err_from_is_err_and}
+use Rattle.answering.specs.Calls.{Refused}
+use Rattle.answering.specs.Windows.{AreNotedTo, merged, came_of}
+use Rattle.answering.specs.declared.responding.Halt.TheVariants.{GivenUp}
+use Rattle.answering.proofs.Pushing.{next_refused, next_came, noted_more, noted_halt}
+use Rattle.answering.proofs.windows.Windows.note.Goals as goal
+use Rattle.answering.proofs.windows.Windows.note.Goals.{in-Some+in_ok-note_refusal-in-Some, in-None+in-Some-pop_front+in_ok-note_outcome-in-None}
+
+pub returns-in_err-note_refusal-in-Some-clause-noted : goal.returns-in_err-note_refusal-in-Some-clause-noted
+returns-in_err-note_refusal-in-Some-clause-noted g c before tells whole =
+    let told = g.S.Calls.told in
+    let places = c.args.places.now in
+    let k = c.loop-place.place-index in
+    let outcomes = map told c.loop-place.self.outcomes.items in
+    let all = merged places (map told c.args.self.now.outcomes.items) in
+    let p = err_from_is_err_and c.from_residual.result c.from_residual.ensures.1 in
+    let next = next_refused places k c.loop-place-test.true _ c.in-Some.fault outcomes c.in-Some.is in
+    let noted = subst (λ l. AreNotedTo before all l c.loop-place.lines) next.0 (c.loop-place.invariant.noted before tells whole) in
+    rw (p.1, p.2) (noted_halt before all (Refused c.in-Some.fault) (merged (drop (k + 1) places) outcomes) c.loop-place.lines c.note_refusal.new.self noted GivenUp (refl, c.in_err-note_refusal-in-Some.ensures.said))
+
+pub returns-in_err-note_outcome-in-None-clause-noted : goal.returns-in_err-note_outcome-in-None-clause-noted
+returns-in_err-note_outcome-in-None-clause-noted g c before tells whole =
+    let told = g.S.Calls.told in
+    let places = c.args.places.now in
+    let k = c.loop-place.place-index in
+    let outcome = told c.in-Some-pop_front.outcome in
+    let outcomes = map told c.pop_front.new.self.items in
+    let all = merged places (map told c.args.self.now.outcomes.items) in
+    let p = err_from_is_err_and c.from_residual-in_err-note_outcome-in-None.result c.from_residual-in_err-note_outcome-in-None.ensures.1 in
+    let next = ap (λ l. merged (drop k places) (map told l)) c.in-Some-pop_front.ensures.items ∙ (next_came places k c.loop-place-test.true _ outcome outcomes c.in-None.is).0 in
+    let noted = subst (λ l. AreNotedTo before all l c.loop-place.lines) next (c.loop-place.invariant.noted before tells whole) in
+    rw (p.1, p.2) (noted_halt before all (came_of outcome) (merged (drop (k + 1) places) outcomes) c.loop-place.lines c.note_outcome.new.lines noted c.in_err-note_outcome-in-None.field-0.0 c.in_err-note_outcome-in-None.ensures.noted)
+
+pub loop-place-preserved : goal.loop-place-preserved
+loop-place-preserved g c =
+    let inv = c.loop-place.invariant in
+    let told = g.S.Calls.told in
+    let places = c.args.places.now in
+    let k = c.loop-place.place-index in
+    let all = merged places (map told c.args.self.now.outcomes.items) in
+    elim c.match-place.branch [
+      | in-Some+in_ok-note_refusal-in-Some w ↦
+          let outcomes = map told c.loop-place.self.outcomes.items in
+          let next = next_refused places k c.loop-place-test.true _ w.in-Some.fault outcomes w.in-Some.is in
+          rw (w.self-is, w.lines-is) (record {
+            due = sym next.1 ∙ inv.due;
+            noted = λ before tells whole.
+                noted_more before all (Refused w.in-Some.fault) (merged (drop (k + 1) places) outcomes) c.loop-place.lines w.note_refusal.new.self
+                (subst (λ l. AreNotedTo before all l c.loop-place.lines) next.0 (inv.noted before tells whole)) tt (refl, w.in_ok-note_refusal-in-Some.ensures.next);
+            count = omega (arith, inv.count, w.note_refusal.ensures.count);
+            left = inv.left;
+            calls = inv.calls;
+            size = inv.size;
+          })
+      | in-None+in-Some-pop_front+in_ok-note_outcome-in-None w ↦
+          let outcome = told w.in-Some-pop_front.outcome in
+          let outcomes = map told w.pop_front.new.self.items in
+          let next = next_came places k c.loop-place-test.true _ outcome outcomes w.in-None.is in
+          let same = ap (λ l. merged (drop k places) (map told l)) w.in-Some-pop_front.ensures.items ∙ next.0 in
+          rw (w.self-is, w.lines-is) (record {
+            due = omega (arith, next.1, inv.due, w.in-Some-pop_front.ensures.len);
+            noted = λ before tells whole.
+                noted_more before all (came_of outcome) (merged (drop (k + 1) places) outcomes) c.loop-place.lines w.note_outcome.new.lines
+                (subst (λ l. AreNotedTo before all l c.loop-place.lines) same (inv.noted before tells whole)) tt w.in_ok-note_outcome-in-None.ensures.noted;
+            count = omega (arith, inv.count, w.in_ok-note_outcome-in-None.ensures.count);
+            left = inv.left;
+            calls = inv.calls;
+            size = inv.size;
+          })
+    ]

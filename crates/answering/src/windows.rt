@@ -1,0 +1,225 @@
+//! The streams of a push by their places in its body, and their calls, made window by window.
+ghost use Rattle.std.specs.Prelude.{◌≡◌, ◌≤◌, ◌<◌, ◌+◌, ◌^◌, ◌++◌, [], ℕ, List, Option, None, Err, All, IfOk, IfErr, map, min, length};
+ghost use Rattle.std.specs.VecDeque.{deque_len, deque_capacity};
+ghost use Rattle.labels.specs.declared.fault.LabelFault.{LabelFault};
+ghost use Rattle.accept.specs.Calls.{AreNumbers};
+ghost use Rattle.requests.specs.declared.route.Route.TheVariants.{Push};
+ghost use Rattle.answering.specs.Asking.{Asked, AsksFor, HasNumbers, asked_push};
+ghost use Rattle.answering.specs.Calls.{Came};
+ghost use Rattle.answering.specs.Courses.{first_failure};
+ghost use Rattle.answering.specs.Telling.{Tells, CameIsNoted};
+ghost use Rattle.answering.specs.Windows.{AreStreams, AsksForStreams, IsEmptyWindow, StreamsAreTaken, WindowIsTaken, AreNoted, called, came_of, merged};
+
+use crate::calling::{Uncalled, key_of};
+use crate::calls::Calls;
+use crate::lines::PushLines;
+use crate::responding::{Halt, RequestBody};
+use accept::Call;
+use labels::{LabelFault, Tenant};
+use pushjson::{PushFault, RawBatch, read_push};
+use std::alloc::{AllocError, Global};
+use std::collections::VecDeque;
+use std::sync::Wait;
+
+/// How many places a window has at most.
+pub(crate) const MOST: usize = 64;
+
+/// The streams of a push.
+#[derive(Drop)]
+pub(crate) struct Streams<O> {
+    /// At each place of the body, why the labels are refused; or nothing, where there is a call.
+    pub(crate) places: Vec<Option<LabelFault>>,
+    pub(crate) windows: Windows<O>,
+}
+
+/// The calls of a push that were not made yet, in their order, with room for those of a window and for their outcomes.
+#[derive(Drop)]
+pub(crate) struct Windows<O> {
+    pub(crate) size: usize,
+    pub(crate) left: VecDeque<Call>,
+    pub(crate) calls: VecDeque<Call>,
+    pub(crate) outcomes: VecDeque<O>,
+    ghost few: { size ≤ 64 },
+    ghost calls_fit: { size ≤ deque_capacity calls },
+    ghost outcomes_fit: { size ≤ deque_capacity outcomes },
+}
+
+/// The streams that the body of a push asks for, no call of which was made.
+///
+/// # Errors
+///
+/// Why the body is refused, or `Memory`.
+pub(crate) fn streams_of<O: Drop>(
+    alloc: Global,
+    request: &RequestBody<'_>,
+) -> Result<Streams<O>, PushFault>
+    requires clock { request.now.time < 2 ^ 63 }
+    ensures ok { IfOk result (λ streams. AsksForStreams request.now.time request.now.tenant.now
+        request.now.body.now streams.places.items streams.windows.left.items) }
+    ensures cause { IfErr result (λ fault.
+        AsksFor Push request.now.time request.now.body.now (Err fault)) }
+    ensures numbers { IfOk result (λ streams. All AreNumbers streams.windows.left.items) }
+    ensures fresh { IfOk result (λ streams.
+        IsEmptyWindow streams.windows.calls.items streams.windows.outcomes.items) }
+    ensures size { IfOk result (λ streams.
+        streams.windows.size ≡ min 64 (deque_len streams.windows.left)) }
+{
+    let batches = read_push(alloc, request.body)?;
+    let (places, left) = places_of(alloc, request.tenant, request.time, batches)?;
+    match Windows::new(alloc, left) {
+        Ok(windows) => Ok(Streams { places, windows }),
+        Err(AllocError) => Err(PushFault::Memory),
+    }
+}
+
+// Reads the labels of all streams of a push: why those of each place are refused, and the calls of the others.
+fn places_of(
+    alloc: Global,
+    tenant: &Tenant,
+    now: u64,
+    batches: Vec<RawBatch>,
+) -> Result<(Vec<Option<LabelFault>>, VecDeque<Call>), PushFault>
+    requires { All (λ b. HasNumbers (asked_push now b)) batches.items }
+    ensures ok { IfOk result (λ p.
+        AreStreams tenant.now (map (asked_push now) batches.items) p.0.items p.1.items) }
+    ensures cause { IfErr result (λ fault. fault ≡ PushFault.Memory) }
+    ensures numbers { IfOk result (λ p. All AreNumbers p.1.items) }
+{
+    let Ok(mut places) = Vec::with_capacity(alloc, batches.len()) else {
+        return Err(PushFault::Memory);
+    };
+    let Ok(mut calls) = VecDeque::with_capacity(alloc, batches.len()) else {
+        return Err(PushFault::Memory);
+    };
+    for RawBatch { pairs, entries } in batches {
+        match key_of(alloc, tenant, pairs) {
+            Ok(key) => {
+                places.push_reserved(None);
+                calls.push_back_reserved(Call::Push { key, now, entries });
+            }
+            Err(Uncalled::Labels(fault)) => places.push_reserved(Some(fault)),
+            Err(Uncalled::Body(fault)) => return Err(fault),
+        }
+    }
+    Ok((places, calls))
+}
+
+impl<O: Drop> Windows<O> {
+    // Of these calls none was made.
+    fn new(alloc: Global, left: VecDeque<Call>) -> Result<Windows<O>, AllocError>
+        ensures left { IfOk result (λ windows. windows.left ≡ left) }
+        ensures fresh { IfOk result (λ windows.
+            IsEmptyWindow windows.calls.items windows.outcomes.items) }
+        ensures size { IfOk result (λ windows. windows.size ≡ min 64 (deque_len left)) }
+    {
+        let size = MOST.min(left.len());
+        let calls = VecDeque::with_capacity(alloc, size)?;
+        let outcomes = VecDeque::with_capacity(alloc, size)?;
+        Ok(Windows {
+            size,
+            left,
+            calls,
+            outcomes,
+        })
+    }
+
+    // Takes the calls of the next places out of those that are left.
+    fn fill(&mut self, places: &[Option<LabelFault>])
+        requires fresh { self.old.calls.items ≡ [] }
+        requires enough { called places.now ≤ deque_len self.old.left }
+        requires room { called places.now ≤ self.old.size }
+        ensures split { self.old.left.items ≡ self.new.calls.items ++ self.new.left.items }
+        ensures count { deque_len self.new.calls ≡ called places.now }
+        ensures left { deque_len self.new.left + called places.now ≡ deque_len self.old.left }
+        ensures outcomes { self.new.outcomes ≡ self.old.outcomes }
+        ensures size { self.new.size ≡ self.old.size }
+    {
+        for place in places {
+            if place.is_none() {
+                let Some(call) = self.left.pop_front() else {
+                    unreachable!()
+                };
+                self.calls.push_back_reserved(call);
+            }
+        }
+    }
+
+    // Takes what came of the streams at these places into the lines.
+    fn note<S: Calls<Outcome = O>>(
+        &mut self,
+        places: &[Option<LabelFault>],
+        lines: &mut PushLines,
+    ) -> Result<(), Halt>
+        requires due { called places.now ≡ deque_len self.old.outcomes }
+        requires few { lines.old.streams + length places.now < 2 ^ 64 }
+        ensures noted { (before : List Came) → Tells before lines.old → first_failure before ≡ None
+            → AreNoted before (merged places.now (map S.told self.old.outcomes.items)) result
+            lines.new }
+        ensures count { IfOk result (λ _.
+            lines.new.streams ≡ lines.old.streams + length places.now) }
+        ensures fresh { IfOk result (λ _. self.new.outcomes.items ≡ []) }
+        ensures left { self.new.left ≡ self.old.left }
+        ensures calls { self.new.calls ≡ self.old.calls }
+        ensures size { self.new.size ≡ self.old.size }
+    {
+        for place in places {
+            match *place {
+                Some(fault) => lines.note_refusal(fault)?,
+                None => {
+                    let Some(outcome) = self.outcomes.pop_front() else {
+                        unreachable!()
+                    };
+                    note_outcome::<S>(lines, outcome)?;
+                }
+            }
+        }
+        Ok(())
+    }
+
+    /// Makes the calls of the next places, and takes what came of their streams into the lines.
+    pub(crate) fn take<S: Calls<Outcome = O>, R: Wait>(
+        &mut self,
+        rt: &R,
+        alloc: Global,
+        service: &S,
+        pass: &mut S::Pass,
+        places: &[Option<LabelFault>],
+        lines: &mut PushLines,
+    ) -> Result<(), Halt>
+        requires pass { S.is_ready service.now pass.old }
+        requires fresh { IsEmptyWindow self.old.calls.items self.old.outcomes.items }
+        requires numbers { All AreNumbers self.old.left.items }
+        requires enough { called places.now ≤ deque_len self.old.left }
+        requires room { (called places.now ≤ self.old.size) × (length places.now ≤ 64) }
+        requires few { lines.old.streams + length places.now < 2 ^ 64 }
+        ensures pass { S.is_ready service.now pass.new }
+        ensures goes { (h : S.Pass) (tenant : List ℕ) (all : List Asked)
+            (more : List (Option LabelFault))
+            → StreamsAreTaken (S.gives service.now) tenant h all pass.old (places.now ++ more)
+            self.old.left.items lines.old
+            → WindowIsTaken (S.gives service.now) tenant h all result pass.new more
+            self.new.left.items lines.new }
+        ensures fresh { IfOk result (λ _.
+            IsEmptyWindow self.new.calls.items self.new.outcomes.items) }
+        ensures numbers { All AreNumbers self.new.left.items }
+        ensures left { deque_len self.new.left + called places.now ≡ deque_len self.old.left }
+        ensures size { self.new.size ≡ self.old.size }
+        ensures count { IfOk result (λ _.
+            lines.new.streams ≡ lines.old.streams + length places.now) }
+    {
+        self.fill(places);
+        service.call_all(rt, alloc, pass, &mut self.calls, &mut self.outcomes);
+        self.note::<S>(places, lines)
+    }
+}
+
+// Takes what came of a call into the lines, unless it failed.
+fn note_outcome<S: Calls>(lines: &mut PushLines, outcome: S::Outcome) -> Result<(), Halt>
+    requires few { lines.old.streams + 1 < 2 ^ 64 }
+    ensures noted { CameIsNoted (came_of (S.told outcome)) lines.old result lines.new }
+    ensures count { IfOk result (λ _. lines.new.streams ≡ lines.old.streams + 1) }
+{
+    let reply = S::told(outcome)?;
+    lines.note_reply(&reply)?;
+    Ok(())
+}
