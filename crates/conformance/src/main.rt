@@ -3,7 +3,6 @@
 //! answers, without an ingester.
 #![tactic(auto)]
 
-mod answering;
 mod case;
 mod named;
 mod opened;
@@ -12,6 +11,7 @@ mod replies;
 mod serving;
 mod taking;
 mod visits;
+mod written;
 
 use crate::case::Case;
 use crate::plan::Plan;
@@ -86,6 +86,6 @@ fn take_requests<R: AllocGlobal>(rt: &R, row: &Row<'_>, said: &mut String) -> Re
     if case.answers.is_empty() {
         taking::take_case(alloc, &case, said)
     } else {
-        answering::answer_case(alloc, &case, said)
+        written::answer_case(alloc, &case, said)
     }
 }
