@@ -71,7 +71,8 @@ fn make_all<R: Print + Wait + AllocGlobal>(
     ingester: &Ingester<MemDisk>,
     passes: &mut Vec<Pass>,
 ) -> Result<()>
-    requires passes { (p : ℕ) (pass : Passed) → slice_get passes.old.items p ≡ Some pass → IsPassOf ingester.now pass }
+    requires passes { (p : ℕ) (pass : Passed) → slice_get passes.old.items p ≡ Some pass
+        → IsPassOf ingester.now pass }
     requires shards { ingester.now.about.shards ≡ 2 }
     ensures some { OnOk result (0 < vec_len passes.new) }
     ensures passes { OnOk result ((p : ℕ) (pass : Passed) → slice_get passes.new.items p ≡ Some pass
@@ -87,7 +88,8 @@ fn make_all<R: Print + Wait + AllocGlobal>(
 }
 
 fn next(ingester: &Ingester<MemDisk>, passes: &mut Vec<Pass>) -> Result<Pass>
-    requires passes { (p : ℕ) (pass : Passed) → slice_get passes.old.items p ≡ Some pass → IsPassOf ingester.now pass }
+    requires passes { (p : ℕ) (pass : Passed) → slice_get passes.old.items p ≡ Some pass
+        → IsPassOf ingester.now pass }
     ensures pass { IfOk result (λ pass. IsPassOf ingester.now pass) }
     ensures passes { OnOk result ((p : ℕ) (pass : Passed) → slice_get passes.new.items p ≡ Some pass
         → IsPassOf ingester.now pass) }
@@ -103,7 +105,8 @@ fn hand_in(ingester: &Ingester<MemDisk>, passes: &mut Vec<Pass>, pass: Pass) -> 
         → IsPassOf ingester.now other }
     requires pass { IsPassOf ingester.now pass }
     ensures some { OnOk result (0 < vec_len passes.new) }
-    ensures passes { OnOk result ((p : ℕ) (other : Passed) → slice_get passes.new.items p ≡ Some other
+    ensures passes { OnOk result ((p : ℕ) (other : Passed)
+        → slice_get passes.new.items p ≡ Some other
         → IsPassOf ingester.now other) }
 {
     passes.push(pass)?;

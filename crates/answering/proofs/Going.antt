@@ -14,7 +14,7 @@ use Rattle.requests.specs.declared.route.Route.TheVariants.{Push, Read, Trim}
 use Rattle.answering.specs.declared.responding.Halt.{Halt}
 use Rattle.answering.specs.declared.responding.Halt.TheVariants.{Failed, GivenUp}
 use Rattle.answering.specs.Asking.{Asked, AsksFor, IsCallOf, HasNumbers, asked_push}
-use Rattle.pushjson.specs.Bodies.{Stream, batch_of, entry_of, entry_count}
+use Rattle.pushjson.specs.Bodies.{Stream, batch_of, entry_of_line, entry_count}
 use Rattle.std.proofs.lemmas.List.{length-map}
 use Rattle.std.proofs.lemmas.List.Sums.{sum_by-cons, get_or-le-sum_by}
 use Rattle.answering.specs.Calls.{Giving, Came}
@@ -114,7 +114,7 @@ counted : (streams : List Stream) → sum_by (λ b. length b.entries) (map batch
 counted [] = refl
 counted (s ∷ streams) =
     sum_by-cons (λ b. let b' : RawBatch = b in length b'.entries) (batch_of s) (map batch_of streams)
-    ∙ ap₂ ◌+◌ (length-map s.values entry_of) (counted streams) ∙ sym (sum_by-cons (λ s'. let t : Stream = s' in length t.values) s streams)
+    ∙ ap₂ ◌+◌ (length-map s.values entry_of_line) (counted streams) ∙ sym (sum_by-cons (λ s'. let t : Stream = s' in length t.values) s streams)
 
 -- what a push may be made of
 pub lawful : (now : ℕ) (batches : List RawBatch) (streams : List Stream) → now < 2 ^ 63 → All (λ b. All (λ e. e.time < 2 ^ 63) b.entries) batches

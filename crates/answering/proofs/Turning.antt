@@ -7,8 +7,8 @@ use Rattle.std.proofs.KnownBytes.{Appends-nil, Appends-trans, Consumes-nil, Cons
 use Rattle.std.specs.List.{flat_map}
 use Rattle.std.specs.Io.KnownBytes.{Appends, Consumes}
 use Rattle.requests.specs.Answers.{fixed_text}
-use Rattle.requests.specs.Streams.{Request, ReadsMessage, IsMessage, IsNext, IsRefused, Grows}
-use Rattle.requests.specs.Writing.{Writes}
+use Rattle.requests.specs.Streams.{Request, ReadsMessage, IsMessage, IsNext, BeginsRefused, Grows}
+use Rattle.requests.specs.Writing.{WritesBeginning}
 use Rattle.requests.specs.declared.fault.ServeFault.{ServeFault}
 use Rattle.requests.specs.declared.fault.ServeFault.TheVariants.{Read, Write, Memory, CutShort}
 use Rattle.requests.specs.declared.fault.Served.{Served}
@@ -43,7 +43,7 @@ not_memory fault written none = cc
 module _ {H : Type 0} (gives : Giving H) (now : ℕ) (body : List ℕ) (verdict : Verdict) (close : Bool) (course : Course) (h h' : H) (before after : Option (List ℕ))
     (handles : VerdictGives gives now body verdict h course h') where
   -- the response is out
-  pub out : (ends : Bool) (u : Unit {0}) → Writes before after (response_text verdict close course) (Ok u) → ends ≡ ends_behind verdict close course → ResponseIsWritten gives now body before after verdict close h h' (Ok ends)
+  pub out : (ends : Bool) (u : Unit {0}) → WritesBeginning before after (response_text verdict close course) (Ok u) → ends ≡ ends_behind verdict close course → ResponseIsWritten gives now body before after verdict close h h' (Ok ends)
   out ends u (n, appends, all) end = record {
     text = take n (response_text verdict close course);
     appends = appends;
@@ -51,7 +51,7 @@ module _ {H : Type 0} (gives : Giving H) (now : ℕ) (body : List ℕ) (verdict 
   }
 
   -- a beginning of it is, or nothing, which is not for want of memory where a failure is told
-  pub not_out : (fault : ServeFault) → Writes before after (response_text verdict close course) (Err fault) → (fault ≡ Memory → failure_at verdict course ≡ None) → ResponseIsWritten gives now body before after verdict close h h' (Err fault)
+  pub not_out : (fault : ServeFault) → WritesBeginning before after (response_text verdict close course) (Err fault) → (fault ≡ Memory → failure_at verdict course ≡ None) → ResponseIsWritten gives now body before after verdict close h h' (Err fault)
   not_out Read (n, appends, some) said = absurd some
   not_out CutShort (n, appends, some) said = absurd some
   not_out Write (n, appends, some) said = record { text = take n (response_text verdict close course); appends = appends; replies = (course, handles, (n, refl)) }
@@ -124,11 +124,11 @@ module _ {H C : Type 0} (gives : Giving H) (ticks : C → ℕ → C → Type 0) 
   unread bytes rest left w CutShort next = (next.0, next.1, (refl, refl))
 
   -- what came was refused
-  pub turned_away : (bytes rest : List ℕ) (left before after : Option (List ℕ)) (w : World H C) (why : FixedAnswer) (u : Unit {0}) → IsRefused bytes why → Writes before after (fixed_text why true) (Ok u)
+  pub turned_away : (bytes rest : List ℕ) (left before after : Option (List ℕ)) (w : World H C) (why : FixedAnswer) (u : Unit {0}) → BeginsRefused bytes why → WritesBeginning before after (fixed_text why true) (Ok u)
       → (text : List ℕ) × Appends before after text × ConnectionTurnIsAnswered gives ticks bytes left w text rest w (Ok Closed)
   turned_away bytes rest left before after w why u refused (n, appends, all) = (take n (fixed_text why true), appends, inr (why, refused, ap (λ k. take k (fixed_text why true)) all ∙ take-length (fixed_text why true), refl))
 
-  pub turned_away_err : (bytes rest : List ℕ) (left before after : Option (List ℕ)) (w : World H C) (why : FixedAnswer) (fault : ServeFault) → IsRefused bytes why → Writes before after (fixed_text why true) (Err fault)
+  pub turned_away_err : (bytes rest : List ℕ) (left before after : Option (List ℕ)) (w : World H C) (why : FixedAnswer) (fault : ServeFault) → BeginsRefused bytes why → WritesBeginning before after (fixed_text why true) (Err fault)
       → (text : List ℕ) × Appends before after text × ConnectionTurnIsAnswered gives ticks bytes left w text rest w (Err fault)
   turned_away_err bytes rest left before after w why Read refused (n, appends, out) = absurd out
   turned_away_err bytes rest left before after w why CutShort refused (n, appends, out) = absurd out

@@ -47,8 +47,10 @@ trims_of (Err fault) = Err fault
 abbrev pub AsksFor : Route → ℕ → List ℕ → Result (List Asked) PushFault → Type 0
 AsksFor Push now body asked = (read : Result (Vec RawBatch Global) PushFault) × ReadsPush body read
     × (asked ≡ pushes_of now read)
-AsksFor Read now body asked = (read : Result RawRead PushFault) × ReadsQuery body read × (asked ≡ reads_of read)
-AsksFor Trim now body asked = (read : Result RawTrim PushFault) × ReadsTrim body read × (asked ≡ trims_of read)
+AsksFor Read now body asked = (read : Result RawRead PushFault) × ReadsQuery body read
+    × (asked ≡ reads_of read)
+AsksFor Trim now body asked = (read : Result RawTrim PushFault) × ReadsTrim body read
+    × (asked ≡ trims_of read)
 
 -- the call of a stream, whose labels are lawful
 pub record IsCallOf (tenant : List ℕ) (asked : Asked) (call : Call) : Type 0 where

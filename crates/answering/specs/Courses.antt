@@ -77,7 +77,8 @@ module _ {H : Type 0} (gives : Giving H) (tenant : List ℕ) where
   StreamsGive h all cames h' = StreamsGiveAfter false h all cames h'
 
   -- of a beginning of these streams this came: one failed, and fewer than 64 stand behind it
-  pub record BodyFails (h : H) (all : List Asked) (cames : List Came) (failure : Failure) (h' : H) : Type 0 where
+  pub record BodyFails (h : H) (all : List Asked) (cames : List Came) (failure : Failure)
+      (h' : H) : Type 0 where
     pub done : List Asked
     pub more : List Asked
     pub split : all ≡ done ++ more
@@ -102,7 +103,8 @@ module _ {H : Type 0} (gives : Giving H) (tenant : List ℕ) where
   -- what was asked for went so
   abbrev pub BodyGives : H → Result (List Asked) PushFault → Course → H → Type 0
   BodyGives h asked (Unread fault) h' = (asked ≡ Err fault) × (h' ≡ h)
-  BodyGives h asked (Whole cames) h' = (all : List Asked) × (asked ≡ Ok all) × StreamsGive h all cames h'
+  BodyGives h asked (Whole cames) h' = (all : List Asked) × (asked ≡ Ok all)
+      × StreamsGive h all cames h'
       × (first_failure cames ≡ None)
   BodyGives h asked (Broken cames failure) h' = (all : List Asked) × (asked ≡ Ok all)
       × BodyFails h all cames failure h'
@@ -113,14 +115,16 @@ module _ {H : Type 0} (gives : Giving H) (tenant : List ℕ) where
   BodyIsLeft says h (Ok all) h' = BodyStops says h all h'
 
 -- the calls of a request with this route, clock, tenant and body went so
-pub record RequestGives {H : Type 0} (gives : Giving H) (route : Route) (now : ℕ) (tenant body : List ℕ) (h : H)
+pub record RequestGives {H : Type 0} (gives : Giving H) (route : Route) (now : ℕ)
+    (tenant body : List ℕ) (h : H)
     (course : Course) (h' : H) : Type 0 where
   pub asked : Result (List Asked) PushFault
   pub asks : AsksFor route now body asked
   pub goes : BodyGives gives tenant h asked course h'
 
 -- and so where they were given up for want of memory
-pub record RequestIsLeft {H : Type 0} (gives : Giving H) (route : Route) (now : ℕ) (tenant body : List ℕ) (h h' : H)
+pub record RequestIsLeft {H : Type 0} (gives : Giving H) (route : Route) (now : ℕ)
+    (tenant body : List ℕ) (h h' : H)
     : Type 0 where
   pub asked : Result (List Asked) PushFault
   pub asks : AsksFor route now body asked

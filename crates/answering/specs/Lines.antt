@@ -44,7 +44,8 @@ outcome_line i j outcomes.BadMetadata = entry_line i j (codes "bad metadata")
 outcome_line i j outcomes.TooOld = entry_line i j (codes "too old")
 outcome_line i j outcomes.TooNew = entry_line i j (codes "too new")
 outcome_line i j outcomes.Repeat = []
-outcome_line i j (outcomes.TooFarBehind oldest) = entry_front i j ++ codes "too far behind, oldest accepted is "
+outcome_line i j (outcomes.TooFarBehind oldest) =
+    entry_front i j ++ codes "too far behind, oldest accepted is "
     ++ decimal oldest ++ newline
 outcome_line i j outcomes.Stored = []
 
@@ -104,9 +105,11 @@ is_unavailable (Failed fault) = false
 -- unavailable goes before no room, no room before another refusal
 abbrev pub worst_status : Bool → Bool → List ℕ → Status
 worst_status unavailable no_room lines =
-    if unavailable then statuses.ServiceUnavailable else if no_room then statuses.InsufficientStorage
+    if unavailable then statuses.ServiceUnavailable else if no_room
+    then statuses.InsufficientStorage
     else if length lines == 0 then statuses.NoContent else statuses.BadRequest
 
 -- the status of a push of which this came
 abbrev pub push_status : List Came → Status
-push_status cames = worst_status (list_any is_unavailable cames) (list_any has_no_room cames) (lines_from 0 cames)
+push_status cames = worst_status (list_any is_unavailable cames) (list_any has_no_room cames)
+    (lines_from 0 cames)

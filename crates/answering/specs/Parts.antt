@@ -22,7 +22,8 @@ use Rattle.answering.specs.Showing.{IsShown}
 
 -- a body is refused
 abbrev pub BodyIsRefused : PushFault → Result Answer Halt → Type 0
-BodyIsRefused fault (Ok answer) = (fault_failure fault ≡ None) × IsShown (fault_status fault) (fault_text fault) answer
+BodyIsRefused fault (Ok answer) = (fault_failure fault ≡ None)
+    × IsShown (fault_status fault) (fault_text fault) answer
 BodyIsRefused fault (Err (Failed failure)) = fault_failure fault ≡ Some failure
 BodyIsRefused fault (Err GivenUp) = fault_failure fault ≡ None
 
@@ -57,7 +58,8 @@ AsksForCall route tenant body (Err (Labels fault)) = (asked : Asked)
 module _ {H : Type 0} (gives : Giving H) (tenant : List ℕ) where
   -- the streams of a push
   abbrev pub BodyIsAnswered : H → List Asked → Result Answer Halt → H → Type 0
-  BodyIsAnswered h all (Ok answer) h' = (cames : List Came) × StreamsGive gives tenant h all cames h'
+  BodyIsAnswered h all (Ok answer) h' = (cames : List Came)
+      × StreamsGive gives tenant h all cames h'
       × (first_failure cames ≡ None) × IsShown (push_status cames) (lines_from 0 cames) answer
   BodyIsAnswered h all (Err (Failed failure)) h' = (cames : List Came)
       × BodyFails gives tenant h all cames failure h'

@@ -89,9 +89,11 @@ module _ {H : Type 0} (gives : Giving H) (route : Route) (now : ℕ) (tenant bod
 
   -- what is answered to a request behind its head: the answer of how its calls went; or nothing, where memory ran out
   abbrev pub RequestIsAnswered : H → Result Answer ServeFault → H → Type 0
-  RequestIsAnswered h (Ok answer) h' = (course : Course) × RequestGives gives route now tenant body h course h'
+  RequestIsAnswered h (Ok answer) h' = (course : Course)
+      × RequestGives gives route now tenant body h course h'
       × IsShown (status_for route course) (text_for route course) answer
-  RequestIsAnswered h (Err faults.Memory) h' = RequestIsUnsaid h h' ⊎ RequestIsLeft gives route now tenant body h h'
+  RequestIsAnswered h (Err faults.Memory) h' = RequestIsUnsaid h h'
+      ⊎ RequestIsLeft gives route now tenant body h h'
   RequestIsAnswered h (Err faults.Read) h' = ⊥
   RequestIsAnswered h (Err faults.Write) h' = ⊥
   RequestIsAnswered h (Err faults.CutShort) h' = ⊥
@@ -99,8 +101,10 @@ module _ {H : Type 0} (gives : Giving H) (route : Route) (now : ℕ) (tenant bod
   -- for private clauses: the same, with failures apart
   abbrev pub RequestEnds : H → Result Answer Halt → H → Type 0
   RequestEnds h (Ok answer) h' =
-      (course : Course) × RequestGives gives route now tenant body h course h' × (failure_in course ≡ None)
+      (course : Course) × RequestGives gives route now tenant body h course h'
+      × (failure_in course ≡ None)
       × IsShown (status_for route course) (text_for route course) answer
-  RequestEnds h (Err (Failed failure)) h' = (course : Course) × RequestGives gives route now tenant body h course h'
+  RequestEnds h (Err (Failed failure)) h' = (course : Course)
+      × RequestGives gives route now tenant body h course h'
       × (failure_in course ≡ Some failure)
   RequestEnds h (Err GivenUp) h' = RequestIsLeft gives route now tenant body h h'

@@ -5,7 +5,7 @@ use Rattle.std.specs.Io.KnownBytes.{Appends, Consumes, IsAtEnd}
 use Rattle.pushjson.specs.declared.fault.PushFault.TheVariants as bodies
 use Rattle.requests.specs.Answers.{answer_text, fixed_text, failure_text, always_closes}
 use Rattle.requests.specs.Fields.{fields_of}
-use Rattle.requests.specs.Streams.{Request, ReadsMessage, IsCut, IsRefused}
+use Rattle.requests.specs.Streams.{Request, ReadsMessage, IsCut, BeginsRefused}
 use Rattle.requests.specs.Verdicts.{IsVerdict, asks_close}
 use Rattle.requests.specs.declared.failure.Failure.{Failure}
 use Rattle.requests.specs.declared.failure.Failure.TheVariants.{OutOfMemory}
@@ -41,7 +41,8 @@ is_failed (Some failure) = true
 -- the answer to calls that went so, or that ended at this failure
 abbrev pub called_text : Route → Bool → Course → Option Failure → List ℕ
 called_text route close course None =
-    answer_text (status_for route course) (content_for (status_for route course)) None close (text_for route course)
+    answer_text (status_for route course) (content_for (status_for route course)) None close
+    (text_for route course)
 called_text route close course (Some failure) = failure_text failure
 
 abbrev pub response_text : Verdict → Bool → Course → List ℕ
@@ -69,7 +70,8 @@ module _ {H : Type 0} (gives : Giving H) (now : ℕ) (body : List ℕ) where
   -- how the calls of a request went; one with a fixed answer makes none, nor one for whose tenant there was no memory
   abbrev pub VerdictGives : Verdict → H → Course → H → Type 0
   VerdictGives (Fixed answer) h course h' = (course ≡ Whole []) × (h' ≡ h)
-  VerdictGives (Call route tenant) h course h' = RequestGives gives route now tenant body h course h'
+  VerdictGives (Call route tenant) h course h' =
+      RequestGives gives route now tenant body h course h'
   VerdictGives NoMemory h course h' = (course ≡ Unread bodies.Memory) × (h' ≡ h)
 
   -- its calls were given up
@@ -100,10 +102,12 @@ IsUnbegun rest = (rest ≡ []) ⊎ IsCut rest
 
 module _ {H C : Type 0} (gives : Giving H) (ticks : C → ℕ → C → Type 0) where
   -- the bytes begin with this request, whose calls went so, at the time of the clock
-  pub record IsExchange (bytes : List ℕ) (w : World H C) (e : Exchange) (rest : List ℕ) (w' : World H C)
+  pub record IsExchange (bytes : List ℕ) (w : World H C) (e : Exchange) (rest : List ℕ)
+      (w' : World H C)
       : Type 0 where
     pub message : ReadsMessage bytes e.request rest
-    pub verdict : IsVerdict e.request.head.method e.request.head.target (fields_of e.request.head) e.verdict
+    pub verdict : IsVerdict e.request.head.method e.request.head.target
+        (fields_of e.request.head) e.verdict
     pub clock : ticks w.clock e.now w'.clock
     pub calls : VerdictGives gives e.now e.request.body e.verdict w.knows e.course w'.knows
 
@@ -122,11 +126,13 @@ module _ {H C : Type 0} (gives : Giving H) (ticks : C → ℕ → C → Type 0) 
   abbrev pub ConnectionGives : List ℕ → World H C → List Exchange → List ℕ → World H C → Type 0
   ConnectionGives bytes w [] rest w' = (rest ≡ bytes) × (w' ≡ w)
   ConnectionGives bytes w (e ∷ es) rest w' = (mid : List ℕ) × (between : World H C)
-      × IsExchange bytes w e mid between × (closes e ≡ false) × ConnectionGives mid between es rest w'
+      × IsExchange bytes w e mid between × (closes e ≡ false)
+      × ConnectionGives mid between es rest w'
 
   -- the bytes begin with what is refused, and nothing else happened
   abbrev pub IsTurnedAway : List ℕ → World H C → List ℕ → World H C → Type 0
-  IsTurnedAway bytes w text w' = (why : FixedAnswer) × IsRefused bytes why × (text ≡ fixed_text why true)
+  IsTurnedAway bytes w text w' = (why : FixedAnswer) × BeginsRefused bytes why
+      × (text ≡ fixed_text why true)
       × (w' ≡ w)
 
   -- the bytes begin with a request, or with what is refused, and this is the response
@@ -138,7 +144,8 @@ module _ {H C : Type 0} (gives : Giving H) (ticks : C → ℕ → C → Type 0) 
   -- there was no memory for the response, which is not of status 500
   abbrev pub IsUnanswered : List ℕ → World H C → World H C → Type 0
   IsUnanswered bytes w w' =
-      ((e : Exchange) × (rest : List ℕ) × IsExchange bytes w e rest w' × (failure_at e.verdict e.course ≡ None))
+      ((e : Exchange) × (rest : List ℕ) × IsExchange bytes w e rest w'
+      × (failure_at e.verdict e.course ≡ None))
       ⊎ ((text : List ℕ) × IsTurnedAway bytes w text w')
 
   -- and it closes
@@ -154,19 +161,24 @@ module _ {H C : Type 0} (gives : Giving H) (ticks : C → ℕ → C → Type 0) 
 
   -- how the connection ended, where no further request was answered with the connection kept: text is what is written
   -- of the last response, and left what the reader may still give
-  abbrev pub ConnectionEnds : List ℕ → Option (List ℕ) → World H C → List ℕ → World H C → Result Served ServeFault
+  abbrev pub ConnectionEnds : List ℕ → Option (List ℕ) → World H C → List ℕ → World H C
+      → Result Served ServeFault
       → Type 0
   ConnectionEnds rest left w text w' (Ok Ended) = (rest ≡ []) × IsAtEnd left × IsSilent w text w'
   ConnectionEnds rest left w text w' (Ok Closed) = IsLastResponse rest w text w'
-  ConnectionEnds rest left w text w' (Err faults.CutShort) = IsCut rest × IsAtEnd left × IsSilent w text w'
+  ConnectionEnds rest left w text w' (Err faults.CutShort) = IsCut rest × IsAtEnd left
+      × IsSilent w text w'
   ConnectionEnds rest left w text w' (Err faults.Read) = IsUnbegun rest × IsSilent w text w'
-  ConnectionEnds rest left w text w' (Err faults.Write) = (n : ℕ) × (all : List ℕ) × IsNextResponse rest w all w'
+  ConnectionEnds rest left w text w' (Err faults.Write) = (n : ℕ) × (all : List ℕ)
+      × IsNextResponse rest w all w'
       × (text ≡ take n all)
   ConnectionEnds rest left w text w' (Err faults.Memory) =
-      (text ≡ []) × ((IsUnbegun rest × IsSilent w text w') ⊎ IsUnanswered rest w w' ⊎ IsAbandoned rest w w')
+      (text ≡ []) × ((IsUnbegun rest × IsSilent w text w') ⊎ IsUnanswered rest w w'
+      ⊎ IsAbandoned rest w w')
 
   -- from the bytes read to the text written
-  pub record ConnectionIsAnswered (bytes : List ℕ) (left : Option (List ℕ)) (w : World H C) (text : List ℕ)
+  pub record ConnectionIsAnswered (bytes : List ℕ) (left : Option (List ℕ)) (w : World H C)
+      (text : List ℕ)
       (w' : World H C) (result : Result Served ServeFault) : Type 0 where
     pub exchanges : List Exchange
     pub rest : List ℕ

@@ -17,20 +17,23 @@ AreSteps tenant (a ∷ more) [] steps = ⊥
 AreSteps tenant (a ∷ more) (Refused fault ∷ cs) steps = AreSteps tenant more cs steps
 AreSteps tenant (a ∷ more) (Failed fault ∷ cs) steps = AreSteps tenant more cs steps
 AreSteps tenant (a ∷ more) (Replied reply ∷ cs) [] = ⊥
-AreSteps tenant (a ∷ more) (Replied reply ∷ cs) (s ∷ steps) = IsCallOf tenant a s.ask.call × (s.reply ≡ reply)
+AreSteps tenant (a ∷ more) (Replied reply ∷ cs) (s ∷ steps) = IsCallOf tenant a s.ask.call
+    × (s.reply ≡ reply)
     × AreSteps tenant more cs steps
 
 -- the steps of what was asked for; where calls failed, those of a beginning of it
 abbrev pub AreStepsOf : List ℕ → Result (List Asked) PushFault → Course → List Step → Type 0
 AreStepsOf tenant asked (Unread fault) steps = steps ≡ []
-AreStepsOf tenant asked (Whole cames) steps = (all : List Asked) × (asked ≡ Ok all) × AreSteps tenant all cames steps
+AreStepsOf tenant asked (Whole cames) steps = (all : List Asked) × (asked ≡ Ok all)
+    × AreSteps tenant all cames steps
 AreStepsOf tenant asked (Broken cames failure) steps = (done : List Asked) × (more : List Asked)
     × (asked ≡ Ok (done ++ more)) × AreSteps tenant done cames steps
 
 -- the steps of a beginning of it
 abbrev pub AreFirstStepsOf : List ℕ → Result (List Asked) PushFault → List Step → Type 0
 AreFirstStepsOf tenant (Err fault) steps = steps ≡ []
-AreFirstStepsOf tenant (Ok all) steps = (done : List Asked) × (more : List Asked) × (cames : List Came)
+AreFirstStepsOf tenant (Ok all) steps = (done : List Asked) × (more : List Asked)
+    × (cames : List Came)
     × (all ≡ done ++ more) × AreSteps tenant done cames steps
 
 -- the steps of a request

@@ -56,7 +56,8 @@ module _ {H : Type 0} (gives : Giving H) (now : ℕ) (body : List ℕ) where
   ResponseGives verdict close h text h' (Err faults.Read) = ⊥
   ResponseGives verdict close h text h' (Err faults.CutShort) = ⊥
 
-  pub record ResponseIsWritten (before after : Option (List ℕ)) (verdict : Verdict) (close : Bool) (h h' : H)
+  pub record ResponseIsWritten (before after : Option (List ℕ)) (verdict : Verdict) (close : Bool)
+      (h h' : H)
       (result : Result Bool ServeFault) : Type 0 where
     pub text : List ℕ
     pub appends : Appends before after text
@@ -64,10 +65,12 @@ module _ {H : Type 0} (gives : Giving H) (now : ℕ) (body : List ℕ) where
 
 module _ {H C : Type 0} (gives : Giving H) (ticks : C → ℕ → C → Type 0) where
   -- a turn from these bytes leaves these
-  abbrev pub ConnectionTurnIsAnswered : List ℕ → Option (List ℕ) → World H C → List ℕ → List ℕ → World H C
+  abbrev pub ConnectionTurnIsAnswered : List ℕ → Option (List ℕ) → World H C → List ℕ → List ℕ
+      → World H C
       → Result Turn ServeFault → Type 0
   ConnectionTurnIsAnswered bytes left w text rest w' (Ok turns.Answered) =
-      (e : Exchange) × IsExchange gives ticks bytes w e rest w' × (closes e ≡ false) × (text ≡ response e)
+      (e : Exchange) × IsExchange gives ticks bytes w e rest w' × (closes e ≡ false)
+      × (text ≡ response e)
   ConnectionTurnIsAnswered bytes left w text rest w' (Ok turns.Closed) =
       ConnectionEnds gives ticks bytes left w text w' (Ok served.Closed)
   ConnectionTurnIsAnswered bytes left w text rest w' (Ok turns.Ended) =
@@ -76,7 +79,8 @@ module _ {H C : Type 0} (gives : Giving H) (ticks : C → ℕ → C → Type 0) 
       ConnectionEnds gives ticks bytes left w text w' (Err fault)
 
   -- the turn read more bytes and wrote a text
-  pub record ConnectionTurnIsServed (ends : Io) (old : List ℕ) (w : World H C) (ends' : Io) (rest : List ℕ)
+  pub record ConnectionTurnIsServed (ends : Io) (old : List ℕ) (w : World H C) (ends' : Io)
+      (rest : List ℕ)
       (w' : World H C) (result : Result Turn ServeFault) : Type 0 where
     pub bytes : List ℕ
     pub text : List ℕ
@@ -85,7 +89,8 @@ module _ {H C : Type 0} (gives : Giving H) (ticks : C → ℕ → C → Type 0) 
     pub gives_next : ConnectionTurnIsAnswered (old ++ bytes) ends'.unread w text rest w' result
 
   -- these requests were answered so far, and the connection is kept
-  pub record ConnectionProgress (ends : Io) (w : World H C) (ends' : Io) (rest : List ℕ) (w' : World H C)
+  pub record ConnectionProgress (ends : Io) (w : World H C) (ends' : Io) (rest : List ℕ)
+      (w' : World H C)
       : Type 0 where
     pub bytes : List ℕ
     pub exchanges : List Exchange
@@ -94,8 +99,11 @@ module _ {H C : Type 0} (gives : Giving H) (ticks : C → ℕ → C → Type 0) 
     pub serves : ConnectionGives gives ticks bytes w exchanges rest w'
 
   -- the message, whichever request of these bytes it is, was answered and dropped
-  abbrev pub ConnectionTakesMessage : Option (List ℕ) → Option (List ℕ) → Message → List ℕ → List ℕ → World H C
+  abbrev pub ConnectionTakesMessage : Option (List ℕ) → Option (List ℕ) → Message → List ℕ → List ℕ
+      → World H C
       → World H C → Result Turn ServeFault → Type 0
   ConnectionTakesMessage before after m old new w w' result =
-      (r : Request) (left : Option (List ℕ)) → IsMessage old r m → ReadsMessage old r (drop m.end old)
-      → (text : List ℕ) × Appends before after text × ConnectionTurnIsAnswered old left w text new w' result
+      (r : Request) (left : Option (List ℕ)) → IsMessage old r m
+      → ReadsMessage old r (drop m.end old)
+      → (text : List ℕ) × Appends before after text
+      × ConnectionTurnIsAnswered old left w text new w' result

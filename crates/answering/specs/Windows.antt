@@ -95,7 +95,8 @@ module _ {H : Type 0} (gives : Giving H) (tenant : List ℕ) (h : H) (all : List
     pub tells : Tells cames lines
 
   -- the streams of a window were taken
-  abbrev pub WindowIsTaken : Result (Unit {0}) Halt → H → List (Option LabelFault) → List Call → PushLines
+  abbrev pub WindowIsTaken : Result (Unit {0}) Halt → H → List (Option LabelFault) → List Call
+      → PushLines
       → Type 0
   WindowIsTaken (Ok u) h' places calls lines = StreamsAreTaken h' places calls lines
   WindowIsTaken (Err halt) h' places calls lines = BodyIsAnswered gives tenant h all (Err halt) h'

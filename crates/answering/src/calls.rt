@@ -64,7 +64,8 @@ pub trait Calls {
         requires empty { outcomes.old.items ≡ [] }
         requires room { deque_len calls.old ≤ deque_capacity outcomes.old }
         ensures ready { is_ready self.now pass.new }
-        ensures given { CallsGive (gives self.now) pass.old calls.old.items (map told outcomes.new.items) pass.new }
+        ensures given { CallsGive (gives self.now) pass.old calls.old.items
+            (map told outcomes.new.items) pass.new }
         ensures taken { calls.new.items ≡ [] }
         ensures lens { (deque_len calls.new ≡ 0) × (deque_len outcomes.new ≡ deque_len calls.old) }
         ensures capacities { (deque_capacity calls.new ≡ deque_capacity calls.old)

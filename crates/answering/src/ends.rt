@@ -2,7 +2,7 @@
 ghost use Rattle.std.specs.Prelude.{◌≡◌, ◌≤◌, None, length, IfErr};
 ghost use Rattle.requests.specs.Answers.{answer_text, fixed_text, failure_text};
 ghost use Rattle.requests.specs.Streams.{Grows, IsNext, Fits};
-ghost use Rattle.requests.specs.Writing.{Writes};
+ghost use Rattle.requests.specs.Writing.{WritesBeginning};
 ghost use Rattle.answering.specs.Ends.{AreSameEnds, IsOfItsEnd};
 
 use requests::{
@@ -24,8 +24,10 @@ pub struct Ends<'a, I, O> {
 impl<'a, I: Read, O: Write> Ends<'a, I, O> {
     /// None was asked yet.
     pub fn new(reader: &'a mut I, writer: &'a mut O) -> Ends<'a, I, O>
-        ensures reader { (result.reader.ghost_name ≡ reader.entry.ghost_name) × (result.reader.now ≡ reader.old) }
-        ensures writer { (result.writer.ghost_name ≡ writer.entry.ghost_name) × (result.writer.now ≡ writer.old) }
+        ensures reader { (result.reader.ghost_name ≡ reader.entry.ghost_name)
+            × (result.reader.now ≡ reader.old) }
+        ensures writer { (result.writer.ghost_name ≡ writer.entry.ghost_name)
+            × (result.writer.now ≡ writer.old) }
     {
         Ends {
             reader,
@@ -44,7 +46,8 @@ impl<'a, I: Read, O: Write> Ends<'a, I, O> {
         requires { length incoming.old ≤ MAX_HEAD }
         ensures same { AreSameEnds self.old self.new }
         ensures writer { self.new.writer.now ≡ self.old.writer.now }
-        ensures grows { Grows (I.remaining self.old.reader.now) (I.remaining self.new.reader.now) incoming.old
+        ensures grows { Grows (I.remaining self.old.reader.now)
+            (I.remaining self.new.reader.now) incoming.old
             incoming.new }
         ensures next { IsNext incoming.new (I.remaining self.new.reader.now) result }
         ensures fits { Fits incoming.new result }
@@ -55,7 +58,7 @@ impl<'a, I: Read, O: Write> Ends<'a, I, O> {
         next
     }
 
-    /// Writes an answer.
+    /// WritesBeginning an answer.
     pub(crate) fn answer(
         &mut self,
         outgoing: &mut Outgoing,
@@ -65,7 +68,8 @@ impl<'a, I: Read, O: Write> Ends<'a, I, O> {
     ) -> Result<(), ServeFault>
         ensures same { AreSameEnds self.old self.new }
         ensures reader { self.new.reader.now ≡ self.old.reader.now }
-        ensures writes { Writes (O.contents self.old.writer.now) (O.contents self.new.writer.now)
+        ensures writes { WritesBeginning (O.contents self.old.writer.now)
+            (O.contents self.new.writer.now)
             (answer_text answer.now.status content None closes answer.now.body.items) result }
         ensures told { IfErr result (λ fault. IsOfItsEnd self.new fault) }
     {
@@ -74,7 +78,7 @@ impl<'a, I: Read, O: Write> Ends<'a, I, O> {
         written
     }
 
-    /// Writes a fixed answer.
+    /// WritesBeginning a fixed answer.
     pub(crate) fn fixed(
         &mut self,
         outgoing: &mut Outgoing,
@@ -83,7 +87,8 @@ impl<'a, I: Read, O: Write> Ends<'a, I, O> {
     ) -> Result<(), ServeFault>
         ensures same { AreSameEnds self.old self.new }
         ensures reader { self.new.reader.now ≡ self.old.reader.now }
-        ensures writes { Writes (O.contents self.old.writer.now) (O.contents self.new.writer.now)
+        ensures writes { WritesBeginning (O.contents self.old.writer.now)
+            (O.contents self.new.writer.now)
             (fixed_text answer closes) result }
         ensures told { IfErr result (λ fault. IsOfItsEnd self.new fault) }
     {
@@ -92,11 +97,12 @@ impl<'a, I: Read, O: Write> Ends<'a, I, O> {
         written
     }
 
-    /// Writes the answer of a failure. Takes no memory.
+    /// WritesBeginning the answer of a failure. Takes no memory.
     pub(crate) fn failure(&mut self, failure: Failure) -> Result<(), ServeFault>
         ensures same { AreSameEnds self.old self.new }
         ensures reader { self.new.reader.now ≡ self.old.reader.now }
-        ensures writes { Writes (O.contents self.old.writer.now) (O.contents self.new.writer.now)
+        ensures writes { WritesBeginning (O.contents self.old.writer.now)
+            (O.contents self.new.writer.now)
             (failure_text failure) result }
         ensures fault { IfErr result (λ e. e ≡ ServeFault.Write) }
         ensures told { IfErr result (λ fault. IsOfItsEnd self.new fault) }

@@ -102,7 +102,8 @@ fn push_outcome(
     entry: usize,
     outcome: Outcome,
 ) -> Result<(), AllocError>
-    ensures text { OnOk result (text.new.items ≡ text.old.items ++ outcome_line stream entry outcome) }
+    ensures text { OnOk result
+        (text.new.items ≡ text.old.items ++ outcome_line stream entry outcome) }
     ensures said { OnErr result (outcome_line stream entry outcome ≢ []) }
 {
     match outcome {
@@ -116,7 +117,8 @@ fn push_outcome(
 }
 
 fn push_outcomes(text: &mut Vec<u8>, stream: usize, outcomes: &[Outcome]) -> Result<(), AllocError>
-    ensures text { OnOk result (text.new.items ≡ text.old.items ++ outcome_lines stream 0 outcomes.now) }
+    ensures text { OnOk result
+        (text.new.items ≡ text.old.items ++ outcome_lines stream 0 outcomes.now) }
     ensures said { OnErr result (outcome_lines stream 0 outcomes.now ≢ []) }
 {
     let mut entry = 0;
@@ -224,7 +226,8 @@ impl PushLines {
 
     /// The answer after the last stream.
     pub(crate) fn into_answer(self) -> Answer
-        ensures { (cames : List Came) → Tells cames self → IsShown (push_status cames) (lines_from 0 cames) result }
+        ensures { (cames : List Came) → Tells cames self
+            → IsShown (push_status cames) (lines_from 0 cames) result }
     {
         let PushLines {
             streams: _,

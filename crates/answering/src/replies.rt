@@ -25,7 +25,8 @@ use std::alloc::{AllocError, Global};
 ///
 /// `Memory`.
 pub fn answer_of_read(alloc: Global, reply: &Reply) -> Result<Answer, ServeFault>
-    ensures shows { IfOk result (λ answer. IsShown (reply_status reply.now) (reply_text reply.now) answer) }
+    ensures shows { IfOk result
+        (λ answer. IsShown (reply_status reply.now) (reply_text reply.now) answer) }
     ensures fault { IfErr result (λ e. e ≡ ServeFault.Memory) }
 {
     Ok(answer_of_reply(alloc, reply)?)
@@ -54,7 +55,8 @@ pub(crate) fn answer_of_refusal(alloc: Global, fault: LabelFault) -> Result<Answ
 }
 
 fn answer_of_reply(alloc: Global, reply: &Reply) -> Result<Answer, AllocError>
-    ensures shows { IfOk result (λ answer. IsShown (reply_status reply.now) (reply_text reply.now) answer) }
+    ensures shows { IfOk result
+        (λ answer. IsShown (reply_status reply.now) (reply_text reply.now) answer) }
     ensures said { OnErr result (reply_text reply.now ≢ []) }
 {
     match reply {
@@ -85,7 +87,8 @@ fn copy_of_entries(alloc: Global, entries: &[Entry]) -> Result<EntryList, AllocE
 
 fn answer_of_lines(alloc: Global, reply: &Reply) -> Result<Answer, AllocError>
     ensures shows { IfOk result (λ answer.
-        IsShown (push_status (Replied reply.now ∷ [])) (lines_from 0 (Replied reply.now ∷ [])) answer) }
+        IsShown (push_status (Replied reply.now ∷ []))
+        (lines_from 0 (Replied reply.now ∷ [])) answer) }
     ensures said { OnErr result (lines_from 0 (Replied reply.now ∷ []) ≢ []) }
 {
     let mut lines = PushLines::new(alloc);

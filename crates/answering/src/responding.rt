@@ -61,7 +61,8 @@ pub struct RequestBody<'a> {
 }
 
 fn answer_of_bad_time(alloc: Global, stream: usize, entry: usize) -> Result<Answer, AllocError>
-    ensures { IfOk result (λ answer. IsShown Status.BadRequest (bad_time_text stream entry) answer) }
+    ensures { IfOk result (λ answer. IsShown Status.BadRequest
+        (bad_time_text stream entry) answer) }
 {
     let mut body = Vec::new(alloc);
     body.extend_from_slice(b"bad time at stream ")?;
@@ -134,7 +135,8 @@ fn push<S: Calls, R: Wait>(
     requires pass { S.is_ready service.now pass.old }
     requires clock { request.now.time < 2 ^ 63 }
     ensures pass { S.is_ready service.now pass.new }
-    ensures responds { RequestEnds (S.gives service.now) Route.Push request.now.time request.now.tenant.now
+    ensures responds { RequestEnds
+        (S.gives service.now) Route.Push request.now.time request.now.tenant.now
         request.now.body.now pass.old result pass.new }
 {
     match streams_of(alloc, request) {
@@ -188,7 +190,8 @@ pub(crate) fn respond<S: Calls, R: Wait>(
     requires pass { S.is_ready service.now pass.old }
     requires clock { request.now.time < 2 ^ 63 }
     ensures pass { S.is_ready service.now pass.new }
-    ensures responds { RequestEnds (S.gives service.now) request.now.route request.now.time request.now.tenant.now
+    ensures responds { RequestEnds
+        (S.gives service.now) request.now.route request.now.time request.now.tenant.now
         request.now.body.now pass.old result pass.new }
 {
     let tenant = request.tenant;

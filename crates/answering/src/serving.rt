@@ -72,7 +72,8 @@ impl<'a, 'b, S: Calls<Pass = P>, P, C: Clock, I: Read, O: Write> Connection<'a, 
         ensures replies { ResponseIsWritten (S.gives self.old.service.now) now
             (slice_range self.old.incoming.now message.now.start message.now.end)
             (O.contents self.old.ends.now.writer.now) (O.contents self.new.ends.now.writer.now)
-            (Verdict.Call route tenant.now) message.now.closes self.old.pass.now self.new.pass.now result }
+            (Verdict.Call route tenant.now) message.now.closes self.old.pass.now self.new.pass.now
+            result }
     {
         let body = self.incoming.body(message);
         let request = RequestBody {
@@ -146,10 +147,13 @@ impl<'a, 'b, S: Calls<Pass = P>, P, C: Clock, I: Read, O: Write> Connection<'a, 
         ensures told { IfErr result (λ fault. IsOfItsEnd self.new.ends.now fault) }
         ensures reader { self.new.ends.now.reader.now ≡ self.old.ends.now.reader.now }
         ensures ready { S.is_ready self.new.service.now self.new.pass.now }
-        ensures drops { result ≡ Ok Turn.Answered → self.new.incoming.now ≡ drop message.now.end self.old.incoming.now }
+        ensures drops { result ≡ Ok Turn.Answered
+            → self.new.incoming.now ≡ drop message.now.end self.old.incoming.now }
         ensures takes { ConnectionTakesMessage (S.gives self.old.service.now) C.ticks
-            (O.contents self.old.ends.now.writer.now) (O.contents self.new.ends.now.writer.now) message.now
-            self.old.incoming.now self.new.incoming.now (world_of self.old) (world_of self.new) result }
+            (O.contents self.old.ends.now.writer.now)
+            (O.contents self.new.ends.now.writer.now) message.now
+            self.old.incoming.now self.new.incoming.now (world_of self.old)
+            (world_of self.new) result }
     {
         let now = self.clock.now();
         let closes = self.reply_to(rt, alloc, now, message)?;
@@ -171,7 +175,8 @@ impl<'a, 'b, S: Calls<Pass = P>, P, C: Clock, I: Read, O: Write> Connection<'a, 
         ensures short { result ≡ Ok Turn.Answered → length self.new.incoming.now ≤ MAX_HEAD }
         ensures turns { ConnectionTurnIsServed (S.gives self.old.service.now) C.ticks
             (ends_of I.remaining O.contents self.old) self.old.incoming.now (world_of self.old)
-            (ends_of I.remaining O.contents self.new) self.new.incoming.now (world_of self.new) result }
+            (ends_of I.remaining O.contents self.new) self.new.incoming.now
+            (world_of self.new) result }
     {
         match self.ends.next(alloc, self.incoming)? {
             Next::Ended => Ok(Turn::Ended),
@@ -228,8 +233,10 @@ pub fn serve<'a, 'b, S: Calls, R: Wait, C: Clock, I: Read, O: Write>(
     ensures same { AreSameEnds ends.old ends.new }
     ensures told { IfErr result (λ fault. IsOfItsEnd ends.new fault) }
     ensures serves { ConnectionIsServed (S.gives service.now) C.ticks
-        (io (I.remaining ends.old.reader.now) (O.contents ends.old.writer.now)) (world pass.old clock.old)
-        (io (I.remaining ends.new.reader.now) (O.contents ends.new.writer.now)) (world pass.new clock.new) result }
+        (io (I.remaining ends.old.reader.now) (O.contents ends.old.writer.now))
+        (world pass.old clock.old)
+        (io (I.remaining ends.new.reader.now) (O.contents ends.new.writer.now))
+        (world pass.new clock.new) result }
 {
     let mut incoming = Incoming::new(alloc);
     let mut outgoing = Outgoing::new(alloc);

@@ -1,5 +1,5 @@
-//! `bench time` prints how fast push bodies and segments are read, how fast the log is, and how long calls on one stream
-//! take. `bench check` reads a label text, a query, a trim body and a segment, and appends to a log in memory;
+//! `bench time` prints how fast push bodies and segments are read, how fast the log is, and how long calls on one
+//! stream take. `bench check` reads a label text, a query, a trim body and a segment, and appends to a log in memory;
 //! `bench stream` makes calls on a stream. Several words are taken one after another.
 #![tactic(auto)]
 

@@ -1,5 +1,5 @@
-//! How long calls on one stream take by how many entries it keeps: pushes in order, pushes of lines with metadata, pushes
-//! that come a second late, a read of 100 lines in its middle, and a trim of its older half.
+//! How long calls on one stream take by how many entries it keeps: pushes in order, pushes of lines with metadata,
+//! pushes that come a second late, a read of 100 lines in its middle, and a trim of its older half.
 
 use crate::stream::{LINE, LINES, Load, Times, make_run};
 use anyhow::Result;

@@ -78,7 +78,8 @@ fn slots_of(alloc: Global, load: Load) -> Result<Vec<[MemDisk; 2]>> {
 pub fn open<R>(rt: &R, alloc: Global, load: Load) -> Result<(Ingester<MemDisk>, Vec<Pass>)>
 where
     R: Threads + Wait + Copy + Send + Sync + 'static,
-    ensures { IfOk result (λ it. (p : ℕ) (pass : Passed) → slice_get it.1.items p ≡ Some pass → IsPassOf it.0 pass) }
+    ensures { IfOk result (λ it. (p : ℕ) (pass : Passed) → slice_get it.1.items p ≡ Some pass
+        → IsPassOf it.0 pass) }
 {
     let slots = slots_of(alloc, load)?;
     if slots.is_empty() || slots.len() > 64 || load.passes == 0 || load.passes > 64 {
@@ -209,7 +210,8 @@ fn push_in_threads<R: Clock + Threads + Wait + Sync>(
     passes: Vec<Pass>,
     load: Load,
 ) -> Result<(u64, Duration)>
-    requires passes { (i : ℕ) (pass : Passed) → slice_get passes.items i ≡ Some pass → IsPassOf ingester.now pass }
+    requires passes { (i : ℕ) (pass : Passed) → slice_get passes.items i ≡ Some pass
+        → IsPassOf ingester.now pass }
 {
     let (ready, all_ready) = bounded(alloc, 64)?;
     let (may_go, go) = bounded(alloc, 1)?;

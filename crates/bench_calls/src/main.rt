@@ -1,6 +1,6 @@
-//! `bench_calls time [FOLDER]` prints how many calls a second a shard answers in groups and an ingester from its passes,
-//! and how fast a connection is served; `bench_calls check [FOLDER]` makes a few calls of each. A shard's files are in a
-//! folder of their own in FOLDER, or in that of the temporary files.
+//! `bench_calls time [FOLDER]` prints how many calls a second a shard answers in groups and an ingester from its
+//! passes, and how fast a connection is served; `bench_calls check [FOLDER]` makes a few calls of each. A shard's files
+//! are in a folder of their own in FOLDER, or in that of the temporary files.
 #![tactic(auto)]
 
 mod groups;

@@ -35,7 +35,8 @@ enum Tried {
     Nothing,
     /// A slot changed in an opening that failed.
     Changed,
-    /// A call was unavailable, and another of its group or after it was answered or reached a slot, or there is no mark.
+    /// A call was unavailable, and another of its group or after it was answered or reached a slot, or there is no
+    /// mark.
     GoesOn,
     /// It was answered.
     Answered,
@@ -97,8 +98,8 @@ fn found_on(
     found_in(alloc, pair, settings, reads)
 }
 
-/// What a crash may leave on a disk: with each of four values for an unsynced byte where those are few contents, as after
-/// a write of one byte, otherwise with each of three values for all unsynced bytes.
+/// What a crash may leave on a disk: with each of four values for an unsynced byte where those are few contents, as
+/// after a write of one byte, otherwise with each of three values for all unsynced bytes.
 fn contents_of(alloc: Global, disk: &MemDisk) -> Result<Vec<Vec<u8>>> {
     match disk.images(alloc, &[0, 1, 127, 255], 8) {
         Err(ImagesFault::TooMany) => long_contents_of(alloc, disk),
@@ -276,7 +277,8 @@ fn say_made(
 }
 
 /// Makes calls on copies of these slots, and says their answers. Then tries them on other copies, of which one slot
-/// fails, and says for each slot what becomes of them. Gives the slots after the calls, and how many contents were opened.
+/// fails, and says for each slot what becomes of them. Gives the slots after the calls, and how many contents were
+/// opened.
 pub fn say_trials(
     alloc: Global,
     pair: &mut Pair,

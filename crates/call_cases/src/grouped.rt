@@ -7,7 +7,7 @@ use call_slots::Pair;
 use call_words::{Counted, Gathered, Settings, write_reply};
 use disk::MemDisk;
 use lone_shard::{Grouped, LoneShard, Turn};
-use shard::{ApplyFault, Ended};
+use shard::{ApplyFault, GroupEnd};
 use std::alloc::Global;
 use std::fmt::Write;
 use wal::OpenFault;
@@ -90,8 +90,8 @@ pub fn say_group(
     Ok(Box::new(alloc, shard)?)
 }
 
-/// Opens the shard in these slots, and makes the calls as a group, each by a pass of its own. Says their answers and the
-/// turns, a line each. A refusal says why, and gives the slots back.
+/// Opens the shard in these slots, and makes the calls as a group, each by a pass of its own. Says their answers and
+/// the turns, a line each. A refusal says why, and gives the slots back.
 pub fn open_apart(
     alloc: Global,
     pair: Pair,
@@ -137,10 +137,10 @@ fn text_of_answer(alloc: Global, answer: &Result<Reply, ApplyFault>) -> Result<S
 fn text_of_turn(alloc: Global, turn: &Turn) -> Result<String> {
     let Turn { calls, ended } = turn;
     let why = match ended {
-        Ended::Most => "most",
-        Ended::Last => "last",
-        Ended::Full => "full",
-        Ended::Memory => "memory",
+        GroupEnd::Most => "most",
+        GroupEnd::Last => "last",
+        GroupEnd::Full => "full",
+        GroupEnd::Memory => "memory",
     };
     let plural = if *calls == 1 { "" } else { "s" };
     Ok(format!(in alloc; "turn of {calls} call{plural}: {why}")?)

@@ -1,6 +1,6 @@
 ghost use Rattle.std.specs.Prelude.{◌≡◌, ◌<◌, ℕ, [], ◌∷◌, IfOk, OnOk, IsErr};
 ghost use Rattle.disk.specs.MemDisk.{WillFail, calls_of};
-ghost use Rattle.call_slots.specs.Slots.{IsPlanned, IsWritten, bytes_in};
+ghost use Rattle.call_slots.specs.Slots.{FailsAsPlanned, IsWritten, bytes_in};
 
 use anyhow::{Result, bail};
 use disk::{Disk, MemDisk};
@@ -110,8 +110,10 @@ impl Pair {
     /// # Errors
     /// No such slot.
     pub fn plan(&mut self, slot: u64, way: Way, call: u64) -> Result<()>
-        ensures zero { slot ≡ 0 → (self.new.second ≡ self.old.second) × IsPlanned way call self.new.first }
-        ensures one { slot ≡ 1 → (self.new.first ≡ self.old.first) × IsPlanned way call self.new.second }
+        ensures zero { slot ≡ 0 → (self.new.second ≡ self.old.second)
+            × FailsAsPlanned way call self.new.first }
+        ensures one { slot ≡ 1 → (self.new.first ≡ self.old.first)
+            × FailsAsPlanned way call self.new.second }
         ensures other { 1 < slot → IsErr result × (self.new ≡ self.old) }
     {
         match slot {
@@ -173,7 +175,7 @@ fn write_through(slot: &mut MemDisk, at: u64, bytes: &[u8]) -> Result<()>
 }
 
 fn plan(slot: &mut MemDisk, way: Way, call: u64)
-    ensures { IsPlanned way call slot.new }
+    ensures { FailsAsPlanned way call slot.new }
 {
     match way {
         Way::Stops if call > 0 => slot.stop_at(call),

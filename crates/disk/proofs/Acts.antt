@@ -6,7 +6,7 @@ use Rattle.disk.specs.declared.memory.Step.TheVariants.{Wrote, Synced}
 use Rattle.disk.specs.Sight.{Elapses}
 use Rattle.disk.specs.State.{Act, Write, Sync, State, act, state_after, IsImage, sight_of}
 use Rattle.disk.proofs.Lists.{ltb_cases}
-use Rattle.disk.specs.Memory.{acts, total, ranges_after}
+use Rattle.disk.specs.Memory.{acts, bytes_written, ranges_after}
 
 pub state_after-push : (s : State) (acts : List Act) (a : Act) → state_after s (acts ++ a ∷ []) ≡ act (state_after s acts) a
 state_after-push s [] a = refl
@@ -34,7 +34,7 @@ elapses-push start acts a f f' = record {
 }
 
 -- the acts of one more write
-pub acts-write : (steps : List Step) (written bytes : List ℕ) (at : ℕ) → total steps ≡ length written
+pub acts-write : (steps : List Step) (written bytes : List ℕ) (at : ℕ) → bytes_written steps ≡ length written
     → acts (steps ++ Wrote at (length bytes) ∷ []) (written ++ bytes) ≡ acts steps written ++ Write at bytes ∷ []
 acts-write [] written bytes at whole =
     let e : written ≡ [] = nil_from_length written (omega arith) in
@@ -54,12 +54,12 @@ acts-sync [] written = refl
 acts-sync ((Wrote a n) ∷ steps) written = ap (λ (xs : List Act). Write a (take n written) ∷ xs) (acts-sync steps (drop n written))
 acts-sync (Synced ∷ steps) written = ap (λ (xs : List Act). Sync ∷ xs) (acts-sync steps written)
 
-pub total-write : (steps : List Step) (at n : ℕ) → total (steps ++ Wrote at n ∷ []) ≡ total steps + n
+pub total-write : (steps : List Step) (at n : ℕ) → bytes_written (steps ++ Wrote at n ∷ []) ≡ bytes_written steps + n
 total-write [] at n = omega arith
 total-write ((Wrote a m) ∷ steps) at n = omega (arith, total-write steps at n)
 total-write (Synced ∷ steps) at n = total-write steps at n
 
-pub total-sync : (steps : List Step) → total (steps ++ Synced ∷ []) ≡ total steps
+pub total-sync : (steps : List Step) → bytes_written (steps ++ Synced ∷ []) ≡ bytes_written steps
 total-sync [] = refl
 total-sync ((Wrote a m) ∷ steps) = omega (arith, total-sync steps)
 total-sync (Synced ∷ steps) = total-sync steps

@@ -1,18 +1,18 @@
--- The lists of fronts, one item on.
+-- The lists of beginnings, one item on.
 use Rattle.std.proofs.Common.{◌≡◌, ◌<◌, ℕ, ◌+◌, List, [], ◌∷◌, ◌++◌, length, get_or, take, drop, Vec, refl, ap, sym, ◌∙◌, arith, append_assoc, add-zero, length-drop, set}
 use Rattle.std.specs.declared.alloc.Global.{Global}
 use Rattle.std.proofs.lemmas.List.{append-nil, map_more, map-append, take_more, take_more_set, get_or-drop, drop-set-lt, drop-drop}
 use Rattle.disk.specs.Images.{contents}
-use Rattle.disk.specs.Fronts.{extended, longer, fronts}
+use Rattle.disk.specs.Beginnings.{extended, each_longer, all_beginnings}
 
 pub extended-push : (f vs : List ℕ) (v : ℕ) → extended f (vs ++ v ∷ []) ≡ extended f vs ++ (f ++ v ∷ []) ∷ []
 extended-push f [] v = refl
 extended-push f (w ∷ vs) v = ap (λ (xs : List (List ℕ)). (f ++ w ∷ []) ∷ xs) (extended-push f vs v)
 
-pub longer-push : (all : List (List ℕ)) (f vs : List ℕ) → longer (all ++ f ∷ []) vs ≡ longer all vs ++ extended f vs
+pub longer-push : (all : List (List ℕ)) (f vs : List ℕ) → each_longer (all ++ f ∷ []) vs ≡ each_longer all vs ++ extended f vs
 longer-push [] f vs = append-nil (extended f vs)
 longer-push (g ∷ all) f vs =
-    ap (λ (xs : List (List ℕ)). extended g vs ++ xs) (longer-push all f vs) ∙ sym (append_assoc (extended g vs) (longer all vs) (extended f vs))
+    ap (λ (xs : List (List ℕ)). extended g vs ++ xs) (longer-push all f vs) ∙ sym (append_assoc (extended g vs) (each_longer all vs) (extended f vs))
 
 contents-push : (vs : List (Vec ℕ Global)) (v : Vec ℕ Global) → contents (vs ++ v ∷ []) ≡ contents vs ++ v.items ∷ []
 contents-push vs v = map-append (λ (w : Vec ℕ Global). w.items) vs (v ∷ [])
@@ -23,18 +23,18 @@ contents-more vs i v h is =
     map_more (λ (w : Vec ℕ Global). w.items) vs i v h ∙ ap (λ (w : Vec ℕ Global). contents (take i vs) ++ w.items ∷ []) (sym is)
 
 -- one more copy
-pub copied-more : (found found' fronts : List (Vec ℕ Global)) (base : List (List ℕ)) (i : ℕ) (front copy : Vec ℕ Global)
-    → contents found ≡ base ++ contents (take i fronts) → i < length fronts → front ≡ get_or fronts i front
+pub copied-more : (found found' all_beginnings : List (Vec ℕ Global)) (base : List (List ℕ)) (i : ℕ) (front copy : Vec ℕ Global)
+    → contents found ≡ base ++ contents (take i all_beginnings) → i < length all_beginnings → front ≡ get_or all_beginnings i front
     → copy.items ≡ front.items → found' ≡ found ++ copy ∷ []
-    → contents found' ≡ base ++ contents (take (i + 1) fronts)
-copied-more found found' fronts base i front copy was h is same e =
+    → contents found' ≡ base ++ contents (take (i + 1) all_beginnings)
+copied-more found found' all_beginnings base i front copy was h is same e =
     let pushed : contents found' ≡ contents found ++ copy.items ∷ [] = ap contents e ∙ contents-push found copy in
-    let more : contents (take (i + 1) fronts) ≡ contents (take i fronts) ++ front.items ∷ [] = contents-more fronts i front h is in
+    let more : contents (take (i + 1) all_beginnings) ≡ contents (take i all_beginnings) ++ front.items ∷ [] = contents-more all_beginnings i front h is in
     rw more (pushed ∙ ap (λ (xs : List (List ℕ)). xs ++ copy.items ∷ []) was
-    ∙ append_assoc base (contents (take i fronts)) (copy.items ∷ [])
-    ∙ ap (λ (x : List ℕ). base ++ (contents (take i fronts) ++ x ∷ [])) same)
+    ∙ append_assoc base (contents (take i all_beginnings)) (copy.items ∷ [])
+    ∙ ap (λ (x : List ℕ). base ++ (contents (take i all_beginnings) ++ x ∷ [])) same)
 
--- one more front with one of the values
+-- one more beginning with one of the values
 pub extended-more : (all all' : List (Vec ℕ Global)) (base : List (List ℕ)) (front next : Vec ℕ Global) (vs : List ℕ) (j v : ℕ)
     → contents all ≡ base ++ extended front.items (take j vs) → j < length vs → v ≡ get_or vs j 0
     → next.items ≡ front.items ++ v ∷ [] → all' ≡ all ++ next ∷ []
@@ -48,14 +48,14 @@ extended-more all all' base front next vs j v was h is same e =
     ∙ append_assoc base (extended front.items (take j vs)) (next.items ∷ [])
     ∙ ap (λ (x : List ℕ). base ++ (extended front.items (take j vs) ++ x ∷ [])) same)
 
--- one more front with each of the values
-pub longer-more : (all all' fronts : List (Vec ℕ Global)) (vs : List ℕ) (i : ℕ) (front : Vec ℕ Global)
-    → contents all ≡ longer (contents (take i fronts)) vs → i < length fronts → front ≡ get_or fronts i front
+-- one more beginning with each of the values
+pub longer-more : (all all' all_beginnings : List (Vec ℕ Global)) (vs : List ℕ) (i : ℕ) (front : Vec ℕ Global)
+    → contents all ≡ each_longer (contents (take i all_beginnings)) vs → i < length all_beginnings → front ≡ get_or all_beginnings i front
     → contents all' ≡ contents all ++ extended front.items vs
-    → contents all' ≡ longer (contents (take (i + 1) fronts)) vs
-longer-more all all' fronts vs i front was h is e =
+    → contents all' ≡ each_longer (contents (take (i + 1) all_beginnings)) vs
+longer-more all all' all_beginnings vs i front was h is e =
     e ∙ ap (λ (xs : List (List ℕ)). xs ++ extended front.items vs) was
-    ∙ sym (ap (λ (xs : List (List ℕ)). longer xs vs) (contents-more fronts i front h is) ∙ longer-push (contents (take i fronts)) front.items vs)
+    ∙ sym (ap (λ (xs : List (List ℕ)). each_longer xs vs) (contents-more all_beginnings i front h is) ∙ longer-push (contents (take i all_beginnings)) front.items vs)
 
 -- where the rest is as it was, so is the next item
 next-same : (items init : List (Vec ℕ Global)) (i : ℕ) (d : Vec ℕ Global) → drop i items ≡ drop i init → get_or init i d ≡ get_or items i d
@@ -64,11 +64,11 @@ next-same items init i d rest =
     = sym (get_or-drop i init 0 d) ∙ ap (λ (xs : List (Vec ℕ Global)). get_or xs 0 d) (sym rest) ∙ get_or-drop i items 0 d in
     rw add-zero at e
 
--- one more front with a byte behind it
+-- one more beginning with a byte behind it
 pub pushed-more : (items init : List (Vec ℕ Global)) (i b : ℕ) (d v : Vec ℕ Global)
-    → contents (take i items) ≡ longer (contents (take i init)) (b ∷ []) → drop i items ≡ drop i init → i < length items
+    → contents (take i items) ≡ each_longer (contents (take i init)) (b ∷ []) → drop i items ≡ drop i init → i < length items
     → v.items ≡ (get_or items i d).items ++ b ∷ []
-    → contents (take (i + 1) (set items i v)) ≡ longer (contents (take (i + 1) init)) (b ∷ [])
+    → contents (take (i + 1) (set items i v)) ≡ each_longer (contents (take (i + 1) init)) (b ∷ [])
 pushed-more items init i b d v was rest h e =
     let before : i < length init = omega (arith, ap length rest, length-drop i items, length-drop i init) in
     let now : contents (take (i + 1) (set items i v)) ≡ contents (take i items) ++ v.items ∷ []
@@ -77,8 +77,8 @@ pushed-more items init i b d v was rest h e =
     = map_more (λ (w : Vec ℕ Global). w.items) init i d before
     ∙ ap (λ (w : Vec ℕ Global). contents (take i init) ++ w.items ∷ []) (next-same items init i d rest) in
     now ∙ ap (λ (xs : List (List ℕ)). xs ++ v.items ∷ []) was
-    ∙ ap (λ (x : List ℕ). longer (contents (take i init)) (b ∷ []) ++ x ∷ []) e
-    ∙ sym (ap (λ (xs : List (List ℕ)). longer xs (b ∷ [])) then_ ∙ longer-push (contents (take i init)) (get_or items i d).items (b ∷ []))
+    ∙ ap (λ (x : List ℕ). each_longer (contents (take i init)) (b ∷ []) ++ x ∷ []) e
+    ∙ sym (ap (λ (xs : List (List ℕ)). each_longer xs (b ∷ [])) then_ ∙ longer-push (contents (take i init)) (get_or items i d).items (b ∷ []))
 
 pub pushed-rest : (items init : List (Vec ℕ Global)) (i : ℕ) (v : Vec ℕ Global) → drop i items ≡ drop i init
     → drop (i + 1) (set items i v) ≡ drop (i + 1) init

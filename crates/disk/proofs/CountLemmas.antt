@@ -1,48 +1,48 @@
 -- How many contents there are.
 use Rattle.std.proofs.Common.{◌≡◌, ◌≤◌, ◌<◌, ℕ, zero, suc, ◌+◌, ◌-◌, ◌*◌, ◌^◌, List, [], ◌∷◌, ◌++◌, length, get_or, Bool, true, false, cond, refl, ap, sym, ◌∙◌, arith, add-one, add-zero, add-suc, length-append, Option, Some, None, IfSome}
 use Rattle.std.specs.Option.{SomeIff}
-use Rattle.disk.specs.Fronts.{open_bytes, longer, fronts, of_lengths}
-use Rattle.disk.proofs.FrontLemmas.{length-fronts-suc, length-fronts-next}
+use Rattle.disk.specs.Beginnings.{open_bytes, each_longer, all_beginnings, of_lengths}
+use Rattle.disk.proofs.BeginningLemmas.{length-fronts-suc, length-fronts-next}
 
--- at a length from low on, its fronts come behind the shorter ones
-pub of_lengths-suc : (options : ℕ → List ℕ) (low i : ℕ) → low ≤ i → of_lengths options low (i + 1 - low) ≡ of_lengths options low (i - low) ++ fronts options i
+-- at a length from low on, its beginnings come behind the shorter ones
+pub of_lengths-suc : (options : ℕ → List ℕ) (low i : ℕ) → low ≤ i → of_lengths options low (i + 1 - low) ≡ of_lengths options low (i - low) ++ all_beginnings options i
 of_lengths-suc options low i le =
     let k : i + 1 - low ≡ suc (i - low) = omega arith in
     let back : low + (i - low) ≡ i = omega arith in
-    ap (λ (n : ℕ). of_lengths options low n) k ∙ ap (λ (n : ℕ). of_lengths options low (i - low) ++ fronts options n) back
+    ap (λ (n : ℕ). of_lengths options low n) k ∙ ap (λ (n : ℕ). of_lengths options low (i - low) ++ all_beginnings options n) back
 
 -- before there is none
 pub of_lengths-before : (options : ℕ → List ℕ) (low i : ℕ) → i < low → of_lengths options low (i + 1 - low) ≡ of_lengths options low (i - low)
 of_lengths-before options low i less = let k : i + 1 - low ≡ i - low = omega arith in ap (λ (n : ℕ). of_lengths options low n) k
 
-pub of_lengths-last : (options : ℕ → List ℕ) (low n : ℕ) → low ≤ n → of_lengths options low (n - low + 1) ≡ of_lengths options low (n - low) ++ fronts options n
+pub of_lengths-last : (options : ℕ → List ℕ) (low n : ℕ) → low ≤ n → of_lengths options low (n - low + 1) ≡ of_lengths options low (n - low) ++ all_beginnings options n
 of_lengths-last options low n le =
     let k : n - low + 1 ≡ n + 1 - low = omega arith in ap (λ (m : ℕ). of_lengths options low m) k ∙ of_lengths-suc options low n le
 
 lengths-grow : (options : ℕ → List ℕ) (low k more : ℕ) → length (of_lengths options low k) ≤ length (of_lengths options low (k + more))
 lengths-grow options low k zero = rw add-zero (omega arith)
 lengths-grow options low k (suc more) =
-    let e : length (of_lengths options low (k + suc more)) ≡ length (of_lengths options low (k + more)) + length (fronts options (low + (k + more)))
-    = rw add-suc (length-append (of_lengths options low (k + more)) (fronts options (low + (k + more)))) in
+    let e : length (of_lengths options low (k + suc more)) ≡ length (of_lengths options low (k + more)) + length (all_beginnings options (low + (k + more)))
+    = rw add-suc (length-append (of_lengths options low (k + more)) (all_beginnings options (low + (k + more)))) in
     omega (arith, e, lengths-grow options low k more)
 
 at-least : (a b c d : ℕ) → a ≤ b → 1 ≤ c → d ≡ b * c → a ≤ d
 at-least a b zero d ab one e = absurd (omega arith)
 at-least a b (suc c) d ab one e = grind arith
 
-fronts-grow : (options : ℕ → List ℕ) → ((i : ℕ) → 1 ≤ length (options i)) → (i more : ℕ) → length (fronts options i) ≤ length (fronts options (i + more))
+fronts-grow : (options : ℕ → List ℕ) → ((i : ℕ) → 1 ≤ length (options i)) → (i more : ℕ) → length (all_beginnings options i) ≤ length (all_beginnings options (i + more))
 fronts-grow options some i zero = rw add-zero (omega arith)
 fronts-grow options some i (suc more) =
-    let e : length (fronts options (i + suc more)) ≡ length (fronts options (i + more)) * length (options (i + more))
+    let e : length (all_beginnings options (i + suc more)) ≡ length (all_beginnings options (i + more)) * length (options (i + more))
     = rw add-suc (length-fronts-next options (i + more)) in
-    at-least (length (fronts options i)) (length (fronts options (i + more))) (length (options (i + more))) _ (fronts-grow options some i more) (some (i + more)) e
+    at-least (length (all_beginnings options i)) (length (all_beginnings options (i + more))) (length (options (i + more))) _ (fronts-grow options some i more) (some (i + more)) e
 
 -- where the contents so far are too many, all are
-pub too-many-so-far : (options : ℕ → List ℕ) (low i n all front : ℕ) → low ≤ i → i ≤ n → all ≡ length (of_lengths options low (i - low)) → front ≡ length (fronts options i)
+pub too-many-so-far : (options : ℕ → List ℕ) (low i n all front : ℕ) → low ≤ i → i ≤ n → all ≡ length (of_lengths options low (i - low)) → front ≡ length (all_beginnings options i)
     → 2 ^ 64 ≤ all + front → 2 ^ 64 ≤ length (of_lengths options low (n - low + 1))
 too-many-so-far options low i n all front low_i i_n e f many =
     let these : length (of_lengths options low (i + 1 - low)) ≡ all + front
-    = ap length (of_lengths-suc options low i low_i) ∙ length-append (of_lengths options low (i - low)) (fronts options i) ∙ omega arith in
+    = ap length (of_lengths-suc options low i low_i) ∙ length-append (of_lengths options low (i - low)) (all_beginnings options i) ∙ omega arith in
     let k : n - low + 1 ≡ (i + 1 - low) + (n - i) = omega arith in
     let more : length (of_lengths options low (i + 1 - low)) ≤ length (of_lengths options low ((i + 1 - low) + (n - i)))
     = lengths-grow options low (i + 1 - low) (n - i) in
@@ -60,33 +60,33 @@ positive : (a b : ℕ) → 2 ^ 64 ≤ a * b → 1 ≤ b
 positive a zero many = absurd (grind arith)
 positive a (suc b) many = omega arith
 
--- where the fronts are too many, so are all contents
-pub too-many-fronts : (mask : List Bool) (now values : List ℕ) (low i n front : ℕ) → low ≤ n → i < n → front ≡ length (fronts (open_bytes mask now values) i)
+-- where the beginnings are too many, so are all contents
+pub too-many-fronts : (mask : List Bool) (now values : List ℕ) (low i n front : ℕ) → low ≤ n → i < n → front ≡ length (all_beginnings (open_bytes mask now values) i)
     → get_or mask i false ≡ true → 2 ^ 64 ≤ front * length values → 2 ^ 64 ≤ length (of_lengths (open_bytes mask now values) low (n - low + 1))
 too-many-fronts mask now values low i n front low_n i_n e open_ many =
     let options : ℕ → List ℕ = open_bytes mask now values in
-    let next : length (fronts options (i + 1)) ≡ front * length values
+    let next : length (all_beginnings options (i + 1)) ≡ front * length values
     = length-fronts-suc options i ∙ ap (λ (k : ℕ). k * length (options i)) (sym e) ∙ ap (λ (k : ℕ). front * k) (length-open mask now values i true open_) in
     let some : 1 ≤ length values = positive front (length values) many in
     let k : i + 1 + (n - (i + 1)) ≡ n = omega arith in
-    let grown : length (fronts options (i + 1)) ≤ length (fronts options n)
+    let grown : length (all_beginnings options (i + 1)) ≤ length (all_beginnings options n)
     = rw k at (fronts-grow options (open-some mask now values some) (i + 1) (n - (i + 1))) in
-    let all : length (of_lengths options low (n - low + 1)) ≡ length (of_lengths options low (n - low)) + length (fronts options n)
-    = ap length (of_lengths-last options low n low_n) ∙ length-append (of_lengths options low (n - low)) (fronts options n) in
+    let all : length (of_lengths options low (n - low + 1)) ≡ length (of_lengths options low (n - low)) + length (all_beginnings options n)
+    = ap length (of_lengths-last options low n low_n) ∙ length-append (of_lengths options low (n - low)) (all_beginnings options n) in
     omega (arith, next, grown, all)
 
--- the number of fronts, one place on
-pub counted-fronts : (mask : List Bool) (now values : List ℕ) (i front next : ℕ) (b : Bool) → front ≡ length (fronts (open_bytes mask now values) i)
-    → get_or mask i false ≡ b → next ≡ front * cond b (length values) 1 → next ≡ length (fronts (open_bytes mask now values) (i + 1))
+-- the number of beginnings, one place on
+pub counted-fronts : (mask : List Bool) (now values : List ℕ) (i front next : ℕ) (b : Bool) → front ≡ length (all_beginnings (open_bytes mask now values) i)
+    → get_or mask i false ≡ b → next ≡ front * cond b (length values) 1 → next ≡ length (all_beginnings (open_bytes mask now values) (i + 1))
 counted-fronts mask now values i front next b e is en =
     en ∙ ap (λ (k : ℕ). k * cond b (length values) 1) e
-    ∙ ap (λ (k : ℕ). length (fronts (open_bytes mask now values) i) * k) (sym (length-open mask now values i b is))
+    ∙ ap (λ (k : ℕ). length (all_beginnings (open_bytes mask now values) i) * k) (sym (length-open mask now values i b is))
     ∙ sym (length-fronts-suc (open_bytes mask now values) i)
 
-pub counted-all : (options : ℕ → List ℕ) (low i all front : ℕ) → low ≤ i → all ≡ length (of_lengths options low (i - low)) → front ≡ length (fronts options i)
+pub counted-all : (options : ℕ → List ℕ) (low i all front : ℕ) → low ≤ i → all ≡ length (of_lengths options low (i - low)) → front ≡ length (all_beginnings options i)
     → all + front ≡ length (of_lengths options low (i + 1 - low))
 counted-all options low i all front le e f =
-    sym (ap length (of_lengths-suc options low i le) ∙ length-append (of_lengths options low (i - low)) (fronts options i) ∙ omega arith)
+    sym (ap length (of_lengths-suc options low i le) ∙ length-append (of_lengths options low (i - low)) (all_beginnings options i) ∙ omega arith)
 
 -- what a checked sum answers of the whole number
 pub some-total : (r : Option ℕ) (x : ℕ) (total : List ℕ → ℕ) → SomeIff r (x < 2 ^ 64) x → ((now : List ℕ) → x ≡ total now)
@@ -94,10 +94,10 @@ pub some-total : (r : Option ℕ) (x : ℕ) (total : List ℕ → ℕ) → SomeI
 some-total None x total iff e = tt
 some-total (Some n) x total iff e = λ now. iff.1 ∙ e now
 
--- the fronts, one place on
-pub next-fronts : (mask : List Bool) (now values : List ℕ) (i : ℕ) (cur next : List (List ℕ)) (b : Bool) → cur ≡ fronts (open_bytes mask now values) i
-    → get_or mask i false ≡ b → next ≡ longer cur (cond b values (get_or now i 0 ∷ [])) → next ≡ fronts (open_bytes mask now values) (i + 1)
+-- the beginnings, one place on
+pub next-fronts : (mask : List Bool) (now values : List ℕ) (i : ℕ) (cur next : List (List ℕ)) (b : Bool) → cur ≡ all_beginnings (open_bytes mask now values) i
+    → get_or mask i false ≡ b → next ≡ each_longer cur (cond b values (get_or now i 0 ∷ [])) → next ≡ all_beginnings (open_bytes mask now values) (i + 1)
 next-fronts mask now values i cur next b e is en =
     let options : List ℕ = cond b values (get_or now i 0 ∷ []) in
     let same : options ≡ open_bytes mask now values i = sym (ap (λ (t : Bool). cond t values (get_or now i 0 ∷ [])) is) in
-    rw add-one (en ∙ ap (λ (xs : List (List ℕ)). longer xs options) e ∙ ap (λ (vs : List ℕ). longer (fronts (open_bytes mask now values) i) vs) same)
+    rw add-one (en ∙ ap (λ (xs : List (List ℕ)). each_longer xs options) e ∙ ap (λ (vs : List ℕ). each_longer (all_beginnings (open_bytes mask now values) i) vs) same)

@@ -1,10 +1,10 @@
--- What the list of fronts has to do with what a crash may leave.
+-- What the list of beginnings has to do with what a crash may leave.
 use Rattle.std.proofs.Common.{◌≡◌, ◌≢◌, ◌≤◌, ◌<◌, ◌⊎◌, ℕ, ◌+◌, ◌-◌, List, [], ◌∷◌, length, get_or, Bool, true, false, cond, AllPairs, Contains, refl, ap, sym, subst, inl, inr, ◌∙◌, arith}
 use Rattle.disk.specs.State.{State, furthest, IsOutside, IsImage}
 use Rattle.disk.specs.Images.{IsSyncedAt, IsImageOf, Lists}
-use Rattle.disk.specs.Fronts.{IsMarked, open_bytes, of_lengths}
+use Rattle.disk.specs.Beginnings.{IsMarked, open_bytes, of_lengths}
 use Rattle.disk.proofs.Lists.{Among, Distinct, among-Contains, Contains-among, All-among, AllPairs-distinct, distinct-AllPairs}
-use Rattle.disk.proofs.FrontLemmas.{Fits, lengths-of, of-lengths, distinct-lengths}
+use Rattle.disk.proofs.BeginningLemmas.{Fits, lengths-of, of-lengths, distinct-lengths}
 
 -- the same values, each once
 pub record SameValues (values unique : List ℕ) : Type 0 where

@@ -2,7 +2,7 @@ pub mod Acts
 pub mod Crash
 pub mod Records
 pub mod Lists
-pub mod FrontLemmas
+pub mod BeginningLemmas
 pub mod ImageLemmas
 pub mod CopyLemmas
 pub mod MaskLemmas

@@ -7,7 +7,7 @@ use Rattle.disk.specs.declared.memory.Step.TheVariants.{Wrote, Synced}
 use Rattle.disk.specs.State.{State, Sync, act, over, wrote, state_after, furthest, IsOutside}
 use Rattle.disk.specs.Laws.{length-over}
 use Rattle.disk.specs.Memory.{acts, ranges_after, AreWithin}
-use Rattle.disk.specs.Fronts.{IsMarked}
+use Rattle.disk.specs.Beginnings.{IsMarked}
 use Rattle.disk.proofs.Lists.{within_or_not}
 use Rattle.disk.proofs.Acts.{ranges_after-write}
 

@@ -4,7 +4,7 @@ use Rattle.std.proofs.lemmas.List.{drop-append-le, length_push, drop_all}
 use Rattle.disk.specs.declared.memory.Step.{Step}
 use Rattle.disk.specs.declared.memory.Step.TheVariants.{Wrote, Synced}
 use Rattle.disk.specs.State.{Act, Write, Sync, State, nothing, act, over, state_after, sight_of}
-use Rattle.disk.specs.Memory.{acts, total, replayed, ranges_after}
+use Rattle.disk.specs.Memory.{acts, bytes_written, replayed, ranges_after}
 use Rattle.disk.proofs.Acts.{state_after-push, acts-write, acts-sync, total-write, total-sync, ranges_after-write}
 use Rattle.disk.specs.Sight.{Writes, Looks, IsSynced}
 use Rattle.disk.specs.Laws.{sound_nothing}
@@ -12,14 +12,14 @@ use Rattle.disk.proofs.Crash.{made, write-push, synced-push, looks-sync}
 
 -- the ghost fields of a disk in memory
 pub record IsRecord (steps : List Step) (written bytes : List ℕ) (synced_steps synced_len : ℕ) : Type 0 where
-  pub whole : total steps ≡ length written
+  pub whole : bytes_written steps ≡ length written
   pub same : (replayed steps written).now ≡ bytes
   pub synced : length (replayed steps written).base ≡ synced_len
   pub within : synced_steps ≤ length steps
   pub since : (replayed steps written).ranges ≡ ranges_after [] (drop synced_steps steps)
 
 -- what one more write makes of the state
-pub replayed-write : (steps : List Step) (written b : List ℕ) (at : ℕ) → total steps ≡ length written → at ≤ length (replayed steps written).now
+pub replayed-write : (steps : List Step) (written b : List ℕ) (at : ℕ) → bytes_written steps ≡ length written → at ≤ length (replayed steps written).now
     → replayed (steps ++ Wrote at (length b) ∷ []) (written ++ b) ≡ over (replayed steps written) at (length b) b
 replayed-write steps written b at whole le =
     ap (λ (xs : List Act). state_after nothing xs) (acts-write steps written b at whole)
@@ -59,7 +59,7 @@ record-sync steps steps' written bytes k n k' n' old es ek en =
     })
 
 -- what a recorded write does to a disk
-pub memory-write : (steps steps' : List Step) (written written' b : List ℕ) (at : ℕ) → total steps ≡ length written
+pub memory-write : (steps steps' : List Step) (written written' b : List ℕ) (at : ℕ) → bytes_written steps ≡ length written
     → (steps' ≡ steps ++ Wrote at (length b) ∷ []) × (written' ≡ written ++ b)
     → acts steps' written' ≡ acts steps written ++ Write at b ∷ []
 memory-write steps steps' written written' b at whole es = rw (es.0, es.1) (acts-write steps written b at whole)

@@ -22,7 +22,8 @@ pub data Call : Type 0 where
 abbrev pub call_of : List ℕ → List ℕ → Call
 call_of numbers bytes =
     if slice_index numbers 0 == 0 then Read (slice_index numbers 1) (slice_index numbers 2) bytes
-    else (if slice_index numbers 0 == 1 then Wrote (slice_index numbers 1) (slice_index numbers 2) bytes
+    else (if slice_index numbers 0 == 1 then Wrote (slice_index numbers 1)
+    (slice_index numbers 2) bytes
     else (if slice_index numbers 0 == 2 then Broke (slice_index numbers 1) bytes
     else (if slice_index numbers 0 == 3 then Synced
     else (if slice_index numbers 0 == 4 then Measured (slice_index numbers 1)
@@ -52,7 +53,8 @@ acts_by left Refused = []
 -- what calls did, the last of them first
 abbrev pub acts_of : List (List ℕ) → List Call → List Act
 acts_of left [] = []
-acts_of left (call ∷ calls) = acts_of left calls ++ acts_by (slice_index_or left (length calls) []) call
+acts_of left (call ∷ calls) = acts_of left calls ++ acts_by
+    (slice_index_or left (length calls) []) call
 
 -- Bytes of a file that a read of n gives: those at its place, none only where there are none.
 pub record IsRead (file : List ℕ) (at n : ℕ) (bytes : List ℕ) : Type 0 where
@@ -77,6 +79,7 @@ AreAnswers start (call ∷ calls) = AreAnswers start calls
     × IsAnswer (state_after start.state (acts_of start.left calls)).now call
 
 -- the state at the start is one that there can be
-pub start_sound : (start : Start) (calls : List Call) → AreAnswers start calls → IsImage start.state start.state.now
+pub start_sound : (start : Start) (calls : List Call) → AreAnswers start calls
+    → IsImage start.state start.state.now
 start_sound start [] sound = sound
 start_sound start (call ∷ calls) answers = start_sound start calls answers.0

@@ -26,17 +26,22 @@ pub record IsFresh (start : Start) (f : FileDisk) : Type 0 where
   -- The premise holds at first, where the state is one that there can be.
   pub follows : IsImage start.state start.state.now → FileFollows f
 
-pub file_counts_now : (f : FileDisk) (t : ℕ) (c : List ℕ) → FileFollows f → t ≤ (file_sight f).moment
+pub file_counts_now : (f : FileDisk) (t : ℕ) (c : List ℕ) → FileFollows f
+    → t ≤ (file_sight f).moment
     → (file_sight f).may_leave c
     → (file_sight f).left_since t c
 file_counts_now f t c follows le image =
     now_counts f.calls.noted.start.state (acts_in f.calls.noted) f.failures t c le image
 
-pub file_only_now : (f : FileDisk) (c : List ℕ) → FileFollows f → (file_sight f).left_since (file_sight f).moment c
+pub file_only_now : (f : FileDisk) (c : List ℕ) → FileFollows f
+    → (file_sight f).left_since (file_sight f).moment c
     → (file_sight f).may_leave c
-file_only_now f c follows left = just_now f.calls.noted.start.state (acts_in f.calls.noted) f.failures c left
+file_only_now f c follows left =
+    just_now f.calls.noted.start.state (acts_in f.calls.noted) f.failures c left
 
-pub file_seen_may_stay : (f : FileDisk) → FileFollows f → (file_sight f).may_leave (file_sight f).seen
+pub file_seen_may_stay : (f : FileDisk) → FileFollows f
+    → (file_sight f).may_leave (file_sight f).seen
 file_seen_may_stay f follows =
-    always_sound f.calls.noted.start.state (start_sound f.calls.noted.start f.calls.noted.calls follows)
+    always_sound f.calls.noted.start.state
+    (start_sound f.calls.noted.start f.calls.noted.calls follows)
     (acts_in f.calls.noted)

@@ -23,16 +23,20 @@ just_now start acts failures c left =
     subst (λ (xs : List Act). IsImage (state_after start xs) c) (take_all left.0 acts left.1) left.3
 
 -- a write leaves the bytes outside its range
-index-over : (now bytes : List ℕ) (at n i : ℕ) → length bytes ≤ n → at ≤ length now → ((i < at) ⊎ (at + n ≤ i))
-    → slice_index_or (take at now ++ bytes ++ drop (at + length bytes) now) i 0 ≡ slice_index_or now i 0
+index-over : (now bytes : List ℕ) (at n i : ℕ) → length bytes ≤ n → at ≤ length now
+    → ((i < at) ⊎ (at + n ≤ i))
+    → slice_index_or (take at now ++ bytes ++ drop (at + length bytes) now) i 0
+    ≡ slice_index_or now i 0
 index-over now bytes at n i fits le (inl below) = grind (arith, places)
 index-over now bytes at n i fits le (inr above) = grind (arith, places)
 
 pub length-over : (now bytes : List ℕ) (at : ℕ) → at ≤ length now
-    → length (take at now ++ bytes ++ drop (at + length bytes) now) ≡ max (length now) (at + length bytes)
+    → length (take at now ++ bytes ++ drop (at + length bytes) now)
+    ≡ max (length now) (at + length bytes)
 length-over now bytes at le = simp (length-append, length-take, length-drop) (omega arith)
 
-sound-over : (s : State) (at n : ℕ) (bytes : List ℕ) → length bytes ≤ n → at ≤ length s.now → IsImage s s.now
+sound-over : (s : State) (at n : ℕ) (bytes : List ℕ) → length bytes ≤ n → at ≤ length s.now
+    → IsImage s s.now
     → IsImage (over s at n bytes) (over s at n bytes).now
 sound-over s at n bytes fits le sound = record {
   no_shorter = omega (arith, sound.no_shorter, length-over s.now bytes at le);
@@ -40,18 +44,26 @@ sound-over s at n bytes fits le sound = record {
   same = λ i h outside. index-over s.now bytes at n i fits le outside.0 ∙ sound.same i h outside.1;
 }
 
-sound-wrote : (s : State) (at n : ℕ) (bytes : List ℕ) (b : Bool) → length bytes ≤ n → nat_le at (length s.now) ≡ b
+sound-wrote : (s : State) (at n : ℕ) (bytes : List ℕ) (b : Bool) → length bytes ≤ n
+    → nat_le at (length s.now) ≡ b
     → IsImage s s.now
     → IsImage (wrote s at n bytes) (wrote s at n bytes).now
-sound-wrote s at n bytes true fits e sound = rw e (sound-over s at n bytes fits (leb-true at (length s.now) e) sound)
+sound-wrote s at n bytes true fits e sound =
+    rw e (sound-over s at n bytes fits (leb-true at (length s.now) e) sound)
 sound-wrote s at n bytes false fits e sound = rw e sound
 
 sound-act : (s : State) (a : Act) → IsImage s s.now → IsImage (act s a) (act s a).now
 sound-act s (Write at bytes) sound =
     sound-wrote s at (length bytes) bytes (nat_le at (length s.now)) (omega arith) refl sound
 sound-act s (Break at n bytes) sound =
-    sound-wrote s at n (take n bytes) (nat_le at (length s.now)) (omega (arith, length-take n bytes)) refl sound
-sound-act s Sync sound = record { no_shorter = omega arith; no_longer = omega arith; same = λ i h outside. refl }
+    sound-wrote s at n (take n bytes) (nat_le at (length s.now))
+    (omega (arith, length-take n bytes)) refl sound
+sound-act s Sync sound = record {
+  no_shorter = omega arith;
+  no_longer = omega arith;
+  same =
+      λ i h outside. refl;
+}
 
 -- what a read gives is one of the contents that a crash may leave
 pub always_sound : (start : State) → IsImage start start.now → (acts : List Act)
@@ -60,4 +72,9 @@ always_sound start sound [] = sound
 always_sound start sound (a ∷ acts) = always_sound (act start a) (sound-act start a sound) acts
 
 pub sound_nothing : IsImage nothing nothing.now
-sound_nothing = record { no_shorter = omega arith; no_longer = omega arith; same = λ i h outside. refl }
+sound_nothing = record {
+  no_shorter = omega arith;
+  no_longer = omega arith;
+  same =
+      λ i h outside. refl;
+}

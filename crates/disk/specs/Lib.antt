@@ -3,7 +3,7 @@ pub mod Moments
 pub mod State
 pub mod Laws
 pub mod Images
-pub mod Fronts
+pub mod Beginnings
 pub mod Calls
 pub mod Record
 pub mod FileDisk

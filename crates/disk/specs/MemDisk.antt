@@ -68,11 +68,13 @@ pub record SameOthers (old new : MemDisk) : Type 0 where
 abbrev pub IsSameDisk : MemDisk → MemDisk → Type 0
 IsSameDisk old new = new ≡ record old { plan = new.plan }
 
-pub memory_counts_now : (m : MemDisk) (t : ℕ) (c : List ℕ) → t ≤ (memory_sight m).moment → (memory_sight m).may_leave c
+pub memory_counts_now : (m : MemDisk) (t : ℕ) (c : List ℕ) → t ≤ (memory_sight m).moment
+    → (memory_sight m).may_leave c
     → (memory_sight m).left_since t c
 memory_counts_now m t c le image = now_counts nothing (recorded m) m.failures t c le image
 
-pub memory_only_now : (m : MemDisk) (c : List ℕ) → (memory_sight m).left_since (memory_sight m).moment c
+pub memory_only_now : (m : MemDisk) (c : List ℕ)
+    → (memory_sight m).left_since (memory_sight m).moment c
     → (memory_sight m).may_leave c
 memory_only_now m c left = just_now nothing (recorded m) m.failures c left
 

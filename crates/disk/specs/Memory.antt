@@ -11,10 +11,10 @@ acts ((Wrote at n) ∷ steps) written = Write at (take n written) ∷ acts steps
 acts (Synced ∷ steps) written = Sync ∷ acts steps written
 
 -- how many bytes the steps wrote
-abbrev pub total : List Step → ℕ
-total [] = 0
-total ((Wrote at n) ∷ steps) = n + total steps
-total (Synced ∷ steps) = total steps
+abbrev pub bytes_written : List Step → ℕ
+bytes_written [] = 0
+bytes_written ((Wrote at n) ∷ steps) = n + bytes_written steps
+bytes_written (Synced ∷ steps) = bytes_written steps
 
 -- what the steps made of an empty disk
 abbrev pub replayed : List Step → List ℕ → State

@@ -11,14 +11,16 @@ pub record LeavesOnly (old new : Sight) (P : List ℕ → Type 0) : Type 0 where
   pub before : (t : ℕ) (c : List ℕ) → t ≤ old.moment → new.left_since t c → old.left_since t c ⊎ P c
 
 -- before any call
-pub started : (old : Sight) (P : List ℕ → Type 0) → ((c : List ℕ) → old.left_since old.moment c → P c)
+pub started : (old : Sight) (P : List ℕ → Type 0)
+    → ((c : List ℕ) → old.left_since old.moment c → P c)
     → LeavesOnly old old P
 started old P each = record { later = omega arith; each = each; before = λ t c le left. inl left }
 
 -- one more call
-pub goes_on : {old mid new : Sight} (P : List ℕ → Type 0) → LeavesOnly old mid P → Elapses mid new
+pub leaves_only_on : {old mid new : Sight} (P : List ℕ → Type 0) → LeavesOnly old mid P
+    → Elapses mid new
     → ((c : List ℕ) → new.may_leave c → P c) → LeavesOnly old new P
-goes_on {old} {mid} {new} P so_far time now = record {
+leaves_only_on {old} {mid} {new} P so_far time now = record {
   later = omega (arith, so_far.later, time.later);
   each =
       λ c left. elim (time.nothing_else old.moment c so_far.later left)
@@ -29,7 +31,8 @@ goes_on {old} {mid} {new} P so_far time now = record {
 }
 
 -- one run of calls after another
-pub in_turn : {old mid new : Sight} (P : List ℕ → Type 0) → LeavesOnly old mid P → LeavesOnly mid new P
+pub in_turn : {old mid new : Sight} (P : List ℕ → Type 0) → LeavesOnly old mid P
+    → LeavesOnly mid new P
     → LeavesOnly old new P
 in_turn {old} {mid} {new} P first second = record {
   later = omega (arith, first.later, second.later);
@@ -42,10 +45,12 @@ in_turn {old} {mid} {new} P first second = record {
 }
 
 -- a property that follows
-pub weaker : {old new : Sight} (P Q : List ℕ → Type 0) → ((c : List ℕ) → P c → Q c) → LeavesOnly old new P
+pub weaker : {old new : Sight} (P Q : List ℕ → Type 0) → ((c : List ℕ) → P c → Q c)
+    → LeavesOnly old new P
     → LeavesOnly old new Q
 weaker P Q follows run = record {
   later = run.later;
   each = λ c left. follows c (run.each c left);
-  before = λ t c le left. elim (run.before t c le left) [ inl before ↦ inl before | inr here ↦ inr (follows c here) ];
+  before = λ t c le left. elim
+      (run.before t c le left) [ inl before ↦ inl before | inr here ↦ inr (follows c here) ];
 }

@@ -32,7 +32,8 @@ IsSynced s = (c : List ℕ) → s.may_leave c → c ≡ s.seen
 pub record Elapses (old new : Sight) : Type 0 where
   pub later : old.moment ≤ new.moment
   -- a crash since t might have left what it might have left before, or what it may leave now
-  pub nothing_else : (t : ℕ) (c : List ℕ) → t ≤ old.moment → new.left_since t c → old.left_since t c ⊎ new.may_leave c
+  pub nothing_else : (t : ℕ) (c : List ℕ) → t ≤ old.moment → new.left_since t c
+      → old.left_since t c ⊎ new.may_leave c
   -- what might have been left stays so
   pub keeps : (t : ℕ) (c : List ℕ) → t ≤ old.moment → old.left_since t c → new.left_since t c
 

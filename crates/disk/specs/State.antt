@@ -57,7 +57,8 @@ furthest (range ∷ ranges) = max (range.0 + range.1) (furthest ranges)
 pub record IsImage (s : State) (c : List ℕ) : Type 0 where
   pub no_shorter : length s.base ≤ length c
   pub no_longer : length c ≤ max (length s.now) (furthest s.ranges)
-  pub same : (i : ℕ) → i < length s.base → IsOutside s.ranges i → slice_index_or c i 0 ≡ slice_index_or s.base i 0
+  pub same : (i : ℕ) → i < length s.base → IsOutside s.ranges i
+      → slice_index_or c i 0 ≡ slice_index_or s.base i 0
 
 -- a disk that was in a state when these acts began; its clock is their number
 abbrev pub sight_of : State → List Act → ℕ → Sight
@@ -65,6 +66,7 @@ sight_of start acts failures = record {
   seen = (state_after start acts).now;
   may_leave = λ c. IsImage (state_after start acts) c;
   moment = length acts;
-  left_since = λ t c. (k : ℕ) × (t ≤ k) × (k ≤ length acts) × IsImage (state_after start (take k acts)) c;
+  left_since = λ t c. (k : ℕ) × (t ≤ k) × (k ≤ length acts)
+      × IsImage (state_after start (take k acts)) c;
   failures = failures;
 }

@@ -94,10 +94,12 @@ impl NotedFile {
     pub fn read_some(&mut self, at: u64, buf: &mut [u8]) -> Result<usize, Stop>
         ensures noted { length self.new.noted.calls ≡ length self.old.noted.calls + 1 }
         ensures ok { IfOk result (λ n.
-            self.new.noted.calls ≡ Read at (length buf.old) (take n buf.new) ∷ self.old.noted.calls) }
+            self.new.noted.calls ≡ Read at (length buf.old)
+            (take n buf.new) ∷ self.old.noted.calls) }
         ensures interrupted { IsErrOf result Stop.Interrupted
             → self.new.noted.calls ≡ Interrupted ∷ self.old.noted.calls }
-        ensures failed { IsErrOf result Stop.Failed → self.new.noted.calls ≡ Refused ∷ self.old.noted.calls }
+        ensures failed { IsErrOf result Stop.Failed
+            → self.new.noted.calls ≡ Refused ∷ self.old.noted.calls }
         ensures within { IfOk result (λ n. n ≤ length buf.old) }
         ensures bytes { IfOk result (λ n. HasFollowed self.new.noted
             → IsRead (sight_by self.old.noted 0).seen at (length buf.old) (take n buf.new)) }
@@ -122,7 +124,8 @@ impl NotedFile {
     /// Writes at a place. The system may take fewer bytes than there are, or none.
     pub fn write_some(&mut self, at: u64, bytes: &[u8]) -> Result<usize, Stop>
         ensures noted { length self.new.noted.calls ≡ length self.old.noted.calls + 1 }
-        ensures ok { IfOk result (λ n. self.new.noted.calls ≡ Wrote at n bytes.now ∷ self.old.noted.calls) }
+        ensures ok { IfOk result (λ n. self.new.noted.calls
+            ≡ Wrote at n bytes.now ∷ self.old.noted.calls) }
         ensures interrupted { IsErrOf result Stop.Interrupted
             → self.new.noted.calls ≡ Interrupted ∷ self.old.noted.calls }
         ensures failed { IsErrOf result Stop.Failed
@@ -131,14 +134,16 @@ impl NotedFile {
         ensures within { IfOk result (λ n. n ≤ length bytes.now) }
         ensures holds { IfOk result (λ n. HasFollowed self.new.noted
             → at ≤ length (sight_by self.old.noted 0).seen
-            → Holds (sight_by self.old.noted 0).seen at (take n bytes.now) (sight_by self.new.noted 0).seen) }
+            → Holds (sight_by self.old.noted 0).seen at (take n bytes.now)
+            (sight_by self.new.noted 0).seen) }
         ensures goes { IfOk result (λ n. (old new : ℕ) → HasFollowed self.new.noted
             → at ≤ length (sight_by self.old.noted 0).seen
             → Goes at n (sight_by self.old.noted old) (sight_by self.new.noted new)) }
         ensures asks { IsErrOf result Stop.Interrupted → OnlyAsks self.old.noted self.new.noted }
         ensures broke { OnErr result ((old new : ℕ) → HasFollowed self.new.noted
             → at ≤ length (sight_by self.old.noted 0).seen
-            → Goes at (length bytes.now) (sight_by self.old.noted old) (sight_by self.new.noted new)) }
+            → Goes at (length bytes.now) (sight_by self.old.noted old)
+            (sight_by self.new.noted new)) }
     {
         match self.file.write_at(bytes, at) {
             Ok(n) => {
@@ -162,7 +167,8 @@ impl NotedFile {
         ensures ok { OnOk result (self.new.noted.calls ≡ Synced ∷ self.old.noted.calls) }
         ensures err { OnErr result (self.new.noted.calls ≡ Refused ∷ self.old.noted.calls) }
         ensures before { HasFollowed self.new.noted → HasFollowed self.old.noted }
-        ensures synced { OnOk result ((failures : ℕ) → IsSynced (sight_by self.new.noted failures)) }
+        ensures synced { OnOk result ((failures : ℕ)
+            → IsSynced (sight_by self.new.noted failures)) }
         ensures looks { (old new : ℕ) → HasFollowed self.new.noted
             → Looks (sight_by self.old.noted old) (sight_by self.new.noted new) }
     {

@@ -69,5 +69,6 @@ pub trait Disk {
         → (sight disk).left_since (sight disk).moment c → (sight disk).may_leave c };
 
     /// What a read gives is one of the contents that a crash may leave.
-    ghost seen_may_stay: { (disk : Self) → follows disk → (sight disk).may_leave (sight disk).seen };
+    ghost seen_may_stay: { (disk : Self) → follows disk
+        → (sight disk).may_leave (sight disk).seen };
 }

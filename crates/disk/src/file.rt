@@ -150,7 +150,8 @@ impl Disk for FileDisk {
         ensures before { FileFollows self.new → FileFollows self.old }
         ensures synced { OnOk result (FileFollows self.new → IsSynced (file_sight self.new)) }
         ensures looks { FileFollows self.new → Looks (file_sight self.old) (file_sight self.new) }
-        ensures counts { Counts result (file_sight self.old).failures (file_sight self.new).failures }
+        ensures counts { Counts result (file_sight self.old).failures
+            (file_sight self.new).failures }
 
         // It is one call of the system, and answers as that call did.
         ensures ok { OnOk result (calls_on self.new ≡ Synced ∷ calls_on self.old) }
@@ -164,9 +165,11 @@ impl Disk for FileDisk {
 
     fn len(&mut self) -> Result<u64, DeviceFault>
         ensures before { FileFollows self.new → FileFollows self.old }
-        ensures length { IfOk result (λ n. FileFollows self.new → n ≡ length (file_sight self.old).seen) }
+        ensures length { IfOk result (λ n. FileFollows self.new
+            → n ≡ length (file_sight self.old).seen) }
         ensures looks { FileFollows self.new → Looks (file_sight self.old) (file_sight self.new) }
-        ensures counts { Counts result (file_sight self.old).failures (file_sight self.new).failures }
+        ensures counts { Counts result (file_sight self.old).failures
+            (file_sight self.new).failures }
 
         // It is one call of the system, and answers as that call did.
         ensures ok { IfOk result (λ n. calls_on self.new ≡ Measured n ∷ calls_on self.old) }

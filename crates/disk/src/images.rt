@@ -2,7 +2,7 @@
 ghost use Rattle.std.specs.Prelude.{◌≡◌, ◌≢◌, ◌≤◌, ◌<◌, ◌⊎◌, ◌+◌, ◌-◌, ◌↔◌, ◌^◌, [], ◌∷◌, ◌++◌, ℕ, List, length, slice_index_or, true, false, Contains, AllPairs, IfOk, OnOk, OnErr, Some, IfSome, IfNone, IsNone};
 ghost use Rattle.disk.specs.Memory.{ranges_after, AreWithin};
 ghost use Rattle.disk.specs.Images.{contents};
-ghost use Rattle.disk.specs.Fronts.{IsMarked, open_bytes, longer, of_lengths};
+ghost use Rattle.disk.specs.Beginnings.{IsMarked, open_bytes, each_longer, of_lengths};
 ghost use Rattle.disk.specs.declared.images.ImagesFault.TheVariants.{Memory};
 
 use crate::memory::Step;
@@ -41,7 +41,8 @@ fn add(found: &mut Vec<u8>, value: u8) -> Result<(), AllocError>
 
 // Each of the values once.
 pub(crate) fn unique(alloc: Global, values: &[u8]) -> Result<Vec<u8>, AllocError>
-    ensures same { IfOk result (λ found. (v : ℕ) → (Contains found.items v) ↔ (Contains values.now v)) }
+    ensures same { IfOk result (λ found. (v : ℕ)
+        → (Contains found.items v) ↔ (Contains values.now v)) }
     ensures once { IfOk result (λ found. AllPairs (λ x y. x ≢ y) found.items) }
 {
     let mut found = Vec::new(alloc);
@@ -88,9 +89,11 @@ pub(crate) fn unsynced(
 pub(crate) fn number_of(mask: &[bool], low: usize, values: &[u8]) -> Option<usize>
     requires { low ≤ length mask.now }
     ensures exact { IfSome result (λ n. (now : List ℕ)
-        → n ≡ length (of_lengths (open_bytes mask.now now values.now) low (length mask.now - low + 1))) }
+        → n ≡ length (of_lengths (open_bytes mask.now now values.now) low
+        (length mask.now - low + 1))) }
     ensures none { IsNone result → (now : List ℕ)
-        → 2 ^ 64 ≤ length (of_lengths (open_bytes mask.now now values.now) low (length mask.now - low + 1)) }
+        → 2 ^ 64 ≤ length (of_lengths (open_bytes mask.now now values.now) low
+        (length mask.now - low + 1)) }
 {
     let mut fronts: usize = 1;
     let mut all: usize = 0;
@@ -118,7 +121,7 @@ pub(crate) fn within_cap(number: Option<usize>, cap: usize) -> Result<usize, Ima
 
 // Adds a byte to the end of each.
 fn push_to_each(fronts: &mut [Vec<u8>], byte: u8) -> Result<(), AllocError>
-    ensures { OnOk result (contents fronts.new ≡ longer (contents fronts.old) (byte ∷ [])) }
+    ensures { OnOk result (contents fronts.new ≡ each_longer (contents fronts.old) (byte ∷ [])) }
 {
     for front in fronts.iter_mut() {
         front.push(byte)?;
@@ -128,7 +131,8 @@ fn push_to_each(fronts: &mut [Vec<u8>], byte: u8) -> Result<(), AllocError>
 
 // Each of these, followed by each of the values.
 fn with_each(alloc: Global, fronts: &[Vec<u8>], values: &[u8]) -> Result<Vec<Vec<u8>>, AllocError>
-    ensures { IfOk result (λ all. contents all.items ≡ longer (contents fronts.now) values.now) }
+    ensures { IfOk result (λ all. contents all.items
+        ≡ each_longer (contents fronts.now) values.now) }
 {
     let mut all = Vec::new(alloc);
     for front in fronts {
@@ -143,7 +147,8 @@ fn with_each(alloc: Global, fronts: &[Vec<u8>], values: &[u8]) -> Result<Vec<Vec
 
 // Adds copies to the end of what was found.
 fn append_copies(found: &mut Vec<Vec<u8>>, fronts: &[Vec<u8>]) -> Result<(), AllocError>
-    ensures { OnOk result (contents found.new.items ≡ contents found.old.items ++ contents fronts.now) }
+    ensures { OnOk result (contents found.new.items
+        ≡ contents found.old.items ++ contents fronts.now) }
 {
     for front in fronts {
         found.push(front.clone()?)?;

@@ -2,7 +2,7 @@ ghost use Rattle.std.specs.Prelude.{◌≡◌, ◌≢◌, ◌≤◌, ◌<◌, �
 ghost use Rattle.std.specs.Vec.{vec_capacity};
 ghost use Rattle.disk.specs.Sight.{Holds, Reads, Writes, Looks, IsSynced, Counts};
 ghost use Rattle.disk.specs.State.{Write, Sync};
-ghost use Rattle.disk.specs.Memory.{acts, total, replayed, ranges_after};
+ghost use Rattle.disk.specs.Memory.{acts, bytes_written, replayed, ranges_after};
 ghost use Rattle.disk.specs.declared.memory.Step.TheVariants.{Wrote, Synced};
 
 use crate::device::failed;
@@ -30,11 +30,12 @@ pub struct MemDisk {
     calls: u64,
     failures: u64,
     plan: Plan,
-    ghost whole: { total steps.items ≡ length written.items },
+    ghost whole: { bytes_written steps.items ≡ length written.items },
     ghost same: { (replayed steps.items written.items).now ≡ bytes.items },
     ghost synced: { length (replayed steps.items written.items).base ≡ synced_len },
     ghost within: { synced_steps ≤ length steps.items },
-    ghost since: { (replayed steps.items written.items).ranges ≡ ranges_after [] (drop synced_steps steps.items) },
+    ghost since: { (replayed steps.items written.items).ranges
+        ≡ ranges_after [] (drop synced_steps steps.items) },
 }
 
 // Puts bytes over those from a place on, and past the end.
@@ -123,7 +124,8 @@ impl MemDisk {
             Lists (IsImageOf (state_of self.now) values.now) (contents found.items)) }
         ensures within_cap { IfOk result (λ found. length found.items ≤ cap) }
         ensures too_many { IsErrOf result ImagesFault.TooMany
-            → (all : List (List ℕ)) × Lists (IsImageOf (state_of self.now) values.now) all × (cap < length all) }
+            → (all : List (List ℕ)) × Lists (IsImageOf (state_of self.now) values.now) all
+            × (cap < length all) }
     {
         let values = unique(alloc, values)?;
         let len = self.bytes.len();
@@ -193,7 +195,8 @@ impl Disk for MemDisk {
     fn read(&mut self, at: u64, buf: &mut [u8]) -> Result<usize, DeviceFault>
         ensures bytes { IfOk result (λ n. Reads (memory_sight self.old).seen at n buf.old buf.new) }
         ensures looks { Looks (memory_sight self.old) (memory_sight self.new) }
-        ensures counts { Counts result (memory_sight self.old).failures (memory_sight self.new).failures }
+        ensures counts { Counts result (memory_sight self.old).failures
+            (memory_sight self.new).failures }
 
         // It fails exactly where that was asked for.
         ensures fails { IsErr result ↔ WillFail self.old 1 }
@@ -220,7 +223,8 @@ impl Disk for MemDisk {
             → Holds (memory_sight self.old).seen at bytes.now (memory_sight self.new).seen) }
         ensures writes { at ≤ length (memory_sight self.old).seen
             → Writes at (length bytes.now) (memory_sight self.old) (memory_sight self.new) }
-        ensures counts { Counts result (memory_sight self.old).failures (memory_sight self.new).failures }
+        ensures counts { Counts result (memory_sight self.old).failures
+            (memory_sight self.new).failures }
 
         // It is recorded whether it fails or not, except where it begins past the end. Where it fails for want of
         // memory, it may be missing.
@@ -228,8 +232,10 @@ impl Disk for MemDisk {
         ensures records_failed { at ≤ length (memory_sight self.old).seen
             → HasRoom self.old (at + length bytes.now) 1 (length bytes.now)
             → Records (Write at bytes.now) self.old self.new }
-        ensures refused { length (memory_sight self.old).seen < at → RecordsNothing self.old self.new }
-        ensures either { Records (Write at bytes.now) self.old self.new ⊎ RecordsNothing self.old self.new }
+        ensures refused { length (memory_sight self.old).seen < at
+            → RecordsNothing self.old self.new }
+        ensures either { Records (Write at bytes.now) self.old self.new
+            ⊎ RecordsNothing self.old self.new }
 
         // It fails where that was asked for and where it begins past the end, otherwise only for want of memory.
         ensures asked { WillFail self.old 1 → IsErr result }
@@ -251,7 +257,8 @@ impl Disk for MemDisk {
     fn sync(&mut self) -> Result<(), DeviceFault>
         ensures synced { OnOk result (IsSynced (memory_sight self.new)) }
         ensures looks { Looks (memory_sight self.old) (memory_sight self.new) }
-        ensures counts { Counts result (memory_sight self.old).failures (memory_sight self.new).failures }
+        ensures counts { Counts result (memory_sight self.old).failures
+            (memory_sight self.new).failures }
 
         // It is recorded exactly where it does not fail.
         ensures records { OnOk result (Records Sync self.old self.new) }
@@ -274,7 +281,8 @@ impl Disk for MemDisk {
     fn len(&mut self) -> Result<u64, DeviceFault>
         ensures length { IfOk result (λ n. n ≡ length (memory_sight self.old).seen) }
         ensures looks { Looks (memory_sight self.old) (memory_sight self.new) }
-        ensures counts { Counts result (memory_sight self.old).failures (memory_sight self.new).failures }
+        ensures counts { Counts result (memory_sight self.old).failures
+            (memory_sight self.new).failures }
 
         // It fails exactly where that was asked for.
         ensures fails { IsErr result ↔ WillFail self.old 1 }

@@ -12,7 +12,7 @@ use Rattle.ingester.specs.declared.fault.CallFault.TheVariants.{Memory, PassClos
 use Rattle.requests.specs.declared.failure.Failure.{Failure}
 use Rattle.answering.specs.Serving.{Exchange, World}
 use Rattle.answering.proofs.Stepping as stepping
-use Rattle.front.specs.Calls.{CallGives, told_of}
+use Rattle.front.specs.Calls.{CallGives, reply_told}
 use Rattle.front.specs.Laws.{Gains, MakesTheirCalls, MakesItsCalls, MakesItsFirstCalls}
 
 none : (h h' : Passed) → h' ≡ h → Gains h [] h'
@@ -28,11 +28,11 @@ made_kept h h' call InDoubt (inr stays) = ap (λ p. p.caller.made) stays
 both : (h m h' : Passed) (first others : List Step) → Gains h first m → Gains m others h' → Gains h (first ++ others) h'
 both h m h' first others a b = b ∙ ap (λ l. l ++ others) a ∙ append_assoc h.caller.made first others
 
-same_reply : (a b : Reply) → told_of (Ok a) ≡ told_of (Ok b) → a ≡ b
+same_reply : (a b : Reply) → reply_told (Ok a) ≡ reply_told (Ok b) → a ≡ b
 same_reply a b same = cc
 
 module _ {D : Type 0} (opening : Opening D) where
-  one_by : (h h' : Passed) (call : Call) (reply : Reply) (outcome : Result Reply CallFault) → IsGiven opening h call outcome h' → told_of (Ok reply) ≡ told_of outcome
+  one_by : (h h' : Passed) (call : Call) (reply : Reply) (outcome : Result Reply CallFault) → IsGiven opening h call outcome h' → reply_told (Ok reply) ≡ reply_told outcome
       → (step : Step) × (step.ask.call ≡ call) × (step.reply ≡ reply) × Gains h (step ∷ []) h'
   one_by h h' call reply (Ok other) is same = (next_step h.caller call other, refl, sym (same_reply reply other same), ap (λ p. p.caller.made) is.answered.pass)
   one_by h h' call reply (Err fault) is same = absurd (cc)
@@ -40,9 +40,9 @@ module _ {D : Type 0} (opening : Opening D) where
   one : (doubt : Bool) (h h' : Passed) (call : Call) (reply : Reply) → CallGives opening doubt h call (Ok reply) h' → (step : Step) × (step.ask.call ≡ call) × (step.reply ≡ reply) × Gains h (step ∷ []) h'
   one false h h' call reply (outcome, is, same) = one_by h h' call reply outcome is same
   one true h h' call reply (outcome, inl is, same) = one_by h h' call reply outcome is same
-  one true h h' call reply (outcome, inr (lost, stays), same) = absurd (let never = ap told_of lost in cc)
+  one true h h' call reply (outcome, inr (lost, stays), same) = absurd (let never = ap reply_told lost in cc)
 
-  kept_by : (h h' : Passed) (call : Call) (failure : Failure) (outcome : Result Reply CallFault) → IsGiven opening h call outcome h' → Err failure ≡ told_of outcome → Gains h [] h'
+  kept_by : (h h' : Passed) (call : Call) (failure : Failure) (outcome : Result Reply CallFault) → IsGiven opening h call outcome h' → Err failure ≡ reply_told outcome → Gains h [] h'
   kept_by h h' call failure (Ok reply) is same = absurd (cc)
   kept_by h h' call failure (Err fault) is same = made_kept h h' call fault is.refused ∙ sym (append-nil h.caller.made)
 

@@ -8,9 +8,9 @@ use Rattle.ingester.specs.Calls.{AreGiven, AreGivenAfter, is_doubt}
 use Rattle.ingester.specs.declared.fault.CallFault.{CallFault}
 use Rattle.ingester.specs.declared.fault.CallFault.TheVariants.{Memory, PassClosed, LogSpent, InDoubt}
 use Rattle.answering.specs.Calls.{CallsGive, CallsGiveAfter, leaves_doubt}
-use Rattle.front.specs.Calls.{CallGives, told_of}
+use Rattle.front.specs.Calls.{CallGives, reply_told}
 
-same_doubt : (r : Result Reply CallFault) → is_doubt r ≡ leaves_doubt (told_of r)
+same_doubt : (r : Result Reply CallFault) → is_doubt r ≡ leaves_doubt (reply_told r)
 same_doubt (Ok reply) = refl
 same_doubt (Err Memory) = refl
 same_doubt (Err PassClosed) = refl
@@ -19,13 +19,13 @@ same_doubt (Err InDoubt) = refl
 
 module _ {D : Type 0} (opening : Opening D) where
   all_after : (doubt : Bool) (old new : Passed) (asked : List Call) (outcomes : List (Result Reply CallFault)) → AreGivenAfter doubt opening old asked outcomes new
-      → CallsGiveAfter (CallGives opening) doubt old asked (map told_of outcomes) new
+      → CallsGiveAfter (CallGives opening) doubt old asked (map reply_told outcomes) new
   all_after doubt old new [] [] given = given
   all_after doubt old new [] (r ∷ rs) given = absurd given
   all_after doubt old new (call ∷ asked) [] given = absurd given
   all_after doubt old new (call ∷ asked) (r ∷ rs) (mid, is, given) =
-      (mid, (r, is, refl), subst (λ (b : Bool). CallsGiveAfter (CallGives opening) b mid asked (map told_of rs) new) (same_doubt r) (all_after (is_doubt r) mid new asked rs given))
+      (mid, (r, is, refl), subst (λ (b : Bool). CallsGiveAfter (CallGives opening) b mid asked (map reply_told rs) new) (same_doubt r) (all_after (is_doubt r) mid new asked rs given))
 
 pub all_told : {D : Type 0} (opening : Opening D) (old new : Passed) (asked : List Call) (outcomes : List (Result Reply CallFault)) → AreGiven opening old asked outcomes new
-    → CallsGive (CallGives opening) old asked (map told_of outcomes) new
+    → CallsGive (CallGives opening) old asked (map reply_told outcomes) new
 all_told opening old new asked outcomes given = all_after opening false old new asked outcomes given

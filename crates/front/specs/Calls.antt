@@ -17,12 +17,13 @@ failure_of faults.PassClosed = PassClosed
 failure_of faults.LogSpent = LogSpent
 failure_of faults.InDoubt = InDoubt
 
-abbrev pub told_of : Result Reply CallFault → Result Reply Failure
-told_of (Ok reply) = Ok reply
-told_of (Err fault) = Err (failure_of fault)
+abbrev pub reply_told : Result Reply CallFault → Result Reply Failure
+reply_told (Ok reply) = Ok reply
+reply_told (Err fault) = Err (failure_of fault)
 
 -- This came of the next call of a pass, and its request is told so. Where the call before it, made with it, is in
 -- doubt, it may be lost with that one.
 abbrev pub CallGives : {D : Type 0} → Opening D → Giving Passed
 CallGives opening doubt old call told new =
-    (outcome : Result Reply CallFault) × IsGivenAfter doubt opening old call outcome new × (told ≡ told_of outcome)
+    (outcome : Result Reply CallFault) × IsGivenAfter doubt opening old call outcome new
+    × (told ≡ reply_told outcome)

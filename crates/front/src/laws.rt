@@ -12,10 +12,12 @@ use disk::Disk;
 /// a request in which a call failed, or that was given up for want of memory, a step for each of its first
 /// streams that got one.
 pub fn one_step_a_call<D: Disk, C: Clock>()
-    ensures each { (opening : Opening D) (bytes : List ℕ) (w : World Passed C) (e : Exchange) (rest : List ℕ)
+    ensures each { (opening : Opening D) (bytes : List ℕ) (w : World Passed C) (e : Exchange)
+        (rest : List ℕ)
         (w' : World Passed C) → MakesItsCalls opening C.ticks bytes w e rest w' }
     ensures left { (opening : Opening D) (bytes : List ℕ) (w w' : World Passed C)
         → MakesItsFirstCalls opening C.ticks bytes w w' }
-    ensures all { (opening : Opening D) (bytes : List ℕ) (w : World Passed C) (es : List Exchange) (rest : List ℕ)
+    ensures all { (opening : Opening D) (bytes : List ℕ) (w : World Passed C) (es : List Exchange)
+        (rest : List ℕ)
         (w' : World Passed C) → MakesTheirCalls opening C.ticks bytes w es rest w' }
 {}

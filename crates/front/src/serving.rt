@@ -3,7 +3,7 @@ ghost use Rattle.std.specs.Prelude.{◌≡◌, ◌<◌, ◌^◌};
 ghost use Rattle.ingester.specs.Calls.{IsPassOf};
 ghost use Rattle.answering.specs.Responses.{RequestIsAnswered};
 ghost use Rattle.answering.specs.Serving.{ConnectionIsServed, world, io};
-ghost use Rattle.front.specs.Calls.{CallGives, failure_of, told_of};
+ghost use Rattle.front.specs.Calls.{CallGives, failure_of, reply_told};
 
 use accept::{Call, Reply};
 use answering::{Answer, Calls, Clock, Ends, Failure, RequestBody, Route, ServeFault, Served};
@@ -42,7 +42,7 @@ impl<'a, D: Disk + Drop> Calls for Service<'a, D> {
 
     ghost gives = { λ service. CallGives service.ingester.now };
 
-    ghost told = { told_of };
+    ghost told = { reply_told };
 
     fn call<R: Wait>(
         &self,
@@ -99,7 +99,8 @@ pub fn answer<D: Disk + Drop, R: Wait>(
     requires pass { IsPassOf ingester.now pass.old }
     requires clock { now < 2 ^ 63 }
     ensures pass { IsPassOf ingester.now pass.new }
-    ensures answers { RequestIsAnswered (CallGives ingester.now) route now tenant.now body.now pass.old result
+    ensures answers { RequestIsAnswered
+        (CallGives ingester.now) route now tenant.now body.now pass.old result
         pass.new }
 {
     let service = Service { ingester };

@@ -11,7 +11,7 @@ use Rattle.history.specs.declared.views.About.{About}
 use Rattle.history.specs.declared.views.Caller.{Caller}
 use Rattle.history.specs.Histories.{IsBeginning, HaveNumbersBelow, IsRising, behind_first}
 use Rattle.history.specs.Plays.{seen_at, ask_of}
-use Rattle.history.specs.Handles.{Passed, is_closed, HaveMet, fresh_pass}
+use Rattle.history.specs.Handles.{Passed, is_closed_pass, HaveMet, fresh_pass}
 use Rattle.history.proofs.Lists.{begins_same, begins_front, begins_trans}
 use Rattle.history.proofs.Past.{below_more, below_last, rising_last}
 use Rattle.owners.specs.Openings.{Opening}
@@ -153,7 +153,7 @@ up_of : (b c : Bool) → (b || c) ≡ false → b ≡ false
 up_of false c e = refl
 up_of true c e = absurd (false≢true (sym e))
 
-answered_sound : (about : About) (old new : Passed) (call : Call) (reply : Reply) → IsSound about old → is_closed old ≡ false → IsAnswered old new call reply → IsSound about new
+answered_sound : (about : About) (old new : Passed) (call : Call) (reply : Reply) → IsSound about old → is_closed_pass old ≡ false → IsAnswered old new call reply → IsSound about new
 answered_sound about old new call reply s up is =
     let none : old.caller.pending ≡ [] = s.idle (up_of old.closed _ up) in
     let made : new.caller.made ≡ old.caller.made ++ next_step old.caller call reply ∷ [] = ap (λ (p : Passed). p.caller.made) is.pass in
@@ -191,11 +191,11 @@ open_by b never = ⊎_elim (λ (e : b ≡ true). absurd (never e)) (λ (e : b �
     either false = inr refl
 
 module _ {D : Type 0} (opening : Opening D) where
-  given_up : (old new : Passed) (call : Call) (reply : Reply) → IsGiven opening old call (Ok reply) new → is_closed old ≡ false
-  given_up old new call reply is = open_by (is_closed old) (λ e. not_spent reply PassClosed (is.closed.1 e))
+  given_up : (old new : Passed) (call : Call) (reply : Reply) → IsGiven opening old call (Ok reply) new → is_closed_pass old ≡ false
+  given_up old new call reply is = open_by (is_closed_pass old) (λ e. not_spent reply PassClosed (is.closed.1 e))
 
   -- an answered call was answered by its contract
-  pub given_answer : (lost : Bool) (old new : Passed) (call : Call) (reply : Reply) → IsGivenAfter lost opening old call (Ok reply) new → IsAnswered old new call reply × (is_closed old ≡ false)
+  pub given_answer : (lost : Bool) (old new : Passed) (call : Call) (reply : Reply) → IsGivenAfter lost opening old call (Ok reply) new → IsAnswered old new call reply × (is_closed_pass old ≡ false)
   given_answer false old new call reply is = (is.answered, given_up old new call reply is)
   given_answer true old new call reply (inl is) = (is.answered, given_up old new call reply is)
   given_answer true old new call reply (inr is) = absurd (let never = is.0 in cc)

@@ -9,7 +9,7 @@ use Rattle.disk.specs.Sight.{Sight}
 use Rattle.segment.specs.declared.owner.Owner.{Owner}
 use Rattle.segment.specs.Segments.{owner_of}
 use Rattle.wal.specs.declared.log.Wal.{Wal}
-use Rattle.wal.specs.Logs.{Follow, slots, owner, IsSettled}
+use Rattle.wal.specs.Logs.{Follow, slots, owner, IsOnDisk}
 use Rattle.wal.specs.Covers.{Allows, Covers}
 use Rattle.wal.specs.Recovery.{is_even, Recovers}
 use Rattle.wal.specs.Moments.{pair}
@@ -19,10 +19,10 @@ use Rattle.history.specs.declared.views.About.{About}
 use Rattle.history.specs.Histories.{base_at, terms_of, history_of, doubt_of, doubt_or}
 use Rattle.history.specs.Handles.{Booked, Announced, history_in, asks_of, fresh_book}
 use Rattle.history.proofs.Past.{doubt_marked, doubt_unmarked}
-use Rattle.shard.specs.Calls.{MayLeave, IsCommitted, IsLost}
+use Rattle.shard.specs.Calls.{MayLeave, IsCommitted, IsMarkedInDoubt}
 use Rattle.shard.specs.Groups.{with_steps, changing_of, MayLeaveAll}
 use Rattle.shard.specs.Jobs.{tickets_of}
-use Rattle.shard.specs.Keeping.{owner_in, IsAllowed, Keeps}
+use Rattle.shard.specs.Keeping.{owner_in, IsAllowed, KeepsHistory}
 use Rattle.shard.specs.Shards.{Sharded}
 use Rattle.shard.specs.Turns.{IsTurn}
 use Rattle.shard.proofs.Groups.{steps_mean, failed_means, step_written}
@@ -112,7 +112,7 @@ module _ {D : Type 0} (sight : D → Sight) (follows : D → Type 0) (only_now :
   pub record Rests (about : About) (k : ℕ) (s : Sharded D) : Type 0 where
     pub about_is : s.book.about ≡ about
     pub number : s.book.shard ≡ k
-    pub covers : Follow follows s.log → Keeps (slots sight s.log) s.book (doubt_of s.book.items)
+    pub covers : Follow follows s.log → KeepsHistory (slots sight s.log) s.book (doubt_of s.book.items)
 
   same_book : (t : OneTurn D) → IsTurn sight follows t.old t.new t.jobs t.rest t.was t.now t.ended → (t.new.book.about ≡ t.old.book.about) × (t.new.book.shard ≡ t.old.book.shard)
   same_book t (inl h) = ⊎_elim
@@ -121,7 +121,7 @@ module _ {D : Type 0} (sight : D → Sight) (follows : D → Type 0) (only_now :
       h.applied.stepped
   same_book t (inr (inl h)) = ⊎_elim
       (λ (c : IsCommitted (slots sight t.old.log) (slots sight t.new.log) t.old.book h.job.ticket t.new.book h.reply). (ap (λ (b : Booked). b.about) c.book, ap (λ (b : Booked). b.shard) c.book))
-      (λ (c : IsLost (slots sight t.old.log) (slots sight t.new.log) t.old.book h.job.ticket t.new.book h.reply). (ap (λ (b : Booked). b.about) c.book, ap (λ (b : Booked). b.shard) c.book))
+      (λ (c : IsMarkedInDoubt (slots sight t.old.log) (slots sight t.new.log) t.old.book h.job.ticket t.new.book h.reply). (ap (λ (b : Booked). b.about) c.book, ap (λ (b : Booked). b.shard) c.book))
       h.applied.step
   same_book t (inr (inr h)) = (ap (λ (s : Sharded D). s.book.about) h.same, ap (λ (s : Sharded D). s.book.shard) h.same)
 
@@ -143,7 +143,7 @@ module _ {D : Type 0} (sight : D → Sight) (follows : D → Type 0) (only_now :
     covers = λ f.
         let base : base_at opening.about k ≡ o.m = index_get opening.about.bases k _ o.m o.there in
         let means : o.m ≡ meaning (history_of opening.about k []) = sym (meaning-nothing (base_at opening.about k) ∙ base) in
-        let settled : IsSettled sight log (meaning (history_of opening.about k [])) = subst (IsSettled sight log) means (o.opened.settled f) in
+        let settled : IsOnDisk sight log (meaning (history_of opening.about k [])) = subst (IsOnDisk sight log) means (o.opened.settled f) in
         let whose : owner log ≡ owner_of k opening.about.shards = o.opened.same_owner ∙ ap (owner_of k) (sym counted) in
         subst (λ (w : Owner). Covers w opening.about.limits (slots sight log) (history_of opening.about k []) []) whose (settled_covers sight log opening.about.limits (history_of opening.about k []) [] settled);
   }

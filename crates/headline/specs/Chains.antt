@@ -20,7 +20,8 @@ pub record Part : Type 0 where
 -- the calls that were answered, and not refused
 abbrev pub answered_in : List Item → List Ask
 answered_in [] = []
-answered_in (Answered s ∷ items) = if is_refusal s.reply then answered_in items else s.ask ∷ answered_in items
+answered_in (Answered s ∷ items) =
+    if is_refusal s.reply then answered_in items else s.ask ∷ answered_in items
 answered_in (Failed doubt ∷ items) = answered_in items
 
 -- the calls of all openings, one after another
@@ -29,15 +30,18 @@ calls_found [] = []
 calls_found (p ∷ parts) = (answered_in p.beginning ++ p.more) ++ calls_found parts
 
 -- so much of a history was found, with each call that was answered in that opening
-pub record IsPart {D : Type 0} (k : ℕ) (life : Life D) (history : ℕ → List Item) (p : Part) : Type 0 where
+pub record IsPart {D : Type 0} (k : ℕ) (life : Life D) (history : ℕ → List Item)
+    (p : Part) : Type 0 where
   pub a_beginning_of_that_history : IsBeginning p.beginning (history k)
   pub continued_only_by_calls_being_written : IsBeginning p.more (writing_in life.ends history k)
-  pub holds_every_answered_call : (a : AnsweredCall) → WasAnswered life.threads a → shard_at life.opening.about a ≡ k
+  pub holds_every_answered_call : (a : AnsweredCall) → WasAnswered life.threads a
+      → shard_at life.opening.about a ≡ k
       → IsOneOf (step_for a) p.beginning
 
 abbrev pub AreParts : {D : Type 0} → ℕ → List (Life D) → List (ℕ → List Item) → List Part → Type 0
 AreParts k [] [] [] = Unit {0}
-AreParts k (life ∷ lives) (h ∷ histories) (p ∷ parts) = IsPart k life h p × AreParts k lives histories parts
+AreParts k (life ∷ lives) (h ∷ histories) (p ∷ parts) = IsPart k life h p
+    × AreParts k lives histories parts
 AreParts k lives histories parts = ⊥
 
 -- what the first of them found of shard k
@@ -46,18 +50,21 @@ base_in k [] m = m
 base_in k (life ∷ lives) m = base_at life.opening.about k
 
 -- What was found of shard k in the end is what a one-thread ingester has that got all these calls, one after another.
-pub record IsTale {D : Type 0} (limits : Limits) (k : ℕ) (lives : List (Life D)) (histories : List (ℕ → List Item))
+pub record IsTale {D : Type 0} (limits : Limits) (k : ℕ) (lives : List (Life D))
+    (histories : List (ℕ → List Item))
     (state : Streams) : Type 0 where
   pub parts : List Part
   pub parts_are : AreParts k lives histories parts
   pub the_state_after : state
-      ≡ meaning (answered_to limits (record { base = base_in k lives state; items = [] }) (calls_found parts))
+      ≡ meaning (answered_to limits (record { base = base_in k lives state; items = [] })
+      (calls_found parts))
 
 module _ {D : Type 0} (sight : D → Sight) (follows : D → Type 0) where
   -- the next opening is over slots that a crash left
   abbrev pub IsContinued : Life D → List (Life D) → Type 0
   IsContinued life [] = Unit {0}
-  IsContinued life (next ∷ lives) = AreLeftAt sight follows life.ends next.given × LogsFollow sight follows next.opening.logs
+  IsContinued life (next ∷ lives) = AreLeftAt sight follows life.ends next.given
+      × LogsFollow sight follows next.opening.logs
 
   -- openings of n shards under these limits, one after another
   abbrev pub AreLives : ℕ → Limits → List (Life D) → Type 0
@@ -75,7 +82,8 @@ module _ {D : Type 0} (sight : D → Sight) (follows : D → Type 0) where
   abbrev pub AreHeadlines : List (Life D) → List (ℕ → List Item) → Type 0
   AreHeadlines [] [] = Unit {0}
   AreHeadlines (life ∷ lives) (h ∷ histories) =
-      IsHeadline life.opening.about life.threads h (writing_in life.ends h) (MayBeReplayed sight follows life.ends)
+      IsHeadline life.opening.about life.threads h (writing_in life.ends h)
+      (MayBeReplayed sight follows life.ends)
       × AreHeadlines lives histories
   AreHeadlines lives histories = ⊥
 

@@ -57,7 +57,8 @@ WasAnswered threads a = IsOneOf a (calls_answered_to threads)
 
 -- .. replay gives the state after a beginning of that history, continued only by calls then being written, that holds
 -- every answered call.
-pub record IsReplay (about : About) (threads : List Thread) (k : ℕ) (history : List Item) (writing : List Ask)
+pub record IsReplay (about : About) (threads : List Thread) (k : ℕ) (history : List Item)
+    (writing : List Ask)
     (state : Streams) : Type 0 where
   pub beginning : List Item
   pub more : List Ask
@@ -70,22 +71,27 @@ pub record IsReplay (about : About) (threads : List Thread) (k : ℕ) (history :
 -- However many threads call, each shard's calls stand in one growing history, each answered call once, after all its
 -- pass had seen, with the reply a one-thread ingester computes from the earlier steps on that stream or a refusal in
 -- its stated place; and whatever crash comes, ..
-pub record IsHeadline (about : About) (threads : List Thread) (history : ℕ → List Item) (writing : ℕ → List Ask)
+pub record IsHeadline (about : About) (threads : List Thread) (history : ℕ → List Item)
+    (writing : ℕ → List Ask)
     (replay : ℕ → Streams → Type 0) : Type 0 where
   pub each_shards_calls : (k : ℕ) → k < about.shards
       → IsLegalAt about k (history k) × IsByPasses about.passes (history k)
-  pub one_growing_history : (h : Happening) → IsOneOf h (happened_to threads) → (k : ℕ) → k < about.shards
+  pub one_growing_history : (h : Happening) → IsOneOf h (happened_to threads) → (k : ℕ)
+      → k < about.shards
       → IsBeginning (seen_at h.before.caller k) (seen_at h.after.caller k)
       × IsBeginning (seen_at h.after.caller k) (history k)
-  pub each_answered_call_once : (a : AnsweredCall) → WasAnswered threads a → (k : ℕ) → k < about.shards
+  pub each_answered_call_once : (a : AnsweredCall) → WasAnswered threads a → (k : ℕ)
+      → k < about.shards
       → steps_for a (history k) ≡ (if k == shard_at about a then step_for a ∷ [] else [])
   pub and_no_others : (t : Thread) → IsOneOf t threads → (k : ℕ) → k < about.shards
       → HasStepsOf t.end.caller k (history k)
   pub after_all_its_pass_had_seen : (a : AnsweredCall) → WasAnswered threads a
       → IsBeginning (seen_at a.knew (shard_at about a)) (items_before about history a)
   pub the_reply : (a : AnsweredCall) → WasAnswered threads a → is_refusal a.reply ≡ false
-      → a.reply ≡ answer about.limits (only_about (key_of a.call) (history_before about history a)) a.call
+      → a.reply ≡ answer about.limits
+      (only_about (key_of a.call) (history_before about history a)) a.call
   pub a_refusal_in_its_stated_place : (a : AnsweredCall) → WasAnswered threads a
-      → a.reply ≡ reply_to (terms_of about (shard_at about a)) (history_before about history a) a.call
+      → a.reply ≡ reply_to (terms_of about (shard_at about a))
+      (history_before about history a) a.call
   pub whatever_crash_comes : (k : ℕ) → k < about.shards → (state : Streams) → replay k state
       → IsReplay about threads k (history k) (writing k) state

@@ -79,7 +79,8 @@ module _ {D : Type 0} (sight : D → Sight) (follows : D → Type 0) where
     pub capacity : ℕ
     pub some_shard : 1 ≤ length life.given
     pub shards : life.opening.about.shards ≡ length life.given
-    pub found : AreOpenedFrom sight follows (length life.given) capacity 0 life.given life.opening.logs
+    pub found : AreOpenedFrom sight follows
+        (length life.given) capacity 0 life.given life.opening.logs
         life.opening.about.bases
     pub about : life.opening.about ≡ about_of life.opening.about.bases passes limits capacity
     pub threads_are : (t : Thread) → IsOneOf t life.threads → IsThread life.opening t

@@ -24,7 +24,8 @@ pub record Happening : Type 0 where
   pub after : Passed
 
 -- what `Ingester::look` says
-pub record IsLooked {D : Type 0} (opening : Opening D) (old : Passed) (k : ℕ) (new : Passed) : Type 0 where
+pub record IsLooked {D : Type 0} (opening : Opening D) (old : Passed) (k : ℕ)
+    (new : Passed) : Type 0 where
   pub shard : k < opening.about.shards
   pub pass : new ≡ record old { caller = look_to old.caller k (seen_at new.caller k) }
   pub others : (j : ℕ) → j ≢ k → seen_at new.caller j ≡ seen_at old.caller j
@@ -34,7 +35,8 @@ pub record IsLooked {D : Type 0} (opening : Opening D) (old : Passed) (k : ℕ) 
   pub steps : HasStepsOf old.caller k (seen_at new.caller k)
 
 -- what `Ingester::meet` says of either of the two
-pub record IsMet {D : Type 0} (opening : Opening D) (old : Passed) (other : Caller) (theirs : List (List Item))
+pub record IsMet {D : Type 0} (opening : Opening D) (old : Passed) (other : Caller)
+    (theirs : List (List Item))
     (new : Passed) : Type 0 where
   pub pass : new ≡ record old { caller = with_seen old.caller new.caller.seen }
   pub met : HaveMet old.caller other opening.about.shards new.caller.seen theirs
@@ -55,7 +57,8 @@ leaves_call_in_doubt (Met other theirs) = false
 -- these happened to a pass, one after another
 abbrev pub HappenAfter : {D : Type 0} → Bool → Opening D → Passed → List Happening → Passed → Type 0
 HappenAfter lost opening start [] end = end ≡ start
-HappenAfter lost opening start (h ∷ hs) end = (h.before ≡ start) × Happens lost opening h.before h.what h.after
+HappenAfter lost opening start (h ∷ hs) end = (h.before ≡ start)
+    × Happens lost opening h.before h.what h.after
     × HappenAfter (leaves_call_in_doubt h.what) opening h.after hs end
 
 -- these calls, and what came of each
@@ -71,7 +74,8 @@ pub record Thread : Type 0 where
   pub end : Passed
 
 pub record IsThread {D : Type 0} (opening : Opening D) (t : Thread) : Type 0 where
-  pub happen : HappenAfter false opening (fresh_pass opening.table opening.about t.number) t.happened t.end
+  pub happen : HappenAfter false opening
+      (fresh_pass opening.table opening.about t.number) t.happened t.end
 
 -- the passes at the end
 abbrev pub last_passes : List Thread → List Passed

@@ -7,12 +7,12 @@ use Rattle.wal.specs.Logs.{Follow, slots}
 use Rattle.wal.specs.Opening.{slots_of}
 use Rattle.history.specs.Histories.{IsLegalAt, IsByPasses, doubt_of, doubt_or}
 use Rattle.history.specs.Handles.{Announced, asks_of, fresh_book}
-use Rattle.shard.specs.declared.front.Job.{Job}
-use Rattle.shard.specs.declared.front.Ended.{Ended}
+use Rattle.shard.specs.declared.first_jobs.Job.{Job}
+use Rattle.shard.specs.declared.first_jobs.GroupEnd.{GroupEnd}
 use Rattle.shard.specs.declared.group.Settled.{Settled}
 use Rattle.shard.specs.Groups.{changing_of}
 use Rattle.shard.specs.Jobs.{tickets_of}
-use Rattle.shard.specs.Keeping.{Keeps}
+use Rattle.shard.specs.Keeping.{KeepsHistory}
 use Rattle.shard.specs.Shards.{Sharded}
 use Rattle.shard.specs.Turns.{IsTurn}
 use Rattle.owners.specs.Openings.{Opening}
@@ -28,7 +28,7 @@ pub record OneTurn (D : Type 0) : Type 0 where
   pub rest : List Job
   pub was : List Settled
   pub now : List Settled
-  pub ended : Ended
+  pub ended : GroupEnd
 
 -- the jobs that it takes, from the first on
 abbrev pub taken_in : {D : Type 0} → OneTurn D → List Announced
@@ -58,7 +58,8 @@ module _ {D : Type 0} (sight : D → Sight) (follows : D → Type 0) where
   -- what `Shard::apply_group` says
   pub record IsMade (t : OneTurn D) : Type 0 where
     pub turn : IsTurn sight follows t.old t.new t.jobs t.rest t.was t.now t.ended
-    pub covered : Follow follows t.new.log → Keeps (slots sight t.new.log) t.new.book (doubt_of t.new.book.items)
+    pub covered : Follow follows t.new.log
+        → KeepsHistory (slots sight t.new.log) t.new.book (doubt_of t.new.book.items)
 
   -- these turns lead from one shard to another
   abbrev pub Lead : Sharded D → List (OneTurn D) → Sharded D → Type 0
@@ -76,10 +77,15 @@ module _ {D : Type 0} (sight : D → Sight) (follows : D → Type 0) where
   FollowThen (Within t) = Follow follows t.new.log
 
   -- Shard k from the opening on. The book was compared with each of the passes (`Shard::settle`).
-  pub record IsStretch (opening : Opening D) (threads : List Thread) (k : ℕ) (st : Stretch D) : Type 0 where
+  pub record IsStretch (opening : Opening D) (threads : List Thread) (k : ℕ)
+      (st : Stretch D) : Type 0 where
     pub opened : Wal D
     pub opened_as : slice_get opening.logs k ≡ Some opened
-    pub turned : Lead (record { log = opened; book = fresh_book opening.table opening.about k; opened = opened })
+    pub turned : Lead (record {
+      log = opened;
+      book = fresh_book opening.table opening.about k;
+      opened = opened;
+    })
         st.turns (shard_then st.moment)
     pub moment : IsMoment st.moment
     pub follow : FollowThen st.moment
@@ -89,11 +95,14 @@ module _ {D : Type 0} (sight : D → Sight) (follows : D → Type 0) where
 
   -- what a crash leaves of both slots: now, or at any moment from the turn's start on
   abbrev pub MayBeLeft : Moment D → List ℕ → List ℕ → Type 0
-  MayBeLeft (Between s) a b = (slots sight s.log).first.may_leave a × (slots sight s.log).second.may_leave b
-  MayBeLeft (Within t) a b = (slots sight t.new.log).first.left_since (slots sight t.old.log).first.moment a
+  MayBeLeft (Between s) a b = (slots sight s.log).first.may_leave a
+      × (slots sight s.log).second.may_leave b
+  MayBeLeft (Within t) a b = (slots sight t.new.log).first.left_since
+      (slots sight t.old.log).first.moment a
       × (slots sight t.new.log).second.left_since (slots sight t.old.log).second.moment b
 
   -- slots of which only that may be left from now on
   pub record IsLeftThen (moment : Moment D) (left : List D) : Type 0 where
-    pub crash : (a b : List ℕ) → (slots_of sight left).first.may_leave a → (slots_of sight left).second.may_leave b
+    pub crash : (a b : List ℕ) → (slots_of sight left).first.may_leave a
+        → (slots_of sight left).second.may_leave b
         → MayBeLeft moment a b

@@ -19,9 +19,11 @@ use ingester::CallFault;
 /// whatever a crash then left of its slots.
 pub fn headline<D: Disk>()
     ensures says { (life : Life D) → IsLife D.sight D.follows life
-        → (history : ℕ → List Item) × IsHeadline life.opening.about life.threads history (writing_in life.ends history)
+        → (history : ℕ → List Item)
+        × IsHeadline life.opening.about life.threads history (writing_in life.ends history)
         (MayBeReplayed D.sight D.follows life.ends) }
-    ensures cut { (old new : D) → (D.sight old).may_leave (D.sight new).seen → IsSynced (D.sight new)
+    ensures cut { (old new : D) → (D.sight old).may_leave (D.sight new).seen
+        → IsSynced (D.sight new)
         → IsLeftBy (D.sight old) (D.sight new) }
     ensures whole { (disk : D) → IsLeftBy (D.sight disk) (D.sight disk) }
 {}
@@ -30,13 +32,15 @@ pub fn headline<D: Disk>()
 /// one-thread ingester has that got the answered calls of all of them, one after another, and after those of each
 /// opening a beginning of the calls that were being written when it ended.
 pub fn headline_of_openings<D: Disk>()
-    ensures { (n : ℕ) (limits : Limits) (lives : List (Life D)) → AreLives D.sight D.follows n limits lives
+    ensures { (n : ℕ) (limits : Limits) (lives : List (Life D))
+        → AreLives D.sight D.follows n limits lives
         → IsHeadlineOfLives D.sight D.follows n limits lives }
 {}
 
 /// What comes of calls that a pass makes together (`call_all`) happens to it one after another.
 pub fn calls_happen_in_order<D: Disk>()
-    ensures { (opening : Opening D) (old new : Passed) (calls : List Call) (outcomes : List (Result Reply CallFault))
+    ensures { (opening : Opening D) (old new : Passed) (calls : List Call)
+        (outcomes : List (Result Reply CallFault))
         → AreGiven opening old calls outcomes new → (happened : List Happening)
         × HappenAfter false opening old happened new
         × (map (λ h. h.what) happened ≡ calls_with calls outcomes) }

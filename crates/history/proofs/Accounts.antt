@@ -14,20 +14,20 @@ use Rattle.history.specs.declared.views.Caller.{Caller}
 use Rattle.history.specs.declared.views.Token.{Token}
 use Rattle.history.specs.declared.views.Token.TheVariants.{Nothing, Open, Done}
 use Rattle.history.specs.Histories.{IsBeginning, shard_in, step_of, steps_by, steps_on, asks_by, HaveNumbersBelow, HaveNumbersAbove, IsRising, IsUnused, AreUnused, HasStep, HaveSteps, IsAmong, AreAmong, IsFirst, IsFirstIfAmong, behind_first, bound}
-use Rattle.history.specs.Rule.{AccountOk, HasOwn, IsWaiting, AreWaiting, IsOrdered, IsQueue, TokenOk, newcomer, floor_of, IsOut, AreTold}
+use Rattle.history.specs.Rule.{AccountOk, HasOwn, IsOfOpenCall, AreOfOpenCalls, IsOrdered, IsQueue, TokenOk, newcomer, floor_of, IsOnItsWay, AreTold}
 use Rattle.history.specs.Plays.{seen_at, ask_of, before_of, announce_to, withdraw_to, collect_to, look_to, AreHis, HasStepsOf, IsRested, Extends}
 use Rattle.history.proofs.Lists.{put, put_at, put_else, put_all, begins_same, begins_more, begins_trans, in_line, behind, last_or_none, last_same}
 use Rattle.history.proofs.Past.{AreFrom, steps_append, asks_step, steps_mine, steps_begin, on_here, on_else, below_on, below_more, below_last, below_middle, rising_last, rising_back, rising_front, parted, under_more, under_last, unused_below, unused_number, unused_step, unused_both, made_left, made_last, not_made, has_step, among_left, among_last, among_on, among_floor, queue_last, queue_behind, floor_first, among_behind, first_by_number, few_behind}
 
 -- what is told of calls, after a change of the one with number n
-pub told_put : (made made' : List Step) (ts : ℕ → Token) (n : ℕ) (t' : Token) → ((a : Ask) → HasStep a made → HasStep a made') → ((a : Ask) → IsOut a (ts n) → HasStep a made' ⊎ IsOut a t') → (asks : List Ask) → AreTold made ts asks → AreTold made' (put ts n t') asks
+pub told_put : (made made' : List Step) (ts : ℕ → Token) (n : ℕ) (t' : Token) → ((a : Ask) → HasStep a made → HasStep a made') → ((a : Ask) → IsOnItsWay a (ts n) → HasStep a made' ⊎ IsOnItsWay a t') → (asks : List Ask) → AreTold made ts asks → AreTold made' (put ts n t') asks
 told_put made made' ts n t' f g [] h = tt
 told_put made made' ts n t' f g (a ∷ asks) h = (
   ⊎_elim
       (λ (m : HasStep a made). inl (f a m))
-      (λ (o : IsOut a (ts a.number)). ⊎_elim
-      (λ (e : n ≡ a.number). subst (λ (t : Token). HasStep a made' ⊎ IsOut a t) (sym (put_at ts n t' a.number e)) (g a (subst (λ (m : ℕ). IsOut a (ts m)) (sym e) o)))
-      (λ (d : n ≢ a.number). inr (subst (λ (t : Token). IsOut a t) (sym (put_else ts n t' a.number d)) o))
+      (λ (o : IsOnItsWay a (ts a.number)). ⊎_elim
+      (λ (e : n ≡ a.number). subst (λ (t : Token). HasStep a made' ⊎ IsOnItsWay a t) (sym (put_at ts n t' a.number e)) (g a (subst (λ (m : ℕ). IsOnItsWay a (ts m)) (sym e) o)))
+      (λ (d : n ≢ a.number). inr (subst (λ (t : Token). IsOnItsWay a t) (sym (put_else ts n t' a.number d)) o))
       (cases_eq n a.number))
       h.0,
   told_put made made' ts n t' f g asks h.1,
@@ -62,23 +62,23 @@ one_open a b f g d e q = ((cc), (cc))
 
 -- steps that wait still do, after a change of the call with number n
 module _ (about : About) (k : ℕ) (ts : ℕ → Token) (n : ℕ) (t' : Token) where
-  wait_put : (s : Step) → n ≢ s.ask.number → IsWaiting about k ts s → IsWaiting about k (put ts n t') s
+  wait_put : (s : Step) → n ≢ s.ask.number → IsOfOpenCall about k ts s → IsOfOpenCall about k (put ts n t') s
   wait_put s d w = record { upto = w.upto; at = w.at; here = w.here; is = put_else ts n t' s.ask.number d ∙ w.is }
 
-  pub waits_put : (ss : List Step) → ((s : Step) → IsWaiting about k ts s → n ≢ s.ask.number) → AreWaiting about k ts ss → AreWaiting about k (put ts n t') ss
+  pub waits_put : (ss : List Step) → ((s : Step) → IsOfOpenCall about k ts s → n ≢ s.ask.number) → AreOfOpenCalls about k ts ss → AreOfOpenCalls about k (put ts n t') ss
   waits_put [] f w = tt
   waits_put (s ∷ ss) f w = (wait_put s (f s w.0) w.0, waits_put ss f w.1)
 
-  pub waits_above : (ss : List Step) → HaveNumbersAbove n ss → AreWaiting about k ts ss → AreWaiting about k (put ts n t') ss
+  pub waits_above : (ss : List Step) → HaveNumbersAbove n ss → AreOfOpenCalls about k ts ss → AreOfOpenCalls about k (put ts n t') ss
   waits_above [] a w = tt
   waits_above (s ∷ ss) a w = (wait_put s (λ e. let above = a.0 in omega arith) w.0, waits_above ss a.1 w.1)
 
-pub waits_last : (about : About) (k : ℕ) (ts : ℕ → Token) (ss : List Step) (s : Step) → AreWaiting about k ts ss → IsWaiting about k ts s → AreWaiting about k ts (ss ++ s ∷ [])
+pub waits_last : (about : About) (k : ℕ) (ts : ℕ → Token) (ss : List Step) (s : Step) → AreOfOpenCalls about k ts ss → IsOfOpenCall about k ts s → AreOfOpenCalls about k ts (ss ++ s ∷ [])
 waits_last about k ts [] s w l = (l, tt)
 waits_last about k ts (x ∷ ss) s w l = (w.0, waits_last about k ts ss s w.1 l)
 
 -- a number that no waiting step has, since its call has none
-pub waits_unused : (about : About) (k : ℕ) (ts : ℕ → Token) (n : ℕ) (ss : List Step) → ((s : Step) → IsWaiting about k ts s → n ≢ s.ask.number) → AreWaiting about k ts ss → IsUnused n ss
+pub waits_unused : (about : About) (k : ℕ) (ts : ℕ → Token) (n : ℕ) (ss : List Step) → ((s : Step) → IsOfOpenCall about k ts s → n ≢ s.ask.number) → AreOfOpenCalls about k ts ss → IsUnused n ss
 waits_unused about k ts n [] f w = tt
 waits_unused about k ts n (s ∷ ss) f w = ((λ e. f s w.0 (sym e)), waits_unused about k ts n ss f w.1)
 
@@ -119,11 +119,11 @@ module _ (about : About) (items : ℕ → List Item) (p : ℕ) (c : Caller) (ts 
   open_among : (a b : Ask) (f : Bool) (e : List Ask) → ts b.number ≡ Open a f e → IsAmong a c.pending
   open_among a b f e is = (token_ok b.number (Open a f e) is).2
 
-  waiting_among : (k : ℕ) (ss : List Step) → AreWaiting about k ts ss → AreAmong ss c.pending
+  waiting_among : (k : ℕ) (ss : List Step) → AreOfOpenCalls about k ts ss → AreAmong ss c.pending
   waiting_among k [] w = tt
   waiting_among k (s ∷ ss) w = ((token_ok s.ask.number (Done s w.0.upto w.0.at) w.0.is).2, waiting_among k ss w.1)
 
-  waiting_from : (k n : ℕ) (ss : List Step) → n ≤ floor_of c.last c.pending → AreWaiting about k ts ss → AreFrom n ss
+  waiting_from : (k n : ℕ) (ss : List Step) → n ≤ floor_of c.last c.pending → AreOfOpenCalls about k ts ss → AreFrom n ss
   waiting_from k n [] l w = tt
   waiting_from k n (s ∷ ss) l w =
       ((let low = (among_floor s.ask c.last c.pending h.queue (token_ok s.ask.number (Done s w.0.upto w.0.at) w.0.is).2).0 in omega arith), waiting_from k n ss l w.1)
@@ -177,7 +177,7 @@ module _ (about : About) (items : ℕ → List Item) (p : ℕ) (c : Caller) (ts 
           rises = below_more (floor_of c.last c.pending) (floor_of n (c.pending ++ new ∷ [])) c.made floor h.rises;
           gone = under_more (floor_of c.last c.pending) (floor_of n (c.pending ++ new ∷ [])) c.withdrawn floor h.gone;
           unused = h.unused;
-          told = λ k. told_put c.made c.made ts n new_token (λ a m. m) (λ a o. absurd (subst (λ (t : Token). IsOut a t) free o)) (asks_by p (items k)) (h.told k);
+          told = λ k. told_put c.made c.made ts n new_token (λ a m. m) (λ a o. absurd (subst (λ (t : Token). IsOnItsWay a t) free o)) (asks_by p (items k)) (h.told k);
           queue = queue_last c.last n c.pending new h.queue above refl;
           few = let e = length-append c.pending (new ∷ []) in omega arith;
           tokens = put_all ts n new_token (λ m t. TokenOk about items p (c.pending ++ new ∷ []) m t)
@@ -212,7 +212,7 @@ module _ (about : About) (items : ℕ → List Item) (p : ℕ) (c : Caller) (ts 
       let low : floor_of c.last c.pending ≡ n = lower a first in
       let high : n < floor_of c.last (behind_first c.pending) = upper a first in
       let floor : floor_of c.last c.pending ≤ floor_of c.last (behind_first c.pending) = omega arith in
-      let apart : (k : ℕ) (s : Step) → IsWaiting about k ts s → n ≢ s.ask.number = λ k s w q. open_done a false e s w.upto w.at (sym is ∙ ap ts q ∙ w.is) in
+      let apart : (k : ℕ) (s : Step) → IsOfOpenCall about k ts s → n ≢ s.ask.number = λ k s w q. open_done a false e s w.upto w.at (sym is ∙ ap ts q ∙ w.is) in
       let unused : (k : ℕ) → IsUnused n (steps_by p (items k)) = λ k. subst (λ (l : List Step). IsUnused n l) (sym (h.own k).is)
       (unused_both n (steps_on about k c.made) (h.own k).rest (unused_below n (steps_on about k c.made) (below_on about k n c.made (subst (λ (m : ℕ). HaveNumbersBelow m c.made) low h.rises))) (waits_unused about k ts n (h.own k).rest (apart k) (h.own k).waiting)) in record {
         named = h.named;
@@ -226,7 +226,7 @@ module _ (about : About) (items : ℕ → List Item) (p : ℕ) (c : Caller) (ts 
         rises = below_more (floor_of c.last c.pending) (floor_of c.last (behind_first c.pending)) c.made floor h.rises;
         gone = under_last (floor_of c.last (behind_first c.pending)) n c.withdrawn (under_more (floor_of c.last c.pending) (floor_of c.last (behind_first c.pending)) c.withdrawn floor h.gone) high;
         unused = λ k. unused_number n c.withdrawn (steps_by p (items k)) (h.unused k) (unused k);
-        told = λ k. told_put c.made c.made ts n Nothing (λ b m. m) (λ b o. let q = (subst (λ (t : Token). IsOut b t) is o).0 in absurd (cc)) (asks_by p (items k)) (h.told k);
+        told = λ k. told_put c.made c.made ts n Nothing (λ b m. m) (λ b o. let q = (subst (λ (t : Token). IsOnItsWay b t) is o).0 in absurd (cc)) (asks_by p (items k)) (h.told k);
         queue = queue_behind c.last c.pending h.queue;
         few = few_behind c.pending h.few;
         tokens = ended_tokens a first;
@@ -249,7 +249,7 @@ module _ (about : About) (items : ℕ → List Item) (p : ℕ) (c : Caller) (ts 
         rises = h.rises;
         gone = h.gone;
         unused = h.unused;
-        told = λ k. told_put c.made c.made ts n t' (λ b m. m) (λ b o. inr (refl, (subst (λ (t : Token). IsOut b t) is o).1)) (asks_by p (items k)) (h.told k);
+        told = λ k. told_put c.made c.made ts n t' (λ b m. m) (λ b o. inr (refl, (subst (λ (t : Token). IsOnItsWay b t) is o).1)) (asks_by p (items k)) (h.told k);
         queue = h.queue;
         few = h.few;
         tokens = put_all ts n t' (λ m u. TokenOk about items p c.pending m u) (token_ok n (Open a f e) is) (λ m d. h.tokens m);
@@ -280,14 +280,14 @@ module _ (about : About) (items : ℕ → List Item) (p : ℕ) (c : Caller) (ts 
     order = h.order;
   }
 
-  his_one : (a : Ask) (t : Token) → TokenOk about items p c.pending a.number t → IsOut a t → IsAmong a c.pending
+  his_one : (a : Ask) (t : Token) → TokenOk about items p c.pending a.number t → IsOnItsWay a t → IsAmong a c.pending
   his_one a Nothing k o = absurd o
   his_one a (Open b f e) k o = subst (λ (x : Ask). IsAmong x c.pending) o.1 k.2
   his_one a (Done s upto at) k o = subst (λ (x : Ask). IsAmong x c.pending) o k.2
 
   his : (asks : List Ask) → AreTold c.made ts asks → AreHis c.made c.pending asks
   his [] t = tt
-  his (a ∷ asks) t = (⊎_elim (λ (m : HasStep a c.made). inl m) (λ (o : IsOut a (ts a.number)). inr (his_one a (ts a.number) (h.tokens a.number) o)) t.0, his asks t.1)
+  his (a ∷ asks) t = (⊎_elim (λ (m : HasStep a c.made). inl m) (λ (o : IsOnItsWay a (ts a.number)). inr (his_one a (ts a.number) (h.tokens a.number) o)) t.0, his asks t.1)
 
 -- what a look at shard k tells of the steps of a pass
 pub steps_of : (items : ℕ → List Item) (c : Caller) (ts : ℕ → Token) (k : ℕ) → AccountOk c.about items c.pass c ts → HasStepsOf c k (items k)
@@ -367,7 +367,7 @@ module _ (about : About) (items : ℕ → List Item) (p : ℕ) (c : Caller) (ts 
           not_greater u = omega arith
 
   still_told : (j : ℕ) → AreTold c.made (put ts a.number t') (asks_by p (items j))
-  still_told j = told_put c.made c.made ts a.number t' (λ b m. m) (λ b o. inr (subst (λ (t : Token). IsOut b t) is o).1) (asks_by p (items j)) (h.told j)
+  still_told j = told_put c.made c.made ts a.number t' (λ b m. m) (λ b o. inr (subst (λ (t : Token). IsOnItsWay b t) is o).1) (asks_by p (items j)) (h.told j)
 
   committed_token : (m : ℕ) → a.number ≢ m → (t : Token) → ts m ≡ t → TokenOk about items p c.pending m t → TokenOk about items' p c.pending m t
   committed_token m u Nothing q o = tt
@@ -393,7 +393,7 @@ module _ (about : About) (items : ℕ → List Item) (p : ℕ) (c : Caller) (ts 
       })
       (λ j n. record { rest = (h.own j).rest; is = (h.own j).is; waiting = waits_put about j ts a.number t' (h.own j).rest (apart j) (h.own j).waiting })
     where
-      apart : (j : ℕ) (w : Step) → IsWaiting about j ts w → a.number ≢ w.ask.number
+      apart : (j : ℕ) (w : Step) → IsOfOpenCall about j ts w → a.number ≢ w.ask.number
       apart j w o q = open_done a f e w o.upto o.at (sym is ∙ ap ts q ∙ o.is)
 
   pub committed_ok : AccountOk about items' p c (put ts a.number t')
@@ -447,7 +447,7 @@ rested_of items c ts h idle k =
     let all : steps_by c.pass (items k) ≡ steps_on c.about k c.made = (h.own k).is ∙ ap (λ l. steps_on c.about k c.made ++ l) (none_wait (h.own k).rest (h.own k).waiting) ∙ append-nil (steps_on c.about k c.made) in
     sym (both_begin (steps_on c.about k c.made) (steps_by c.pass (seen_at c k)) (h.made_seen k) (subst (λ l. IsBeginning (steps_by c.pass (seen_at c k)) l) all (steps_begin c.pass (seen_at c k) (items k) (h.seen k))))
   where
-    none_wait : (ss : List Step) → AreWaiting c.about k ts ss → ss ≡ []
+    none_wait : (ss : List Step) → AreOfOpenCalls c.about k ts ss → ss ≡ []
     none_wait [] w = refl
     none_wait (s ∷ ss) w = absurd (subst (λ (l : List Ask). IsAmong s.ask l) idle (token_ok c.about items c.pass c ts h s.ask.number (Done s w.0.upto w.0.at) w.0.is).2)
 
@@ -545,7 +545,7 @@ module _ (items : ℕ → List Item) (c : Caller) (ts : ℕ → Token) (s : Step
       own_here = record {
         rest = tail.rest;
         is = tail.is ∙ ap (λ l. l ++ tail.rest) (made_upto ∙ sym (on_here c.about k c.made s refl));
-        waiting = waits_above c.about k ts number Nothing tail.rest rest_above (subst (λ (l : List Step). AreWaiting c.about k ts l) split_there.1 (h.own k).waiting).1;
+        waiting = waits_above c.about k ts number Nothing tail.rest rest_above (subst (λ (l : List Step). AreOfOpenCalls c.about k ts l) split_there.1 (h.own k).waiting).1;
       }
 
       own_there : k ≢ j → HasOwn c.about c.pass (c.made ++ s ∷ []) (put ts number Nothing) j (items j)
@@ -574,7 +574,7 @@ module _ (items : ℕ → List Item) (c : Caller) (ts : ℕ → Token) (s : Step
         rises = below_last (floor_of c.last (behind_first c.pending)) c.made s (below_more number (floor_of c.last (behind_first c.pending)) c.made (omega arith) made_below) high;
         gone = under_more (floor_of c.last c.pending) (floor_of c.last (behind_first c.pending)) c.withdrawn (omega arith) h.gone;
         unused = h.unused;
-        told = λ j. told_put c.made (c.made ++ s ∷ []) ts number Nothing (λ b m. made_left b c.made (s ∷ []) m) (λ b o. inl (made_last b c.made s (subst (λ (t : Token). IsOut b t) is o))) (asks_by c.pass (items j)) (h.told j);
+        told = λ j. told_put c.made (c.made ++ s ∷ []) ts number Nothing (λ b m. made_left b c.made (s ∷ []) m) (λ b o. inl (made_last b c.made s (subst (λ (t : Token). IsOnItsWay b t) is o))) (asks_by c.pass (items j)) (h.told j);
         queue = queue_behind c.last c.pending h.queue;
         few = few_behind c.pending h.few;
         tokens = ended_tokens c.about items c.pass c ts h s.ask first;

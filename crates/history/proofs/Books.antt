@@ -20,8 +20,8 @@ use Rattle.history.specs.declared.views.Role.TheVariants.{Nobody, Keeps}
 use Rattle.history.specs.declared.views.Token.{Token}
 use Rattle.history.specs.declared.views.Token.TheVariants.{Open, Done}
 use Rattle.history.specs.Histories.{IsBeginning, IsLegalAt, terms_of, history_of, reply_of, shard_in, steps_by, asks_by, IsByPasses, HaveNumbersBelow, HaveSteps, bound}
-use Rattle.history.specs.Rule.{alone, Contents, AccountOk, IsGood, AreWords, AreTold, Holds, total}
-use Rattle.history.specs.Plays.{keeper, answered, IsShort, committed_at}
+use Rattle.history.specs.Rule.{alone, TableContents, AccountOk, IsGood, AreWords, AreTold, KeepsRule, steps_in_all}
+use Rattle.history.specs.Plays.{keeper, answered, HasRoomForSteps, committed_at}
 use Rattle.history.proofs.Lists.{put, put_at, put_all, put_other, put_two, put_two_at, begins_same}
 use Rattle.history.proofs.Past.{rising_count, asks_step, steps_else, all_new, legal_more, by_passes_append, marked_step, total_step, total_least}
 use Rattle.history.proofs.Accounts.{token_ok, grown_ok, committed_ok}
@@ -32,9 +32,9 @@ mark_least true = omega arith
 mark_least false = omega arith
 
 -- a history has at most a step under each number of each pass, and the mark
-pub short : (about : About) (x : Contents) (k : ℕ) → IsGood about x → IsShort about (x.items k)
+pub short : (about : About) (x : TableContents) (k : ℕ) → IsGood about x → HasRoomForSteps about (x.items k)
 short about x k good =
-    let least : total about.passes (x.items k) ≤ about.passes * bound = total_least about.passes (x.items k) (λ p lt.
+    let least : steps_in_all about.passes (x.items k) ≤ about.passes * bound = total_least about.passes (x.items k) (λ p lt.
     let ok = good.passes p lt in
     let rises : length (steps_by p (x.items k)) ≤ (x.callers p).last + 1 = rising_count ((x.callers p).last + 1) (steps_by p (x.items k)) (ok.rising k) (ok.used k) in
     let within = ok.within in
@@ -44,14 +44,14 @@ short about x k good =
     omega arith
 
 -- one more item fits into a word
-pub room : (about : About) (x : Contents) (k : ℕ) → IsGood about x → about.passes ≤ 64 → length (x.items k) + 1 < 18446744073709551616
+pub room : (about : About) (x : TableContents) (k : ℕ) → IsGood about x → about.passes ≤ 64 → length (x.items k) + 1 < 18446744073709551616
 room about x k good few =
     let least : length (x.items k) ≤ about.passes * bound + 1 = short about x k good in
     let most : about.passes * bound ≤ 64 * bound = omega arith in
     omega arith
 
 -- the shard's word gets the length of its longer history
-pub words_longer : (about : About) (x : Contents) (words : List ℕ) (k : ℕ) (now : List Item) (item : Item) (tokens : ℕ → ℕ → Token) → AreWords about x words → k < about.shards
+pub words_longer : (about : About) (x : TableContents) (words : List ℕ) (k : ℕ) (now : List Item) (item : Item) (tokens : ℕ → ℕ → Token) → AreWords about x words → k < about.shards
     → now ≡ x.items k ++ item ∷ [] → length (x.items k) + 1 < 18446744073709551616
     → AreWords about (record { items = put x.items k now; callers = x.callers; tokens = tokens }) (slice_set words k ((slice_index words k + 1) % 2 ^ 64))
 words_longer about x words k now item tokens h lt is fits =
@@ -66,7 +66,7 @@ words_longer about x words k now item tokens h lt is fits =
       numbers = λ p l. get_or-set_other words k (about.shards + p) new 0 (λ e. omega arith) ∙ h.numbers p l;
     }
 
-pub longer_begins : (x : Contents) (k : ℕ) (now : List Item) (item : Item) → now ≡ x.items k ++ item ∷ [] → (j : ℕ) → IsBeginning (x.items j) (put x.items k now j)
+pub longer_begins : (x : TableContents) (k : ℕ) (now : List Item) (item : Item) → now ≡ x.items k ++ item ∷ [] → (j : ℕ) → IsBeginning (x.items j) (put x.items k now j)
 longer_begins x k now item is = put_all x.items k now (λ j l. IsBeginning (x.items j) l) (record { rest = item ∷ []; is = is }) (λ j n. begins_same (x.items j))
 
 -- what is replied is what a legal history asks for
@@ -90,7 +90,7 @@ one_ask : (a b : Ask) (f : Bool) (d e : List Ask) → Open a f d ≡ Open b true
 one_ask a b f d e q = cc
 
 -- the histories and the passes after a step of the call a
-good_step : (about : About) (x : Contents) (k : ℕ) (now : List Item) (a : Ask) (f : Bool) (b : List Ask) (at : ℕ × ℕ) → IsGood about x → a.pass < about.passes → shard_in about a ≡ k → x.tokens a.pass a.number ≡ Open a f b → HaveSteps b (x.items k)
+good_step : (about : About) (x : TableContents) (k : ℕ) (now : List Item) (a : Ask) (f : Bool) (b : List Ask) (at : ℕ × ℕ) → IsGood about x → a.pass < about.passes → shard_in about a ≡ k → x.tokens a.pass a.number ≡ Open a f b → HaveSteps b (x.items k)
     → let s : Step = answered about k (x.items k) a in now ≡ x.items k ++ Answered s ∷ []
     → IsGood about (record { items = put x.items k now; callers = x.callers; tokens = put_two x.tokens a.pass a.number (Done s now at) })
 good_step about x k now a f b at good lt here has had is =
@@ -101,11 +101,11 @@ good_step about x k now a f b at good lt here has had is =
     let below : HaveNumbersBelow a.number (steps_by a.pass (x.items k)) = subst (λ (j : ℕ). HaveNumbersBelow a.number (steps_by a.pass (x.items j))) here (token_ok about x.items a.pass c ts ok a.number (Open a f b) has).3 in
     let may : MayFollow (terms_of about k) (history_of about k (x.items k)) (Answered s) = (replies about k (x.items k) a, all_new a (x.items k) below, eq-eqb k (shard_in about a) (sym here)) in record {
       legal = put_all x.items k now (λ j l. IsLegalAt about j l) (subst (λ l. IsLegalAt about k l) (sym is) (legal_more about k (x.items k) (Answered s) (good.legal k) may)) (λ j n. good.legal j);
-      counted = put_all x.items k now (λ j l. length l ≤ total about.passes l + cond (is_marked l) 1 0)
-          (subst (λ l. length l ≤ total about.passes l + cond (is_marked l) 1 0) (sym is)
-          (let n : length (x.items k) ≤ total about.passes (x.items k) + cond {A = ℕ} (is_marked (x.items k)) 1 0 = good.counted k in
+      counted = put_all x.items k now (λ j l. length l ≤ steps_in_all about.passes l + cond (is_marked l) 1 0)
+          (subst (λ l. length l ≤ steps_in_all about.passes l + cond (is_marked l) 1 0) (sym is)
+          (let n : length (x.items k) ≤ steps_in_all about.passes (x.items k) + cond {A = ℕ} (is_marked (x.items k)) 1 0 = good.counted k in
           let e = length-append (x.items k) (Answered s ∷ []) in
-          let t : total about.passes (x.items k ++ Answered s ∷ []) ≡ total about.passes (x.items k) + 1 = total_step about.passes (x.items k) s lt in
+          let t : steps_in_all about.passes (x.items k ++ Answered s ∷ []) ≡ steps_in_all about.passes (x.items k) + 1 = total_step about.passes (x.items k) s lt in
           let m : cond {A = ℕ} (is_marked (x.items k ++ Answered s ∷ [])) 1 0 ≡ cond {A = ℕ} (is_marked (x.items k)) 1 0 = ap (λ b. cond b 1 0) (marked_step (x.items k) s) in
           omega arith))
           (λ j n. good.counted j);
@@ -124,7 +124,7 @@ good_step about x k now a f b at good lt here has had is =
 
 -- a book adds a step
 commits : (slots id k : ℕ) (about : About) (items : List Item) (a : Ask) (f : Bool) (b : List Ask) (at : ℕ × ℕ) → shard_in about a ≡ k → HaveSteps b items
-    → Allows Holds slots id (keeper about k items [] (Open a f b), []) k (λ n. (n + 1) % 2 ^ 64) (committed_at at (step slots k 1 0 none) (keeper about k items [] (Open a f b), []))
+    → Allows KeepsRule slots id (keeper about k items [] (Open a f b), []) k (λ n. (n + 1) % 2 ^ 64) (committed_at at (step slots k 1 0 none) (keeper about k items [] (Open a f b), []))
 commits slots id k about items a f b at here had s h wide e fits =
     let r = book_of s id (record { about = about; shard = k; items = items; doubt = [] }) Nobody (Open a f b) h e in
     let x = r.contents in
@@ -135,7 +135,7 @@ commits slots id k about items a f b at here had s h wide e fits =
     let now : List Item = items ++ Answered d ∷ [] in
     let is : now ≡ x.items k ++ Answered (answered about k (x.items k) a) ∷ [] = ap (λ l. l ++ Answered (answered about k l a) ∷ []) (sym mine.3) in
     let t' : Token = Done d now at in
-    let x' : Contents = record { items = put x.items k now; callers = x.callers; tokens = put_two x.tokens a.pass a.number t' } in (
+    let x' : TableContents = record { items = put x.items k now; callers = x.callers; tokens = put_two x.tokens a.pass a.number t' } in (
       keeper about k now [] t',
       keeps,
       tt,
@@ -168,7 +168,7 @@ commits slots id k about items a f b at here had s h wide e fits =
     )
 
 pub commits_as : (slots id shard : ℕ) (shelf : Shelf) (a : Ask) (f : Bool) (b : List Ask) (at : ℕ × ℕ) (m : Me Unit View) → m ≡ (alone (Keeps shelf) (Open a f b), []) → shelf.doubt ≡ [] → shelf.shard ≡ shard → shard_in shelf.about a ≡ shard
-    → HaveSteps b shelf.items → Allows Holds slots id m shard (λ n. (n + 1) % 2 ^ 64) (committed_at at (step slots shard 1 0 none) m)
+    → HaveSteps b shelf.items → Allows KeepsRule slots id m shard (λ n. (n + 1) % 2 ^ 64) (committed_at at (step slots shard 1 0 none) m)
 commits_as slots id shard shelf a f b at m is none_yet at_shard here had =
     let same : m ≡ (keeper shelf.about shard shelf.items [] (Open a f b), []) = is ∙ ap (λ (z : ℕ × List Ask). (keeper shelf.about z.0 shelf.items z.1 (Open a f b), [])) (λ i. (at_shard i, none_yet i)) in
-    subst (λ (u : Me Unit View). Allows Holds slots id u shard (λ n. (n + 1) % 2 ^ 64) (committed_at at (step slots shard 1 0 none) u)) (sym same) (commits slots id shard shelf.about shelf.items a f b at here had)
+    subst (λ (u : Me Unit View). Allows KeepsRule slots id u shard (λ n. (n + 1) % 2 ^ 64) (committed_at at (step slots shard 1 0 none) u)) (sym same) (commits slots id shard shelf.about shelf.items a f b at here had)

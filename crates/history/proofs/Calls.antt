@@ -13,7 +13,7 @@ use Rattle.history.specs.declared.views.Role.TheVariants.{Nobody, Calls}
 use Rattle.history.specs.declared.views.Token.{Token}
 use Rattle.history.specs.declared.views.Token.TheVariants.{Nothing, Open, Done}
 use Rattle.history.specs.Histories.{shard_in, IsFirstIfAmong, behind_first, bound}
-use Rattle.history.specs.Rule.{alone, Contents, Seating, IsInDoubt, number_of, Holds}
+use Rattle.history.specs.Rule.{alone, TableContents, Seating, IsInDoubt, number_of, KeepsRule}
 use Rattle.history.specs.Plays.{IsRested, ask_of, before_of, announce_to, withdraw_to, collect_to, announced_as, withdrew, collected}
 use Rattle.history.proofs.Lists.{put, put_at, put_other, put_two, put_two_at}
 use Rattle.history.proofs.Past.{legal_front, by_passes_front, number_last}
@@ -21,7 +21,7 @@ use Rattle.history.proofs.Sharding.{shard_below}
 use Rattle.history.proofs.Accounts.{free_number, token_ok, announced_ok, withdrawn_ok, collected_ok, extends_of, rested_then, answers_first, returns_first, rested_of}
 use Rattle.history.proofs.Seats.{Frame, seats_set, hand_put, doubt_put, account_at, with_pass, held_by, good_pass, words_pass, pass_of}
 
-pass_frame : (about : About) (x : Contents) (seats : Seating) (p n id : ℕ) (c' : Caller) (t t' : Token) → seats.passes p ≡ id → x.tokens p n ≡ t → (x.tokens p n ≡ Nothing) ⊎ (seats.holders p n ≡ id) → ((a : Ask) → IsInDoubt a t → IsInDoubt a t')
+pass_frame : (about : About) (x : TableContents) (seats : Seating) (p n id : ℕ) (c' : Caller) (t t' : Token) → seats.passes p ≡ id → x.tokens p n ≡ t → (x.tokens p n ≡ Nothing) ⊎ (seats.holders p n ≡ id) → ((a : Ask) → IsInDoubt a t → IsInDoubt a t')
     → Frame about x seats id (with_pass x p n c' t') (held_by seats p n id)
 pass_frame about x seats p n id c' t t' mine was free f = record {
   books = λ k j d e. (e, refl);
@@ -37,7 +37,7 @@ nothing_doubted t' a o = absurd (clash o.0 o.1)
     clash e q = cc
 
 announces : (slots id n : ℕ) (c : Caller) (call : Call) → length c.pending < 64 → c.last < n → n < bound
-    → Allows Holds slots id (alone (Calls c) Nothing, []) (c.about.shards + c.pass) (λ _. n) (λ _. announced_as call (step slots (c.about.shards + c.pass) n 0 none) (alone (Calls c) Nothing, []) n)
+    → Allows KeepsRule slots id (alone (Calls c) Nothing, []) (c.about.shards + c.pass) (λ _. n) (λ _. announced_as call (step slots (c.about.shards + c.pass) n 0 none) (alone (Calls c) Nothing, []) n)
 announces slots id n c call few above small s h wide e fits =
     let k = pass_of s id c Nobody Nothing h e in
     let x = k.contents in
@@ -71,7 +71,7 @@ announces slots id n c call few above small s h wide e fits =
     )
 
 withdraws : (slots id word : ℕ) (c : Caller) (a : Ask) (d : List Ask) → a.pass ≡ c.pass → IsFirstIfAmong a c.pending → word ≡ number_of c.last (behind_first c.pending)
-    → Allows Holds slots id (alone (Calls c) (Open a false d), []) (c.about.shards + c.pass) (λ _. word) (λ _. withdrew (step slots (c.about.shards + c.pass) word 0 none) (alone (Calls c) (Open a false d), []) word)
+    → Allows KeepsRule slots id (alone (Calls c) (Open a false d), []) (c.about.shards + c.pass) (λ _. word) (λ _. withdrew (step slots (c.about.shards + c.pass) word 0 none) (alone (Calls c) (Open a false d), []) word)
 withdraws slots id word c a d own number due s h wide e fits =
     let n = a.number in
     let k = pass_of s id c Nobody (Open a false d) h e in
@@ -106,7 +106,7 @@ withdraws slots id word c a d own number due s h wide e fits =
     not_doubted a b d e q = cc
 
 collects : (slots id word : ℕ) (c : Caller) (r : Step) (upto : List Item) (at : ℕ × ℕ) → r.ask.pass ≡ c.pass → IsFirstIfAmong r.ask c.pending → word ≡ number_of c.last (behind_first c.pending) → IsRested c
-    → Allows Holds slots id (alone (Calls c) (Done r upto at), []) (c.about.shards + c.pass) (λ _. word) (λ _. collected (step slots (c.about.shards + c.pass) word 0 none) (alone (Calls c) (Done r upto at), []) word)
+    → Allows KeepsRule slots id (alone (Calls c) (Done r upto at), []) (c.about.shards + c.pass) (λ _. word) (λ _. collected (step slots (c.about.shards + c.pass) word 0 none) (alone (Calls c) (Done r upto at), []) word)
 collects slots id word c r upto at own number due rested s h wide e fits =
     let n = r.ask.number in
     let k = pass_of s id c Nobody (Done r upto at) h e in
@@ -155,19 +155,19 @@ collects slots id word c r upto at own number due rested s h wide e fits =
 
 -- the same, of a seat that is known by equations
 pub announces_as : (slots id word n : ℕ) (c : Caller) (call : Call) (m : Me Unit View) → m ≡ (alone (Calls c) Nothing, []) → c.about.shards + c.pass ≡ word → length c.pending < 64 → c.last < n → n < bound
-    → Allows Holds slots id m word (λ _. n) (λ _. announced_as call (step slots word n 0 none) m n)
+    → Allows KeepsRule slots id m word (λ _. n) (λ _. announced_as call (step slots word n 0 none) m n)
 announces_as slots id word n c call m is at_word few above small =
-    subst (λ (u : Me Unit View). Allows Holds slots id u word (λ _. n) (λ _. announced_as call (step slots word n 0 none) u n)) (sym is)
-    (subst (λ (z : ℕ). Allows Holds slots id (alone (Calls c) Nothing, []) z (λ _. n) (λ _. announced_as call (step slots z n 0 none) (alone (Calls c) Nothing, []) n)) at_word (announces slots id n c call few above small))
+    subst (λ (u : Me Unit View). Allows KeepsRule slots id u word (λ _. n) (λ _. announced_as call (step slots word n 0 none) u n)) (sym is)
+    (subst (λ (z : ℕ). Allows KeepsRule slots id (alone (Calls c) Nothing, []) z (λ _. n) (λ _. announced_as call (step slots z n 0 none) (alone (Calls c) Nothing, []) n)) at_word (announces slots id n c call few above small))
 
 pub withdraws_as : (slots id at_word word : ℕ) (c : Caller) (a : Ask) (d : List Ask) (m : Me Unit View) → m ≡ (alone (Calls c) (Open a false d), []) → c.about.shards + c.pass ≡ at_word → a.pass ≡ c.pass → IsFirstIfAmong a c.pending
-    → word ≡ number_of c.last (behind_first c.pending) → Allows Holds slots id m at_word (λ _. word) (λ _. withdrew (step slots at_word word 0 none) m word)
+    → word ≡ number_of c.last (behind_first c.pending) → Allows KeepsRule slots id m at_word (λ _. word) (λ _. withdrew (step slots at_word word 0 none) m word)
 withdraws_as slots id at_word word c a d m is there own number due =
-    subst (λ (u : Me Unit View). Allows Holds slots id u at_word (λ _. word) (λ _. withdrew (step slots at_word word 0 none) u word)) (sym is)
-    (subst (λ (z : ℕ). Allows Holds slots id (alone (Calls c) (Open a false d), []) z (λ _. word) (λ _. withdrew (step slots z word 0 none) (alone (Calls c) (Open a false d), []) word)) there (withdraws slots id word c a d own number due))
+    subst (λ (u : Me Unit View). Allows KeepsRule slots id u at_word (λ _. word) (λ _. withdrew (step slots at_word word 0 none) u word)) (sym is)
+    (subst (λ (z : ℕ). Allows KeepsRule slots id (alone (Calls c) (Open a false d), []) z (λ _. word) (λ _. withdrew (step slots z word 0 none) (alone (Calls c) (Open a false d), []) word)) there (withdraws slots id word c a d own number due))
 
 pub collects_as : (slots id at_word word : ℕ) (c : Caller) (r : Step) (upto : List Item) (at : ℕ × ℕ) (m : Me Unit View) → m ≡ (alone (Calls c) (Done r upto at), []) → c.about.shards + c.pass ≡ at_word → r.ask.pass ≡ c.pass
-    → IsFirstIfAmong r.ask c.pending → word ≡ number_of c.last (behind_first c.pending) → IsRested c → Allows Holds slots id m at_word (λ _. word) (λ _. collected (step slots at_word word 0 none) m word)
+    → IsFirstIfAmong r.ask c.pending → word ≡ number_of c.last (behind_first c.pending) → IsRested c → Allows KeepsRule slots id m at_word (λ _. word) (λ _. collected (step slots at_word word 0 none) m word)
 collects_as slots id at_word word c r upto at m is there own number due rested =
-    subst (λ (u : Me Unit View). Allows Holds slots id u at_word (λ _. word) (λ _. collected (step slots at_word word 0 none) u word)) (sym is)
-    (subst (λ (z : ℕ). Allows Holds slots id (alone (Calls c) (Done r upto at), []) z (λ _. word) (λ _. collected (step slots z word 0 none) (alone (Calls c) (Done r upto at), []) word)) there (collects slots id word c r upto at own number due rested))
+    subst (λ (u : Me Unit View). Allows KeepsRule slots id u at_word (λ _. word) (λ _. collected (step slots at_word word 0 none) u word)) (sym is)
+    (subst (λ (z : ℕ). Allows KeepsRule slots id (alone (Calls c) (Done r upto at), []) z (λ _. word) (λ _. collected (step slots z word 0 none) (alone (Calls c) (Done r upto at), []) word)) there (collects slots id word c r upto at own number due rested))

@@ -9,8 +9,8 @@ use Rattle.history.specs.declared.views.Role.{Role}
 use Rattle.history.specs.declared.views.Role.TheVariants.{Nobody, Opener, Keeps, Calls}
 use Rattle.history.specs.declared.views.Token.{Token}
 use Rattle.history.specs.declared.views.Token.TheVariants.{Nothing, Open, Done}
-use Rattle.history.specs.Rule.{alone, Contents, Seating, IsRole, IsHand, AreTwo, Holds}
-use Rattle.history.specs.Plays.{loose, kept_back, given, taken, seated, host, visitor}
+use Rattle.history.specs.Rule.{alone, TableContents, Seating, IsRole, IsHand, AreTwo, KeepsRule}
+use Rattle.history.specs.Plays.{loose, kept_back, seat_alone, taken, seated, host, visitor}
 use Rattle.history.proofs.Lists.{put, put_at, put_else, put_other, put_two_at, put_two_other}
 use Rattle.history.proofs.Seats.{Frame, role_kept, seats_split, seats_join, still_there, held_by}
 
@@ -20,17 +20,17 @@ moved seats Nothing i = seats
 moved seats (Open a f e) i = held_by seats a.pass a.number i
 moved seats (Done s upto at) i = held_by seats s.ask.pass s.ask.number i
 
-hand_moved : (about : About) (x : Contents) (seats : Seating) (p m b i : ℕ) → seats.holders p m ≡ b → (j : ℕ) (t : Token) → j ≢ b → IsHand about x seats j t → IsHand about x (held_by seats p m i) j t
+hand_moved : (about : About) (x : TableContents) (seats : Seating) (p m b i : ℕ) → seats.holders p m ≡ b → (j : ℕ) (t : Token) → j ≢ b → IsHand about x seats j t → IsHand about x (held_by seats p m i) j t
 hand_moved about x seats p m b i mine j Nothing n h = tt
 hand_moved about x seats p m b i mine j (Open a f e) n h = (h.0, put_two_other seats.holders p m i seats.holders b a.pass a.number j mine h.1 n ∙ h.1, h.2)
 hand_moved about x seats p m b i mine j (Done s upto at) n h = (h.0, put_two_other seats.holders p m i seats.holders b s.ask.pass s.ask.number j mine h.1 n ∙ h.1, h.2)
 
-frame_moved : (about : About) (x : Contents) (seats : Seating) (b i : ℕ) (t : Token) → IsHand about x seats b t → Frame about x seats b x (moved seats t i)
+frame_moved : (about : About) (x : TableContents) (seats : Seating) (b i : ℕ) (t : Token) → IsHand about x seats b t → Frame about x seats b x (moved seats t i)
 frame_moved about x seats b i Nothing h = record { books = λ k j n e. (e, refl); passes = λ p j n e. (e, refl); hands = λ j t n e. e; doubts = λ a j n e o. o }
 frame_moved about x seats b i (Open a f e) h = record { books = λ k j n e. (e, refl); passes = λ p j n e. (e, refl); hands = hand_moved about x seats a.pass a.number b i h.1; doubts = λ a j n e o. o }
 frame_moved about x seats b i (Done s upto at) h = record { books = λ k j n e. (e, refl); passes = λ p j n e. (e, refl); hands = hand_moved about x seats s.ask.pass s.ask.number b i h.1; doubts = λ a j n e o. o }
 
-role_moved : (about : About) (x : Contents) (seats : Seating) (t : Token) (i j : ℕ) (role : Role) → IsRole about x seats j role → IsRole about x (moved seats t i) j role
+role_moved : (about : About) (x : TableContents) (seats : Seating) (t : Token) (i j : ℕ) (role : Role) → IsRole about x seats j role → IsRole about x (moved seats t i) j role
 role_moved about x seats Nothing i j role h = h
 role_moved about x seats (Open a f e) i j Nobody h = h
 role_moved about x seats (Open a f e) i j (Opener known c d) h = h
@@ -41,13 +41,13 @@ role_moved about x seats (Done s upto at) i j (Opener known c d) h = h
 role_moved about x seats (Done s upto at) i j (Keeps shelf) h = h
 role_moved about x seats (Done s upto at) i j (Calls c) h = h
 
-hand_there : (about : About) (x : Contents) (seats : Seating) (t : Token) (b i : ℕ) → IsHand about x seats b t → IsHand about x (moved seats t i) i t
+hand_there : (about : About) (x : TableContents) (seats : Seating) (t : Token) (b i : ℕ) → IsHand about x seats b t → IsHand about x (moved seats t i) i t
 hand_there about x seats Nothing b i h = h
 hand_there about x seats (Open a f e) b i h = (h.0, put_two_at seats.holders a.pass a.number i a.pass a.number refl refl, h.2)
 hand_there about x seats (Done s upto at) b i h = (h.0, put_two_at seats.holders s.ask.pass s.ask.number i s.ask.pass s.ask.number refl refl, h.2)
 
 -- the call in hand goes to a new seat
-pub gives : (id : ℕ) (v : View) → Splits Holds id v (kept_back v) (given v)
+pub gives : (id : ℕ) (v : View) → Splits KeepsRule id v (kept_back v) (seat_alone v)
 gives id v s h e =
     let k = h.1 in
     let mine = k.seats id v e in
@@ -58,7 +58,7 @@ gives id v s h e =
         seating = seats;
         words = k.words;
         good = k.good;
-        seats = seats_split h.0 k.contents k.seating id k.contents seats (frame_moved h.0 k.contents k.seating id (length s.views) v.hand mine.hand) s.views (kept_back v) (given v) k.seats
+        seats = seats_split h.0 k.contents k.seating id k.contents seats (frame_moved h.0 k.contents k.seating id (length s.views) v.hand mine.hand) s.views (kept_back v) (seat_alone v) k.seats
             (record {
               role = role_moved h.0 k.contents k.seating v.hand (length s.views) id v.role mine.role;
               guest = role_moved h.0 k.contents k.seating v.hand (length s.views) id v.guest mine.guest;
@@ -70,7 +70,7 @@ gives id v s h e =
     )
 
 -- another seat's call comes into hand
-pub takes : (id : ℕ) (v : View) (other : ℕ) (w : View) → Joins Holds id v other w (taken v w) loose
+pub takes : (id : ℕ) (v : View) (other : ℕ) (w : View) → Joins KeepsRule id v other w (taken v w) loose
 takes id v other w s h e n there =
     let k = h.1 in
     let mine = k.seats id v e in
@@ -96,7 +96,7 @@ takes id v other w s h e n there =
 abbrev seated_at : Seating → ℕ → ℕ → Seating
 seated_at seats p i = record { books = seats.books; passes = put seats.passes p i; holders = seats.holders }
 
-frame_seated : (about : About) (x : Contents) (seats : Seating) (p b i : ℕ) → seats.passes p ≡ b → Frame about x seats b x (seated_at seats p i)
+frame_seated : (about : About) (x : TableContents) (seats : Seating) (p b i : ℕ) → seats.passes p ≡ b → Frame about x seats b x (seated_at seats p i)
 frame_seated about x seats p b i mine = record {
   books = λ k j n e. (e, refl);
   passes = λ q j n e. (put_other seats.passes p i seats.passes b q j mine e n ∙ e, refl);
@@ -109,19 +109,19 @@ frame_seated about x seats p b i mine = record {
     same j (Open a f e) n h = h
     same j (Done s upto at) n h = h
 
-hand_same : (about : About) (x : Contents) (seats : Seating) (p i j : ℕ) (t : Token) → IsHand about x seats j t → IsHand about x (seated_at seats p i) j t
+hand_same : (about : About) (x : TableContents) (seats : Seating) (p i j : ℕ) (t : Token) → IsHand about x seats j t → IsHand about x (seated_at seats p i) j t
 hand_same about x seats p i j Nothing h = h
 hand_same about x seats p i j (Open a f e) h = h
 hand_same about x seats p i j (Done s upto at) h = h
 
-two_roles : (about : About) (x : Contents) (seats : Seating) (id other : ℕ) (role : Role) (d : Caller) → other ≢ id → IsRole about x seats id role → IsRole about x seats other (Calls d) → AreTwo role (Calls d)
+two_roles : (about : About) (x : TableContents) (seats : Seating) (id other : ℕ) (role : Role) (d : Caller) → other ≢ id → IsRole about x seats id role → IsRole about x seats other (Calls d) → AreTwo role (Calls d)
 two_roles about x seats id other Nobody d n h k = tt
 two_roles about x seats id other (Opener known a b) d n h k = tt
 two_roles about x seats id other (Keeps shelf) d n h k = tt
 two_roles about x seats id other (Calls c) d n h k = λ e. n (sym k.2 ∙ ap seats.passes (sym e) ∙ h.2)
 
 -- a pass sits with seat id
-sits : (id : ℕ) (v : View) (other : ℕ) (d : Caller) → Joins Holds id v other (alone (Calls d) Nothing) (seated v (alone (Calls d) Nothing)) loose
+sits : (id : ℕ) (v : View) (other : ℕ) (d : Caller) → Joins KeepsRule id v other (alone (Calls d) Nothing) (seated v (alone (Calls d) Nothing)) loose
 sits id v other d s h e n there =
     let k = h.1 in
     let w : View = alone (Calls d) Nothing in
@@ -146,8 +146,8 @@ sits id v other d s h e n there =
       },
     )
 
-pub sits_as : (id : ℕ) (v : View) (other : ℕ) (w : View) (d : Caller) → w ≡ alone (Calls d) Nothing → Joins Holds id v other w (seated v w) loose
-sits_as id v other w d is = subst (λ (u : View). Joins Holds id v other u (seated v u) loose) (sym is) (sits id v other d)
+pub sits_as : (id : ℕ) (v : View) (other : ℕ) (w : View) (d : Caller) → w ≡ alone (Calls d) Nothing → Joins KeepsRule id v other w (seated v w) loose
+sits_as id v other w d is = subst (λ (u : View). Joins KeepsRule id v other u (seated v u) loose) (sym is) (sits id v other d)
 
 -- one book or pass, or nothing
 abbrev IsOne : Role → Type 0
@@ -155,14 +155,14 @@ IsOne (Opener known a b) = ⊥
 IsOne role = Unit {0}
 
 -- what sits beside the pass stays
-role_stays : (about : About) (x : Contents) (seats : Seating) (p i id : ℕ) (role : Role) (d : Caller) → d.pass ≡ p → AreTwo role (Calls d) → IsRole about x seats id role → IsOne role → IsRole about x (seated_at seats p i) id role
+role_stays : (about : About) (x : TableContents) (seats : Seating) (p i id : ℕ) (role : Role) (d : Caller) → d.pass ≡ p → AreTwo role (Calls d) → IsRole about x seats id role → IsOne role → IsRole about x (seated_at seats p i) id role
 role_stays about x seats p i id Nobody d e two h o = tt
 role_stays about x seats p i id (Opener known a b) d e two h o = absurd o
 role_stays about x seats p i id (Keeps shelf) d e two h o = h
 role_stays about x seats p i id (Calls c) d e two h o = (h.0, h.1, put_else seats.passes p i c.pass (λ q. two (sym q ∙ sym e)) ∙ h.2, h.3)
 
 -- a pass that sits with seat id leaves it
-leaves : (id : ℕ) (role : Role) (d : Caller) (hand : Token) → IsOne role → Splits Holds id (record { role = role; guest = Calls d; hand = hand }) (alone role hand) (alone (Calls d) Nothing)
+leaves : (id : ℕ) (role : Role) (d : Caller) (hand : Token) → IsOne role → Splits KeepsRule id (record { role = role; guest = Calls d; hand = hand }) (alone role hand) (alone (Calls d) Nothing)
 leaves id role d hand one s h e =
     let k = h.1 in
     let v : View = record { role = role; guest = Calls d; hand = hand } in
@@ -193,8 +193,8 @@ leaves id role d hand one s h e =
     two_nobody (Keeps shelf) = tt
     two_nobody (Calls c) = tt
 
-pub pass_leaves : (id : ℕ) (v : View) (c d : Caller) → v ≡ record { role = Calls c; guest = Calls d; hand = Nothing } → Splits Holds id v (host v) (visitor v)
-pass_leaves id v c d is = subst (λ (u : View). Splits Holds id u (host u) (visitor u)) (sym is) (leaves id (Calls c) d Nothing tt)
+pub pass_leaves : (id : ℕ) (v : View) (c d : Caller) → v ≡ record { role = Calls c; guest = Calls d; hand = Nothing } → Splits KeepsRule id v (host v) (visitor v)
+pass_leaves id v c d is = subst (λ (u : View). Splits KeepsRule id u (host u) (visitor u)) (sym is) (leaves id (Calls c) d Nothing tt)
 
-pub book_leaves : (id : ℕ) (v : View) (shelf : Shelf) (d : Caller) → v ≡ record { role = Keeps shelf; guest = Calls d; hand = Nothing } → Splits Holds id v (host v) (visitor v)
-book_leaves id v shelf d is = subst (λ (u : View). Splits Holds id u (host u) (visitor u)) (sym is) (leaves id (Keeps shelf) d Nothing tt)
+pub book_leaves : (id : ℕ) (v : View) (shelf : Shelf) (d : Caller) → v ≡ record { role = Keeps shelf; guest = Calls d; hand = Nothing } → Splits KeepsRule id v (host v) (visitor v)
+book_leaves id v shelf d is = subst (λ (u : View). Splits KeepsRule id u (host u) (visitor u)) (sym is) (leaves id (Keeps shelf) d Nothing tt)

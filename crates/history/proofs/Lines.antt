@@ -12,7 +12,7 @@ use Rattle.history.specs.declared.views.About.{About}
 use Rattle.history.specs.declared.views.Caller.{Caller}
 use Rattle.history.specs.Histories.{shard_in, step_of, steps_by, HasStep, HaveSteps, behind_first, asks_on}
 use Rattle.history.specs.Plays.{ask_of, before_of, announce_to, withdraw_to, collect_to}
-use Rattle.history.specs.Handles.{Announced, tickets_of, tickets_on, AreInLine}
+use Rattle.history.specs.Handles.{Announced, tickets_announced, tickets_on, AreInLine}
 use Rattle.history.proofs.Past.{have_more, have_last, made_now}
 
 cond_asks : (b : Bool) (a : Ask) (xs ys : List Ask) → cond b (a ∷ (xs ++ ys)) (xs ++ ys) ≡ cond b (a ∷ xs) xs ++ ys
@@ -28,15 +28,15 @@ line_cond front true t ts f h = (f refl, h)
 line_cond front false t ts f h = subst (λ (l : List Ask). AreInLine l ts) (append-nil front) h
 
 -- the tickets of one shard, of calls that a pass announces one after another, stand in line behind its open calls there
-pub stand_in_line : (table : TableId) (about : About) (k : ℕ) (c : Caller) (calls : List Call) → c.about ≡ about → AreInLine (asks_on about k c.pending) (tickets_on about k (tickets_of table c calls))
+pub stand_in_line : (table : TableId) (about : About) (k : ℕ) (c : Caller) (calls : List Call) → c.about ≡ about → AreInLine (asks_on about k c.pending) (tickets_on about k (tickets_announced table c calls))
 stand_in_line table about k c [] at = tt
 stand_in_line table about k c (call ∷ calls) at =
     let n : ℕ = c.last + 1 in
     let a : Ask = ask_of c n call in
     let t : Announced = record { table = table; ask = a; doubted = false; before = before_of c n call } in
-    line_cond (asks_on about k c.pending) (eqb k (shard_in about a)) t (tickets_on about k (tickets_of table (announce_to c n call) calls))
+    line_cond (asks_on about k c.pending) (eqb k (shard_in about a)) t (tickets_on about k (tickets_announced table (announce_to c n call) calls))
     (λ e. (λ i. asks_on (at i) (shard_in (at i) a) c.pending) ∙ ap (λ (j : ℕ). asks_on about j c.pending) (sym (eqb-true k (shard_in about a) e)))
-    (subst (λ (l : List Ask). AreInLine l (tickets_on about k (tickets_of table (announce_to c n call) calls))) (asks_on_append about k c.pending (a ∷ [])) (stand_in_line table about k (announce_to c n call) calls at))
+    (subst (λ (l : List Ask). AreInLine l (tickets_on about k (tickets_announced table (announce_to c n call) calls))) (asks_on_append about k c.pending (a ∷ [])) (stand_in_line table about k (announce_to c n call) calls at))
 
 -- a call that no open one stands before
 pub alone_before : (c : Caller) (n : ℕ) (call : Call) → c.pending ≡ [] → before_of c n call ≡ []

@@ -13,15 +13,15 @@ use Rattle.history.specs.declared.views.Role.TheVariants.{Nobody, Keeps, Calls}
 use Rattle.history.specs.declared.views.Token.{Token}
 use Rattle.history.specs.declared.views.Token.TheVariants.{Nothing, Open, Done}
 use Rattle.history.specs.Histories.{IsBeginning, IsLegalAt, IsByPasses}
-use Rattle.history.specs.Rule.{alone, Contents, Seating, AccountOk, IsHand, number_of, Holds}
-use Rattle.history.specs.Plays.{seen_at, look_to, looked, met, settled, counted, IsShort, HasStepsOf}
+use Rattle.history.specs.Rule.{alone, TableContents, Seating, AccountOk, IsHand, number_of, KeepsRule}
+use Rattle.history.specs.Plays.{seen_at, look_to, looked, met, settled, items_counted, HasRoomForSteps, HasStepsOf}
 use Rattle.history.proofs.Lists.{put, put_at, put_else, put_other}
 use Rattle.history.proofs.Books.{short}
 use Rattle.history.proofs.Accounts.{looked_ok, steps_of}
 use Rattle.history.proofs.Seats.{Frame, seats_set, account_at, with_caller, good_caller, words_look, words_same, pass_of, book_of}
 
 -- what is known of a pass alone changes
-caller_frame : (about : About) (x : Contents) (seats : Seating) (p id : ℕ) (c' : Caller) → seats.passes p ≡ id → Frame about x seats id (with_caller x p c') seats
+caller_frame : (about : About) (x : TableContents) (seats : Seating) (p id : ℕ) (c' : Caller) → seats.passes p ≡ id → Frame about x seats id (with_caller x p c') seats
 caller_frame about x seats p id c' mine = record {
   books = λ k j n e. (e, refl);
   passes = λ q j n e. (e, put_other x.callers p c' seats.passes id q j mine e n);
@@ -37,7 +37,7 @@ caller_frame about x seats p id c' mine = record {
 word_same : (c d : Caller) → c ≡ d → number_of c.last c.pending ≡ number_of d.last d.pending
 word_same c d e = ap (λ (o : Caller). number_of o.last o.pending) e
 
-looks : (slots id k : ℕ) (c : Caller) → k < c.about.shards → Allows Holds slots id (alone (Calls c) Nothing, []) k (λ n. n) (looked (step slots k 0 0 none) (alone (Calls c) Nothing, []))
+looks : (slots id k : ℕ) (c : Caller) → k < c.about.shards → Allows KeepsRule slots id (alone (Calls c) Nothing, []) k (λ n. n) (looked (step slots k 0 0 none) (alone (Calls c) Nothing, []))
 looks slots id k c lt s h wide e fits =
     let r = pass_of s id c Nobody Nothing h e in
     let x = r.contents in
@@ -63,10 +63,10 @@ looks slots id k c lt s h wide e fits =
       ((x.items k, refl, ok.seen k, r.good.legal k, sym (r.words.lengths k lt), steps_of x.items c ts k ok, (let w = ok.wide in omega arith), r.good.by_passes k), refl),
     )
 
-pub looks_as : (slots id k : ℕ) (c : Caller) (m : Me Unit View) → m ≡ (alone (Calls c) Nothing, []) → k < c.about.shards → Allows Holds slots id m k (λ n. n) (looked (step slots k 0 0 none) m)
-looks_as slots id k c m is lt = subst (λ (u : Me Unit View). Allows Holds slots id u k (λ n. n) (looked (step slots k 0 0 none) u)) (sym is) (looks slots id k c lt)
+pub looks_as : (slots id k : ℕ) (c : Caller) (m : Me Unit View) → m ≡ (alone (Calls c) Nothing, []) → k < c.about.shards → Allows KeepsRule slots id m k (λ n. n) (looked (step slots k 0 0 none) m)
+looks_as slots id k c m is lt = subst (λ (u : Me Unit View). Allows KeepsRule slots id u k (λ n. n) (looked (step slots k 0 0 none) u)) (sym is) (looks slots id k c lt)
 
-both_frame : (about : About) (x : Contents) (seats : Seating) (p q id : ℕ) (c' d' : Caller) → seats.passes p ≡ id → seats.passes q ≡ id → Frame about x seats id (with_caller (with_caller x p c') q d') seats
+both_frame : (about : About) (x : TableContents) (seats : Seating) (p q id : ℕ) (c' d' : Caller) → seats.passes p ≡ id → seats.passes q ≡ id → Frame about x seats id (with_caller (with_caller x p c') q d') seats
 both_frame about x seats p q id c' d' mine its = record {
   books = λ k j n e. (e, refl);
   passes = λ o j n e. (e, put_other (put x.callers p c') q d' seats.passes id o j its e n ∙ put_other x.callers p c' seats.passes id o j mine e n);
@@ -80,7 +80,7 @@ both_frame about x seats p q id c' d' mine its = record {
     same j (Done s upto at) h = h
 
 meets : (slots id k : ℕ) (c d : Caller) → k < c.about.shards
-    → Allows Holds slots id (record { role = Calls c; guest = Calls d; hand = Nothing }, []) k (λ n. n) (met (step slots k 0 0 none) (record { role = Calls c; guest = Calls d; hand = Nothing }, []))
+    → Allows KeepsRule slots id (record { role = Calls c; guest = Calls d; hand = Nothing }, []) k (λ n. n) (met (step slots k 0 0 none) (record { role = Calls c; guest = Calls d; hand = Nothing }, []))
 meets slots id k c d lt s h wide e fits =
     let v : View = record { role = Calls c; guest = Calls d; hand = Nothing } in
     let r = pass_of s id c (Calls d) Nothing h e in
@@ -95,7 +95,7 @@ meets slots id k c d lt s h wide e fits =
     let okayed = subst (λ (b : About). AccountOk b x.items d.pass d us) (sym its.0) okay in
     let c' : Caller = look_to c k (x.items k) in
     let d' : Caller = look_to d k (x.items k) in
-    let x' : Contents = with_caller (with_caller x c.pass c') d.pass d' in
+    let x' : TableContents = with_caller (with_caller x c.pass c') d.pass d' in
     let w : View = record { role = Calls c'; guest = Calls d'; hand = Nothing } in (
       w,
       keeps,
@@ -120,10 +120,10 @@ meets slots id k c d lt s h wide e fits =
       ((x.items k, refl, (ok.seen k, okay.seen k, r.good.legal k, steps_of x.items c ts k ok, steps_of x.items d us k okayed, its.0, r.good.by_passes k), (let o = ok.wide in omega arith), (let o = okay.wide in omega arith)), refl),
     )
 
-pub meets_as : (slots id k : ℕ) (c d : Caller) (m : Me Unit View) → m ≡ (record { role = Calls c; guest = Calls d; hand = Nothing }, []) → k < c.about.shards → Allows Holds slots id m k (λ n. n) (met (step slots k 0 0 none) m)
-meets_as slots id k c d m is lt = subst (λ (u : Me Unit View). Allows Holds slots id u k (λ n. n) (met (step slots k 0 0 none) u)) (sym is) (meets slots id k c d lt)
+pub meets_as : (slots id k : ℕ) (c d : Caller) (m : Me Unit View) → m ≡ (record { role = Calls c; guest = Calls d; hand = Nothing }, []) → k < c.about.shards → Allows KeepsRule slots id m k (λ n. n) (met (step slots k 0 0 none) m)
+meets_as slots id k c d m is lt = subst (λ (u : Me Unit View). Allows KeepsRule slots id u k (λ n. n) (met (step slots k 0 0 none) u)) (sym is) (meets slots id k c d lt)
 
-settles : (slots id k : ℕ) (shelf : Shelf) (c : Caller) → Allows Holds slots id (record { role = Keeps shelf; guest = Calls c; hand = Nothing }, []) k (λ n. n) (settled (step slots k 0 0 none) (record { role = Keeps shelf; guest = Calls c; hand = Nothing }, []))
+settles : (slots id k : ℕ) (shelf : Shelf) (c : Caller) → Allows KeepsRule slots id (record { role = Keeps shelf; guest = Calls c; hand = Nothing }, []) k (λ n. n) (settled (step slots k 0 0 none) (record { role = Keeps shelf; guest = Calls c; hand = Nothing }, []))
 settles slots id k shelf c s h wide e fits =
     let v : View = record { role = Keeps shelf; guest = Calls c; hand = Nothing } in
     let r = book_of s id shelf (Calls c) Nothing h e in
@@ -158,10 +158,10 @@ settles slots id k shelf c s h wide e fits =
       ),
     )
 
-pub settles_as : (slots id k : ℕ) (shelf : Shelf) (c : Caller) (m : Me Unit View) → m ≡ (record { role = Keeps shelf; guest = Calls c; hand = Nothing }, []) → Allows Holds slots id m k (λ n. n) (settled (step slots k 0 0 none) m)
-settles_as slots id k shelf c m is = subst (λ (u : Me Unit View). Allows Holds slots id u k (λ n. n) (settled (step slots k 0 0 none) u)) (sym is) (settles slots id k shelf c)
+pub settles_as : (slots id k : ℕ) (shelf : Shelf) (c : Caller) (m : Me Unit View) → m ≡ (record { role = Keeps shelf; guest = Calls c; hand = Nothing }, []) → Allows KeepsRule slots id m k (λ n. n) (settled (step slots k 0 0 none) m)
+settles_as slots id k shelf c m is = subst (λ (u : Me Unit View). Allows KeepsRule slots id u k (λ n. n) (settled (step slots k 0 0 none) u)) (sym is) (settles slots id k shelf c)
 
-counts : (slots id k : ℕ) (shelf : Shelf) → k ≡ shelf.shard → Allows Holds slots id (alone (Keeps shelf) Nothing, []) k (λ n. n) (counted (step slots k 0 0 none) (alone (Keeps shelf) Nothing, []))
+counts : (slots id k : ℕ) (shelf : Shelf) → k ≡ shelf.shard → Allows KeepsRule slots id (alone (Keeps shelf) Nothing, []) k (λ n. n) (items_counted (step slots k 0 0 none) (alone (Keeps shelf) Nothing, []))
 counts slots id k shelf here s h wide e fits =
     let v : View = alone (Keeps shelf) Nothing in
     let r = book_of s id shelf Nobody Nothing h e in
@@ -184,12 +184,12 @@ counts slots id k shelf here s h wide e fits =
         refl,
         (
           ap (slice_index s.words) here ∙ r.words.lengths shelf.shard mine.1 ∙ ap length mine.3,
-          subst (λ l. IsShort shelf.about l) mine.3 (short shelf.about x shelf.shard r.good),
+          subst (λ l. HasRoomForSteps shelf.about l) mine.3 (short shelf.about x shelf.shard r.good),
           subst (λ l. IsLegalAt shelf.about shelf.shard l) mine.3 (r.good.legal shelf.shard),
           subst (λ l. IsByPasses shelf.about.passes l) mine.3 (r.good.by_passes shelf.shard),
         ),
       ),
     )
 
-pub counts_as : (slots id k : ℕ) (shelf : Shelf) (m : Me Unit View) → m ≡ (alone (Keeps shelf) Nothing, []) → k ≡ shelf.shard → Allows Holds slots id m k (λ n. n) (counted (step slots k 0 0 none) m)
-counts_as slots id k shelf m is here = subst (λ (u : Me Unit View). Allows Holds slots id u k (λ n. n) (counted (step slots k 0 0 none) u)) (sym is) (counts slots id k shelf here)
+pub counts_as : (slots id k : ℕ) (shelf : Shelf) (m : Me Unit View) → m ≡ (alone (Keeps shelf) Nothing, []) → k ≡ shelf.shard → Allows KeepsRule slots id m k (λ n. n) (items_counted (step slots k 0 0 none) m)
+counts_as slots id k shelf m is here = subst (λ (u : Me Unit View). Allows KeepsRule slots id u k (λ n. n) (items_counted (step slots k 0 0 none) u)) (sym is) (counts slots id k shelf here)

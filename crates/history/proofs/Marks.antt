@@ -19,7 +19,7 @@ use Rattle.history.specs.declared.views.Token.{Token}
 use Rattle.history.specs.declared.views.Token.TheVariants.{Nothing, Open, Done}
 use Rattle.history.specs.Shards.{is_of_shard}
 use Rattle.history.specs.Histories.{IsLegalAt, terms_of, history_of, shard_in, steps_by, of_pass, asks_by, HavePassesBelow, IsByPasses, HaveNumbersBelow}
-use Rattle.history.specs.Rule.{alone, Contents, Seating, AccountOk, IsGood, IsInDoubt, AreOpen, IsOut, AreTold, IsHand, Holds, total}
+use Rattle.history.specs.Rule.{alone, TableContents, Seating, AccountOk, IsGood, IsInDoubt, AreOpen, IsOnItsWay, AreTold, IsHand, KeepsRule, steps_in_all}
 use Rattle.history.specs.Plays.{loose, keeper, in_doubt, marked}
 use Rattle.history.proofs.Lists.{put, put_at, put_all, put_other, put_two, put_two_at}
 use Rattle.history.proofs.Past.{asks_append, steps_mark, no_step, legal_more, by_passes_append, marked_mark, total_mark}
@@ -27,7 +27,7 @@ use Rattle.history.proofs.Accounts.{one_open, token_ok, told_append, grown_ok, d
 use Rattle.history.proofs.Seats.{Frame, role_kept, seats_set, seats_join, still_there, hand_put, doubt_put, held_by, book_of}
 use Rattle.history.proofs.Books.{room, words_longer, longer_begins}
 
-open_append : (about : About) (x : Contents) (k : ℕ) (d e : List Ask) → AreOpen about x k d → AreOpen about x k e → AreOpen about x k (d ++ e)
+open_append : (about : About) (x : TableContents) (k : ℕ) (d e : List Ask) → AreOpen about x k d → AreOpen about x k e → AreOpen about x k (d ++ e)
 open_append about x k [] e h g = g
 open_append about x k (a ∷ d) e h g = (h.0, h.1, h.2, open_append about x k d e h.3 g)
 
@@ -36,7 +36,7 @@ one_call a b f d o = let same = one_open a b f true d o.0 o.1 in (d, ap (λ (c :
 
 -- an open call comes into the book's hand, and goes into doubt
 doubts : (id : ℕ) (shelf : Shelf) (other : ℕ) (role : Role) (a : Ask) (f : Bool) (b : List Ask) → shard_in shelf.about a ≡ shelf.shard
-    → Joins Holds id (alone (Keeps shelf) Nothing) other (alone role (Open a f b)) (in_doubt (alone (Keeps shelf) Nothing) (alone role (Open a f b))) loose
+    → Joins KeepsRule id (alone (Keeps shelf) Nothing) other (alone role (Open a f b)) (in_doubt (alone (Keeps shelf) Nothing) (alone role (Open a f b))) loose
 doubts id shelf other role a f b here s h e n there =
     let w : View = alone role (Open a f b) in
     let both : View = in_doubt (alone (Keeps shelf) Nothing) w in
@@ -46,7 +46,7 @@ doubts id shelf other role a f b here s h e n there =
     let mine = r.seats id (alone (Keeps shelf) Nothing) e in
     let hand = (r.seats other w (still_there s.views id other both w n there)).hand in
     let t' : Token = Open a true b in
-    let x' : Contents = record { items = x.items; callers = x.callers; tokens = put_two x.tokens a.pass a.number t' } in
+    let x' : TableContents = record { items = x.items; callers = x.callers; tokens = put_two x.tokens a.pass a.number t' } in
     let seats = held_by r.seating a.pass a.number id in
     let at_it = put_two_at x.tokens a.pass a.number t' a.pass a.number refl refl in
     let frame : Frame about x r.seating other x' seats = record {
@@ -80,14 +80,14 @@ doubts id shelf other role a f b here s h e n there =
     )
 
 pub doubts_as : (id : ℕ) (v : View) (other : ℕ) (w : View) (shelf : Shelf) (role : Role) (a : Ask) (f : Bool) (b : List Ask) → v ≡ alone (Keeps shelf) Nothing → w ≡ alone role (Open a f b) → shard_in shelf.about a ≡ shelf.shard
-    → Joins Holds id v other w (in_doubt v w) loose
-doubts_as id v other w shelf role a f b is its here = subst (λ (z : View × View). Joins Holds id z.0 other z.1 (in_doubt z.0 z.1) loose) (λ i. (sym is i, sym its i)) (doubts id shelf other role a f b here)
+    → Joins KeepsRule id v other w (in_doubt v w) loose
+doubts_as id v other w shelf role a f b is its here = subst (λ (z : View × View). Joins KeepsRule id z.0 other z.1 (in_doubt z.0 z.1) loose) (λ i. (sym is i, sym its i)) (doubts id shelf other role a f b here)
 
 cond_told : (made : List Step) (ts : ℕ → Token) (b : Bool) (a : Ask) (asks : List Ask) → (b ≡ true → IsInDoubt a (ts a.number)) → AreTold made ts asks → AreTold made ts (cond b (a ∷ asks) asks)
-cond_told made ts true a asks f h = (inr (subst (λ (u : Token). IsOut a u) (sym (f refl).1) (refl, refl)), h)
+cond_told made ts true a asks f h = (inr (subst (λ (u : Token). IsOnItsWay a u) (sym (f refl).1) (refl, refl)), h)
 cond_told made ts false a asks f h = h
 
-told_doubt : (about : About) (x : Contents) (k q : ℕ) (made : List Step) (asks : List Ask) → AreOpen about x k asks → AreTold made (x.tokens q) (of_pass q asks)
+told_doubt : (about : About) (x : TableContents) (k q : ℕ) (made : List Step) (asks : List Ask) → AreOpen about x k asks → AreTold made (x.tokens q) (of_pass q asks)
 told_doubt about x k q made [] h = tt
 told_doubt about x k q made (a ∷ asks) h = cond_told made (x.tokens q) (eqb q a.pass) a (of_pass q asks) (λ e. (h.2.0, ap (λ (p : ℕ). x.tokens p a.number) (eqb_same q a.pass e) ∙ h.2.1)) (told_doubt about x k q made asks h.3)
   where
@@ -98,12 +98,12 @@ told_doubt about x k q made (a ∷ asks) h = cond_told made (x.tokens q) (eqb q 
     eqb_same a b e = ⊎_elim (λ (same : a ≡ b). same) (λ (n : a ≢ b). absurd (clash (sym e ∙ ne_eqb a b n))) (cases_eq a b)
 
 -- calls that are open are of the passes
-open_passes : (about : About) (x : Contents) (k : ℕ) (asks : List Ask) → AreOpen about x k asks → HavePassesBelow about.passes asks
+open_passes : (about : About) (x : TableContents) (k : ℕ) (asks : List Ask) → AreOpen about x k asks → HavePassesBelow about.passes asks
 open_passes about x k [] h = tt
 open_passes about x k (a ∷ asks) h = (h.0, open_passes about x k asks h.3)
 
 -- calls that are open may stand in a mark's list
-may_doubt : (about : About) (x : Contents) (k : ℕ) → IsGood about x → (asks : List Ask) → AreOpen about x k asks
+may_doubt : (about : About) (x : TableContents) (k : ℕ) → IsGood about x → (asks : List Ask) → AreOpen about x k asks
     → IsTrue (list_all (λ a. not (list_any (is_step_of a) (x.items k)) && is_of_shard about.shards k (key_of a.call)) asks)
 may_doubt about x k good [] h = refl
 may_doubt about x k good (a ∷ asks) h =
@@ -116,16 +116,16 @@ may_doubt about x k good (a ∷ asks) h =
     both b c d p q r = λ i. (not (p i) && q i) && r i
 
 -- the histories and the passes after a mark
-good_mark : (about : About) (x : Contents) (k : ℕ) (now : List Item) (asks : List Ask) → IsGood about x → AreOpen about x k asks → is_marked (x.items k) ≡ false → now ≡ x.items k ++ Failed asks ∷ []
+good_mark : (about : About) (x : TableContents) (k : ℕ) (now : List Item) (asks : List Ask) → IsGood about x → AreOpen about x k asks → is_marked (x.items k) ≡ false → now ≡ x.items k ++ Failed asks ∷ []
     → IsGood about (record { items = put x.items k now; callers = x.callers; tokens = x.tokens })
 good_mark about x k now asks good open_calls unmarked is =
     let may : MayFollow (terms_of about k) (history_of about k (x.items k)) (Failed asks) = (ap not unmarked, may_doubt about x k good asks open_calls) in record {
       legal = put_all x.items k now (λ j l. IsLegalAt about j l) (subst (λ l. IsLegalAt about k l) (sym is) (legal_more about k (x.items k) (Failed asks) (good.legal k) may)) (λ j n. good.legal j);
-      counted = put_all x.items k now (λ j l. length l ≤ total about.passes l + cond (is_marked l) 1 0)
-          (subst (λ l. length l ≤ total about.passes l + cond (is_marked l) 1 0) (sym is)
-          (let n : length (x.items k) ≤ total about.passes (x.items k) + cond {A = ℕ} (is_marked (x.items k)) 1 0 = good.counted k in
+      counted = put_all x.items k now (λ j l. length l ≤ steps_in_all about.passes l + cond (is_marked l) 1 0)
+          (subst (λ l. length l ≤ steps_in_all about.passes l + cond (is_marked l) 1 0) (sym is)
+          (let n : length (x.items k) ≤ steps_in_all about.passes (x.items k) + cond {A = ℕ} (is_marked (x.items k)) 1 0 = good.counted k in
           let e = length-append (x.items k) (Failed asks ∷ []) in
-          let t : total about.passes (x.items k ++ Failed asks ∷ []) ≡ total about.passes (x.items k) = total_mark about.passes (x.items k) asks in
+          let t : steps_in_all about.passes (x.items k ++ Failed asks ∷ []) ≡ steps_in_all about.passes (x.items k) = total_mark about.passes (x.items k) asks in
           let m : cond {A = ℕ} (is_marked (x.items k ++ Failed asks ∷ [])) 1 0 ≡ 1 = ap (λ b. cond b 1 0) (marked_mark (x.items k) asks) in
           let o : cond {A = ℕ} (is_marked (x.items k)) 1 0 ≡ 0 = ap (λ b. cond b 1 0) unmarked in
           omega arith))
@@ -145,14 +145,14 @@ good_mark about x k now asks good open_calls unmarked is =
 
 -- a book adds a failure mark
 marks : (slots id k : ℕ) (about : About) (items : List Item) (asks : List Ask) → is_marked items ≡ false
-    → Allows Holds slots id (keeper about k items asks Nothing, []) k (λ n. (n + 1) % 2 ^ 64) (marked (step slots k 1 0 none) (keeper about k items asks Nothing, []))
+    → Allows KeepsRule slots id (keeper about k items asks Nothing, []) k (λ n. (n + 1) % 2 ^ 64) (marked (step slots k 1 0 none) (keeper about k items asks Nothing, []))
 marks slots id k about items asks unmarked s h wide e fits =
     let r = book_of s id (record { about = about; shard = k; items = items; doubt = asks }) Nobody Nothing h e in
     let x = r.contents in
     let mine = (r.seats id (keeper about k items asks Nothing) e).role in
     let now : List Item = items ++ Failed asks ∷ [] in
     let is : now ≡ x.items k ++ Failed asks ∷ [] = ap (λ l. l ++ Failed asks ∷ []) (sym mine.3) in
-    let x' : Contents = record { items = put x.items k now; callers = x.callers; tokens = x.tokens } in (
+    let x' : TableContents = record { items = put x.items k now; callers = x.callers; tokens = x.tokens } in (
       keeper about k now [] Nothing,
       keeps,
       tt,
@@ -177,13 +177,13 @@ marks slots id k about items asks unmarked s h wide e fits =
       refl,
     )
   where
-    same : (about : About) (x x' : Contents) (seats : Seating) → x'.tokens ≡ x.tokens → (j : ℕ) (t : Token) → IsHand about x seats j t → IsHand about x' seats j t
+    same : (about : About) (x x' : TableContents) (seats : Seating) → x'.tokens ≡ x.tokens → (j : ℕ) (t : Token) → IsHand about x seats j t → IsHand about x' seats j t
     same about x x' seats e j Nothing h = h
     same about x x' seats e j (Open a f b) h = (h.0, h.1, (λ i. e i a.pass a.number) ∙ h.2)
     same about x x' seats e j (Done d upto at) h = (h.0, h.1, (λ i. e i d.ask.pass d.ask.number) ∙ h.2)
 
 pub marks_as : (slots id shard : ℕ) (shelf : Shelf) (m : Me Unit View) → m ≡ (alone (Keeps shelf) Nothing, []) → shelf.shard ≡ shard → is_marked shelf.items ≡ false
-    → Allows Holds slots id m shard (λ n. (n + 1) % 2 ^ 64) (marked (step slots shard 1 0 none) m)
+    → Allows KeepsRule slots id m shard (λ n. (n + 1) % 2 ^ 64) (marked (step slots shard 1 0 none) m)
 marks_as slots id shard shelf m is at_shard unmarked =
     let same : m ≡ (keeper shelf.about shard shelf.items shelf.doubt Nothing, []) = is ∙ ap (λ (z : ℕ). (keeper shelf.about z shelf.items shelf.doubt Nothing, [])) at_shard in
-    subst (λ (u : Me Unit View). Allows Holds slots id u shard (λ n. (n + 1) % 2 ^ 64) (marked (step slots shard 1 0 none) u)) (sym same) (marks slots id shard shelf.about shelf.items shelf.doubt unmarked)
+    subst (λ (u : Me Unit View). Allows KeepsRule slots id u shard (λ n. (n + 1) % 2 ^ 64) (marked (step slots shard 1 0 none) u)) (sym same) (marks slots id shard shelf.about shelf.items shelf.doubt unmarked)

@@ -11,7 +11,7 @@ use Rattle.accept.specs.declared.history.Item.TheVariants.{Answered, Failed}
 use Rattle.accept.specs.Histories.{MayFollow, is_marked, is_new, is_step_of}
 use Rattle.history.specs.declared.views.About.{About}
 use Rattle.history.specs.Histories.{IsBeginning, IsLegalAt, terms_of, base_at, history_of, shard_in, steps_by, steps_on, of_pass, asks_by, IsByPasses, HaveNumbersBelow, HaveNumbersAbove, IsRising, AreNumbersBelow, IsUnused, AreUnused, HasStep, HaveSteps, IsAmong, IsFirst, IsFirstNumber, behind_first, asks_on, doubt_or, doubt_of, bound}
-use Rattle.history.specs.Rule.{number_of, floor_of, IsQueue, total}
+use Rattle.history.specs.Rule.{number_of, floor_of, IsQueue, steps_in_all}
 use Rattle.history.proofs.Lists.{head_or, tail_of}
 
 cond_append : {A : Type 0} (b : Bool) (x : A) (xs ys : List A) → cond b (x ∷ (xs ++ ys)) (xs ++ ys) ≡ cond b (x ∷ xs) xs ++ ys
@@ -372,36 +372,36 @@ doubt_unmarked (Answered s ∷ xs) asks e = doubt_unmarked xs asks e
 doubt_unmarked (Failed more ∷ xs) asks e = absurd (cc)
 
 -- one more step of a pass below n is one more in the total
-total_past : (n : ℕ) (xs : List Item) (s : Step) → n ≤ s.ask.pass → total n (xs ++ Answered s ∷ []) ≡ total n xs
+total_past : (n : ℕ) (xs : List Item) (s : Step) → n ≤ s.ask.pass → steps_in_all n (xs ++ Answered s ∷ []) ≡ steps_in_all n xs
 total_past zero xs s h = refl
 total_past (suc n) xs s h =
-    let a : total n (xs ++ Answered s ∷ []) ≡ total n xs = total_past n xs s (omega arith) in
+    let a : steps_in_all n (xs ++ Answered s ∷ []) ≡ steps_in_all n xs = total_past n xs s (omega arith) in
     let b : length (steps_by n (xs ++ Answered s ∷ [])) ≡ length (steps_by n xs) = ap length (steps_else n xs s (λ e. omega arith)) in
     omega arith
 
-pub total_step : (n : ℕ) (xs : List Item) (s : Step) → s.ask.pass < n → total n (xs ++ Answered s ∷ []) ≡ total n xs + 1
+pub total_step : (n : ℕ) (xs : List Item) (s : Step) → s.ask.pass < n → steps_in_all n (xs ++ Answered s ∷ []) ≡ steps_in_all n xs + 1
 total_step zero xs s h = absurd (omega arith)
 total_step (suc n) xs s h = ⊎_elim
     (λ (e : n ≡ s.ask.pass).
-    let a : total n (xs ++ Answered s ∷ []) ≡ total n xs = total_past n xs s (omega arith) in
+    let a : steps_in_all n (xs ++ Answered s ∷ []) ≡ steps_in_all n xs = total_past n xs s (omega arith) in
     let b : length (steps_by n (xs ++ Answered s ∷ [])) ≡ length (steps_by n xs) + 1 = ap length (steps_mine n xs s e) ∙ length-append (steps_by n xs) (s ∷ []) in
     omega arith)
     (λ (e : n ≢ s.ask.pass).
-    let a : total n (xs ++ Answered s ∷ []) ≡ total n xs + 1 = total_step n xs s (omega arith) in
+    let a : steps_in_all n (xs ++ Answered s ∷ []) ≡ steps_in_all n xs + 1 = total_step n xs s (omega arith) in
     let b : length (steps_by n (xs ++ Answered s ∷ [])) ≡ length (steps_by n xs) = ap length (steps_else n xs s e) in
     omega arith)
     (cases_eq n s.ask.pass)
 
-pub total_mark : (n : ℕ) (xs : List Item) (asks : List Ask) → total n (xs ++ Failed asks ∷ []) ≡ total n xs
+pub total_mark : (n : ℕ) (xs : List Item) (asks : List Ask) → steps_in_all n (xs ++ Failed asks ∷ []) ≡ steps_in_all n xs
 total_mark zero xs asks = refl
 total_mark (suc n) xs asks =
-    let a : total n (xs ++ Failed asks ∷ []) ≡ total n xs = total_mark n xs asks in
+    let a : steps_in_all n (xs ++ Failed asks ∷ []) ≡ steps_in_all n xs = total_mark n xs asks in
     let b : length (steps_by n (xs ++ Failed asks ∷ [])) ≡ length (steps_by n xs) = ap length (steps_mark n xs asks) in
     omega arith
 
-pub total_least : (n : ℕ) (xs : List Item) → ((p : ℕ) → p < n → length (steps_by p xs) ≤ bound) → total n xs ≤ n * bound
+pub total_least : (n : ℕ) (xs : List Item) → ((p : ℕ) → p < n → length (steps_by p xs) ≤ bound) → steps_in_all n xs ≤ n * bound
 total_least zero xs h = omega arith
 total_least (suc n) xs h =
-    let a : total n xs ≤ n * bound = total_least n xs (λ p l. h p (omega arith)) in
+    let a : steps_in_all n xs ≤ n * bound = total_least n xs (λ p l. h p (omega arith)) in
     let b : length (steps_by n xs) ≤ bound = h n (omega arith) in
     omega arith

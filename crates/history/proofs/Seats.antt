@@ -20,22 +20,22 @@ use Rattle.history.specs.declared.views.Role.TheVariants.{Nobody, Opener, Keeps,
 use Rattle.history.specs.declared.views.Token.{Token}
 use Rattle.history.specs.declared.views.Token.TheVariants.{Nothing, Open, Done}
 use Rattle.history.specs.Histories.{shard_in}
-use Rattle.history.specs.Rule.{Contents, Seating, number_of, AccountOk, IsGood, AreWords, IsInDoubt, AreOpen, IsRole, IsHand, IsSeat, HoldsFor, Holds}
+use Rattle.history.specs.Rule.{TableContents, Seating, number_of, AccountOk, IsGood, AreWords, IsInDoubt, AreOpen, IsRole, IsHand, IsSeat, HoldsFor, KeepsRule}
 use Rattle.history.specs.Plays.{loose}
 use Rattle.history.proofs.Lists.{put, put_all, put_both, put_two, put_two_at, put_two_else}
 
 -- what the seats other than b have is as it was
-pub record Frame (about : About) (x : Contents) (seats : Seating) (b : ℕ) (x' : Contents) (seats' : Seating) : Type 0 where
+pub record Frame (about : About) (x : TableContents) (seats : Seating) (b : ℕ) (x' : TableContents) (seats' : Seating) : Type 0 where
   pub books : (k j : ℕ) → j ≢ b → seats.books k ≡ j → (seats'.books k ≡ j) × (x'.items k ≡ x.items k)
   pub passes : (p j : ℕ) → j ≢ b → seats.passes p ≡ j → (seats'.passes p ≡ j) × (x'.callers p ≡ x.callers p)
   pub hands : (j : ℕ) (t : Token) → j ≢ b → IsHand about x seats j t → IsHand about x' seats' j t
   pub doubts : (a : Ask) (j : ℕ) → j ≢ b → seats.books (shard_in about a) ≡ j → IsInDoubt a (x.tokens a.pass a.number) → IsInDoubt a (x'.tokens a.pass a.number)
 
-open_kept : (about : About) (x x' : Contents) (k : ℕ) → ((a : Ask) → shard_in about a ≡ k → IsInDoubt a (x.tokens a.pass a.number) → IsInDoubt a (x'.tokens a.pass a.number)) → (asks : List Ask) → AreOpen about x k asks → AreOpen about x' k asks
+open_kept : (about : About) (x x' : TableContents) (k : ℕ) → ((a : Ask) → shard_in about a ≡ k → IsInDoubt a (x.tokens a.pass a.number) → IsInDoubt a (x'.tokens a.pass a.number)) → (asks : List Ask) → AreOpen about x k asks → AreOpen about x' k asks
 open_kept about x x' k f [] h = tt
 open_kept about x x' k f (a ∷ asks) h = (h.0, h.1, f a h.1 h.2, open_kept about x x' k f asks h.3)
 
-module _ (about : About) (x : Contents) (seats : Seating) (b : ℕ) (x' : Contents) (seats' : Seating) (f : Frame about x seats b x' seats') where
+module _ (about : About) (x : TableContents) (seats : Seating) (b : ℕ) (x' : TableContents) (seats' : Seating) (f : Frame about x seats b x' seats') where
   pub role_kept : (j : ℕ) (role : Role) → j ≢ b → IsRole about x seats j role → IsRole about x' seats' j role
   role_kept j Nobody n h = tt
   role_kept j (Opener known c d) n h =
@@ -86,7 +86,7 @@ pub still_there : (views : List View) (id other : ℕ) (both w : View) → other
 still_there views id other both w n e = sym (set_else views id other both n) ∙ e
 
 -- a hand that has nothing of call n of pass p
-pub hand_put : (about : About) (x : Contents) (seats : Seating) (p n b : ℕ) (t' : Token) (i' : ℕ) → (x.tokens p n ≡ Nothing) ⊎ (seats.holders p n ≡ b)
+pub hand_put : (about : About) (x : TableContents) (seats : Seating) (p n b : ℕ) (t' : Token) (i' : ℕ) → (x.tokens p n ≡ Nothing) ⊎ (seats.holders p n ≡ b)
     → (items : ℕ → List Item) (callers : ℕ → Caller) (books passes : ℕ → ℕ) (j : ℕ) (t : Token) → j ≢ b → IsHand about x seats j t
     → IsHand about (record { items = items; callers = callers; tokens = put_two x.tokens p n t' }) (record { books = books; passes = passes; holders = put_two seats.holders p n i' }) j t
 hand_put about x seats p n b t' i' free items callers books passes j Nothing d h = tt
@@ -123,20 +123,20 @@ doubt_put tokens p n t t' a was f o = ⊎_elim
     stays apart = subst (λ (u : Token). IsInDoubt a u) (sym (put_two_else tokens p n t' a.pass a.number apart)) o
 
 -- what is said of a pass, where the rule has its parts
-pub account_at : (about : About) (x : Contents) (p : ℕ) (c : Caller) → IsGood about x → p < about.passes → x.callers p ≡ c → AccountOk about x.items p c (x.tokens p)
+pub account_at : (about : About) (x : TableContents) (p : ℕ) (c : Caller) → IsGood about x → p < about.passes → x.callers p ≡ c → AccountOk about x.items p c (x.tokens p)
 account_at about x p c good lt is = subst (λ (z : Caller). AccountOk about x.items p z (x.tokens p)) is (good.passes p lt)
 
 -- contents with another pass p, whose call n is changed
-abbrev pub with_pass : Contents → ℕ → ℕ → Caller → Token → Contents
+abbrev pub with_pass : TableContents → ℕ → ℕ → Caller → Token → TableContents
 with_pass x p n c t = record { items = x.items; callers = put x.callers p c; tokens = put_two x.tokens p n t }
 
-abbrev pub with_caller : Contents → ℕ → Caller → Contents
+abbrev pub with_caller : TableContents → ℕ → Caller → TableContents
 with_caller x p c = record { items = x.items; callers = put x.callers p c; tokens = x.tokens }
 
 abbrev pub held_by : Seating → ℕ → ℕ → ℕ → Seating
 held_by seats p n j = record { books = seats.books; passes = seats.passes; holders = put_two seats.holders p n j }
 
-pub good_pass : (about : About) (x : Contents) (p n : ℕ) (c : Caller) (t : Token) → IsGood about x → AccountOk about x.items p c (put (x.tokens p) n t) → IsGood about (with_pass x p n c t)
+pub good_pass : (about : About) (x : TableContents) (p n : ℕ) (c : Caller) (t : Token) → IsGood about x → AccountOk about x.items p c (put (x.tokens p) n t) → IsGood about (with_pass x p n c t)
 good_pass about x p n c t good ok = record {
   legal = good.legal;
   counted = good.counted;
@@ -144,7 +144,7 @@ good_pass about x p n c t good ok = record {
   passes = put_both x.callers x.tokens p c (put (x.tokens p) n t) (λ q d u. q < about.passes → AccountOk about x.items q d u) (λ _. ok) (λ q m. good.passes q);
 }
 
-pub good_caller : (about : About) (x : Contents) (p : ℕ) (c : Caller) → IsGood about x → AccountOk about x.items p c (x.tokens p) → IsGood about (with_caller x p c)
+pub good_caller : (about : About) (x : TableContents) (p : ℕ) (c : Caller) → IsGood about x → AccountOk about x.items p c (x.tokens p) → IsGood about (with_caller x p c)
 good_caller about x p c good ok = record {
   legal = good.legal;
   counted = good.counted;
@@ -153,7 +153,7 @@ good_caller about x p c good ok = record {
 }
 
 -- the pass's word gets the last number, or 0
-pub words_pass : (about : About) (x : Contents) (words : List ℕ) (p : ℕ) (c : Caller) (tokens : ℕ → ℕ → Token) (word : ℕ) → AreWords about x words → p < about.passes → word ≡ number_of c.last c.pending
+pub words_pass : (about : About) (x : TableContents) (words : List ℕ) (p : ℕ) (c : Caller) (tokens : ℕ → ℕ → Token) (word : ℕ) → AreWords about x words → p < about.passes → word ≡ number_of c.last c.pending
     → AreWords about (record { items = x.items; callers = put x.callers p c; tokens = tokens }) (slice_set words (about.shards + p) word)
 words_pass about x words p c tokens word h lt is = record {
   any = h.any;
@@ -166,7 +166,7 @@ words_pass about x words p c tokens word h lt is = record {
 }
 
 -- a pass sees more, and its word is as it was
-pub words_look : (about : About) (x : Contents) (words : List ℕ) (p : ℕ) (c : Caller) → AreWords about x words → p < about.passes → number_of (x.callers p).last (x.callers p).pending ≡ number_of c.last c.pending → AreWords about (with_caller x p c) words
+pub words_look : (about : About) (x : TableContents) (words : List ℕ) (p : ℕ) (c : Caller) → AreWords about x words → p < about.passes → number_of (x.callers p).last (x.callers p).pending ≡ number_of c.last c.pending → AreWords about (with_caller x p c) words
 words_look about x words p c h lt same = record {
   any = h.any;
   few = h.few;
@@ -176,12 +176,12 @@ words_look about x words p c h lt same = record {
 }
 
 -- the words do not change
-pub words_same : (about : About) (x : Contents) (words : List ℕ) (i : ℕ) → AreWords about x words → AreWords about x (slice_set words i (slice_index words i))
+pub words_same : (about : About) (x : TableContents) (words : List ℕ) (i : ℕ) → AreWords about x words → AreWords about x (slice_set words i (slice_index words i))
 words_same about x words i h = subst (λ ws. AreWords about x ws) (sym (set-get_or words i 0)) h
 
 -- the rule, of the opening that a seat knows
-pub pass_of : (s : State Unit View) (id : ℕ) (c : Caller) (guest : Role) (hand : Token) → Holds s → get_elem? s.views id ≡ some (record { role = Calls c; guest = guest; hand = hand }) → HoldsFor c.about s
+pub pass_of : (s : State Unit View) (id : ℕ) (c : Caller) (guest : Role) (hand : Token) → KeepsRule s → get_elem? s.views id ≡ some (record { role = Calls c; guest = guest; hand = hand }) → HoldsFor c.about s
 pass_of s id c guest hand h e = subst (λ b. HoldsFor b s) (sym (h.1.seats id (record { role = Calls c; guest = guest; hand = hand }) e).role.0) h.1
 
-pub book_of : (s : State Unit View) (id : ℕ) (shelf : Shelf) (guest : Role) (hand : Token) → Holds s → get_elem? s.views id ≡ some (record { role = Keeps shelf; guest = guest; hand = hand }) → HoldsFor shelf.about s
+pub book_of : (s : State Unit View) (id : ℕ) (shelf : Shelf) (guest : Role) (hand : Token) → KeepsRule s → get_elem? s.views id ≡ some (record { role = Keeps shelf; guest = guest; hand = hand }) → HoldsFor shelf.about s
 book_of s id shelf guest hand h e = subst (λ b. HoldsFor b s) (sym (h.1.seats id (record { role = Keeps shelf; guest = guest; hand = hand }) e).role.0) h.1

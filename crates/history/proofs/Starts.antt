@@ -16,7 +16,7 @@ use Rattle.history.specs.declared.views.Role.{Role}
 use Rattle.history.specs.declared.views.Role.TheVariants.{Nobody, Opener, Keeps, Calls}
 use Rattle.history.specs.declared.views.Token.{Token}
 use Rattle.history.specs.declared.views.Token.TheVariants.{Nothing, Open, Done}
-use Rattle.history.specs.Rule.{opener, unnamed, newcomer, number_of, Contents, Seating, TokenOk, IsGood, IsRole, IsHand, IsSeat, HoldsFor, Holds}
+use Rattle.history.specs.Rule.{opener, unnamed, newcomer, number_of, TableContents, Seating, TokenOk, IsGood, IsRole, IsHand, IsSeat, HoldsFor, KeepsRule}
 use Rattle.history.specs.Plays.{named, after_book, next_book, after_pass, next_pass}
 use Rattle.history.proofs.Lists.{put, put_at, put_else, put_other}
 use Rattle.history.proofs.Past.{legal_none}
@@ -24,7 +24,7 @@ use Rattle.history.proofs.Accounts.{newcomer_ok, no_token}
 use Rattle.history.proofs.Seats.{seats_split, words_same}
 
 -- no history has an item, and no pass has made a call
-abbrev nothing_yet : About → Contents
+abbrev nothing_yet : About → TableContents
 nothing_yet about = record { items = λ _. []; callers = newcomer about; tokens = λ _ _. Nothing }
 
 abbrev all_at : ℕ → Seating
@@ -46,7 +46,7 @@ length-zeros zero = refl
 length-zeros (suc n) = ap suc (length-zeros n)
 
 -- the rule holds at the start
-pub starts : (sizes : Sizes) (words : List ℕ) → 0 < sizes.shards → sizes.passes ≤ 64 → words ≡ replicate (sizes.shards + sizes.passes) 0 → Holds (opening words [] (opener (unnamed sizes) 0 0))
+pub starts : (sizes : Sizes) (words : List ℕ) → 0 < sizes.shards → sizes.passes ≤ 64 → words ≡ replicate (sizes.shards + sizes.passes) 0 → KeepsRule (opening words [] (opener (unnamed sizes) 0 0))
 starts sizes words any few is =
     let about : About = unnamed sizes in (
       about,
@@ -70,13 +70,13 @@ starts sizes words any few is =
     one (suc j) v e = absurd (some-ne-none v (sym e))
 
 -- while the opening has all, no other seat has anything
-role_gone : (about known : About) (x : Contents) (seats : Seating) (id j : ℕ) (role : Role) → ((k : ℕ) → seats.books k ≡ id) → ((p : ℕ) → seats.passes p ≡ id) → j ≢ id → IsRole known x seats j role → IsRole about (nothing_yet about) (all_at id) j role
+role_gone : (about known : About) (x : TableContents) (seats : Seating) (id j : ℕ) (role : Role) → ((k : ℕ) → seats.books k ≡ id) → ((p : ℕ) → seats.passes p ≡ id) → j ≢ id → IsRole known x seats j role → IsRole about (nothing_yet about) (all_at id) j role
 role_gone about known x seats id j Nobody books passes n h = tt
 role_gone about known x seats id j (Opener o a b) books passes n h = absurd (n (sym ((h.1 a (omega arith)).0) ∙ books a))
 role_gone about known x seats id j (Keeps shelf) books passes n h = absurd (n (sym h.2 ∙ books shelf.shard))
 role_gone about known x seats id j (Calls c) books passes n h = absurd (n (sym h.2 ∙ passes c.pass))
 
-hand_gone : (about known : About) (x : Contents) (seats : Seating) (id j : ℕ) (t : Token) → ((p n : ℕ) → p < known.passes → x.tokens p n ≡ Nothing) → IsHand known x seats j t → IsHand about (nothing_yet about) (all_at id) j t
+hand_gone : (about known : About) (x : TableContents) (seats : Seating) (id j : ℕ) (t : Token) → ((p n : ℕ) → p < known.passes → x.tokens p n ≡ Nothing) → IsHand known x seats j t → IsHand about (nothing_yet about) (all_at id) j t
 hand_gone about known x seats id j Nothing none_out h = tt
 hand_gone about known x seats id j (Open a f e) none_out h = absurd (clash a f e (sym (none_out a.pass a.number h.0) ∙ h.2))
   where
@@ -88,10 +88,10 @@ hand_gone about known x seats id j (Done d upto at) none_out h = absurd (clash d
     clash d upto at e = cc
 
 -- the rule, of the opening that its seat knows
-opener_of : (s : State Unit View) (id : ℕ) (known : About) (a b : ℕ) → Holds s → get_elem? s.views id ≡ some (opener known a b) → HoldsFor known s
+opener_of : (s : State Unit View) (id : ℕ) (known : About) (a b : ℕ) → KeepsRule s → get_elem? s.views id ≡ some (opener known a b) → HoldsFor known s
 opener_of s id known a b h e = subst (λ o. HoldsFor o s) (sym (h.1.seats id (opener known a b) e).role.0) h.1
 
-names : (slots id : ℕ) (known about : About) → about.shards ≡ known.shards → about.passes ≡ known.passes → Allows Holds slots id (opener known 0 0, []) 0 (λ n. n) (named about (step slots 0 0 0 none) (opener known 0 0, []))
+names : (slots id : ℕ) (known about : About) → about.shards ≡ known.shards → about.passes ≡ known.passes → Allows KeepsRule slots id (opener known 0 0, []) 0 (λ n. n) (named about (step slots 0 0 0 none) (opener known 0 0, []))
 names slots id known about same_shards same_passes s h wide e fits =
     let r = opener_of s id known 0 0 h e in
     let x = r.contents in
@@ -129,20 +129,20 @@ names slots id known about same_shards same_passes s h wide e fits =
       (refl, refl),
     )
 
-pub names_as : (slots id : ℕ) (known about : About) (m : Me Unit View) → m ≡ (opener known 0 0, []) → about.shards ≡ known.shards → about.passes ≡ known.passes → Allows Holds slots id m 0 (λ n. n) (named about (step slots 0 0 0 none) m)
-names_as slots id known about m is same_shards same_passes = subst (λ (u : Me Unit View). Allows Holds slots id u 0 (λ n. n) (named about (step slots 0 0 0 none) u)) (sym is) (names slots id known about same_shards same_passes)
+pub names_as : (slots id : ℕ) (known about : About) (m : Me Unit View) → m ≡ (opener known 0 0, []) → about.shards ≡ known.shards → about.passes ≡ known.passes → Allows KeepsRule slots id m 0 (λ n. n) (named about (step slots 0 0 0 none) m)
+names_as slots id known about m is same_shards same_passes = subst (λ (u : Me Unit View). Allows KeepsRule slots id u 0 (λ n. n) (named about (step slots 0 0 0 none) u)) (sym is) (names slots id known about same_shards same_passes)
 
-hand_books : (about : About) (x : Contents) (seats : Seating) (books : ℕ → ℕ) (j : ℕ) (t : Token) → IsHand about x seats j t → IsHand about x (record { books = books; passes = seats.passes; holders = seats.holders }) j t
+hand_books : (about : About) (x : TableContents) (seats : Seating) (books : ℕ → ℕ) (j : ℕ) (t : Token) → IsHand about x seats j t → IsHand about x (record { books = books; passes = seats.passes; holders = seats.holders }) j t
 hand_books about x seats books j Nothing h = h
 hand_books about x seats books j (Open a f e) h = h
 hand_books about x seats books j (Done d upto at) h = h
 
-hand_passes : (about : About) (x : Contents) (seats : Seating) (passes : ℕ → ℕ) (j : ℕ) (t : Token) → IsHand about x seats j t → IsHand about x (record { books = seats.books; passes = passes; holders = seats.holders }) j t
+hand_passes : (about : About) (x : TableContents) (seats : Seating) (passes : ℕ → ℕ) (j : ℕ) (t : Token) → IsHand about x seats j t → IsHand about x (record { books = seats.books; passes = passes; holders = seats.holders }) j t
 hand_passes about x seats passes j Nothing h = h
 hand_passes about x seats passes j (Open a f e) h = h
 hand_passes about x seats passes j (Done d upto at) h = h
 
-next_books : (id : ℕ) (known : About) (a b : ℕ) → a < known.shards → Splits Holds id (opener known a b) (after_book (Opener known a b)) (next_book (Opener known a b))
+next_books : (id : ℕ) (known : About) (a b : ℕ) → a < known.shards → Splits KeepsRule id (opener known a b) (after_book (Opener known a b)) (next_book (Opener known a b))
 next_books id known a b lt s h e =
     let r = opener_of s id known a b h e in
     let x = r.contents in
@@ -174,10 +174,10 @@ next_books id known a b lt s h e =
       },
     )
 
-pub next_books_as : (id : ℕ) (known : About) (a b : ℕ) (v : View) → v ≡ opener known a b → a < known.shards → Splits Holds id v (after_book v.role) (next_book v.role)
-next_books_as id known a b v is lt = subst (λ (u : View). Splits Holds id u (after_book u.role) (next_book u.role)) (sym is) (next_books id known a b lt)
+pub next_books_as : (id : ℕ) (known : About) (a b : ℕ) (v : View) → v ≡ opener known a b → a < known.shards → Splits KeepsRule id v (after_book v.role) (next_book v.role)
+next_books_as id known a b v is lt = subst (λ (u : View). Splits KeepsRule id u (after_book u.role) (next_book u.role)) (sym is) (next_books id known a b lt)
 
-next_passes : (id : ℕ) (known : About) (a b : ℕ) → b < known.passes → Splits Holds id (opener known a b) (after_pass (Opener known a b)) (next_pass (Opener known a b))
+next_passes : (id : ℕ) (known : About) (a b : ℕ) → b < known.passes → Splits KeepsRule id (opener known a b) (after_pass (Opener known a b)) (next_pass (Opener known a b))
 next_passes id known a b lt s h e =
     let r = opener_of s id known a b h e in
     let x = r.contents in
@@ -209,5 +209,5 @@ next_passes id known a b lt s h e =
       },
     )
 
-pub next_passes_as : (id : ℕ) (known : About) (a b : ℕ) (v : View) → v ≡ opener known a b → b < known.passes → Splits Holds id v (after_pass v.role) (next_pass v.role)
-next_passes_as id known a b v is lt = subst (λ (u : View). Splits Holds id u (after_pass u.role) (next_pass u.role)) (sym is) (next_passes id known a b lt)
+pub next_passes_as : (id : ℕ) (known : About) (a b : ℕ) (v : View) → v ≡ opener known a b → b < known.passes → Splits KeepsRule id v (after_pass v.role) (next_pass v.role)
+next_passes_as id known a b v is lt = subst (λ (u : View). Splits KeepsRule id u (after_pass u.role) (next_pass u.role)) (sym is) (next_passes id known a b lt)

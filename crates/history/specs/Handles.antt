@@ -61,8 +61,8 @@ abbrev pub longer : Booked → Item → Booked
 longer book item = record book { items = book.items ++ item ∷ [] }
 
 -- the pass announces no call any more
-abbrev pub is_closed : Passed → Bool
-is_closed pass = pass.closed || (pass.caller.last + 1 == bound)
+abbrev pub is_closed_pass : Passed → Bool
+is_closed_pass pass = pass.closed || (pass.caller.last + 1 == bound)
 
 -- what stands where a seat has none
 abbrev pub no_about : About
@@ -125,7 +125,11 @@ announced s =
 -- the seat has an open call in hand, with this number, of this pass
 abbrev pub IsTicket : Seat Unit View → ℕ → ℕ → Type 0
 IsTicket s n p =
-    (s.me ≡ (alone Nobody (Open (ask_in s.me.0.hand) (doubt_in s.me.0.hand) (before_in s.me.0.hand)), []))
+    (s.me ≡ (
+      alone Nobody (Open (ask_in s.me.0.hand) (doubt_in s.me.0.hand)
+          (before_in s.me.0.hand)),
+      [],
+    ))
     × ((ask_in s.me.0.hand).number ≡ n) × ((ask_in s.me.0.hand).pass ≡ p)
 
 -- what contracts see of a receipt
@@ -141,7 +145,11 @@ received s =
 -- the seat has a call with its step in hand, with this number, of this pass
 abbrev pub IsReceipt : Seat Unit View → ℕ → ℕ → Type 0
 IsReceipt s n p =
-    (s.me ≡ (alone Nobody (Done (step_in s.me.0.hand) (upto_in s.me.0.hand) (moment_in s.me.0.hand)), []))
+    (s.me ≡ (
+      alone Nobody (Done (step_in s.me.0.hand) (upto_in s.me.0.hand)
+          (moment_in s.me.0.hand)),
+      [],
+    ))
     × ((step_in s.me.0.hand).ask.number ≡ n) × ((step_in s.me.0.hand).ask.pass ≡ p)
 
 -- what contracts see of a book
@@ -166,9 +174,11 @@ passed s closed = record { table = s.table_id; caller = caller_in s.me.0.role; c
 abbrev pub IsPass : Seat Unit View → ℕ → ℕ → ℕ → ℕ → Type 0
 IsPass s shards word last calls =
     let c = caller_in s.me.0.role in
-    (s.me ≡ (alone (Calls c) Nothing, [])) × (c.last ≡ last) × (c.about.shards ≡ shards) × (shards + c.pass ≡ word)
+    (s.me ≡ (alone (Calls c) Nothing, [])) × (c.last ≡ last) × (c.about.shards ≡ shards)
+    × (shards + c.pass ≡ word)
     × (shards + c.about.passes ≡ s.table_id.words)
-    × (c.pass < c.about.passes) × (last < bound) × (0 < shards) × (length c.seen ≡ shards) × (length c.pending ≡ calls)
+    × (c.pass < c.about.passes) × (last < bound) × (0 < shards) × (length c.seen ≡ shards)
+    × (length c.pending ≡ calls)
     × (calls ≤ 64)
 
 -- the history with the next call of a pass answered `Unavailable`
@@ -176,16 +186,23 @@ abbrev pub refused_by : List Item → Caller → Call → List Item
 refused_by items c call = items ++ Answered (step_of (ask_of c (c.last + 1) call) Unavailable) ∷ []
 
 -- the tickets of calls that a pass announces one after another
-abbrev pub tickets_of : TableId → Caller → List Call → List Announced
-tickets_of table c [] = []
-tickets_of table c (call ∷ calls) =
-    record { table = table; ask = ask_of c (c.last + 1) call; doubted = false; before = before_of c (c.last + 1) call }
-    ∷ tickets_of table (announce_to c (c.last + 1) call) calls
+abbrev pub tickets_announced : TableId → Caller → List Call → List Announced
+tickets_announced table c [] = []
+tickets_announced table c (call ∷ calls) =
+    record {
+      table = table;
+      ask = ask_of c (c.last + 1) call;
+      doubted = false;
+      before = before_of c
+          (c.last + 1) call;
+    }
+    ∷ tickets_announced table (announce_to c (c.last + 1) call) calls
 
 -- those of these tickets that are shard k's
 abbrev pub tickets_on : About → ℕ → List Announced → List Announced
 tickets_on about k [] = []
-tickets_on about k (t ∷ ts) = if k == shard_in about t.ask then t ∷ tickets_on about k ts else tickets_on about k ts
+tickets_on about k (t ∷ ts) =
+    if k == shard_in about t.ask then t ∷ tickets_on about k ts else tickets_on about k ts
 
 -- each ticket names just the calls in front of it
 abbrev pub AreInLine : List Ask → List Announced → Type 0
@@ -195,7 +212,14 @@ AreInLine front (t ∷ ts) = (t.before ≡ front) × AreInLine (front ++ t.ask �
 -- the opening of these bases
 abbrev pub about_of : List Streams → ℕ → Limits → ℕ → About
 about_of bases passes limits capacity =
-    record { shards = length bases; passes = passes; limits = limits; capacity = capacity; bases = bases }
+    record {
+      shards = length bases;
+      passes = passes;
+      limits = limits;
+      capacity = capacity;
+      bases =
+          bases;
+    }
 
 abbrev pub about_in : Role → About
 about_in (Opener about a b) = about
@@ -233,10 +257,16 @@ doubted_to (suc n) (t ∷ ts) = doubted t ∷ doubted_to n ts
 -- each ticket is of the book's table and shard
 abbrev pub AreOf : Booked → List Announced → Type 0
 AreOf book [] = Unit {0}
-AreOf book (t ∷ ts) = (t.table ≡ book.table) × (shard_in book.about t.ask ≡ book.shard) × AreOf book ts
+AreOf book (t ∷ ts) = (t.table ≡ book.table) × (shard_in book.about t.ask ≡ book.shard)
+    × AreOf book ts
 
 abbrev pub with_doubt : Shelf → List Ask → Shelf
-with_doubt shelf doubt = record { about = shelf.about; shard = shelf.shard; items = shelf.items; doubt = doubt }
+with_doubt shelf doubt = record {
+  about = shelf.about;
+  shard = shelf.shard;
+  items = shelf.items;
+  doubt = doubt;
+}
 
 abbrev pub with_seen : Caller → List (List Item) → Caller
 with_seen c seen =

@@ -20,7 +20,12 @@ pub record IsBeginning {A : Type 0} (front all : List A) : Type 0 where
 
 -- what shard k of the opening answers by
 abbrev pub terms_of : About → ℕ → Terms
-terms_of about k = record { limits = about.limits; capacity = about.capacity; is_here = is_of_shard about.shards k }
+terms_of about k = record {
+  limits = about.limits;
+  capacity = about.capacity;
+  is_here =
+      is_of_shard about.shards k;
+}
 
 abbrev pub base_at : About → ℕ → Streams
 base_at about k = slice_index_or about.bases k finite.empty
@@ -63,7 +68,8 @@ steps_by p (Failed asks ∷ items) = steps_by p items
 -- those of these steps whose call is shard k's
 abbrev pub steps_on : About → ℕ → List Step → List Step
 steps_on about k [] = []
-steps_on about k (s ∷ steps) = if k == shard_in about s.ask then s ∷ steps_on about k steps else steps_on about k steps
+steps_on about k (s ∷ steps) =
+    if k == shard_in about s.ask then s ∷ steps_on about k steps else steps_on about k steps
 
 -- those of these calls that are of a pass
 abbrev pub of_pass : ℕ → List Ask → List Ask
@@ -159,7 +165,8 @@ behind_first (a ∷ asks) = asks
 -- those of these calls that are shard k's
 abbrev pub asks_on : About → ℕ → List Ask → List Ask
 asks_on about k [] = []
-asks_on about k (a ∷ asks) = if k == shard_in about a then a ∷ asks_on about k asks else asks_on about k asks
+asks_on about k (a ∷ asks) =
+    if k == shard_in about a then a ∷ asks_on about k asks else asks_on about k asks
 
 -- numbers of calls are below this: 2^56
 abbrev pub bound : ℕ

@@ -26,8 +26,8 @@ abbrev pub kept_back : View → View
 kept_back v = record { role = v.role; guest = v.guest; hand = Nothing }
 
 -- and that seat has nothing else
-abbrev pub given : View → View
-given v = alone Nobody v.hand
+abbrev pub seat_alone : View → View
+seat_alone v = alone Nobody v.hand
 
 -- another seat's call comes into hand
 abbrev pub taken : View → View → View
@@ -56,7 +56,8 @@ named about st m found m' = NamesAs about m.0.role m'.0 × (m'.1 ≡ m.1)
 
 -- the book of shard k
 abbrev pub keeper : About → ℕ → List Item → List Ask → Token → View
-keeper about k items doubt hand = alone (Keeps (record { about = about; shard = k; items = items; doubt = doubt })) hand
+keeper about k items doubt hand =
+    alone (Keeps (record { about = about; shard = k; items = items; doubt = doubt })) hand
 
 -- the next book and the next pass go to seats of their own
 abbrev pub after_book : Role → View
@@ -92,7 +93,8 @@ committed_at moment st m found m' = m' ≡ (commit_with moment m.0.role m.0.hand
 
 -- an open call comes into hand, and is in doubt from now on
 abbrev pub doubting : Role → Token → View
-doubting (Keeps shelf) (Open a f e) = keeper shelf.about shelf.shard shelf.items (shelf.doubt ++ a ∷ []) (Open a true e)
+doubting (Keeps shelf) (Open a f e) =
+    keeper shelf.about shelf.shard shelf.items (shelf.doubt ++ a ∷ []) (Open a true e)
 doubting role hand = alone role hand
 
 -- by a join of two seats
@@ -100,7 +102,8 @@ abbrev pub in_doubt : View → View → View
 in_doubt v w = doubting v.role w.hand
 
 abbrev pub mark_with : Role → View
-mark_with (Keeps shelf) = keeper shelf.about shelf.shard (shelf.items ++ Failed shelf.doubt ∷ []) [] Nothing
+mark_with (Keeps shelf) = keeper shelf.about shelf.shard
+    (shelf.items ++ Failed shelf.doubt ∷ []) [] Nothing
 mark_with role = alone role Nothing
 
 -- a mark with the calls in doubt stands behind the history
@@ -158,7 +161,8 @@ withdraw_to c n = record {
 }
 
 abbrev pub Withdraws : Role → Token → View → Type 0
-Withdraws (Calls c) (Open a f e) w = (w ≡ alone (Calls (withdraw_to c a.number)) Nothing) × IsFirst a c.pending
+Withdraws (Calls c) (Open a f e) w = (w ≡ alone (Calls (withdraw_to c a.number)) Nothing)
+    × IsFirst a c.pending
 Withdraws role hand w = Unit {0}
 
 -- a pass takes its first open call back
@@ -179,7 +183,8 @@ collect_to c s new = record {
 
 -- the pass with its next call announced and then answered, with nothing between
 abbrev pub call_to : Caller → Call → Reply → List Item → Caller
-call_to c call reply new = collect_to (announce_to c (c.last + 1) call) (step_of (ask_of c (c.last + 1) call) reply) new
+call_to c call reply new = collect_to (announce_to c (c.last + 1) call)
+    (step_of (ask_of c (c.last + 1) call) reply) new
 
 -- `new` is `old`, then items in which pass p has no step, then the step s
 pub record Extends (p : ℕ) (old : List Item) (s : Step) (new : List Item) : Type 0 where
@@ -190,7 +195,8 @@ pub record Extends (p : ℕ) (old : List Item) (s : Step) (new : List Item) : Ty
 abbrev pub Collects : Role → Token → View → Type 0
 Collects (Calls c) (Done s upto at) w =
     let k : ℕ = shard_in c.about s.ask in
-    (w ≡ alone (Calls (collect_to c s upto)) Nothing) × IsLegalAt c.about k upto × Extends c.pass (seen_at c k) s upto
+    (w ≡ alone (Calls (collect_to c s upto)) Nothing) × IsLegalAt c.about k upto
+    × Extends c.pass (seen_at c k) s upto
     × (k < length c.seen) × IsFirst s.ask c.pending × IsRested (collect_to c s upto)
     × IsByPasses c.about.passes upto
 Collects role hand w = Unit {0}
@@ -225,21 +231,23 @@ pub record HasStepsOf (c : Caller) (k : ℕ) (items : List Item) : Type 0 where
   pub rises : IsRising rest
   pub told : AreHis c.made c.pending (asks_by c.pass items)
 
-abbrev pub Looks : ℕ → ℕ → Role → View → Type 0
-Looks k found (Calls c) w =
-    (new : List Item) × (w ≡ alone (Calls (look_to c k new)) Nothing) × IsBeginning (seen_at c k) new
+abbrev pub TakesLook : ℕ → ℕ → Role → View → Type 0
+TakesLook k found (Calls c) w =
+    (new : List Item) × (w ≡ alone (Calls (look_to c k new)) Nothing)
+    × IsBeginning (seen_at c k) new
     × IsLegalAt c.about k new × (length new ≡ found) × HasStepsOf c k new × (k < length c.seen)
     × IsByPasses c.about.passes new
-Looks k found role w = Unit {0}
+TakesLook k found role w = Unit {0}
 
 -- a pass sees the history of a shard
 abbrev pub looked : TableStep Unit → Me Unit View → ℕ → Me Unit View → Type 0
-looked st m found m' = Looks st.word found m.0.role m'.0 × (m'.1 ≡ m.1)
+looked st m found m' = TakesLook st.word found m.0.role m'.0 × (m'.1 ≡ m.1)
 
 -- what two passes see of shard k begins with what each had seen, is legal, has of each the steps that it made, and no
 -- steps but those of passes of the opening
 abbrev pub IsMeeting : Caller → Caller → ℕ → List Item → Type 0
-IsMeeting c d k new = IsBeginning (seen_at c k) new × IsBeginning (seen_at d k) new × IsLegalAt c.about k new
+IsMeeting c d k new = IsBeginning (seen_at c k) new × IsBeginning (seen_at d k) new
+    × IsLegalAt c.about k new
     × HasStepsOf c k new × HasStepsOf d k new × (d.about ≡ c.about) × IsByPasses c.about.passes new
 
 abbrev pub Meets : ℕ → Role → Role → View → Type 0
@@ -257,25 +265,27 @@ met st m found m' = Meets st.word m.0.role m.0.guest m'.0 × (m'.1 ≡ m.1)
 
 -- the book's history begins with what the pass has seen, has just its steps, and no steps but those of passes of the
 -- opening
-abbrev pub IsSettled : Role → Role → Type 0
-IsSettled (Keeps shelf) (Calls c) = IsBeginning (seen_at c shelf.shard) shelf.items
-    × IsLegalAt shelf.about shelf.shard shelf.items × HasStepsOf c shelf.shard shelf.items × (c.about ≡ shelf.about)
+abbrev pub AgreesWithPass : Role → Role → Type 0
+AgreesWithPass (Keeps shelf) (Calls c) = IsBeginning (seen_at c shelf.shard) shelf.items
+    × IsLegalAt shelf.about shelf.shard shelf.items × HasStepsOf c shelf.shard shelf.items
+    × (c.about ≡ shelf.about)
     × IsByPasses shelf.about.passes shelf.items
-IsSettled role guest = Unit {0}
+AgreesWithPass role guest = Unit {0}
 
 -- a look that compares a book with a pass, and changes neither
 abbrev pub settled : TableStep Unit → Me Unit View → ℕ → Me Unit View → Type 0
-settled st m found m' = (m' ≡ m) × IsSettled m.0.role m.0.guest
+settled st m found m' = (m' ≡ m) × AgreesWithPass m.0.role m.0.guest
 
 -- so many items have room for a step under each number of each pass, and the mark
-abbrev pub IsShort : About → List Item → Type 0
-IsShort about items = length items ≤ about.passes * bound + 1
+abbrev pub HasRoomForSteps : About → List Item → Type 0
+HasRoomForSteps about items = length items ≤ about.passes * bound + 1
 
-abbrev pub Counts : ℕ → Role → Type 0
-Counts found (Keeps shelf) = (found ≡ length shelf.items) × IsShort shelf.about shelf.items
+abbrev pub CountsItems : ℕ → Role → Type 0
+CountsItems found (Keeps shelf) = (found ≡ length shelf.items)
+    × HasRoomForSteps shelf.about shelf.items
     × IsLegalAt shelf.about shelf.shard shelf.items × IsByPasses shelf.about.passes shelf.items
-Counts found role = Unit {0}
+CountsItems found role = Unit {0}
 
 -- a look that counts a book's items, and changes nothing
-abbrev pub counted : TableStep Unit → Me Unit View → ℕ → Me Unit View → Type 0
-counted st m found m' = (m' ≡ m) × Counts found m.0.role
+abbrev pub items_counted : TableStep Unit → Me Unit View → ℕ → Me Unit View → Type 0
+items_counted st m found m' = (m' ≡ m) × CountsItems found m.0.role

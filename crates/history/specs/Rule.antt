@@ -51,7 +51,7 @@ newcomer about p =
     }
 
 -- the shards' histories, what each pass knows, and its calls on their way, by their numbers
-pub record Contents : Type 0 where
+pub record TableContents : Type 0 where
   pub items : ℕ → List Item
   pub callers : ℕ → Caller
   pub tokens : ℕ → ℕ → Token
@@ -78,15 +78,15 @@ IsQueue last [] = Unit {0}
 IsQueue last (a ∷ asks) = (a.number < floor_of last asks) × IsQueue last asks
 
 -- the call is on its way, and may stand in a mark's list
-abbrev pub IsOut : Ask → Token → Type 0
-IsOut a Nothing = ⊥
-IsOut a (Open b f e) = (f ≡ true) × (b ≡ a)
-IsOut a (Done s upto at) = s.ask ≡ a
+abbrev pub IsOnItsWay : Ask → Token → Type 0
+IsOnItsWay a Nothing = ⊥
+IsOnItsWay a (Open b f e) = (f ≡ true) × (b ≡ a)
+IsOnItsWay a (Done s upto at) = s.ask ≡ a
 
 -- each of the calls was made, or is on its way
 abbrev pub AreTold : List Step → (ℕ → Token) → List Ask → Type 0
 AreTold made ts [] = Unit {0}
-AreTold made ts (a ∷ asks) = (HasStep a made ⊎ IsOut a (ts a.number)) × AreTold made ts asks
+AreTold made ts (a ∷ asks) = (HasStep a made ⊎ IsOnItsWay a (ts a.number)) × AreTold made ts asks
 
 -- the call of a token is an open one of the pass. Where it has no step, all steps of the pass in its shard have smaller
 -- numbers
@@ -95,33 +95,37 @@ TokenOk about items p pending n Nothing = Unit {0}
 TokenOk about items p pending n (Open a f e) = (a.number ≡ n) × (a.pass ≡ p) × IsAmong a pending
     × HaveNumbersBelow n (steps_by p (items (shard_in about a)))
 TokenOk about items p pending n (Done s upto at) =
-    (s.ask.number ≡ n) × (s.ask.pass ≡ p) × IsAmong s.ask pending × IsBeginning upto (items (shard_in about s.ask))
+    (s.ask.number ≡ n) × (s.ask.pass ≡ p) × IsAmong s.ask pending
+    × IsBeginning upto (items (shard_in about s.ask))
     × ((before : List Item) × (upto ≡ before ++ Answered s ∷ []))
 
 -- of two calls without a step on one shard, the later one names the earlier one
 abbrev pub IsOrdered : About → (ℕ → Token) → Type 0
-IsOrdered about ts = (a b : Ask) (f g : Bool) (d e : List Ask) → ts a.number ≡ Open a f d → ts b.number ≡ Open b g e
+IsOrdered about ts = (a b : Ask) (f g : Bool) (d e : List Ask) → ts a.number ≡ Open a f d
+    → ts b.number ≡ Open b g e
     → shard_in about a ≡ shard_in about b → a.number < b.number → IsAmong a e
 
 -- the step is of an open call of shard k
-pub record IsWaiting (about : About) (k : ℕ) (ts : ℕ → Token) (s : Step) : Type 0 where
+pub record IsOfOpenCall (about : About) (k : ℕ) (ts : ℕ → Token) (s : Step) : Type 0 where
   pub upto : List Item
   pub at : ℕ × ℕ
   pub here : shard_in about s.ask ≡ k
   pub is : ts s.ask.number ≡ Done s upto at
 
-abbrev pub AreWaiting : About → ℕ → (ℕ → Token) → List Step → Type 0
-AreWaiting about k ts [] = Unit {0}
-AreWaiting about k ts (s ∷ steps) = IsWaiting about k ts s × AreWaiting about k ts steps
+abbrev pub AreOfOpenCalls : About → ℕ → (ℕ → Token) → List Step → Type 0
+AreOfOpenCalls about k ts [] = Unit {0}
+AreOfOpenCalls about k ts (s ∷ steps) = IsOfOpenCall about k ts s × AreOfOpenCalls about k ts steps
 
 -- the steps of pass p in these items of shard k are those that it made, and some that it has not collected yet
-pub record HasOwn (about : About) (p : ℕ) (made : List Step) (ts : ℕ → Token) (k : ℕ) (items : List Item) : Type 0 where
+pub record HasOwn (about : About) (p : ℕ) (made : List Step) (ts : ℕ → Token) (k : ℕ)
+    (items : List Item) : Type 0 where
   pub rest : List Step
   pub is : steps_by p items ≡ steps_on about k made ++ rest
-  pub waiting : AreWaiting about k ts rest
+  pub waiting : AreOfOpenCalls about k ts rest
 
 -- a pass, its calls on their way, and the histories
-pub record AccountOk (about : About) (items : ℕ → List Item) (p : ℕ) (c : Caller) (ts : ℕ → Token) : Type 0 where
+pub record AccountOk (about : About) (items : ℕ → List Item) (p : ℕ) (c : Caller)
+    (ts : ℕ → Token) : Type 0 where
   pub named : c.pass ≡ p
   pub within : c.last < bound
   pub own : (k : ℕ) → HasOwn about p c.made ts k (items k)
@@ -132,7 +136,8 @@ pub record AccountOk (about : About) (items : ℕ → List Item) (p : ℕ) (c : 
   pub seen : (k : ℕ) → IsBeginning (slice_index_or c.seen k []) (items k)
   pub wide : length c.seen ≡ about.shards
   -- in which all that it made stands
-  pub made_seen : (k : ℕ) → IsBeginning (steps_on about k c.made) (steps_by p (slice_index_or c.seen k []))
+  pub made_seen : (k : ℕ) → IsBeginning (steps_on about k c.made)
+      (steps_by p (slice_index_or c.seen k []))
   pub rises : HaveNumbersBelow (floor_of c.last c.pending) c.made
   pub gone : AreNumbersBelow (floor_of c.last c.pending) c.withdrawn
   -- a withdrawn number stands in no step
@@ -145,20 +150,21 @@ pub record AccountOk (about : About) (items : ℕ → List Item) (p : ℕ) (c : 
   pub order : IsOrdered about ts
 
 -- how many steps the passes below n have in all
-abbrev pub total : ℕ → List Item → ℕ
-total zero items = 0
-total (suc n) items = length (steps_by n items) + total n items
+abbrev pub steps_in_all : ℕ → List Item → ℕ
+steps_in_all zero items = 0
+steps_in_all (suc n) items = length (steps_by n items) + steps_in_all n items
 
 -- the histories and the passes agree
-pub record IsGood (about : About) (x : Contents) : Type 0 where
+pub record IsGood (about : About) (x : TableContents) : Type 0 where
   pub legal : (k : ℕ) → IsLegalAt about k (x.items k)
   -- each item is a step of a pass, or the one mark
-  pub counted : (k : ℕ) → length (x.items k) ≤ total about.passes (x.items k) + (if is_marked (x.items k) then 1 else 0)
+  pub counted : (k : ℕ) → length (x.items k)
+      ≤ steps_in_all about.passes (x.items k) + (if is_marked (x.items k) then 1 else 0)
   pub by_passes : (k : ℕ) → IsByPasses about.passes (x.items k)
   pub passes : (p : ℕ) → p < about.passes → AccountOk about x.items p (x.callers p) (x.tokens p)
 
 -- a shard's word is the length of its history, a pass's word is 0 or the last number that it used
-pub record AreWords (about : About) (x : Contents) (words : List ℕ) : Type 0 where
+pub record AreWords (about : About) (x : TableContents) (words : List ℕ) : Type 0 where
   pub any : 0 < about.shards
   pub few : about.passes ≤ 64
   pub wide : length words ≡ about.shards + about.passes
@@ -171,26 +177,29 @@ abbrev pub IsInDoubt : Ask → Token → Type 0
 IsInDoubt a t = (e : List Ask) × (t ≡ Open a true e)
 
 -- these calls of shard k are open, and in doubt
-abbrev pub AreOpen : About → Contents → ℕ → List Ask → Type 0
+abbrev pub AreOpen : About → TableContents → ℕ → List Ask → Type 0
 AreOpen about x k [] = Unit {0}
 AreOpen about x k (a ∷ asks) = (a.pass < about.passes) × (shard_in about a ≡ k)
     × IsInDoubt a (x.tokens a.pass a.number) × AreOpen about x k asks
 
-module _ (about : About) (x : Contents) (seats : Seating) where
+module _ (about : About) (x : TableContents) (seats : Seating) where
   abbrev pub IsRole : ℕ → Role → Type 0
   IsRole j Nobody = Unit {0}
   IsRole j (Opener known a b) =
       (known ≡ about) × ((k : ℕ) → a ≤ k → (seats.books k ≡ j) × (x.items k ≡ []))
       × ((p : ℕ) → b ≤ p → (seats.passes p ≡ j) × (x.callers p ≡ newcomer about p))
-  IsRole j (Keeps shelf) = (shelf.about ≡ about) × (shelf.shard < about.shards) × (seats.books shelf.shard ≡ j)
+  IsRole j (Keeps shelf) = (shelf.about ≡ about) × (shelf.shard < about.shards)
+      × (seats.books shelf.shard ≡ j)
       × (x.items shelf.shard ≡ shelf.items) × AreOpen about x shelf.shard shelf.doubt
-  IsRole j (Calls c) = (c.about ≡ about) × (c.pass < about.passes) × (seats.passes c.pass ≡ j) × (x.callers c.pass ≡ c)
+  IsRole j (Calls c) = (c.about ≡ about) × (c.pass < about.passes) × (seats.passes c.pass ≡ j)
+      × (x.callers c.pass ≡ c)
 
   abbrev pub IsHand : ℕ → Token → Type 0
   IsHand j Nothing = Unit {0}
   IsHand j (Open a f e) = (a.pass < about.passes) × (seats.holders a.pass a.number ≡ j)
       × (x.tokens a.pass a.number ≡ Open a f e)
-  IsHand j (Done s upto at) = (s.ask.pass < about.passes) × (seats.holders s.ask.pass s.ask.number ≡ j)
+  IsHand j (Done s upto at) = (s.ask.pass < about.passes)
+      × (seats.holders s.ask.pass s.ask.number ≡ j)
       × (x.tokens s.ask.pass s.ask.number ≡ Done s upto at)
 
 -- a pass and its guest are two
@@ -199,7 +208,8 @@ AreTwo (Calls c) (Calls d) = c.pass ≢ d.pass
 AreTwo role guest = Unit {0}
 
 -- what seat j knows is the case
-pub record IsSeat (about : About) (x : Contents) (seats : Seating) (j : ℕ) (v : View) : Type 0 where
+pub record IsSeat (about : About) (x : TableContents) (seats : Seating) (j : ℕ)
+    (v : View) : Type 0 where
   pub role : IsRole about x seats j v.role
   pub guest : IsRole about x seats j v.guest
   pub two : AreTwo v.role v.guest
@@ -207,12 +217,12 @@ pub record IsSeat (about : About) (x : Contents) (seats : Seating) (j : ℕ) (v 
 
 -- the rule, of an opening that is known
 pub record HoldsFor (about : About) (s : State Unit View) : Type 0 where
-  pub contents : Contents
+  pub contents : TableContents
   pub seating : Seating
   pub words : AreWords about contents s.words
   pub good : IsGood about contents
   pub seats : (j : ℕ) (v : View) → get_elem? s.views j ≡ some v → IsSeat about contents seating j v
 
 -- the rule
-abbrev pub Holds : State Unit View → Type 0
-Holds s = (about : About) × HoldsFor about s
+abbrev pub KeepsRule : State Unit View → Type 0
+KeepsRule s = (about : About) × HoldsFor about s

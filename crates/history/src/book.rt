@@ -4,7 +4,7 @@ ghost use Rattle.accept.specs.declared.call.Reply.TheVariants.{Unavailable};
 ghost use Rattle.accept.specs.declared.history.Item.TheVariants.{Answered, Failed};
 ghost use Rattle.accept.specs.Histories.{is_marked};
 ghost use Rattle.history.specs.Histories.{IsBeginning, IsLegalAt, IsByPasses, HaveSteps, doubt_or, doubt_of, reply_of, shard_in, step_of};
-ghost use Rattle.history.specs.Plays.{seen_at, HasStepsOf, IsShort};
+ghost use Rattle.history.specs.Plays.{seen_at, HasStepsOf, HasRoomForSteps};
 ghost use Rattle.history.specs.declared.views.Role.TheVariants.{Keeps};
 ghost use Rattle.history.specs.declared.views.Token.TheVariants.{Nothing};
 ghost use Rattle.history.specs.Rule.{alone};
@@ -70,7 +70,8 @@ impl Book {
         requires table { ticket.table ≡ self.old.table }
         requires shard { shard_in self.old.about ticket.ask ≡ self.old.shard }
         requires order { HaveSteps ticket.before self.old.items }
-        requires reply { reply ≡ reply_of self.old.about self.old.shard self.old.items ticket.ask.call }
+        requires reply { reply ≡ reply_of self.old.about self.old.shard self.old.items
+            ticket.ask.call }
         requires kept { K.kept kept.now (longer self.old (Answered (step_of ticket.ask reply)))
             (doubt_or self.old.items (K.doubts kept.now)) }
         ensures book { self.new ≡ longer self.old (Answered (step_of ticket.ask reply)) }
@@ -91,7 +92,8 @@ impl Book {
         requires table { ticket.table ≡ self.old.table }
         requires shard { shard_in self.old.about ticket.ask ≡ self.old.shard }
         requires order { HaveSteps ticket.before self.old.items }
-        requires reply { reply.now ≡ reply_of self.old.about self.old.shard self.old.items ticket.ask.call }
+        requires reply { reply.now
+            ≡ reply_of self.old.about self.old.shard self.old.items ticket.ask.call }
         requires moment { J.moment ≡ K.moment kept.now }
         ensures book { self.new ≡ longer self.old (Answered (step_of ticket.ask reply.now)) }
         ensures receipt { result ≡ record {
@@ -120,7 +122,8 @@ impl Book {
         requires shard { shard_in self.old.about ticket.ask ≡ self.old.shard }
         requires order { HaveSteps ticket.before self.old.items }
         requires marked { is_marked self.old.items ≡ true }
-        requires kept { K.kept kept.now (longer self.old (Answered (step_of ticket.ask Unavailable)))
+        requires kept { K.kept kept.now
+            (longer self.old (Answered (step_of ticket.ask Unavailable)))
             (doubt_of self.old.items) }
         ensures book { self.new ≡ longer self.old (Answered (step_of ticket.ask Unavailable)) }
         ensures reply { result.0 ≡ Unavailable }
@@ -140,7 +143,8 @@ impl Book {
     pub fn mark<K: Kept>(&mut self, kept: &K, tickets: &mut [Ticket])
         requires tickets { AreOf self.old tickets.old }
         requires unmarked { is_marked self.old.items ≡ false }
-        requires kept { K.kept kept.now (longer self.old (Failed (asks_of tickets.old))) (asks_of tickets.old) }
+        requires kept { K.kept kept.now (longer self.old (Failed (asks_of tickets.old)))
+            (asks_of tickets.old) }
         ensures book { self.new ≡ longer self.old (Failed (asks_of tickets.old)) }
         ensures tickets { tickets.new ≡ doubted_to (length tickets.old) tickets.old }
     {
@@ -155,7 +159,7 @@ impl Book {
     pub fn len(&mut self) -> u64
         ensures book { self.new ≡ self.old }
         ensures len { result ≡ length self.old.items }
-        ensures short { IsShort self.old.about self.old.items }
+        ensures short { HasRoomForSteps self.old.about self.old.items }
         ensures legal { IsLegalAt self.old.about self.old.shard self.old.items }
         ensures by_passes { IsByPasses self.old.about.passes self.old.items }
     {

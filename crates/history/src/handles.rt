@@ -2,7 +2,7 @@
 ghost use Rattle.std.specs.Prelude.{◌≡◌, ◌+◌, ◌<◌, ◌==◌, true, false, length};
 ghost use Rattle.history.specs.Histories.{behind_first, bound};
 ghost use Rattle.history.specs.Rule.{number_of};
-ghost use Rattle.history.specs.Handles.{is_closed};
+ghost use Rattle.history.specs.Handles.{is_closed_pass};
 
 use crate::table::ViewSeat;
 use std::marker::Model;
@@ -130,7 +130,7 @@ impl Pass {
 
     /// Whether it announces no more calls: it was closed, or has used the last call number, 2^56 - 1.
     pub fn is_closed(&self) -> bool
-        ensures { result ≡ is_closed self.now }
+        ensures { result ≡ is_closed_pass self.now }
     {
         self.closed || self.last == Pass::LAST
     }
@@ -159,7 +159,7 @@ impl Pass {
 
     // The number of its next call.
     pub(crate) fn next_number(&self) -> u64
-        requires { is_closed self.now ≡ false }
+        requires { is_closed_pass self.now ≡ false }
         ensures { (result ≡ self.now.caller.last + 1) × (result < bound) }
     {
         self.last + 1

@@ -1,7 +1,7 @@
 ghost use Rattle.std.specs.Prelude.{◌≡◌, ◌≢◌, ◌↔◌, ℕ, ◌+◌, ◌<◌, ◌≤◌, ◌==◌, [], true, false, length, IfOk, OnOk, OnErr, IsOk};
 ghost use Rattle.history.specs.Histories.{IsBeginning, IsLegalAt, IsByPasses, shard_in, IsFirst, IsFirstIfAmong, bound};
 ghost use Rattle.history.specs.Plays.{seen_at, ask_of, before_of, announce_to, withdraw_to, collect_to, look_to, IsRested, Extends, HasStepsOf};
-ghost use Rattle.history.specs.Handles.{is_closed, caller_in, pair_of, with_seen, HaveMet};
+ghost use Rattle.history.specs.Handles.{is_closed_pass, caller_in, pair_of, with_seen, HaveMet};
 
 use crate::handles::{Pass, PassSpent, Receipt, Ticket};
 use crate::table::{
@@ -45,10 +45,13 @@ impl History {
               before = before_of pass.old.caller (pass.old.caller.last + 1) call.now;
             }) }
         ensures pass { OnOk result (pass.new
-            ≡ record pass.old { caller = announce_to pass.old.caller (pass.old.caller.last + 1) call.now }) }
+            ≡ record pass.old {
+              caller = announce_to pass.old.caller
+                  (pass.old.caller.last + 1) call.now;
+            }) }
         ensures rested { OnOk result (pass.old.caller.pending ≡ [] → IsRested pass.old.caller) }
         ensures err { OnErr result (pass.new ≡ pass.old) }
-        ensures open { IsOk result ↔ (is_closed pass.old ≡ false) }
+        ensures open { IsOk result ↔ (is_closed_pass pass.old ≡ false) }
     {
         if pass.is_closed() {
             return Err(PassSpent);
@@ -59,7 +62,7 @@ impl History {
     fn announce_call<J: Saying>(&self, pass: &mut Pass, call: &Call) -> Ticket
         requires table { pass.old.table ≡ self.now }
         requires few { length pass.old.caller.pending < 64 }
-        requires open { is_closed pass.old ≡ false }
+        requires open { is_closed_pass pass.old ≡ false }
         requires call { call.now ≡ J.call }
         ensures ticket { result ≡ record {
           table = self.now;
@@ -89,7 +92,10 @@ impl History {
           doubted = false;
           before = before_of pass.old.caller number J.call;
         } }
-        ensures pass { pass.new ≡ record pass.old { caller = announce_to pass.old.caller number J.call } }
+        ensures pass { pass.new ≡ record pass.old {
+          caller =
+              announce_to pass.old.caller number J.call;
+        } }
         ensures rested { pass.old.caller.pending ≡ [] → IsRested pass.old.caller }
     {
         let own = pass.number();
@@ -113,15 +119,21 @@ impl History {
         requires number { IsFirstIfAmong receipt.step.ask pass.old.caller.pending }
         requires rested { IsRested pass.old.caller }
         ensures first { IsFirst receipt.step.ask pass.old.caller.pending }
-        ensures pass { pass.new ≡ record pass.old { caller = collect_to pass.old.caller receipt.step receipt.upto } }
-        ensures seen { seen_at pass.new.caller (shard_in pass.old.caller.about receipt.step.ask) ≡ receipt.upto }
+        ensures pass { pass.new ≡ record pass.old {
+          caller =
+              collect_to pass.old.caller receipt.step receipt.upto;
+        } }
+        ensures seen { seen_at pass.new.caller (shard_in pass.old.caller.about receipt.step.ask)
+            ≡ receipt.upto }
         ensures others { (k : ℕ) → k ≢ shard_in pass.old.caller.about receipt.step.ask
             → seen_at pass.new.caller k ≡ seen_at pass.old.caller k }
-        ensures legal { IsLegalAt pass.old.caller.about (shard_in pass.old.caller.about receipt.step.ask) receipt.upto }
+        ensures legal { IsLegalAt pass.old.caller.about
+            (shard_in pass.old.caller.about receipt.step.ask) receipt.upto }
         ensures rested { IsRested pass.new.caller }
         ensures by_passes { IsByPasses pass.old.caller.about.passes receipt.upto }
         ensures extends { Extends pass.old.caller.pass
-            (seen_at pass.old.caller (shard_in pass.old.caller.about receipt.step.ask)) receipt.step receipt.upto }
+            (seen_at pass.old.caller (shard_in pass.old.caller.about receipt.step.ask)) receipt.step
+            receipt.upto }
     {
         let Receipt {
             number: _,
@@ -141,7 +153,10 @@ impl History {
         requires pass { (ticket.ask.pass ≡ pass.old.caller.pass) × (ticket.doubted ≡ false) }
         requires number { IsFirstIfAmong ticket.ask pass.old.caller.pending }
         ensures first { IsFirst ticket.ask pass.old.caller.pending }
-        ensures pass { pass.new ≡ record pass.old { caller = withdraw_to pass.old.caller ticket.ask.number } }
+        ensures pass { pass.new ≡ record pass.old {
+          caller =
+              withdraw_to pass.old.caller ticket.ask.number;
+        } }
     {
         let Ticket {
             number: _,
@@ -163,11 +178,14 @@ impl History {
           caller = look_to pass.old.caller shard
               (seen_at pass.new.caller shard);
         } }
-        ensures others { (k : ℕ) → k ≢ shard → seen_at pass.new.caller k ≡ seen_at pass.old.caller k }
-        ensures begins { IsBeginning (seen_at pass.old.caller shard) (seen_at pass.new.caller shard) }
+        ensures others { (k : ℕ) → k ≢ shard
+            → seen_at pass.new.caller k ≡ seen_at pass.old.caller k }
+        ensures begins { IsBeginning (seen_at pass.old.caller shard)
+            (seen_at pass.new.caller shard) }
         ensures legal { IsLegalAt pass.old.caller.about shard (seen_at pass.new.caller shard) }
         ensures length { result ≡ length (seen_at pass.new.caller shard) }
-        ensures by_passes { IsByPasses pass.old.caller.about.passes (seen_at pass.new.caller shard) }
+        ensures by_passes { IsByPasses pass.old.caller.about.passes
+            (seen_at pass.new.caller shard) }
         ensures steps { HasStepsOf pass.old.caller shard (seen_at pass.new.caller shard) }
     {
         self.table.shared.load::<Looks>(&mut pass.seat, shard)
@@ -176,9 +194,16 @@ impl History {
     /// Two passes see the histories of all shards together. Both then have the same history of each.
     pub fn meet(&self, one: &mut Pass, two: &mut Pass)
         requires table { (one.old.table ≡ self.now) × (two.old.table ≡ self.now) }
-        ensures one { one.new ≡ record one.old { caller = with_seen one.old.caller one.new.caller.seen } }
-        ensures two { two.new ≡ record two.old { caller = with_seen two.old.caller two.new.caller.seen } }
-        ensures met { HaveMet one.old.caller two.old.caller one.old.caller.about.shards one.new.caller.seen
+        ensures one { one.new ≡ record one.old {
+          caller =
+              with_seen one.old.caller one.new.caller.seen;
+        } }
+        ensures two { two.new ≡ record two.old {
+          caller =
+              with_seen two.old.caller two.new.caller.seen;
+        } }
+        ensures met { HaveMet one.old.caller two.old.caller one.old.caller.about.shards
+            one.new.caller.seen
             two.new.caller.seen }
     {
         let shared = &self.table.shared;
@@ -193,8 +218,10 @@ impl History {
 // Two passes in one seat see each shard's history.
 fn look_together(shared: &Steps, seat: &mut ViewSeat, shards: usize)
     requires seat { seat.old.table_id ≡ shared.now.table_id }
-    requires passes { seat.old.me ≡ (pair_of (caller_in seat.old.me.0.role) (caller_in seat.old.me.0.guest), []) }
-    requires shards { ((caller_in seat.old.me.0.role).about.shards ≡ shards) × (shards ≤ shared.now.table_id.words) }
+    requires passes { seat.old.me
+        ≡ (pair_of (caller_in seat.old.me.0.role) (caller_in seat.old.me.0.guest), []) }
+    requires shards { ((caller_in seat.old.me.0.role).about.shards ≡ shards)
+        × (shards ≤ shared.now.table_id.words) }
     ensures table { seat.new.table_id ≡ seat.old.table_id }
     ensures passes { seat.new.me
         ≡ (

@@ -30,19 +30,23 @@ pub fn refuse_both<K: Kept>(
     requires table { (pass.old.table ≡ history.now) × (book.old.table ≡ history.now) }
     requires about { book.old.about ≡ pass.old.caller.about }
     requires idle { pass.old.caller.pending ≡ [] }
-    requires one { shard_in book.old.about (ask_of pass.old.caller (pass.old.caller.last + 1) one.now)
+    requires one { shard_in book.old.about
+        (ask_of pass.old.caller (pass.old.caller.last + 1) one.now)
         ≡ book.old.shard }
-    requires two { shard_in book.old.about (ask_of pass.old.caller (pass.old.caller.last + 1 + 1) two.now)
+    requires two { shard_in book.old.about
+        (ask_of pass.old.caller (pass.old.caller.last + 1 + 1) two.now)
         ≡ book.old.shard }
     requires marked { is_marked book.old.items ≡ true }
-    requires kept { (items : List Item) (doubt : List Ask) → K.kept kept.now (record book.old { items = items }) doubt }
+    requires kept { (items : List Item) (doubt : List Ask)
+        → K.kept kept.now (record book.old { items = items }) doubt }
     ensures pass { OnOk result (pass.new.caller
         ≡ call_to (call_to pass.old.caller one.now Unavailable
         (refused_by book.old.items pass.old.caller one.now)) two.now Unavailable book.new.items) }
     ensures book { OnOk result (book.new
         ≡ record book.old {
           items = refused_by (refused_by book.old.items pass.old.caller one.now)
-              (call_to pass.old.caller one.now Unavailable (refused_by book.old.items pass.old.caller one.now)) two.now;
+              (call_to pass.old.caller one.now Unavailable
+              (refused_by book.old.items pass.old.caller one.now)) two.now;
         }) }
 {
     let first = history.announce(pass, one)?;

@@ -6,7 +6,7 @@ mod book;
 mod handles;
 mod history;
 mod laws;
-mod opening;
+mod new_table;
 mod table;
 mod views;
 

@@ -10,9 +10,9 @@ use std::marker::{Brand, PhantomData};
 pub struct Rules;
 
 impl TableRule<(), View, Sizes> for Rules {
-    ghost use Rattle.history.specs.Rule.{Holds, opener, unnamed};
+    ghost use Rattle.history.specs.Rule.{KeepsRule, opener, unnamed};
 
-    ghost holds = { λ _. Holds };
+    ghost holds = { λ _. KeepsRule };
 
     ghost first = { λ key. opener (unnamed key) 0 0 };
 }
@@ -151,9 +151,9 @@ impl Play<(), View> for Settles {
 pub struct Counts;
 
 impl Play<(), View> for Counts {
-    ghost use Rattle.history.specs.Plays.{counted};
+    ghost use Rattle.history.specs.Plays.{items_counted};
 
-    ghost then = { counted };
+    ghost then = { items_counted };
 }
 
 /// The opening gives out the next book.
@@ -182,11 +182,11 @@ impl Split<View> for NextPass {
 pub struct Gives;
 
 impl Split<View> for Gives {
-    ghost use Rattle.history.specs.Plays.{kept_back, given};
+    ghost use Rattle.history.specs.Plays.{kept_back, seat_alone};
 
     ghost left = { kept_back };
 
-    ghost right = { given };
+    ghost right = { seat_alone };
 }
 
 /// A guest leaves.

@@ -17,15 +17,15 @@ use Rattle.history.specs.Handles.{Announced, Passed, asks_of, AreInLine}
 use Rattle.accept.specs.Histories.{key_of}
 use Rattle.labels.specs.Shards.{shard}
 use Rattle.ingester.proofs.Routing.{routed}
-use Rattle.shard.specs.declared.front.Job.{Job}
+use Rattle.shard.specs.declared.first_jobs.Job.{Job}
 use Rattle.shard.specs.Jobs.{tickets_of}
 use Rattle.keyed.specs.Queues.{sends_to, receives_as}
 use Rattle.owners.specs.declared.ways.Way.{Way}
 use Rattle.owners.specs.Homes.{Homed}
 use Rattle.owners.specs.Calls.{IsWaiting, AreWaiting, AreOfPass}
-use Rattle.owners.specs.Ways.{IsReady, AreReady, AreLoaded, AreIdleWays, HasSameRest}
+use Rattle.owners.specs.Ways.{IsReadyWay, AreReadyWays, AreLoaded, AreIdleWays, HasSameRest}
 use Rattle.owners.proofs.Each.{ways_set}
-use Rattle.ingester.specs.Batches.{IsBatchOf, AreBatchesOf, AreBelow, AreNumbered, IsJoined}
+use Rattle.ingester.specs.Batches.{IsBatchOf, AreBatchesOf, AreBelow, AreNumbered, IsPutIntoLetter}
 
 tickets_more : (jobs : List Job) (job : Job) → tickets_of (jobs ++ job ∷ []) ≡ tickets_of jobs ++ job.ticket ∷ []
 tickets_more [] job = refl
@@ -122,7 +122,7 @@ module _ (table : TableId) (about : About) where
 
   -- one call more in the batch of its shard
   pub batches_joined : (old new : Passed) (calls left : List Call) (batches : List (Way)) (k count number : ℕ) (was now : Way) (first : Call) → old.caller.about ≡ about → old.caller.pass < about.passes → about.shards ≡ count → first ≡ get_or calls 0 first → k ≡ shard (key_of first) count → k < length batches
-      → was ≡ get_or batches k was → AreBatchesOf table about old.caller batches → IsJoined table old new calls left was.letter.jobs.items now.letter.jobs.items number → AreBatchesOf table about new.caller (slice_set batches k now)
+      → was ≡ get_or batches k was → AreBatchesOf table about old.caller batches → IsPutIntoLetter table old new calls left was.letter.jobs.items now.letter.jobs.items number → AreBatchesOf table about new.caller (slice_set batches k now)
   batches_joined old new calls left batches k count number was now first at below shards is_first routes lt there all h =
       let a : Ask = ask_of old.caller (old.caller.last + 1) h.call in
       let same : h.call ≡ first = sym (is_first ∙ ap (λ (l : List Call). get_or l 0 first) h.calls_are) in
@@ -143,7 +143,7 @@ module _ (table : TableId) (about : About) where
       clash e = cc
 
   -- where no call is open, no call is in the letters
-  pub ways_idle : (home : Homed) (p : ℕ) (c : Caller) (ways : List Way) → c.pending ≡ [] → AreBatchesOf table about c ways → AreReady home p ways → AreIdleWays home p ways
+  pub ways_idle : (home : Homed) (p : ℕ) (c : Caller) (ways : List Way) → c.pending ≡ [] → AreBatchesOf table about c ways → AreReadyWays home p ways → AreIdleWays home p ways
   ways_idle home p c ways idle all ready k way e =
       let r = ready k way e in
       record { letter = record { pass = r.pass; jobs = no_asks way.letter.jobs.items ((all k way e).asks ∙ ap (λ (l : List Ask). asks_on about k l) idle); settled = r.settled }; orders = r.orders; answers = r.answers }
@@ -161,7 +161,7 @@ as_many [] = refl
 as_many (j ∷ jobs) = ap suc (as_many jobs)
 
 -- the ways are loaded with the open calls
-pub ways_loaded : (home : Homed) (c : Caller) (ways : List Way) → length c.pending ≤ 64 → AreBatchesOf home.table home.about c ways → AreReady home c.pass ways → AreLoaded home c.pass ways
+pub ways_loaded : (home : Homed) (c : Caller) (ways : List Way) → length c.pending ≤ 64 → AreBatchesOf home.table home.about c ways → AreReadyWays home c.pass ways → AreLoaded home c.pass ways
 ways_loaded home c ways few all ready k way e =
     let b = all k way e in
     let long = as_many way.letter.jobs.items ∙ ap length b.asks in
@@ -169,10 +169,10 @@ ways_loaded home c ways few all ready k way e =
     record { ready = ready k way e; batch = b.batch; few = omega (arith, way.letter.jobs.ok.0) }
 
 -- what a way was but for the calls in its letter
-pub ready_still : (home : Homed) (p : ℕ) (ways : List Way) (k : ℕ) (was now : Way) → k < length ways → was ≡ get_or ways k was → HasSameRest was now → AreReady home p ways → AreReady home p (slice_set ways k now)
+pub ready_still : (home : Homed) (p : ℕ) (ways : List Way) (k : ℕ) (was now : Way) → k < length ways → was ≡ get_or ways k was → HasSameRest was now → AreReadyWays home p ways → AreReadyWays home p (slice_set ways k now)
 ready_still home p ways k was now lt there same all =
     let r = all k was (slice_get-get_or ways k was lt ∙ ap Some (sym there)) in
-    ways_set (IsReady home p) ways k now lt all (record { pass = same.pass ∙ r.pass; settled = same.settled ∙ r.settled; orders = ap (λ s. sends_to s) same.orders ∙ r.orders; answers = ap (λ s. receives_as s) same.answers ∙ r.answers })
+    ways_set (IsReadyWay home p) ways k now lt all (record { pass = same.pass ∙ r.pass; settled = same.settled ∙ r.settled; orders = ap (λ s. sends_to s) same.orders ∙ r.orders; answers = ap (λ s. receives_as s) same.answers ∙ r.answers })
 
 -- one number again and again
 pub below_same : (n x m : ℕ) → x < n → AreBelow n (replicate m x)

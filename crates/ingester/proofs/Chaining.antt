@@ -12,7 +12,7 @@ use Rattle.history.specs.declared.views.About.{About}
 use Rattle.history.specs.declared.views.Caller.{Caller}
 use Rattle.history.specs.Histories.{IsLegalAt, IsByPasses, IsFirst, behind_first, shard_in, step_of}
 use Rattle.history.specs.Plays.{seen_at, ask_of, announce_to, withdraw_to, collect_to, Extends, IsRested}
-use Rattle.history.specs.Handles.{Passed, is_closed}
+use Rattle.history.specs.Handles.{Passed, is_closed_pass}
 use Rattle.shard.specs.declared.fault.ApplyFault.{ApplyFault}
 use Rattle.shard.specs.declared.fault.ApplyFault.TheVariants.{Memory, GenerationSpent}
 use Rattle.owners.specs.Openings.{Opening, HasSpentLog}
@@ -39,8 +39,8 @@ first_alone : (qs : List Ask) (a : Ask) → qs ≡ [] → IsFirst a (qs ++ a ∷
 first_alone qs a none = subst (λ (l : List Ask). IsFirst a (l ++ a ∷ [])) (sym none) refl
 
 -- one call more is announced
-pub announced_more : (old mid new : Passed) (calls : List Call) (call : Call) → AreAnnounced old calls mid → is_closed mid ≡ false → new ≡ with_next mid call → AreAnnounced old (calls ++ call ∷ []) new
-announced_more old mid new [] call a up is = (ap is_closed (sym a) ∙ up, is ∙ ap (λ (p : Passed). with_next p call) a)
+pub announced_more : (old mid new : Passed) (calls : List Call) (call : Call) → AreAnnounced old calls mid → is_closed_pass mid ≡ false → new ≡ with_next mid call → AreAnnounced old (calls ++ call ∷ []) new
+announced_more old mid new [] call a up is = (ap is_closed_pass (sym a) ∙ up, is ∙ ap (λ (p : Passed). with_next p call) a)
 announced_more old mid new (c ∷ calls) call a up is = (a.0, announced_more (with_next old c) mid new calls call a.1 up is)
 
 -- a pass that is not closed waits for no answer
@@ -48,7 +48,7 @@ not_closed_open : (b c : Bool) → (b || c) ≡ false → b ≡ false
 not_closed_open false c e = refl
 not_closed_open true c e = absurd (false≢true (sym e))
 
-pub idle_of : {D : Type 0} (opening : Opening D) (old : Passed) → IsPassOf opening old → is_closed old ≡ false → old.caller.pending ≡ []
+pub idle_of : {D : Type 0} (opening : Opening D) (old : Passed) → IsPassOf opening old → is_closed_pass old ≡ false → old.caller.pending ≡ []
 idle_of opening old is up = is.idle (not_closed_open old.closed _ up)
 
 pub refused_as : (cause : ApplyFault) (fault : CallFault) (old new : Passed) (call : Call) → fault ≡ fault_of cause → new ≡ without_next old → IsRefused old call new fault
@@ -69,7 +69,7 @@ module _ {D : Type 0} (opening : Opening D) where
   taken_more old mid new (s ∷ rs) r a h = (a.0, a.1, taken_more a.0 mid new rs r a.2 h)
 
   -- a call that is announced before an answer is taken in might as well be announced behind it
-  taken_before : (old new : Passed) (call : Call) (x : Ask) (r : Result Reply CallFault) → IsFirst x old.caller.pending → IsTaken opening (with_next old call) new r → (mid : Passed) × IsTaken opening old mid r × (new ≡ with_next mid call) × (is_closed mid ≡ is_closed old)
+  taken_before : (old new : Passed) (call : Call) (x : Ask) (r : Result Reply CallFault) → IsFirst x old.caller.pending → IsTaken opening (with_next old call) new r → (mid : Passed) × IsTaken opening old mid r × (new ≡ with_next mid call) × (is_closed_pass mid ≡ is_closed_pass old)
   taken_before old new call x (Ok reply) is h =
       let a : Ask = ask_of old.caller (old.caller.last + 1) call in
       let here = first_still old.caller.pending x h.first a is h.is_first in
@@ -118,7 +118,7 @@ module _ {D : Type 0} (opening : Opening D) where
     pub pass : IsPassOf opening new
     pub rested : IsRested old.caller → IsRested new.caller
 
-  collected_next : (old new : Passed) (call : Call) (reply : Reply) → IsPassOf opening old → is_closed old ≡ false → IsCollected (with_next old call) new (ask_of old.caller (old.caller.last + 1) call) reply → IsDone old call (Ok reply) new
+  collected_next : (old new : Passed) (call : Call) (reply : Reply) → IsPassOf opening old → is_closed_pass old ≡ false → IsCollected (with_next old call) new (ask_of old.caller (old.caller.last + 1) call) reply → IsDone old call (Ok reply) new
   collected_next old new call reply is up by =
       let a : Ask = ask_of old.caller (old.caller.last + 1) call in
       let c : Caller = announce_to old.caller (old.caller.last + 1) call in
@@ -134,14 +134,14 @@ module _ {D : Type 0} (opening : Opening D) where
             others = by.others;
           };
           refused = tt;
-          closed = (λ (e : IsErrOf {T = Reply} {E = CallFault} (Ok reply) faults.PassClosed). absurd (not_refused reply faults.PassClosed e), λ (e : is_closed old ≡ true). absurd (false≢true (sym up ∙ e)));
+          closed = (λ (e : IsErrOf {T = Reply} {E = CallFault} (Ok reply) faults.PassClosed). absurd (not_refused reply faults.PassClosed e), λ (e : is_closed_pass old ≡ true). absurd (false≢true (sym up ∙ e)));
           spent = λ (e : IsErrOf {T = Reply} {E = CallFault} (Ok reply) faults.LogSpent). absurd (not_refused reply faults.LogSpent e);
         };
         pass = record { table = is.table; about = is.about; idle = λ _. ap (λ (l : List Ask). behind_first (l ++ a ∷ [])) (idle_of opening old is up) };
         rested = λ (_ : IsRested old.caller). by.rested;
       })
 
-  withdrawn_next : (old new : Passed) (call : Call) (fault : CallFault) → IsPassOf opening old → is_closed old ≡ false → IsWithdrawn opening (with_next old call) new (ask_of old.caller (old.caller.last + 1) call) fault → IsDone old call (Err fault) new
+  withdrawn_next : (old new : Passed) (call : Call) (fault : CallFault) → IsPassOf opening old → is_closed_pass old ≡ false → IsWithdrawn opening (with_next old call) new (ask_of old.caller (old.caller.last + 1) call) fault → IsDone old call (Err fault) new
   withdrawn_next old new call fault is up by =
       let a : Ask = ask_of old.caller (old.caller.last + 1) call in
       let none : behind_first (old.caller.pending ++ a ∷ []) ≡ [] = ap (λ (l : List Ask). behind_first (l ++ a ∷ [])) (idle_of opening old is up) in
@@ -154,7 +154,7 @@ module _ {D : Type 0} (opening : Opening D) where
         given = record {
           answered = tt;
           refused = refused_as by.cause fault old new call by.fault_is same;
-          closed = (λ (e : IsErrOf {T = Reply} {E = CallFault} (Err fault) faults.PassClosed). absurd (not_closed by.cause fault by.fault_is e), λ (e : is_closed old ≡ true). absurd (false≢true (sym up ∙ e)));
+          closed = (λ (e : IsErrOf {T = Reply} {E = CallFault} (Err fault) faults.PassClosed). absurd (not_closed by.cause fault by.fault_is e), λ (e : is_closed_pass old ≡ true). absurd (false≢true (sym up ∙ e)));
           spent = λ (e : IsErrOf {T = Reply} {E = CallFault} (Err fault) faults.LogSpent). subst (λ (b : About). HasSpentLog opening (shard_in b a) call) (sym is.about) (by.spent (log_spent by.cause fault by.fault_is e));
         };
         pass = subst (IsPassOf opening) (sym same) (record { table = is.table; about = is.about; idle = λ _. refl });
@@ -162,7 +162,7 @@ module _ {D : Type 0} (opening : Opening D) where
       }
 
   -- the answer to the only open call, taken in
-  pub taken_next : (old new : Passed) (call : Call) (r : Result Reply CallFault) → IsPassOf opening old → is_closed old ≡ false → IsTaken opening (with_next old call) new r → IsDone old call r new
+  pub taken_next : (old new : Passed) (call : Call) (r : Result Reply CallFault) → IsPassOf opening old → is_closed_pass old ≡ false → IsTaken opening (with_next old call) new r → IsDone old call r new
   taken_next old new call r is up h = pick r by
     where
       a : Ask
@@ -229,11 +229,11 @@ module _ {D : Type 0} (opening : Opening D) where
   lost_after mid new [] a = ap closed_now a
   lost_after mid new (call ∷ calls) a = (closed_now (with_next mid call), inr (refl, refl), lost_after (with_next mid call) new calls a.1)
 
-  doubted : (mid new : Passed) (call : Call) → is_closed mid ≡ false → IsRefused mid call new faults.InDoubt → IsGiven opening mid call (Err faults.InDoubt) new
+  doubted : (mid new : Passed) (call : Call) → is_closed_pass mid ≡ false → IsRefused mid call new faults.InDoubt → IsGiven opening mid call (Err faults.InDoubt) new
   doubted mid new call up h = record {
     answered = tt;
     refused = h;
-    closed = (λ (e : IsErrOf {T = Reply} {E = CallFault} (Err faults.InDoubt) faults.PassClosed). absurd (no_closed e), λ (e : is_closed mid ≡ true). absurd (false≢true (sym up ∙ e)));
+    closed = (λ (e : IsErrOf {T = Reply} {E = CallFault} (Err faults.InDoubt) faults.PassClosed). absurd (no_closed e), λ (e : is_closed_pass mid ≡ true). absurd (false≢true (sym up ∙ e)));
     spent = λ (e : IsErrOf {T = Reply} {E = CallFault} (Err faults.InDoubt) faults.LogSpent). absurd (no_spent e);
   }
     where

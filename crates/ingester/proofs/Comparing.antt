@@ -14,7 +14,7 @@ use Rattle.wal.specs.Opening.{slots_of, disks, AllFollow}
 use Rattle.history.specs.declared.views.About.{About}
 use Rattle.history.specs.Histories.{IsLegalAt, IsByPasses, doubt_of, history_of}
 use Rattle.history.specs.Handles.{Booked, Passed}
-use Rattle.shard.specs.Keeping.{Keeps}
+use Rattle.shard.specs.Keeping.{KeepsHistory}
 use Rattle.shard.specs.Shards.{Sharded}
 use Rattle.openings.proofs.Ordered.{ordered}
 use Rattle.owners.specs.Openings.{Opening}
@@ -34,7 +34,7 @@ module _ {D : Type 0} (sight : D → Sight) (follows : D → Type 0) where
   pub handed : (opening : Opening D) (passes : List Passed) (shard : Sharded D) (out : List D) (marked : Bool) → 0 < length passes
       → AreComparedTo shard.book passes (length passes)
       → out ≡ disks shard.log
-      → (Follow follows shard.log → Keeps (slots sight shard.log) shard.book (doubt_of shard.book.items))
+      → (Follow follows shard.log → KeepsHistory (slots sight shard.log) shard.book (doubt_of shard.book.items))
       → (AllFollow follows out → Follow follows shard.opened)
       → (is_marked shard.book.items ≡ true → HasFailed (slots sight shard.opened) (slots sight shard.log))
       → (is_marked shard.book.items ≡ false → HasNoFailure (slots sight shard.opened) (slots sight shard.log))

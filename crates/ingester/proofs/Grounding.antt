@@ -25,7 +25,7 @@ use Rattle.owners.specs.Places.{AreShardsOf, IsShardAt}
 use Rattle.owners.proofs.Each.{each_of}
 use Rattle.ingester.specs.Openings.{AreFresh}
 use Rattle.ingester.specs.Calls.{IsPassOf}
-use Rattle.ingester.specs.Makings.{IsGround, AreGround, AreMade, AreThere, logs_in}
+use Rattle.ingester.specs.Makings.{IsGround, AreGround, AreShardsOfLogs, AreThere, logs_of_shards}
 use Rattle.ingester.proofs.Lasting.{get_front}
 
 -- values that are dealt one after another
@@ -135,7 +135,7 @@ module _ {D : Type 0} where
     pub made_books : List Booked
     pub logs_are : all_logs ≡ logs ++ made_logs
     pub books_are : all_books ≡ books ++ made_books
-    pub made : AreMade shards made_logs made_books
+    pub made : AreShardsOfLogs shards made_logs made_books
 
   pub partly_none : (shards : List (Option (Sharded D))) (logs : List (Wal D)) (books : List Booked) → shards ≡ [] → IsPartly shards logs logs books books
   partly_none shards logs books e = record {
@@ -143,7 +143,7 @@ module _ {D : Type 0} where
     made_books = [];
     logs_are = sym (append-nil logs);
     books_are = sym (append-nil books);
-    made = subst (λ s. AreMade s [] []) (sym e) tt;
+    made = subst (λ s. AreShardsOfLogs s [] []) (sym e) tt;
   }
 
   pub partly_more : (shards shards' : List (Option (Sharded D))) (logs logs' all_logs : List (Wal D)) (books books' all_books : List Booked) (log : Wal D) (book : Booked)
@@ -154,14 +154,14 @@ module _ {D : Type 0} where
     made_books = book ∷ h.made_books;
     logs_are = h.logs_are ∙ (ap (λ l. l ++ h.made_logs) e ∙ append_assoc logs' (log ∷ []) h.made_logs);
     books_are = h.books_are ∙ (ap (λ l. l ++ h.made_books) f ∙ append_assoc books' (book ∷ []) h.made_books);
-    made = subst (λ s. AreMade s (log ∷ h.made_logs) (book ∷ h.made_books)) (sym is) (refl, h.made);
+    made = subst (λ s. AreShardsOfLogs s (log ∷ h.made_logs) (book ∷ h.made_books)) (sym is) (refl, h.made);
   }
 
-  pub partly_all : (shards : List (Option (Sharded D))) (logs all_logs : List (Wal D)) (books all_books : List Booked) → IsPartly shards logs all_logs books all_books → logs ≡ [] → books ≡ [] → AreMade shards all_logs all_books
+  pub partly_all : (shards : List (Option (Sharded D))) (logs all_logs : List (Wal D)) (books all_books : List Booked) → IsPartly shards logs all_logs books all_books → logs ≡ [] → books ≡ [] → AreShardsOfLogs shards all_logs all_books
   partly_all shards logs all_logs books all_books h e f =
-      subst (λ (z : List (Wal D) × List Booked). AreMade shards z.0 z.1) (λ i. (sym (h.logs_are ∙ ap (λ l. l ++ h.made_logs) e) i, sym (h.books_are ∙ ap (λ l. l ++ h.made_books) f) i)) h.made
+      subst (λ (z : List (Wal D) × List Booked). AreShardsOfLogs shards z.0 z.1) (λ i. (sym (h.logs_are ∙ ap (λ l. l ++ h.made_logs) e) i, sym (h.books_are ∙ ap (λ l. l ++ h.made_books) f) i)) h.made
 
-  pub made_there : (shards : List (Option (Sharded D))) (logs : List (Wal D)) (books : List Booked) → AreMade shards logs books → AreThere shards × (logs_in shards ≡ logs)
+  pub made_there : (shards : List (Option (Sharded D))) (logs : List (Wal D)) (books : List Booked) → AreShardsOfLogs shards logs books → AreThere shards × (logs_of_shards shards ≡ logs)
   made_there [] [] [] h = (tt, refl)
   made_there [] [] (b ∷ books) h = absurd h
   made_there [] (l ∷ logs) books h = absurd h
@@ -173,7 +173,7 @@ module _ {D : Type 0} where
   -- all slots, where the shards' go in front first, then this log's, then those of the logs that are left
   pub partly_back : (shards : List (Option (Sharded D))) (logs logs' all_logs : List (Wal D)) (books all_books : List Booked) (log back : Wal D) (slots one two three : List (List D))
       → IsPartly shards logs all_logs books all_books → logs ≡ logs' ++ log ∷ [] → back ≡ log
-      → one ≡ map disks (logs_in shards) ++ slots → two ≡ disks back ∷ one → three ≡ map disks logs' ++ two → three ≡ map disks all_logs ++ slots
+      → one ≡ map disks (logs_of_shards shards) ++ slots → two ≡ disks back ∷ one → three ≡ map disks logs' ++ two → three ≡ map disks all_logs ++ slots
   partly_back shards logs logs' all_logs books all_books log back slots one two three h e same a b c =
       let all : all_logs ≡ logs' ++ log ∷ h.made_logs = h.logs_are ∙ (ap (λ l. l ++ h.made_logs) e ∙ append_assoc logs' (log ∷ []) h.made_logs) in
       let behind : one ≡ map disks h.made_logs ++ slots = a ∙ ap (λ l. map disks l ++ slots) (made_there shards h.made_logs h.made_books h.made).1 in
@@ -191,7 +191,7 @@ module _ {D : Type 0} where
     pub log_is : slice_get logs k ≡ Some log
     pub book_is : slice_get books k ≡ Some book
 
-  made_at : (shards : List (Option (Sharded D))) (logs : List (Wal D)) (books : List Booked) (k : ℕ) → AreMade shards logs books → k < length shards → IsMadeAt shards logs books k
+  made_at : (shards : List (Option (Sharded D))) (logs : List (Wal D)) (books : List Booked) (k : ℕ) → AreShardsOfLogs shards logs books → k < length shards → IsMadeAt shards logs books k
   made_at [] logs books k h lt = absurd (omega arith)
   made_at (None ∷ shards) logs books k h lt = absurd h
   made_at (Some s ∷ shards) [] books k h lt = absurd h
@@ -200,7 +200,7 @@ module _ {D : Type 0} where
   made_at (Some s ∷ shards) (l ∷ logs) (b ∷ books) (suc k) h lt = let r = made_at shards logs books k h.1 (omega arith) in record { log = r.log; book = r.book; shard_is = r.shard_is; log_is = r.log_is; book_is = r.book_is }
 
   -- each shard is the one of its number
-  pub made_fit : (first : Booked) (opened logs : List (Wal D)) (shards : List (Option (Sharded D))) (books : List Booked) (n : ℕ) → opened ≡ logs → books ≡ fresh_books first.table first.about n → AreMade shards logs books
+  pub made_fit : (first : Booked) (opened logs : List (Wal D)) (shards : List (Option (Sharded D))) (books : List Booked) (n : ℕ) → opened ≡ logs → books ≡ fresh_books first.table first.about n → AreShardsOfLogs shards logs books
       → AreShardsOf (opening_of first opened) shards
   made_fit first opened logs shards books n e is h = each_of (IsShardAt (opening_of first opened)) shards at
     where

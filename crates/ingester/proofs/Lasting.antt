@@ -11,7 +11,7 @@ use Rattle.wal.specs.Logs.{Follow, slots}
 use Rattle.wal.specs.Opening.{disks, AllFollow}
 use Rattle.history.specs.Histories.{doubt_of}
 use Rattle.history.specs.Handles.{Passed}
-use Rattle.shard.specs.Keeping.{Keeps}
+use Rattle.shard.specs.Keeping.{KeepsHistory}
 use Rattle.shard.specs.Shards.{Sharded}
 use Rattle.keyed.proofs.Filling.{get_before, get_last}
 use Rattle.owners.specs.Openings.{Opening}
@@ -63,7 +63,7 @@ module _ {D : Type 0} (sight : D → Sight) (follows : D → Type 0) where
   pub last_handed : (opening : Opening D) (passes : List Passed) (shards front : List (Sharded D)) (shard : Sharded D) (out : List D) (marked : Bool)
       → shards ≡ front ++ shard ∷ [] → AreLast opening passes shards
       → out ≡ disks shard.log
-      → (Follow follows shard.log → Keeps (slots sight shard.log) shard.book (doubt_of shard.book.items))
+      → (Follow follows shard.log → KeepsHistory (slots sight shard.log) shard.book (doubt_of shard.book.items))
       → (AllFollow follows out → Follow follows shard.opened)
       → (is_marked shard.book.items ≡ true → HasFailed (slots sight shard.opened) (slots sight shard.log))
       → (is_marked shard.book.items ≡ false → HasNoFailure (slots sight shard.opened) (slots sight shard.log))

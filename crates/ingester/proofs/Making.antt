@@ -3,11 +3,11 @@ use Rattle.std.proofs.Common.{◌≡◌, List, [], ◌∷◌, ◌++◌, map, ref
 use Rattle.std.specs.Prelude.{Option, Some, None}
 use Rattle.wal.specs.Opening.{disks}
 use Rattle.shard.specs.Shards.{Sharded}
-use Rattle.ingester.specs.Makings.{AreThere, logs_in}
+use Rattle.ingester.specs.Makings.{AreThere, logs_of_shards}
 use Rattle.ingester.proofs.Returning.{moved}
 
 module _ {D : Type 0} where
-  pub logs_more : (xs : List (Option (Sharded D))) (s : Sharded D) → logs_in (xs ++ Some s ∷ []) ≡ logs_in xs ++ s.log ∷ []
+  pub logs_more : (xs : List (Option (Sharded D))) (s : Sharded D) → logs_of_shards (xs ++ Some s ∷ []) ≡ logs_of_shards xs ++ s.log ∷ []
   logs_more [] s = refl
   logs_more (Some x ∷ xs) s = ap (λ l. x.log ∷ l) (logs_more xs s)
   logs_more (None ∷ xs) s = logs_more xs s
@@ -23,5 +23,5 @@ module _ {D : Type 0} where
   there_last (None ∷ xs) h = h
 
   -- the last shard's slots go in front
-  pub moved_shard : (xs ys : List (Option (Sharded D))) (s : Sharded D) (bs : List (List D)) → ys ≡ xs ++ Some s ∷ [] → map disks (logs_in xs) ++ (disks s.log ∷ bs) ≡ map disks (logs_in ys) ++ bs
-  moved_shard xs ys s bs e = moved disks (logs_in xs) (logs_in ys) s.log bs (ap logs_in e ∙ logs_more xs s)
+  pub moved_shard : (xs ys : List (Option (Sharded D))) (s : Sharded D) (bs : List (List D)) → ys ≡ xs ++ Some s ∷ [] → map disks (logs_of_shards xs) ++ (disks s.log ∷ bs) ≡ map disks (logs_of_shards ys) ++ bs
+  moved_shard xs ys s bs e = moved disks (logs_of_shards xs) (logs_of_shards ys) s.log bs (ap logs_of_shards e ∙ logs_more xs s)

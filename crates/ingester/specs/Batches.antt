@@ -10,10 +10,10 @@ use Rattle.history.specs.declared.views.About.{About}
 use Rattle.history.specs.declared.views.Caller.{Caller}
 use Rattle.history.specs.Histories.{IsLegalAt, IsByPasses, IsFirst, asks_on, shard_in, step_of}
 use Rattle.history.specs.Plays.{seen_at, ask_of, before_of, withdraw_to, collect_to, Extends, IsRested}
-use Rattle.history.specs.Handles.{Passed, is_closed, asks_of}
+use Rattle.history.specs.Handles.{Passed, is_closed_pass, asks_of}
 use Rattle.shard.specs.declared.fault.ApplyFault.{ApplyFault}
 use Rattle.shard.specs.declared.fault.ApplyFault.TheVariants.{GenerationSpent}
-use Rattle.shard.specs.declared.front.Job.{Job}
+use Rattle.shard.specs.declared.first_jobs.Job.{Job}
 use Rattle.shard.specs.Jobs.{tickets_of}
 use Rattle.owners.specs.declared.ways.Way.{Way}
 use Rattle.owners.specs.Calls.{IsBatch}
@@ -26,10 +26,12 @@ use Rattle.ingester.specs.Calls.{IsPassOf, IsGiven, with_next, closed_now}
 -- the calls were announced one after another
 abbrev pub AreAnnounced : Passed → List Call → Passed → Type 0
 AreAnnounced old [] new = new ≡ old
-AreAnnounced old (call ∷ calls) new = (is_closed old ≡ false) × AreAnnounced (with_next old call) calls new
+AreAnnounced old (call ∷ calls) new = (is_closed_pass old ≡ false)
+    × AreAnnounced (with_next old call) calls new
 
 -- the jobs of a pass's open calls at shard k
-pub record IsBatchOf (table : TableId) (about : About) (k : ℕ) (c : Caller) (jobs : List Job) : Type 0 where
+pub record IsBatchOf (table : TableId) (about : About) (k : ℕ) (c : Caller)
+    (jobs : List Job) : Type 0 where
   pub batch : IsBatch table about k c.pass jobs
   pub asks : asks_of (tickets_of jobs) ≡ asks_on about k c.pending
 
@@ -43,11 +45,12 @@ abbrev pub AreBelow : ℕ → List ℕ → Type 0
 AreBelow n numbers = (k number : ℕ) → slice_get numbers k ≡ Some number → number < n
 
 -- the first of the calls was announced, under this number, and its job stands after the others of its shard
-pub record IsJoined (table : TableId) (old new : Passed) (calls left : List Call) (jobs now : List Job)
+pub record IsPutIntoLetter (table : TableId) (old new : Passed) (calls left : List Call)
+    (jobs now : List Job)
     (number : ℕ) : Type 0 where
   pub call : Call
   pub calls_are : calls ≡ call ∷ left
-  pub «open» : is_closed old ≡ false
+  pub «open» : is_closed_pass old ≡ false
   pub pass : new ≡ with_next old call
   pub rested : old.caller.pending ≡ [] → IsRested old.caller
   pub number_is : number ≡ old.caller.last + 1
@@ -66,7 +69,7 @@ pub record IsJoined (table : TableId) (old new : Passed) (calls left : List Call
 pub record IsNextOpen (old new : Passed) (calls left : List Call) (number : ℕ) : Type 0 where
   pub call : Call
   pub calls_are : calls ≡ call ∷ left
-  pub «open» : is_closed old ≡ false
+  pub «open» : is_closed_pass old ≡ false
   pub pass : new ≡ with_next old call
   pub rested : old.caller.pending ≡ [] → IsRested old.caller
   pub number_is : number ≡ old.caller.last + 1
@@ -89,8 +92,10 @@ pub record AreSomeOpen (old new : Passed) (calls left : List Call) (first count 
 pub record IsCollected (old new : Passed) (first : Ask) (reply : Reply) : Type 0 where
   pub upto : List Item
   pub pass : new ≡ record old { caller = collect_to old.caller (step_of first reply) upto }
-  pub seen : seen_at (collect_to old.caller (step_of first reply) upto) (shard_in old.caller.about first) ≡ upto
-  pub extends : Extends old.caller.pass (seen_at old.caller (shard_in old.caller.about first)) (step_of first reply)
+  pub seen : seen_at (collect_to old.caller (step_of first reply) upto)
+      (shard_in old.caller.about first) ≡ upto
+  pub extends : Extends old.caller.pass (seen_at old.caller (shard_in old.caller.about first))
+      (step_of first reply)
       upto
   pub legal : IsLegalAt old.caller.about (shard_in old.caller.about first) upto
   pub by_passes : IsByPasses old.caller.about.passes upto
@@ -104,10 +109,12 @@ pub record IsWithdrawn {D : Type 0} (opening : Opening D) (old new : Passed) (fi
   pub cause : ApplyFault
   pub fault_is : fault ≡ fault_of cause
   pub pass : new ≡ record old { caller = withdraw_to old.caller first.number }
-  pub spent : cause ≡ GenerationSpent → HasSpentLog opening (shard_in opening.about first) first.call
+  pub spent : cause ≡ GenerationSpent
+      → HasSpentLog opening (shard_in opening.about first) first.call
 
 -- this came of an open call
-abbrev pub IsTakenBy : {D : Type 0} → Opening D → Passed → Passed → Ask → Result Reply CallFault → Type 0
+abbrev pub IsTakenBy : {D : Type 0} → Opening D → Passed → Passed → Ask → Result Reply CallFault
+    → Type 0
 IsTakenBy opening old new first (Ok reply) = IsCollected old new first reply
 IsTakenBy opening old new first (Err fault) = IsWithdrawn opening old new first fault
 
@@ -119,7 +126,8 @@ pub record IsTaken {D : Type 0} (opening : Opening D) (old new : Passed)
   pub by : IsTakenBy opening old new first outcome
 
 -- this came of the open calls, from the first on
-abbrev pub AreTaken : {D : Type 0} → Opening D → Passed → List (Result Reply CallFault) → Passed → Type 0
+abbrev pub AreTaken : {D : Type 0} → Opening D → Passed → List (Result Reply CallFault) → Passed
+    → Type 0
 AreTaken opening old [] new = new ≡ old
 AreTaken opening old (outcome ∷ outcomes) new = (mid : Passed) × IsTaken opening old mid outcome
     × AreTaken opening mid outcomes new
@@ -135,7 +143,8 @@ pub record AreReceived {D : Type 0} (opening : Opening D) (old new : Passed)
 -- the first open call was taken back, or none was
 abbrev pub IsTakenBack : Passed → Passed → Type 0
 IsTakenBack old new = (new ≡ old)
-    ⊎ ((first : Ask) × IsFirst first old.caller.pending × (new ≡ record old { caller = withdraw_to old.caller first.number }))
+    ⊎ ((first : Ask) × IsFirst first old.caller.pending
+    × (new ≡ record old { caller = withdraw_to old.caller first.number }))
 
 -- outcomes that are in doubt
 abbrev pub doubts : ℕ → List (Result Reply CallFault)
@@ -143,7 +152,8 @@ doubts zero = []
 doubts (suc n) = Err InDoubt ∷ doubts n
 
 -- the open calls of a pass are lost, of a round those from one on: the first may have come back, and the pass is closed
-pub record AreLost (old new : Passed) (before after : List (Result Reply CallFault)) (from count : ℕ) : Type 0 where
+pub record AreLost (old new : Passed) (before after : List (Result Reply CallFault))
+    (from count : ℕ) : Type 0 where
   pub mid : Passed
   pub back : IsTakenBack old mid
   pub closed : new ≡ closed_now mid
@@ -160,7 +170,8 @@ pub record AreEnded {D : Type 0} (opening : Opening D) (old new : Passed)
       ⊎ ((taken < count) × AreLost mid new between after taken count)
 
 -- the first of the calls was refused
-pub record IsNextRefused {D : Type 0} (opening : Opening D) (old new : Passed) (calls left : List Call)
+pub record IsNextRefused {D : Type 0} (opening : Opening D) (old new : Passed)
+    (calls left : List Call)
     (fault : CallFault) : Type 0 where
   pub call : Call
   pub calls_are : calls ≡ call ∷ left

@@ -7,7 +7,7 @@ use Rattle.accept.specs.declared.history.Step.{Step}
 use Rattle.history.specs.declared.views.Caller.{Caller}
 use Rattle.history.specs.Histories.{IsLegalAt, IsByPasses, shard_in, step_of}
 use Rattle.history.specs.Plays.{seen_at, ask_of, announce_to, collect_to, Extends}
-use Rattle.history.specs.Handles.{Passed, is_closed}
+use Rattle.history.specs.Handles.{Passed, is_closed_pass}
 use Rattle.ingester.specs.declared.fault.CallFault.{CallFault}
 use Rattle.ingester.specs.declared.fault.CallFault.TheVariants.{Memory, PassClosed, LogSpent, InDoubt}
 use Rattle.owners.specs.Openings.{Opening, HasSpentLog}
@@ -35,8 +35,10 @@ pub record IsAnswered (old new : Passed) (call : Call) (reply : Reply) : Type 0 
   }
   pub extends : Extends old.caller.pass (seen_at old.caller (shard_for old.caller call))
       (next_step old.caller call reply) (seen_at new.caller (shard_for old.caller call))
-  pub legal : IsLegalAt old.caller.about (shard_for old.caller call) (seen_at new.caller (shard_for old.caller call))
-  pub by_passes : IsByPasses old.caller.about.passes (seen_at new.caller (shard_for old.caller call))
+  pub legal : IsLegalAt old.caller.about (shard_for old.caller call)
+      (seen_at new.caller (shard_for old.caller call))
+  pub by_passes : IsByPasses old.caller.about.passes
+      (seen_at new.caller (shard_for old.caller call))
   pub others : (k : ℕ) → k ≢ shard_for old.caller call → seen_at new.caller k ≡ seen_at old.caller k
 
 -- the pass with its next number used up, which no call has
@@ -64,7 +66,8 @@ closed_now pass = record pass { closed = true }
 -- The call is in doubt. It was not made and its number is used up, or it stays open and may have its step. The pass is
 -- closed, and else as it was.
 abbrev pub IsLost : Passed → Call → Passed → Type 0
-IsLost old call new = (new ≡ closed_now (without_next old)) ⊎ (new ≡ closed_now (with_next old call))
+IsLost old call new = (new ≡ closed_now (without_next old))
+    ⊎ (new ≡ closed_now (with_next old call))
 
 -- The call has no reply. A closed pass is as it was; else one number is used up, and the rest is as it was.
 abbrev pub IsRefused : Passed → Call → Passed → CallFault → Type 0
@@ -74,11 +77,12 @@ IsRefused old call new PassClosed = new ≡ old
 IsRefused old call new InDoubt = IsLost old call new
 
 -- this came of the next call of a pass: from what the pass knew to what it knows then
-pub record IsGiven {D : Type 0} (opening : Opening D) (old : Passed) (call : Call) (outcome : Result Reply CallFault)
+pub record IsGiven {D : Type 0} (opening : Opening D) (old : Passed) (call : Call)
+    (outcome : Result Reply CallFault)
     (new : Passed) : Type 0 where
   pub answered : IfOk outcome (λ reply. IsAnswered old new call reply)
   pub refused : IfErr outcome (λ fault. IsRefused old call new fault)
-  pub closed : IsErrOf outcome PassClosed ↔ (is_closed old ≡ true)
+  pub closed : IsErrOf outcome PassClosed ↔ (is_closed_pass old ≡ true)
   pub spent : IsErrOf outcome LogSpent → HasSpentLog opening (shard_for old.caller call) call
 
 -- whether the call is in doubt
@@ -89,21 +93,25 @@ is_doubt (Err LogSpent) = false
 is_doubt (Err PassClosed) = false
 is_doubt (Err InDoubt) = true
 
--- This came of a call of a pass. Where the one before it is in doubt, this one was announced too, and may be lost with it:
--- then it stays open.
-abbrev pub IsGivenAfter : {D : Type 0} → Bool → Opening D → Passed → Call → Result Reply CallFault → Passed → Type 0
+-- This came of a call of a pass. Where the one before it is in doubt, this one was announced too, and may be lost with
+-- it: then it stays open.
+abbrev pub IsGivenAfter : {D : Type 0} → Bool → Opening D → Passed → Call → Result Reply CallFault
+    → Passed → Type 0
 IsGivenAfter false opening old call outcome new = IsGiven opening old call outcome new
 IsGivenAfter true opening old call outcome new = IsGiven opening old call outcome new
     ⊎ ((outcome ≡ Err InDoubt) × (new ≡ with_next old call))
 
-abbrev pub AreGivenAfter : {D : Type 0} → Bool → Opening D → Passed → List Call → List (Result Reply CallFault) → Passed
+abbrev pub AreGivenAfter : {D : Type 0} → Bool → Opening D → Passed → List Call
+    → List (Result Reply CallFault) → Passed
     → Type 0
 AreGivenAfter lost opening old [] [] new = new ≡ old
 AreGivenAfter lost opening old [] (r ∷ rs) new = ⊥
 AreGivenAfter lost opening old (call ∷ calls) [] new = ⊥
-AreGivenAfter lost opening old (call ∷ calls) (r ∷ rs) new = (mid : Passed) × IsGivenAfter lost opening old call r mid
+AreGivenAfter lost opening old (call ∷ calls) (r ∷ rs) new = (mid : Passed)
+    × IsGivenAfter lost opening old call r mid
     × AreGivenAfter (is_doubt r) opening mid calls rs new
 
 -- this came of the calls, made one after another
-abbrev pub AreGiven : {D : Type 0} → Opening D → Passed → List Call → List (Result Reply CallFault) → Passed → Type 0
+abbrev pub AreGiven : {D : Type 0} → Opening D → Passed → List Call → List (Result Reply CallFault)
+    → Passed → Type 0
 AreGiven opening old calls outcomes new = AreGivenAfter false opening old calls outcomes new

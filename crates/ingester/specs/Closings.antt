@@ -52,16 +52,20 @@ pub record IsComparedTo (book : Booked) (pass : Passed) : Type 0 where
 
 -- with each of the first n passes
 abbrev pub AreComparedTo : Booked → List Passed → ℕ → Type 0
-AreComparedTo book passes n = (i : ℕ) (pass : Passed) → i < n → slice_get passes i ≡ Some pass → IsComparedTo book pass
+AreComparedTo book passes n = (i : ℕ) (pass : Passed) → i < n → slice_get passes i ≡ Some pass
+    → IsComparedTo book pass
 
 -- shard k of the opening, compared with all passes
-pub record IsLast {D : Type 0} (opening : Opening D) (passes : List Passed) (k : ℕ) (shard : Sharded D) : Type 0 where
+pub record IsLast {D : Type 0} (opening : Opening D) (passes : List Passed) (k : ℕ)
+    (shard : Sharded D) : Type 0 where
   pub about : shard.book.about ≡ opening.about
   pub number : shard.book.shard ≡ k
   pub opened : slice_get opening.logs k ≡ Some shard.opened
   pub compared : AreComparedTo shard.book passes (length passes)
 
 -- so is each of these shards, and there is a pass
-pub record AreLast {D : Type 0} (opening : Opening D) (passes : List Passed) (shards : List (Sharded D)) : Type 0 where
+pub record AreLast {D : Type 0} (opening : Opening D) (passes : List Passed)
+    (shards : List (Sharded D)) : Type 0 where
   pub some_pass : 0 < length passes
-  pub each : (k : ℕ) (shard : Sharded D) → slice_get shards k ≡ Some shard → IsLast opening passes k shard
+  pub each : (k : ℕ) (shard : Sharded D) → slice_get shards k ≡ Some shard
+      → IsLast opening passes k shard

@@ -15,6 +15,7 @@ refusal_of causes.Memory = faults.Memory
 module _ {D : Type 0} (sight : D → Sight) (follows : D → Type 0) where
   -- all slots come back in their order, and this is why. Without memory they may be untouched.
   abbrev pub IsUnmade : ℕ → List (List D) → List (List D) → OpenFault → Type 0
-  IsUnmade count all backs (faults.Refused shard fault) = IsFirstRefused sight follows count shard fault all backs
+  IsUnmade count all backs (faults.Refused shard fault) =
+      IsFirstRefused sight follows count shard fault all backs
   IsUnmade count all backs faults.Memory = (backs ≡ all) ⊎ AreReturned sight follows all backs
   IsUnmade count all backs faults.Thread = backs ≡ all

@@ -6,14 +6,15 @@ use Rattle.accept.specs.OneStream.{AreLimits}
 use Rattle.disk.specs.Sight.{Sight}
 use Rattle.segment.specs.Fitting.{FitStreams}
 use Rattle.wal.specs.declared.log.Wal.{Wal}
-use Rattle.wal.specs.Logs.{Follow, owner, IsSettled}
+use Rattle.wal.specs.Logs.{Follow, owner, IsOnDisk}
 use Rattle.history.specs.Histories.{base_at}
 use Rattle.history.specs.Handles.{Booked}
 use Rattle.shard.specs.Keeping.{owner_in}
 use Rattle.shard.specs.Shards.{Sharded}
 
 -- what a shard is made of: its log with the streams that stood in it, and a book over them without a step
-pub record IsGround {D : Type 0} (sight : D → Sight) (follows : D → Type 0) (limits : Limits) (log : Wal D)
+pub record IsGround {D : Type 0} (sight : D → Sight) (follows : D → Type 0) (limits : Limits)
+    (log : Wal D)
     (m : Streams) (book : Booked) : Type 0 where
   pub fresh : book.items ≡ []
   pub base : base_at book.about book.shard ≡ m
@@ -23,23 +24,27 @@ pub record IsGround {D : Type 0} (sight : D → Sight) (follows : D → Type 0) 
   pub small_capacity : log.cap ≤ 2 ^ 30
   pub same_owner : owner log ≡ owner_in book
   pub usable : log.failed ≡ false
-  pub settled : Follow follows log → IsSettled sight log m
+  pub settled : Follow follows log → IsOnDisk sight log m
   pub fit : FitStreams (owner log) m
   pub small : room m ≤ 2 ^ 31 + 27
 
 -- so is each
-abbrev pub AreGround : {D : Type 0} → (D → Sight) → (D → Type 0) → Limits → List (Wal D) → List Streams → List Booked
+abbrev pub AreGround : {D : Type 0} → (D → Sight) → (D → Type 0) → Limits → List (Wal D)
+    → List Streams → List Booked
     → Type 0
-AreGround {D} sight follows limits logs ms books = (k : ℕ) (log : Wal D) (m : Streams) (book : Booked)
+AreGround {D} sight follows limits logs ms books =
+    (k : ℕ) (log : Wal D) (m : Streams) (book : Booked)
     → slice_get logs k ≡ Some log → slice_get ms k ≡ Some m → slice_get books k ≡ Some book
     → IsGround sight follows limits log m book
 
 -- a shard of each log and its book
-abbrev pub AreMade : {D : Type 0} → List (Option (Sharded D)) → List (Wal D) → List Booked → Type 0
-AreMade [] [] [] = Unit {0}
-AreMade (Some shard ∷ shards) (log ∷ logs) (book ∷ books) = (shard ≡ record { log = log; book = book; opened = log })
-    × AreMade shards logs books
-AreMade shards logs books = ⊥
+abbrev pub AreShardsOfLogs : {D : Type 0} → List (Option (Sharded D)) → List (Wal D) → List Booked
+    → Type 0
+AreShardsOfLogs [] [] [] = Unit {0}
+AreShardsOfLogs (Some shard ∷ shards) (log ∷ logs) (book ∷ books) =
+    (shard ≡ record { log = log; book = book; opened = log })
+    × AreShardsOfLogs shards logs books
+AreShardsOfLogs shards logs books = ⊥
 
 -- each shard is there
 abbrev pub AreThere : {D : Type 0} → List (Option (Sharded D)) → Type 0
@@ -48,7 +53,7 @@ AreThere (Some shard ∷ shards) = AreThere shards
 AreThere (None ∷ shards) = ⊥
 
 -- the logs of shards
-abbrev pub logs_in : {D : Type 0} → List (Option (Sharded D)) → List (Wal D)
-logs_in [] = []
-logs_in (Some shard ∷ shards) = shard.log ∷ logs_in shards
-logs_in (None ∷ shards) = logs_in shards
+abbrev pub logs_of_shards : {D : Type 0} → List (Option (Sharded D)) → List (Wal D)
+logs_of_shards [] = []
+logs_of_shards (Some shard ∷ shards) = shard.log ∷ logs_of_shards shards
+logs_of_shards (None ∷ shards) = logs_of_shards shards

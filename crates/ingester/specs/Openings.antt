@@ -12,6 +12,8 @@ pub record IsOpening {D : Type 0} (table : TableId) (opening : Opening D) (count
   pub few : count ≤ 64
 
 -- so many passes of the opening, in the order of their numbers, which have seen and made nothing
-pub record AreFresh {D : Type 0} (opening : Opening D) (count : ℕ) (passes : List Passed) : Type 0 where
+pub record AreFresh {D : Type 0} (opening : Opening D) (count : ℕ)
+    (passes : List Passed) : Type 0 where
   pub count_is : length passes ≡ count
-  pub fresh : (p : ℕ) (pass : Passed) → slice_get passes p ≡ Some pass → pass ≡ fresh_pass opening.table opening.about p
+  pub fresh : (p : ℕ) (pass : Passed) → slice_get passes p ≡ Some pass
+      → pass ≡ fresh_pass opening.table opening.about p

@@ -5,7 +5,7 @@ use Rattle.accept.specs.declared.call.Reply.{Reply}
 use Rattle.history.specs.Plays.{IsRested}
 use Rattle.history.specs.Handles.{Passed}
 use Rattle.shard.specs.declared.group.Settled.{Settled as SettledCall}
-use Rattle.shard.specs.declared.group.Settled.TheVariants.{Answered, Refused}
+use Rattle.shard.specs.declared.group.Settled.TheVariants.{Answered, GivenBack}
 use Rattle.owners.specs.declared.ways.Came.{Came}
 use Rattle.owners.specs.declared.ways.Came.TheVariants.{Settled, SentBack, Lost}
 use Rattle.owners.specs.Homes.{Homed}
@@ -24,13 +24,14 @@ pub record IsOpenWith (before : Passed) (call : Call) (pass : Passed) : Type 0 w
 -- this came of a call of the pass
 abbrev pub IsCameOf : Homed → Passed → Came → Type 0
 IsCameOf home pass (Settled s) = IsDue home pass.caller.pass s
-IsCameOf home pass (SentBack t) = (t.table ≡ pass.table) × (t.ask.pass ≡ pass.caller.pass) × (t.doubted ≡ false)
+IsCameOf home pass (SentBack t) = (t.table ≡ pass.table) × (t.ask.pass ≡ pass.caller.pass)
+    × (t.doubted ≡ false)
 IsCameOf home pass Lost = Unit {0}
 
 -- what is answered to a call that the owner settled
 abbrev pub told_of : SettledCall → Result Reply CallFault
 told_of (Answered reply receipt) = Ok reply
-told_of (Refused cause t) = Err (fault_of cause)
+told_of (GivenBack cause t) = Err (fault_of cause)
 
 -- what is answered to a call by what came of it
 abbrev pub outcome_of : Came → Result Reply CallFault

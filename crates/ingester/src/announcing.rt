@@ -4,8 +4,8 @@ ghost use Rattle.std.specs.VecDeque.{deque_len, deque_capacity};
 ghost use Rattle.accept.specs.Calls.{AreNumbers};
 ghost use Rattle.ingester.specs.Calls.{IsPassOf};
 ghost use Rattle.owners.specs.Openings.{home_of};
-ghost use Rattle.owners.specs.Ways.{AreReady, AreIdleWays, HasSameRest};
-ghost use Rattle.ingester.specs.Batches.{AreBatchesOf, AreSomeOpen, AreBelow, IsJoined, IsNextOpen};
+ghost use Rattle.owners.specs.Ways.{AreReadyWays, AreIdleWays, HasSameRest};
+ghost use Rattle.ingester.specs.Batches.{AreBatchesOf, AreSomeOpen, AreBelow, IsPutIntoLetter, IsNextOpen};
 
 use crate::calls::shard_number;
 use crate::opened::Ingester;
@@ -37,11 +37,13 @@ impl<D: Disk + Drop> Ingester<D> {
         requires table { pass.old.table ≡ self.now.table }
         requires few { length pass.old.caller.pending + deque_len calls.old ≤ 64 }
         requires numbers { All AreNumbers calls.old.items }
-        ensures joined { IfSome result (λ number. IsJoined self.now.table pass.old pass.new calls.old.items
+        ensures joined { IfSome result
+            (λ number. IsPutIntoLetter self.now.table pass.old pass.new calls.old.items
             calls.new.items way.old.letter.jobs.items way.new.letter.jobs.items number) }
         ensures fits { IfSome result (λ number. number < 2 ^ 64) }
         ensures not { MatchOption result ((pass.new ≡ pass.old) × (calls.new ≡ calls.old)
-            × (way.new.letter.jobs.items ≡ way.old.letter.jobs.items)) (λ _. deque_len calls.new + 1 ≡ deque_len calls.old) }
+            × (way.new.letter.jobs.items ≡ way.old.letter.jobs.items))
+            (λ _. deque_len calls.new + 1 ≡ deque_len calls.old) }
         ensures capacity { deque_capacity calls.new ≡ deque_capacity calls.old }
         ensures rest { HasSameRest way.old way.new }
     {
@@ -74,8 +76,9 @@ impl<D: Disk + Drop> Ingester<D> {
         requires few { length pass.old.caller.pending + deque_len calls.old ≤ 64 }
         requires numbers { All AreNumbers calls.old.items }
         requires count { length ways.old.items ≡ self.now.about.shards }
-        requires batches { AreBatchesOf self.now.table self.now.about pass.old.caller ways.old.items }
-        requires ready { AreReady (home_of self.now) pass.old.caller.pass ways.old.items }
+        requires batches { AreBatchesOf self.now.table self.now.about pass.old.caller
+            ways.old.items }
+        requires ready { AreReadyWays (home_of self.now) pass.old.caller.pass ways.old.items }
         ensures next { IfSome result (λ they. IsNextOpen
             pass.old pass.new calls.old.items calls.new.items they.0) }
         ensures fits { IfSome result (λ they. they.0 < 2 ^ 64) }
@@ -83,8 +86,9 @@ impl<D: Disk + Drop> Ingester<D> {
         ensures not { MatchOption result ((pass.new ≡ pass.old) × (calls.new ≡ calls.old))
             (λ _. deque_len calls.new + 1 ≡ deque_len calls.old) }
         ensures capacity { deque_capacity calls.new ≡ deque_capacity calls.old }
-        ensures batches { AreBatchesOf self.now.table self.now.about pass.new.caller ways.new.items }
-        ensures ready { AreReady (home_of self.now) pass.old.caller.pass ways.new.items }
+        ensures batches { AreBatchesOf self.now.table self.now.about pass.new.caller
+            ways.new.items }
+        ensures ready { AreReadyWays (home_of self.now) pass.old.caller.pass ways.new.items }
         ensures count { length ways.new.items ≡ length ways.old.items }
     {
         let shard = shard_number(calls.front()?, self.count);
@@ -108,14 +112,16 @@ impl<D: Disk + Drop> Ingester<D> {
         requires ways { AreIdleWays (home_of self.now) pass.old.caller.pass ways.old.items }
         ensures some { IfSome result (λ round. AreSomeOpen
             pass.old pass.new calls.old.items calls.new.items round.first round.count) }
-        ensures batches { AreBatchesOf self.now.table self.now.about pass.new.caller ways.new.items }
-        ensures ready { AreReady (home_of self.now) pass.old.caller.pass ways.new.items }
+        ensures batches { AreBatchesOf self.now.table self.now.about pass.new.caller
+            ways.new.items }
+        ensures ready { AreReadyWays (home_of self.now) pass.old.caller.pass ways.new.items }
         ensures ways { length ways.new.items ≡ length ways.old.items }
         ensures own { IfSome result (λ round. round.pass ≡ pass.old.caller.pass) }
         ensures shards { IfSome result (λ round. AreBelow self.now.about.shards round.shards) }
         ensures fits { IfSome result (λ round. round.first + round.count ≤ 2 ^ 64) }
         ensures count { MatchOption result ((pass.new ≡ pass.old) × (calls.new ≡ calls.old))
-            (λ round. (0 < round.count) × (round.count ≤ 64) × (length pass.new.caller.pending ≡ round.count)
+            (λ round. (0 < round.count) × (round.count ≤ 64)
+            × (length pass.new.caller.pending ≡ round.count)
             × (deque_len calls.new + round.count ≡ deque_len calls.old)) }
         ensures capacity { deque_capacity calls.new ≡ deque_capacity calls.old }
     {
@@ -152,15 +158,18 @@ impl<D: Disk + Drop> Ingester<D> {
         ensures some { IfSome result (λ round. AreSomeOpen
             pass.old pass.new calls.old.items calls.new.items round.first round.count) }
         ensures idle { IfSome result (λ _. pass.old.caller.pending ≡ []) }
-        ensures batches { IfSome result (λ _. AreBatchesOf self.now.table self.now.about pass.new.caller ways.new.items) }
-        ensures ready { AreReady (home_of self.now) pass.old.caller.pass ways.new.items }
-        ensures same { result ≡ None → AreIdleWays (home_of self.now) pass.old.caller.pass ways.new.items }
+        ensures batches { IfSome result
+            (λ _. AreBatchesOf self.now.table self.now.about pass.new.caller ways.new.items) }
+        ensures ready { AreReadyWays (home_of self.now) pass.old.caller.pass ways.new.items }
+        ensures same { result ≡ None
+            → AreIdleWays (home_of self.now) pass.old.caller.pass ways.new.items }
         ensures ways { length ways.new.items ≡ length ways.old.items }
         ensures own { IfSome result (λ round. round.pass ≡ pass.old.caller.pass) }
         ensures shards { IfSome result (λ round. AreBelow self.now.about.shards round.shards) }
         ensures fits { IfSome result (λ round. round.first + round.count ≤ 2 ^ 64) }
         ensures count { MatchOption result ((pass.new ≡ pass.old) × (calls.new ≡ calls.old))
-            (λ round. (0 < round.count) × (round.count ≤ 64) × (length pass.new.caller.pending ≡ round.count)
+            (λ round. (0 < round.count) × (round.count ≤ 64)
+            × (length pass.new.caller.pending ≡ round.count)
             × (deque_len calls.new + round.count ≡ deque_len calls.old)) }
         ensures none_after { was_refused ≡ true → result ≡ None }
         ensures capacity { deque_capacity calls.new ≡ deque_capacity calls.old }

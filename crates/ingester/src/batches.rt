@@ -4,9 +4,9 @@ ghost use Rattle.std.specs.VecDeque.{deque_len, deque_capacity};
 ghost use Rattle.accept.specs.Calls.{AreNumbers};
 ghost use Rattle.history.specs.Plays.{IsRested};
 ghost use Rattle.history.specs.Histories.{IsFirstNumber};
-ghost use Rattle.owners.specs.Calls.{IsDue, number_in};
+ghost use Rattle.owners.specs.Calls.{IsDue, number_of_settled};
 ghost use Rattle.owners.specs.Openings.{home_of};
-ghost use Rattle.owners.specs.Ways.{IsWay, AreWays, AreReady, AreIdleWays};
+ghost use Rattle.owners.specs.Ways.{IsWay, AreWays, AreReadyWays, AreIdleWays};
 ghost use Rattle.ingester.specs.Calls.{IsPassOf, AreGiven};
 ghost use Rattle.ingester.specs.Batches.{AreBatchesOf, AreBelow, AreNumbered, IsTaken, IsTakenBack, AreReceived, AreLost, AreEnded, IsNextRefused};
 ghost use Rattle.ingester.specs.Settling.{told_of};
@@ -51,7 +51,7 @@ impl<D: Disk + Drop> Ingester<D> {
         requires table { pass.old.table ≡ self.now.table }
         requires about { pass.old.caller.about ≡ self.now.about }
         requires due { IsDue (home_of self.now) pass.old.caller.pass settled }
-        requires number { IsFirstNumber (number_in settled) pass.old.caller.pending }
+        requires number { IsFirstNumber (number_of_settled settled) pass.old.caller.pending }
         requires rested { IsRested pass.old.caller }
         ensures taken { IsTaken self.now pass.old pass.new result }
         ensures told { result ≡ told_of settled }
@@ -61,7 +61,7 @@ impl<D: Disk + Drop> Ingester<D> {
                 self.history.collect(pass, receipt);
                 Ok(reply)
             }
-            Settled::Refused(fault, ticket) => {
+            Settled::GivenBack(fault, ticket) => {
                 self.history.withdraw(pass, ticket);
                 Err(CallFault::from(fault))
             }
@@ -82,16 +82,21 @@ impl<D: Disk + Drop> Ingester<D> {
         requires shards { AreBelow (length ways.old.items) round.now.shards }
         requires rested { IsRested pass.old.caller }
         requires numbers { AreNumbered round.now.first pass.old.caller.pending }
-        requires count { (length pass.old.caller.pending ≡ round.now.count) × (round.now.count ≤ 64) }
+        requires count { (length pass.old.caller.pending ≡ round.now.count)
+            × (round.now.count ≤ 64) }
         requires fits { round.now.first + round.now.count ≤ 2 ^ 64 }
         requires room { deque_len outcomes.old + round.now.count ≤ deque_capacity outcomes.old }
-        ensures received { AreReceived self.now pass.old pass.new outcomes.old.items outcomes.new.items result }
+        ensures received { AreReceived self.now pass.old pass.new outcomes.old.items
+            outcomes.new.items result }
         ensures some { result ≤ round.now.count }
         ensures ways { AreWays (home_of self.now) pass.old.caller.pass ways.new.items }
-        ensures same { (length ways.new.items ≡ length ways.old.items) × (pass.new.table ≡ pass.old.table)
-            × (pass.new.caller.about ≡ pass.old.caller.about) × (pass.new.caller.pass ≡ pass.old.caller.pass) }
+        ensures same { (length ways.new.items ≡ length ways.old.items)
+            × (pass.new.table ≡ pass.old.table)
+            × (pass.new.caller.about ≡ pass.old.caller.about)
+            × (pass.new.caller.pass ≡ pass.old.caller.pass) }
         ensures left { AreNumbered (round.now.first + result) pass.new.caller.pending
-            × (length pass.new.caller.pending + result ≡ round.now.count) × IsRested pass.new.caller }
+            × (length pass.new.caller.pending + result ≡ round.now.count)
+            × IsRested pass.new.caller }
         ensures len { deque_len outcomes.new ≡ deque_len outcomes.old + result }
         ensures capacity { deque_capacity outcomes.new ≡ deque_capacity outcomes.old }
     {
@@ -140,8 +145,10 @@ impl<D: Disk + Drop> Ingester<D> {
         requires numbers { AreNumbered (round.now.first + from) pass.old.caller.pending
             × (length pass.old.caller.pending + from ≡ round.now.count) }
         requires fits { round.now.first + round.now.count ≤ 2 ^ 64 }
-        requires room { deque_len outcomes.old + round.now.count ≤ deque_capacity outcomes.old + from }
-        ensures lost { AreLost pass.old pass.new outcomes.old.items outcomes.new.items from round.now.count }
+        requires room { deque_len outcomes.old + round.now.count
+            ≤ deque_capacity outcomes.old + from }
+        ensures lost { AreLost pass.old pass.new outcomes.old.items outcomes.new.items from
+            round.now.count }
         ensures ways { AreWays (home_of self.now) pass.old.caller.pass ways.new.items }
         ensures same { length ways.new.items ≡ length ways.old.items }
         ensures len { deque_len outcomes.new + from ≡ deque_len outcomes.old + round.now.count }
@@ -172,12 +179,14 @@ impl<D: Disk + Drop> Ingester<D> {
         requires numbers { AreNumbered round.first pass.old.caller.pending }
         requires count { (length pass.old.caller.pending ≡ round.count) × (round.count ≤ 64) }
         requires fits { round.first + round.count ≤ 2 ^ 64 }
-        requires batches { AreBatchesOf self.now.table self.now.about pass.old.caller ways.old.items }
-        requires ready { AreReady (home_of self.now) pass.old.caller.pass ways.old.items }
+        requires batches { AreBatchesOf self.now.table self.now.about pass.old.caller
+            ways.old.items }
+        requires ready { AreReadyWays (home_of self.now) pass.old.caller.pass ways.old.items }
         requires shards { (length ways.old.items ≡ self.now.about.shards)
             × AreBelow self.now.about.shards round.shards }
         requires room { deque_len outcomes.old + round.count ≤ deque_capacity outcomes.old }
-        ensures ended { AreEnded self.now pass.old pass.new outcomes.old.items outcomes.new.items round.count }
+        ensures ended { AreEnded self.now pass.old pass.new outcomes.old.items outcomes.new.items
+            round.count }
         ensures ways { AreIdleWays (home_of self.now) pass.old.caller.pass ways.new.items
             × (length ways.new.items ≡ length ways.old.items) }
         ensures len { deque_len outcomes.new ≡ deque_len outcomes.old + round.count }
@@ -196,7 +205,8 @@ impl<D: Disk + Drop> Ingester<D> {
     fn refuse_next(&self, pass: &mut Pass, calls: &mut VecDeque<Call>) -> CallFault
         requires pass { IsPassOf self.now pass.old }
         requires some { 0 < deque_len calls.old }
-        ensures refused { IsNextRefused self.now pass.old pass.new calls.old.items calls.new.items result }
+        ensures refused { IsNextRefused self.now pass.old pass.new calls.old.items calls.new.items
+            result }
         ensures len { deque_len calls.new + 1 ≡ deque_len calls.old }
         ensures capacity { deque_capacity calls.new ≡ deque_capacity calls.old }
     {
@@ -259,8 +269,8 @@ impl<D: Disk + Drop> Ingester<D> {
     /// are taken out of `calls`, and what came of each is put into `outcomes`, which has room for them.
     ///
     /// If a call is refused for want of memory, or since the log is spent, later ones at its shard are refused for want
-    /// of memory. If one could not even be announced, all later ones are. If an owner has ended, a call that was sent to
-    /// it is in doubt, and so is each that was announced after it; the pass is closed.
+    /// of memory. If one could not even be announced, all later ones are. If an owner has ended, a call that was sent
+    /// to it is in doubt, and so is each that was announced after it; the pass is closed.
     pub fn call_all<R: Wait>(
         &self,
         rt: &R,

@@ -6,7 +6,7 @@ ghost use Rattle.accept.specs.Calls.{AreNumbers};
 ghost use Rattle.accept.specs.Histories.{key_of};
 ghost use Rattle.history.specs.Histories.{IsBeginning, IsLegalAt, IsByPasses, shard_in, step_of};
 ghost use Rattle.history.specs.Plays.{seen_at, look_to, HasStepsOf};
-ghost use Rattle.history.specs.Handles.{is_closed, with_seen, HaveMet};
+ghost use Rattle.history.specs.Handles.{is_closed_pass, with_seen, HaveMet};
 ghost use Rattle.owners.specs.Calls.{IsWaiting};
 ghost use Rattle.owners.specs.Openings.{HasSpentLog, home_of};
 ghost use Rattle.owners.specs.Ways.{IsCame};
@@ -58,17 +58,21 @@ impl<D: Disk + Drop> Ingester<D> {
         pass: &mut Pass,
         came: Came,
     ) -> Result<Reply, CallFault>
-        requires pass { (pass.old.table ≡ self.now.table) × (pass.old.caller.about ≡ self.now.about) }
+        requires pass { (pass.old.table ≡ self.now.table)
+            × (pass.old.caller.about ≡ self.now.about) }
         requires opened { IsOpenWith before.now.value call.now.value pass.old }
         requires asking { before.now.value.closed ≡ false }
         requires came { IsCameOf (home_of self.now) pass.old came }
         ensures pass { IsPassOf self.now pass.new }
-        ensures answered { IfOk result (λ reply. IsAnswered before.now.value pass.new call.now.value reply) }
-        ensures refused { IfErr result (λ fault. IsRefused before.now.value call.now.value pass.new fault) }
+        ensures answered { IfOk result
+            (λ reply. IsAnswered before.now.value pass.new call.now.value reply) }
+        ensures refused { IfErr result
+            (λ fault. IsRefused before.now.value call.now.value pass.new fault) }
         ensures outcome { result ≡ outcome_of came }
         ensures not_closed { IsErrOf result faults.PassClosed → ⊥ }
         ensures spent { IsErrOf result faults.LogSpent
-            → HasSpentLog self.now (shard_for before.now.value.caller call.now.value) call.now.value }
+            → HasSpentLog self.now (shard_for before.now.value.caller call.now.value)
+            call.now.value }
     {
         let _ = before;
         let _ = call;
@@ -78,7 +82,7 @@ impl<D: Disk + Drop> Ingester<D> {
                 history.collect(pass, receipt);
                 Ok(reply)
             }
-            Came::Settled(Settled::Refused(fault, ticket)) => {
+            Came::Settled(Settled::GivenBack(fault, ticket)) => {
                 history.withdraw(pass, ticket);
                 Err(CallFault::from(fault))
             }
@@ -114,8 +118,9 @@ impl<D: Disk + Drop> Ingester<D> {
         ensures pass { IsPassOf self.now pass.new }
         ensures answered { IfOk result (λ reply. IsAnswered pass.old pass.new call reply) }
         ensures refused { IfErr result (λ fault. IsRefused pass.old call pass.new fault) }
-        ensures closed { IsErrOf result faults.PassClosed ↔ (is_closed pass.old ≡ true) }
-        ensures spent { IsErrOf result faults.LogSpent → HasSpentLog self.now (shard_for pass.old.caller call) call }
+        ensures closed { IsErrOf result faults.PassClosed ↔ (is_closed_pass pass.old ≡ true) }
+        ensures spent { IsErrOf result faults.LogSpent
+            → HasSpentLog self.now (shard_for pass.old.caller call) call }
     {
         if pass.is_closed() {
             return Err(CallFault::PassClosed);
@@ -141,12 +146,18 @@ impl<D: Disk + Drop> Ingester<D> {
         requires pass { IsPassOf self.now pass.old }
         requires shard { shard < self.now.about.shards }
         ensures pass { IsPassOf self.now pass.new
-            × (pass.new ≡ record pass.old { caller = look_to pass.old.caller shard (seen_at pass.new.caller shard) }) }
-        ensures others { (k : ℕ) → k ≢ shard → seen_at pass.new.caller k ≡ seen_at pass.old.caller k }
-        ensures begins { IsBeginning (seen_at pass.old.caller shard) (seen_at pass.new.caller shard) }
+            × (pass.new ≡ record pass.old {
+              caller = look_to pass.old.caller shard
+                  (seen_at pass.new.caller shard);
+            }) }
+        ensures others { (k : ℕ) → k ≢ shard
+            → seen_at pass.new.caller k ≡ seen_at pass.old.caller k }
+        ensures begins { IsBeginning (seen_at pass.old.caller shard)
+            (seen_at pass.new.caller shard) }
         ensures legal { IsLegalAt pass.old.caller.about shard (seen_at pass.new.caller shard) }
         ensures length { result ≡ length (seen_at pass.new.caller shard) }
-        ensures by_passes { IsByPasses pass.old.caller.about.passes (seen_at pass.new.caller shard) }
+        ensures by_passes { IsByPasses pass.old.caller.about.passes
+            (seen_at pass.new.caller shard) }
         ensures steps { HasStepsOf pass.old.caller shard (seen_at pass.new.caller shard) }
     {
         self.history.observe(pass, shard as usize)
@@ -161,7 +172,8 @@ impl<D: Disk + Drop> Ingester<D> {
             × (one.new ≡ record one.old { caller = with_seen one.old.caller one.new.caller.seen }) }
         ensures two { IsPassOf self.now two.new
             × (two.new ≡ record two.old { caller = with_seen two.old.caller two.new.caller.seen }) }
-        ensures met { HaveMet one.old.caller two.old.caller self.now.about.shards one.new.caller.seen
+        ensures met { HaveMet one.old.caller two.old.caller self.now.about.shards
+            one.new.caller.seen
             two.new.caller.seen }
     {
         self.history.meet(one, two);

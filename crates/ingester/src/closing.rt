@@ -65,7 +65,8 @@ impl<D: Disk + Drop> Closed<D> {
 
 // Compares a shard with each pass.
 fn compare<D: Disk + Drop>(shard: &mut Shard<D>, passes: &mut [Pass])
-    requires table { (i : ℕ) (pass : Passed) → slice_get passes.old i ≡ Some pass → pass.table ≡ shard.old.book.table }
+    requires table { (i : ℕ) (pass : Passed) → slice_get passes.old i ≡ Some pass
+        → pass.table ≡ shard.old.book.table }
     ensures shard { shard.new ≡ shard.old }
     ensures passes { passes.new ≡ passes.old }
     ensures compared { AreComparedTo shard.old.book passes.old (length passes.old) }
@@ -90,8 +91,14 @@ impl<D: Disk + Drop> Ingester<D> {
     /// Ends each owner, once it has answered all calls that came before, and takes its shard back.
     pub fn close<R: Wait>(self, rt: &R, passes: Vec<Pass>) -> Closed<D>
         requires some { 0 < vec_len passes }
-        requires passes { (i : ℕ) (pass : Passed) → slice_get passes.items i ≡ Some pass → IsPassOf self pass }
-        ensures { result ≡ record { opening = self; passes = passes.items; left = self.about.shards } }
+        requires passes { (i : ℕ) (pass : Passed) → slice_get passes.items i ≡ Some pass
+            → IsPassOf self pass }
+        ensures { result ≡ record {
+          opening = self;
+          passes = passes.items;
+          left =
+              self.about.shards;
+        } }
     {
         let Ingester {
             history: _history,

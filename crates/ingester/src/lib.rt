@@ -8,8 +8,8 @@ mod calls;
 mod closing;
 mod fault;
 mod locking;
+mod made_shards;
 mod opened;
-mod opening;
 mod places;
 mod refusal;
 

@@ -3,10 +3,10 @@ ghost use Rattle.std.specs.Prelude.{◌≡◌, ◌+◌, ◌<◌, ◌≤◌, ◌+
 ghost use Rattle.std.specs.Vec.{vec_capacity};
 ghost use Rattle.std.specs.VecDeque.{deque_len, deque_capacity};
 ghost use Rattle.wal.specs.Opening.{disks};
-ghost use Rattle.keyed.specs.Grips.{count_of, key_of};
-ghost use Rattle.ingester.specs.Makings.{AreGround, AreMade};
+ghost use Rattle.keyed.specs.Grips.{count_of, key_of_locks};
+ghost use Rattle.ingester.specs.Makings.{AreGround, AreShardsOfLogs};
 
-use crate::opening::{make_one, return_shards};
+use crate::made_shards::{make_one, return_shards};
 use crate::places::{ListLocks, Size};
 use accept::{Image, Limits};
 use disk::Disk;
@@ -23,7 +23,7 @@ pub(crate) fn reserve_room<D: Disk + Drop>(
     alloc: Global,
     count: usize,
 ) -> Result<ListLocks<D>, AllocError>
-    ensures { IfOk result (λ room. (count_of room ≡ 1) × (key_of room ≡ count)) }
+    ensures { IfOk result (λ room. (count_of room ≡ 1) × (key_of_locks room ≡ count)) }
 {
     let list = Vec::with_capacity(alloc, count)?;
     let mut lists = Vec::with_capacity(alloc, 1)?;
@@ -46,9 +46,10 @@ pub(crate) fn make_shards<D: Disk + Drop>(
 ) -> Result<Vec<Option<Shard<D>>>, AllocError>
     requires ground { AreGround D.sight D.follows limits logs.items images.items books.items }
     requires lens { (vec_len images ≡ vec_len logs) × (vec_len books ≡ vec_len logs) }
-    requires shards { (shards.items ≡ []) × (deque_len shards ≡ 0) × (vec_len logs ≤ deque_capacity shards) }
+    requires shards { (shards.items ≡ []) × (deque_len shards ≡ 0)
+        × (vec_len logs ≤ deque_capacity shards) }
     requires slots { vec_len logs + deque_len slots.old ≤ deque_capacity slots.old }
-    ensures made { IfOk result (λ made. AreMade made.items logs.items books.items) }
+    ensures made { IfOk result (λ made. AreShardsOfLogs made.items logs.items books.items) }
     ensures unmade { OnErr result (slots.new.items ≡ map disks logs.items ++ slots.old.items) }
     ensures room { IfOk result (λ made. (slots.new ≡ slots.old) × (vec_len made ≡ vec_len logs)) }
 {

@@ -93,11 +93,14 @@ impl<D: Disk + Drop> Ingester<D> {
         requires limits { AreLimits limits }
         requires capacity { capacity ≤ 2 ^ 30 }
         ensures found { IfOk result (λ it.
-            AreOpenedFrom D.sight D.follows (vec_len slots) capacity 0 slots.items it.0.logs it.0.about.bases) }
-        ensures about { IfOk result (λ it. it.0.about ≡ about_of it.0.about.bases passes limits capacity) }
+            AreOpenedFrom D.sight D.follows
+            (vec_len slots) capacity 0 slots.items it.0.logs it.0.about.bases) }
+        ensures about { IfOk result (λ it. it.0.about
+            ≡ about_of it.0.about.bases passes limits capacity) }
         ensures shards { IfOk result (λ it. it.0.about.shards ≡ vec_len slots) }
         ensures passes { IfOk result (λ it. AreFresh it.0 passes it.1.items) }
-        ensures unmade { IfErr result (λ e. IsUnmade D.sight D.follows (vec_len slots) slots.items e.1.items e.0) }
+        ensures unmade { IfErr result
+            (λ e. IsUnmade D.sight D.follows (vec_len slots) slots.items e.1.items e.0) }
     {
         let team = match Team::start(rt, handle, alloc, slots.len()) {
             Ok(team) => team,
@@ -152,9 +155,11 @@ fn open_all<D: Disk + Drop + Send, R: Threads + Sync>(
     requires limits { AreLimits limits }
     requires capacity { capacity ≤ 2 ^ 30 }
     ensures found { IfOk result (λ it.
-        AreOpenedFrom D.sight D.follows (deque_len slots.old) capacity 0 slots.old.items it.ingester.logs
+        AreOpenedFrom D.sight D.follows
+        (deque_len slots.old) capacity 0 slots.old.items it.ingester.logs
         it.ingester.about.bases) }
-    ensures about { IfOk result (λ it. it.ingester.about ≡ about_of it.ingester.about.bases passes limits capacity) }
+    ensures about { IfOk result (λ it. it.ingester.about
+        ≡ about_of it.ingester.about.bases passes limits capacity) }
     ensures shards { IfOk result (λ it. it.ingester.about.shards ≡ deque_len slots.old) }
     ensures passes { IfOk result (λ it. AreFresh it.ingester passes it.passes.items) }
     ensures ready { IfOk result (λ it. AreShardsOf it.ingester it.shards.items
@@ -180,12 +185,12 @@ fn open_all<D: Disk + Drop + Send, R: Threads + Sync>(
     };
     let sizes = sizes_of(sizes, &shards);
     let count = count as u32;
-    let kept = Kept { room, sizes, count };
+    let kept = IngesterParts { room, sizes, count };
     Ok(opened_with(plan, history, dealt, shards, kept))
 }
 
 // What an ingester keeps of its shards beside what is planned.
-struct Kept<D: Disk + Drop> {
+struct IngesterParts<D: Disk + Drop> {
     room: ListLocks<D>,
     sizes: Vec<Size>,
     count: u32,
@@ -197,7 +202,7 @@ fn opened_with<D: Disk + Drop>(
     history: History,
     passes: Vec<Pass>,
     shards: Vec<Option<Shard<D>>>,
-    kept: Kept<D>,
+    kept: IngesterParts<D>,
 ) -> Opened<D>
     requires { HasParts history plan.rows plan.backs kept.room kept.count plan.origin plan.home }
     ensures ingester { result.ingester ≡ plan.origin }
@@ -212,7 +217,7 @@ fn opened_with<D: Disk + Drop>(
         backs,
         ends,
     } = plan;
-    let Kept { room, sizes, count } = kept;
+    let IngesterParts { room, sizes, count } = kept;
     let ingester = Ingester {
         history,
         rows,

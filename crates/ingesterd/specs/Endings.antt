@@ -43,21 +43,25 @@ ready_line port = codes "ready " ++ decimal port ++ codes "\n"
 
 -- The answer that is due to a request with this body, as the words say it: at an opening of their number of shards,
 -- under the profile's limits, by its one pass.
-pub record IsAnswerDue (D : Type 0) (call : CallWords) (capacity : ℕ) (body : List ℕ) (answer : Answer) : Type 0 where
+pub record IsAnswerDue (D : Type 0) (call : CallWords) (capacity : ℕ) (body : List ℕ)
+    (answer : Answer) : Type 0 where
   pub opening : Opening D
   pub before : Passed
   pub after : Passed
   pub opened : IsProfiled call.shards 1 capacity opening (before ∷ [])
   pub tenant : List ℕ
   pub named : call.tenant ≡ Ok tenant
-  pub answers : RequestIsAnswered (CallGives opening) call.route call.now tenant body before (Ok answer) after
+  pub answers : RequestIsAnswered (CallGives opening) call.route call.now tenant body before
+      (Ok answer) after
 
 -- How `ingestctl` ended, by what its output held before and after: its words or its setting were wrong; or the answer
 -- that is due to them was written; or it stopped, and where that is not for its output, nothing was written.
-pub data CallEnds (D : Type 0) (words : List (String Global)) (setting input before after : Option (List ℕ))
+pub data CallEnds (D : Type 0) (words : List (String Global))
+    (setting input before after : Option (List ℕ))
     (status : ℕ) : Type 0 where
   unasked_call : status ≡ 2 → after ≡ before → CallEnds D words setting input before after status
-  answered_call : (call : CallWords) → SaysCall words call → (body : List ℕ) → IfSome input (λ bytes. body ≡ bytes)
+  answered_call : (call : CallWords) → SaysCall words call → (body : List ℕ)
+      → IfSome input (λ bytes. body ≡ bytes)
       → (answer : Answer) → IsAnswerDue D call (capacity_of setting) body answer
       → Appends before after (answer_lines answer) → status ≡ answer_status answer.status
       → CallEnds D words setting input before after status
@@ -68,15 +72,19 @@ pub data CallEnds (D : Type 0) (words : List (String Global)) (setting input bef
 -- stopped, and where its opening was refused, nothing was written.
 pub data PushEnds (before after : Option (List ℕ)) (status : ℕ) : Type 0 where
   unasked_push : status ≡ 2 → after ≡ before → PushEnds before after status
-  answered_push : (answer : Answer) (back : List ℕ) → Appends before after (answer_lines answer ++ back) → status ≡ 0
+  answered_push : (answer : Answer) (back : List ℕ)
+      → Appends before after (answer_lines answer ++ back) → status ≡ 0
       → PushEnds before after status
-  stopped_push : (stop : Stopped) → (stop_status stop ≡ 3 → after ≡ before) → status ≡ stop_status stop
+  stopped_push : (stop : Stopped) → (stop_status stop ≡ 3 → after ≡ before)
+      → status ≡ stop_status stop
       → PushEnds before after status
 
 -- How the server ended: its words or its setting were wrong; or it said on which port it listens, and served; or it
 -- stopped, and where its opening was refused, nothing was written.
 pub data ServerEnds (before after : Option (List ℕ)) (status : ℕ) : Type 0 where
   unasked_server : status ≡ 2 → after ≡ before → ServerEnds before after status
-  ended_server : (port : ℕ) → Appends before after (ready_line port) → status ≡ 0 → ServerEnds before after status
-  stopped_server : (stop : Stopped) → (stop_status stop ≡ 3 → after ≡ before) → status ≡ stop_status stop
+  ended_server : (port : ℕ) → Appends before after (ready_line port) → status ≡ 0
+      → ServerEnds before after status
+  stopped_server : (stop : Stopped) → (stop_status stop ≡ 3 → after ≡ before)
+      → status ≡ stop_status stop
       → ServerEnds before after status

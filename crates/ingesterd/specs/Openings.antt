@@ -7,7 +7,8 @@ use Rattle.ingester.specs.Openings.{AreFresh}
 
 -- So many shards, under the profile's limits, whose segments may have so many bytes, and so many passes of them, which
 -- have seen and made nothing.
-pub record IsProfiled {D : Type 0} (shards workers capacity : ℕ) (opening : Opening D) (passes : List Passed)
+pub record IsProfiled {D : Type 0} (shards workers capacity : ℕ) (opening : Opening D)
+    (passes : List Passed)
     : Type 0 where
   pub limits : opening.about.limits ≡ profile_limits
   pub shards_are : opening.about.shards ≡ shards

@@ -13,7 +13,8 @@ const MAX_BODY: u64 = 4_194_304;
 
 /// The whole input, where it is no longer than a body may be.
 pub fn read_body<I: Read>(alloc: Global, input: &mut I) -> Result<Vec<u8>, Stopped>
-    ensures whole { IfOk result (λ body. IfSome (I.remaining input.old) (λ bytes. body.items ≡ bytes)) }
+    ensures whole { IfOk result
+        (λ body. IfSome (I.remaining input.old) (λ bytes. body.items ≡ bytes)) }
     ensures cause { IfErr result (λ stop. (stop ≡ Stopped.Body) ⊎ (stop ≡ Stopped.Memory)) }
 {
     let mut body = Vec::new(alloc);
@@ -31,7 +32,8 @@ pub fn read_body<I: Read>(alloc: Global, input: &mut I) -> Result<Vec<u8>, Stopp
 
 /// Writes all of these bytes.
 pub fn write_bytes<W: Write>(output: &mut W, bytes: &[u8]) -> Result<(), Stopped>
-    ensures written { OnOk result (Appends (W.contents output.old) (W.contents output.new) bytes.now) }
+    ensures written { OnOk result
+        (Appends (W.contents output.old) (W.contents output.new) bytes.now) }
     ensures cause { IfErr result (λ stop. stop ≡ Stopped.Output) }
 {
     match output.write_all(bytes) {
@@ -42,7 +44,8 @@ pub fn write_bytes<W: Write>(output: &mut W, bytes: &[u8]) -> Result<(), Stopped
 
 /// Writes an answer's status, a newline and its body.
 pub fn write_answer<W: Write>(alloc: Global, output: &mut W, answer: &Answer) -> Result<(), Stopped>
-    ensures written { OnOk result (Appends (W.contents output.old) (W.contents output.new) (answer_lines answer.now)) }
+    ensures written { OnOk result
+        (Appends (W.contents output.old) (W.contents output.new) (answer_lines answer.now)) }
     ensures cause { IfErr result (λ stop. (stop ≡ Stopped.Output)
         ⊎ ((stop ≡ Stopped.Memory) × (W.contents output.new ≡ W.contents output.old))) }
 {

@@ -8,7 +8,7 @@ ghost use Rattle.words.specs.Words.{GiveCall, GivesCapacity};
 ghost use Rattle.ingesterd.specs.Endings.{CallEnds, IsAnswerDue, answer_lines, answer_status, stop_status};
 
 use crate::body::{read_body, write_answer};
-use crate::opening::{close_for_one, open_for_one};
+use crate::program_shards::{close_for_one, open_for_one};
 use crate::setting::capacity_by;
 use crate::stopped::Stopped;
 use front::{Answer, Status, answer};
@@ -38,8 +38,10 @@ pub fn run_ctl<R, I: Read, W: Write, E: Write>(
 where
     R: Files<File = File> + Threads + Wait + Copy + Send + Sync + 'static,
     ensures status { result ≤ 3 }
-    ensures usage { (result ≡ 2) ↔ (¬ (GiveCall words.now × GivesCapacity (option_map (λ s. s.now) setting.entry))) }
-    ensures ends { CallEnds (Watched FileDisk) words.now (option_map (λ s. s.now) setting.entry) (I.remaining input.old)
+    ensures usage { (result ≡ 2)
+        ↔ (¬ (GiveCall words.now × GivesCapacity (option_map (λ s. s.now) setting.entry))) }
+    ensures ends { CallEnds (Watched FileDisk) words.now (option_map (λ s. s.now) setting.entry)
+        (I.remaining input.old)
         (W.contents output.old) (W.contents output.new) result }
 {
     let Some(words) = call_in(alloc, words) else {
@@ -109,7 +111,8 @@ fn call_folder<R, I: Read>(
 where
     R: Files<File = File> + Threads + Wait + Copy + Send + Sync + 'static,
     requires { capacity ≤ 2 ^ 30 }
-    ensures { IfOk result (λ answer. (body : List ℕ) × IfSome (I.remaining input.old) (λ bytes. body ≡ bytes)
+    ensures { IfOk result (λ answer. (body : List ℕ)
+        × IfSome (I.remaining input.old) (λ bytes. body ≡ bytes)
         × IsAnswerDue (Watched FileDisk) words.entry capacity body answer) }
 {
     let CallWords {

@@ -8,7 +8,7 @@ ghost use Rattle.ingesterd.specs.Openings.{IsProfiled};
 ghost use Rattle.ingesterd.specs.Endings.{PushEnds, answer_lines, stop_status};
 
 use crate::body::{read_body, write_answer, write_bytes};
-use crate::opening::{close_for_one, open_for_one};
+use crate::program_shards::{close_for_one, open_for_one};
 use crate::stopped::Stopped;
 use accept::Call;
 use disk::{Disk, MemDisk};

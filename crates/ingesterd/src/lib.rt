@@ -6,7 +6,7 @@ mod clock;
 mod connections;
 mod ctl;
 mod ingest1;
-mod opening;
+mod program_shards;
 mod reading;
 mod replayed;
 mod server;

@@ -70,7 +70,8 @@ impl<'a, R: rt::Clock> NotedClock<'a, R> {
 
     /// Reads the clock once; `None` where it gives no time.
     pub fn read_once(&mut self) -> Option<SystemTime>
-        ensures { self.new.noted.given ≡ option_map system_time_nanos result ∷ self.old.noted.given }
+        ensures { self.new.noted.given
+            ≡ option_map system_time_nanos result ∷ self.old.noted.given }
     {
         match SystemTime::now(self.rt) {
             Ok(time) => {

@@ -9,7 +9,7 @@ ghost use Rattle.ingesterd.specs.Endings.{ServerEnds, ready_line, stop_status};
 
 use crate::clock::SystemClock;
 use crate::connections::Connections;
-use crate::opening::{close_shards, open_shards};
+use crate::program_shards::{close_shards, open_shards};
 use crate::replayed::say_replayed;
 use crate::setting::capacity_by;
 use crate::stopped::Stopped;
@@ -53,7 +53,8 @@ where
     R: Files<File = File> + Net<Listener = TcpListener, Stream = TcpStream>,
     R: Clock + Threads + Wait + Copy + Send + Sync + 'static,
     ensures status { result ≤ 3 }
-    ensures usage { (result ≡ 2) ↔ (¬ (GiveServer words.now × GivesCapacity (option_map (λ s. s.now) setting.entry))) }
+    ensures usage { (result ≡ 2)
+        ↔ (¬ (GiveServer words.now × GivesCapacity (option_map (λ s. s.now) setting.entry))) }
     ensures ends { ServerEnds (W.contents output.old) (W.contents output.new) result }
 {
     let Some(words) = server_in(words) else {
@@ -122,9 +123,12 @@ fn serve_port<D, R, W: Write>(
 where
     D: Disk + Drop + Send,
     R: Net<Listener = TcpListener, Stream = TcpStream> + Clock + Threads + Wait + Sync,
-    requires profiled { IsProfiled asked.words.shards asked.words.workers asked.capacity ingester.now passes.items }
-    requires passes { (i : ℕ) (pass : Passed) → slice_get passes.items i ≡ Some pass → IsPassOf ingester.now pass }
-    ensures passes { (i : ℕ) (pass : Passed) → slice_get result.0.items i ≡ Some pass → IsPassOf ingester.now pass }
+    requires profiled { IsProfiled asked.words.shards asked.words.workers asked.capacity
+        ingester.now passes.items }
+    requires passes { (i : ℕ) (pass : Passed) → slice_get passes.items i ≡ Some pass
+        → IsPassOf ingester.now pass }
+    ensures passes { (i : ℕ) (pass : Passed) → slice_get result.0.items i ≡ Some pass
+        → IsPassOf ingester.now pass }
     ensures served { OnOk result.1 ((port : ℕ)
         × Appends (W.contents output.old) (W.contents output.new) (ready_line port)) }
     ensures stopped { IfErr result.1 (λ stop. stop_status stop ≡ 1) }

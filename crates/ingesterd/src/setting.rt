@@ -10,7 +10,8 @@ use words::capacity_in;
 pub fn capacity_by<E: Write>(setting: Option<&str>, errors: &mut E) -> Option<u64>
     ensures given { MatchOption result (¬ GivesCapacity (option_map (λ s. s.now) setting.entry))
         (λ _. GivesCapacity (option_map (λ s. s.now) setting.entry)) }
-    ensures says { IfSome result (λ capacity. capacity ≡ capacity_of (option_map (λ s. s.now) setting.entry)) }
+    ensures says { IfSome result (λ capacity. capacity
+        ≡ capacity_of (option_map (λ s. s.now) setting.entry)) }
     ensures few { IfSome result (λ capacity. capacity ≤ 2 ^ 30) }
 {
     let capacity = capacity_in(setting);

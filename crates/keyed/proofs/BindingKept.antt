@@ -7,7 +7,7 @@ use Rattle.atomic_table.proofs.Lists.{at_set, at_snoc}
 use Rattle.crossbeam_channel.specs.Fifo.{Pushes, Pops, Forks}
 use Rattle.keyed.specs.declared.binding.Binding.{Binding}
 use Rattle.keyed.specs.declared.binding.Binding.TheVariants.{Unbound, Bound}
-use Rattle.keyed.specs.Bindings.{FitsBinding, IsBound, AreBound, Holds}
+use Rattle.keyed.specs.Bindings.{FitsBinding, IsBound, AreBound, IsUnusedOrBound}
 
 module _ {K : Type 0} where
   abbrev key_or : K → Binding K → K
@@ -35,7 +35,7 @@ module _ {K : Type 0} where
 
 module _ {T K : Type 0} (fits : K → ℕ → T → Type 0) where
   abbrev R : List T → List (Binding K) → Type 0
-  R = Holds fits
+  R = IsUnusedOrBound fits
 
   pub begins : R [] (Unbound ∷ [])
   begins = inl (refl, refl)

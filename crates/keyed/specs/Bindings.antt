@@ -17,10 +17,12 @@ module _ {T K : Type 0} (fits : K → ℕ → T → Type 0) where
   FitsBinding (Bound key n) x = fits key n x
 
   -- all messages fit the key and the number, which each end knows
-  pub record AreBound (key : K) (n : ℕ) (items : List T) (bindings : List (Binding K)) : Type 0 where
+  pub record AreBound (key : K) (n : ℕ) (items : List T)
+      (bindings : List (Binding K)) : Type 0 where
     pub item : (i : ℕ) (x : T) → get_elem? items i ≡ some x → fits key n x
     pub binding : (j : ℕ) (v : Binding K) → get_elem? bindings j ≡ some v → v ≡ Bound key n
 
   -- the queue was just made, or is bound
-  abbrev pub Holds : List T → List (Binding K) → Type 0
-  Holds items bindings = ((items ≡ []) × (bindings ≡ Unbound ∷ [])) ⊎ ((key : K) × (n : ℕ) × AreBound key n items bindings)
+  abbrev pub IsUnusedOrBound : List T → List (Binding K) → Type 0
+  IsUnusedOrBound items bindings = ((items ≡ []) × (bindings ≡ Unbound ∷ []))
+      ⊎ ((key : K) × (n : ℕ) × AreBound key n items bindings)

@@ -7,15 +7,16 @@ use Rattle.keyed.specs.Rule.{holding}
 
 -- each value is there, and fits under its number
 abbrev pub AllFit : {T K : Type 0} → (K → ℕ → T → Type 0) → K → List (Option T) → Type 0
-AllFit {T} fits key values = (k : ℕ) → k < length values → (y : T) × (slice_get values k ≡ Some (Some y)) × fits key k y
+AllFit {T} fits key values = (k : ℕ) → k < length values
+    → (y : T) × (slice_get values k ≡ Some (Some y)) × fits key k y
 
 module _ {T K P : Type 0} where
   abbrev pub table_of : Locks T K P → TableId
   table_of l = l.table.shared.table_id
 
   -- what the locks were made for
-  abbrev pub key_of : Locks T K P → K
-  key_of l = l.table.shared.key
+  abbrev pub key_of_locks : Locks T K P → K
+  key_of_locks l = l.table.shared.key
 
   -- how many locks there are
   abbrev pub count_of : Locks T K P → ℕ

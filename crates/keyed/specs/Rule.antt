@@ -24,7 +24,8 @@ module _ {T K : Type 0} where
     HasValue key s k = (y : T) × (get_elem? s.homes k ≡ some (some (Some y))) × fits key k y
 
     -- the lock was free, and the seat has taken it and its value; or nothing happened
-    abbrev pub tries : Step (Option T) → Me (Option T) (Hold K) → ℕ → Me (Option T) (Hold K) → Type 0
+    abbrev pub tries : Step (Option T) → Me (Option T) (Hold K) → ℕ → Me (Option T) (Hold K)
+        → Type 0
     tries s m n w =
         MatchBool (n == 0) ((y : T) × (w ≡ (holding m.0.key s.word, (s.word, Some y) ∷ m.1))
         × fits m.0.key s.word y) (w ≡ m)
@@ -34,5 +35,6 @@ module _ {T K : Type 0} where
       pub sized : length s.words ≡ length s.homes
       pub free : (k : ℕ) → k < length s.homes → slice_index s.words k ≡ 0 → HasValue key s k
       pub keyed : (id : ℕ) (v : Hold K) → get_elem? s.views id ≡ some v → v.key ≡ key
-      pub held : (id : ℕ) (v : Hold K) → get_elem? s.views id ≡ some v → v.holds ≡ true → (holder v.lock ≡ id)
+      pub held : (id : ℕ) (v : Hold K) → get_elem? s.views id ≡ some v → v.holds ≡ true
+          → (holder v.lock ≡ id)
           × (slice_index s.words v.lock ≢ 0)

@@ -19,10 +19,10 @@ pub struct Binds<P> {
 }
 
 impl<T, K, P: Fits<T, K>> Protocol<T, Binding<K>> for Binds<P> {
-    ghost use Rattle.keyed.specs.Bindings.{Holds};
+    ghost use Rattle.keyed.specs.Bindings.{IsUnusedOrBound};
     ghost use Rattle.keyed.specs.declared.binding.Binding.TheVariants.{Unbound};
 
-    ghost holds = { Holds P.fits };
+    ghost holds = { IsUnusedOrBound P.fits };
 
     ghost first = { Unbound };
 }

@@ -37,7 +37,7 @@ impl<T: Drop, K, P: Fits<T, K>> Drop for Locks<T, K, P> {
 
 impl<T, K, P: Fits<T, K>> Locks<T, K, P> {
     ghost use Rattle.std.specs.Prelude.{◌≡◌, ◌<◌, ℕ, length, vec_len, IfOk, IfErr, IfSome, ◌≢◌};
-    ghost use Rattle.keyed.specs.Grips.{table_of, key_of, count_of, IsGrip, AllFit};
+    ghost use Rattle.keyed.specs.Grips.{table_of, key_of_locks, count_of, IsGrip, AllFit};
 
     /// A free lock for each value. It is refused only for want of memory, and the values then come back.
     pub fn new(
@@ -46,7 +46,8 @@ impl<T, K, P: Fits<T, K>> Locks<T, K, P> {
         key: &K,
     ) -> Result<Locks<T, K, P>, Vec<Option<T>>>
         requires { AllFit P.fits key.now values.items }
-        ensures locks { IfOk result (λ l. (count_of l ≡ vec_len values) × (key_of l ≡ key.now)) }
+        ensures locks { IfOk result (λ l. (count_of l ≡ vec_len values)
+            × (key_of_locks l ≡ key.now)) }
         ensures refused { IfErr result (λ v. v.items ≡ values.items) }
     {
         let Ok(words) = Vec::from_elem(alloc, FREE, values.len()) else {
@@ -61,8 +62,8 @@ impl<T, K, P: Fits<T, K>> Locks<T, K, P> {
     /// Waits for the lock, and takes what it keeps.
     pub fn take<R: Wait>(&self, rt: &R, number: usize) -> (T, Grip<T, K>)
         requires { number < count_of self.now }
-        ensures value { P.fits (key_of self.now) number result.0 }
-        ensures grip { IsGrip (table_of self.now) (key_of self.now) number result.1 }
+        ensures value { P.fits (key_of_locks self.now) number result.0 }
+        ensures grip { IsGrip (table_of self.now) (key_of_locks self.now) number result.1 }
     {
         for _ in 0..LOOKS {
             if let Some(taken) = self.try_take(number, TAKEN) {
@@ -75,8 +76,8 @@ impl<T, K, P: Fits<T, K>> Locks<T, K, P> {
 
     /// Gives the value of a lock back, which frees the lock, and wakes a thread that sleeps until then.
     pub fn give(&self, value: T, grip: Grip<T, K>)
-        requires grip { IsGrip (table_of self.now) (key_of self.now) grip.lock grip }
-        requires value { P.fits (key_of self.now) grip.lock value }
+        requires grip { IsGrip (table_of self.now) (key_of_locks self.now) grip.lock grip }
+        requires value { P.fits (key_of_locks self.now) grip.lock value }
     {
         let Grip { mut seat, lock } = grip;
         let shared = &self.table.shared;
@@ -91,7 +92,7 @@ impl<T, K, P: Fits<T, K>> Locks<T, K, P> {
     /// ever.
     pub fn take_out<R: Wait>(&self, rt: &R, number: usize) -> T
         requires { number < count_of self.now }
-        ensures { P.fits (key_of self.now) number result }
+        ensures { P.fits (key_of_locks self.now) number result }
     {
         let (value, grip) = self.take(rt, number);
         let Grip {
@@ -105,8 +106,9 @@ impl<T, K, P: Fits<T, K>> Locks<T, K, P> {
     fn try_take(&self, number: usize, mark: u64) -> Option<(T, Grip<T, K>)>
         requires number { number < count_of self.now }
         requires mark { mark ≢ 0 }
-        ensures value { IfSome result (λ r. P.fits (key_of self.now) number r.0) }
-        ensures grip { IfSome result (λ r. IsGrip (table_of self.now) (key_of self.now) number r.1) }
+        ensures value { IfSome result (λ r. P.fits (key_of_locks self.now) number r.0) }
+        ensures grip { IfSome result
+            (λ r. IsGrip (table_of self.now) (key_of_locks self.now) number r.1) }
     {
         let shared = &self.table.shared;
         let (found, mut seat) = shared.load_new_seat::<Sits>(number);
@@ -126,8 +128,8 @@ impl<T, K, P: Fits<T, K>> Locks<T, K, P> {
     // gives it back wakes one of them.
     fn sleep_for<R: Wait>(&self, rt: &R, number: usize) -> (T, Grip<T, K>)
         requires { number < count_of self.now }
-        ensures value { P.fits (key_of self.now) number result.0 }
-        ensures grip { IsGrip (table_of self.now) (key_of self.now) number result.1 }
+        ensures value { P.fits (key_of_locks self.now) number result.0 }
+        ensures grip { IsGrip (table_of self.now) (key_of_locks self.now) number result.1 }
     {
         for _ in rt.forever() {
             if let Some(taken) = self.try_take(number, AWAITED) {

@@ -12,7 +12,8 @@ use Rattle.labels.specs.Faults.{label_fault}
 -- a byte of a value: `\`, `"` and a newline stand behind a `\`
 abbrev pub escape : ℕ → List ℕ
 escape b =
-    if b == 92 then 92 ∷ 92 ∷ [] else (if b == 34 then 92 ∷ 34 ∷ [] else (if b == 10 then 92 ∷ 110 ∷ [] else b ∷ []))
+    if b == 92 then 92 ∷ 92 ∷ [] else (if b == 34 then 92 ∷ 34
+    ∷ [] else (if b == 10 then 92 ∷ 110 ∷ [] else b ∷ []))
 
 -- `a="1"`
 abbrev pub label_text : Label → List ℕ

@@ -48,8 +48,10 @@ impl LabelSet {
     /// The label set with this canonical text: `NotCanonical` exactly where there is none.
     pub fn parse_text(alloc: Global, text: &str) -> Result<LabelSet, LabelFault>
         ensures ok { IfOk result (λ set. (set ≡ text.now) × IsCanonicalText text.now) }
-        ensures none { IsErrOf result LabelFault.NotCanonical ↔ ((ps : List Label) → ¬ (IsCanonical text.now ps)) }
-        ensures cause { IfErr result (λ e. (e ≡ LabelFault.Memory) ⊎ (e ≡ LabelFault.NotCanonical)) }
+        ensures none { IsErrOf result LabelFault.NotCanonical
+            ↔ ((ps : List Label) → ¬ (IsCanonical text.now ps)) }
+        ensures cause { IfErr result (λ e. (e ≡ LabelFault.Memory)
+            ⊎ (e ≡ LabelFault.NotCanonical)) }
     {
         if !is_canonical(text) {
             return Err(LabelFault::NotCanonical);

@@ -11,13 +11,15 @@ use std::cmp::Ordering;
 /// The law that labels have one canonical text, in any order in which they are given.
 pub fn one_text()
     ensures list { (t u : List ℕ) (ps : List Label) → IsCanonical t ps → IsCanonical u ps → t ≡ u }
-    ensures set { (t u : List ℕ) (pairs others : List Label) → IsPermutation pairs others → IsTextOf t pairs
+    ensures set { (t u : List ℕ) (pairs others : List Label) → IsPermutation pairs others
+        → IsTextOf t pairs
         → IsTextOf u others → t ≡ u }
 {}
 
 /// The law that labels whose values are texts have a canonical text exactly where they have no fault.
 pub fn some_text()
-    ensures faultless { (pairs : List Label) → AreTexts pairs → first_fault pairs ≡ None → (text : List ℕ)
+    ensures faultless { (pairs : List Label) → AreTexts pairs → first_fault pairs ≡ None
+        → (text : List ℕ)
         × IsTextOf text pairs }
     ensures only { (text : List ℕ) (pairs : List Label) → IsTextOf text pairs → AreTexts pairs
         × (first_fault pairs ≡ None) }
@@ -26,7 +28,8 @@ pub fn some_text()
 /// The law that no two label sets share a canonical text.
 #[tactic(auto, using(crate::proofs::Unique::one_set))]
 pub fn one_set()
-    ensures list { (t : List ℕ) (ps qs : List Label) → IsCanonical t ps → IsCanonical t qs → ps ≡ qs }
+    ensures list { (t : List ℕ) (ps qs : List Label) → IsCanonical t ps → IsCanonical t qs
+        → ps ≡ qs }
     ensures set { (t : List ℕ) (pairs others : List Label) → IsTextOf t pairs → IsTextOf t others
         → IsPermutation pairs others }
 {}

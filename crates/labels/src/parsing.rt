@@ -34,7 +34,8 @@ fn unescape(character: char) -> Option<char>
 
 /// One character of a value, by its length in bytes, and what follows its text.
 fn read_escaped(text: &str) -> Option<(usize, &str)>
-    ensures some { IfSome result (λ r. (c : ℕ) × (chars text.now ≡ escape c ++ chars r.1.now) × (r.0 ≡ len_utf8 c)) }
+    ensures some { IfSome result (λ r. (c : ℕ) × (chars text.now ≡ escape c ++ chars r.1.now)
+        × (r.0 ≡ len_utf8 c)) }
     ensures none { IfNone result ((c : ℕ) (cs : List ℕ) → chars text.now ≢ escape c ++ cs) }
 {
     let (character, rest) = read_character(text)?;
@@ -51,7 +52,8 @@ fn read_escaped(text: &str) -> Option<(usize, &str)>
 
 /// What follows the mark.
 fn after<'a>(text: &'a str, mark: &str) -> Option<&'a str>
-    ensures { MatchOption result ((rest : List ℕ) → text.now ≢ mark.now ++ rest) (λ r. text.now ≡ mark.now ++ r.now) }
+    ensures { MatchOption result ((rest : List ℕ)
+        → text.now ≢ mark.now ++ rest) (λ r. text.now ≡ mark.now ++ r.now) }
 {
     text.strip_prefix(mark)
 }
@@ -88,7 +90,8 @@ fn cut_at_equals(text: &str) -> Option<(&str, &str)>
 fn read_label(text: &str) -> Option<(&str, &str)>
     ensures some { IfSome result (λ r. (value : List ℕ) × IsLabel (r.0.now, value)
         × (text.now ≡ label_text (r.0.now, value) ++ r.1.now)) }
-    ensures none { IfNone result ((p : Label) (rest : List ℕ) → IsLabel p → text.now ≢ label_text p ++ rest) }
+    ensures none { IfNone result ((p : Label) (rest : List ℕ) → IsLabel p
+        → text.now ≢ label_text p ++ rest) }
 {
     let (name, rest) = cut_at_equals(text)?;
     let (length, rest) = read_value(after(rest, "\"")?)?;
@@ -131,7 +134,8 @@ fn ends_set(first: &str, text: &str) -> bool
 
 /// Whether the text is a label set's canonical text.
 pub fn is_canonical(text: &str) -> bool
-    ensures { MatchBool result (IsCanonicalText text.now) ((ps : List Label) → ¬ (IsCanonical text.now ps)) }
+    ensures { MatchBool result (IsCanonicalText text.now)
+        ((ps : List Label) → ¬ (IsCanonical text.now ps)) }
 {
     let Some(label) = after(text, "{") else {
         return false;

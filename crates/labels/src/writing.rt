@@ -14,7 +14,8 @@ use std::alloc::{AllocError, Global};
 
 #[tactic(auto, using(crate::proofs::Escapes::escape_char))]
 fn push_escaped(out: &mut String, character: char) -> Result<(), AllocError>
-    ensures { OnOk result (string_bytes out.new ≡ string_bytes out.old ++ flat_map escape (encode_utf8 character)) }
+    ensures { OnOk result (string_bytes out.new
+        ≡ string_bytes out.old ++ flat_map escape (encode_utf8 character)) }
 {
     if character == '\\' {
         out.push_str("\\\\")
@@ -28,7 +29,8 @@ fn push_escaped(out: &mut String, character: char) -> Result<(), AllocError>
 }
 
 fn push_value(out: &mut String, value: &str) -> Result<(), AllocError>
-    ensures { OnOk result (string_bytes out.new ≡ string_bytes out.old ++ flat_map escape value.now) }
+    ensures { OnOk result (string_bytes out.new
+        ≡ string_bytes out.old ++ flat_map escape value.now) }
 {
     for character in value.chars() {
         push_escaped(out, character)?;
@@ -37,7 +39,8 @@ fn push_value(out: &mut String, value: &str) -> Result<(), AllocError>
 }
 
 fn push_label(out: &mut String, name: &str, value: &str) -> Result<(), AllocError>
-    ensures { OnOk result (string_bytes out.new ≡ string_bytes out.old ++ label_text (name.now, value.now)) }
+    ensures { OnOk result (string_bytes out.new
+        ≡ string_bytes out.old ++ label_text (name.now, value.now)) }
 {
     out.push_str(name)?;
     out.push_str("=\"")?;
@@ -58,7 +61,8 @@ fn room_for(pairs: &[(String, String)]) -> usize {
 }
 
 fn push_rest(out: &mut String, pairs: &[(String, String)]) -> Result<(), AllocError>
-    ensures { OnOk result (string_bytes out.new ≡ string_bytes out.old ++ tail_text (map label_of pairs.now)) }
+    ensures { OnOk result (string_bytes out.new
+        ≡ string_bytes out.old ++ tail_text (map label_of pairs.now)) }
 {
     for (name, value) in pairs {
         out.push_str(", ")?;
@@ -103,7 +107,8 @@ pub fn names_rise(pairs: &[(String, String)]) -> bool
 pub fn canonical_text(alloc: Global, mut pairs: Vec<(String, String)>) -> Result<String, LabelFault>
     ensures ok { IfOk result (λ t. (first_fault (map label_of pairs.items) ≡ None)
         × IsTextOf (string_bytes t) (map label_of pairs.items)) }
-    ensures cause { IfErr result (λ e. (e ≡ LabelFault.Memory) ⊎ (first_fault (map label_of pairs.items) ≡ Some e)) }
+    ensures cause { IfErr result (λ e. (e ≡ LabelFault.Memory)
+        ⊎ (first_fault (map label_of pairs.items) ≡ Some e)) }
 {
     if let Some(fault) = early_fault(&pairs) {
         return Err(fault);

@@ -3,8 +3,8 @@ use Rattle.std.proofs.Common.{List, inl, inr, ap, ◌∙◌}
 use Rattle.accept.specs.declared.call.Reply.{Reply}
 use Rattle.disk.specs.Sight.{Sight}
 use Rattle.history.specs.Handles.{Announced, Booked, Received}
-use Rattle.shard.specs.declared.front.Job.{Job}
-use Rattle.shard.specs.declared.front.Ended.{Ended}
+use Rattle.shard.specs.declared.first_jobs.Job.{Job}
+use Rattle.shard.specs.declared.first_jobs.GroupEnd.{GroupEnd}
 use Rattle.shard.specs.declared.group.Settled.{Settled}
 use Rattle.shard.specs.Parts.{IsApplied}
 use Rattle.shard.specs.Shards.{Sharded}
@@ -22,7 +22,7 @@ module _ {D : Type 0} (sight : D → Sight) (follows : D → Type 0) (old new : 
     | inr l ↦ record { table = ap (λ (b : Booked). b.table) l.book; about = ap (λ (b : Booked). b.about) l.book; shard = ap (λ (b : Booked). b.shard) l.book }
   ]
 
-  pub turn_same : (jobs rest : List Job) (was now : List Settled) (ended : Ended) → IsTurn sight follows old new jobs rest was now ended → IsSameBook old.book new.book
+  pub turn_same : (jobs rest : List Job) (was now : List Settled) (ended : GroupEnd) → IsTurn sight follows old new jobs rest was now ended → IsSameBook old.book new.book
   turn_same jobs rest was now ended (inl h) = stepped_same h.front was now h.applied.stepped
   turn_same jobs rest was now ended (inr (inl h)) = alone_same h.job.ticket h.reply h.receipt h.applied
   turn_same jobs rest was now ended (inr (inr h)) = record { table = ap (λ (s : Sharded D). s.book.table) h.same; about = ap (λ (s : Sharded D). s.book.about) h.same; shard = ap (λ (s : Sharded D). s.book.shard) h.same }

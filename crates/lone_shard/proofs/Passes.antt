@@ -12,22 +12,22 @@ use Rattle.history.specs.Histories.{of_pass}
 use Rattle.history.specs.Plays.{ask_of, before_of}
 use Rattle.history.specs.Handles.{Announced, Booked, Passed, asks_of, fresh_pass, fresh_passes}
 use Rattle.history.proofs.Lines.{alone_before}
-use Rattle.shard.specs.declared.front.Job.{Job}
+use Rattle.shard.specs.declared.first_jobs.Job.{Job}
 use Rattle.shard.specs.Groups.{HaveStepsOr}
 use Rattle.shard.specs.Jobs.{tickets_of}
 use Rattle.shard.specs.Turns.{AreReady}
-use Rattle.lone_shard.specs.Passes.{IsIdle}
+use Rattle.lone_shard.specs.Passes.{IsIdlePass}
 use Rattle.lone_shard.proofs.Rounds.{only_shard, ready_more}
 
-pub all_idle : (table : TableId) (about : About) (n : ℕ) → about.shards ≡ 1 → All (IsIdle table) (fresh_passes table about n)
-all_idle table about zero one = All-nil (IsIdle table)
-all_idle table about (suc n) one = All-push (IsIdle table) (fresh_passes table about n) (fresh_pass table about n) (all_idle table about n one) (record { table_is = refl; one = one; idle = refl })
+pub all_idle : (table : TableId) (about : About) (n : ℕ) → about.shards ≡ 1 → All (IsIdlePass table) (fresh_passes table about n)
+all_idle table about zero one = All-nil (IsIdlePass table)
+all_idle table about (suc n) one = All-push (IsIdlePass table) (fresh_passes table about n) (fresh_pass table about n) (all_idle table about n one) (record { table_is = refl; one = one; idle = refl })
 
-pub last_idle : (table : TableId) (about : About) (n : ℕ) (all front : List Passed) (pass : Passed) → about.shards ≡ 1 → all ≡ fresh_passes table about n → all ≡ front ++ pass ∷ [] → All (IsIdle table) front × IsIdle table pass
-last_idle table about n all front pass one fresh split = All-pop (IsIdle table) all front (Some pass) split (subst (All (IsIdle table)) (sym fresh) (all_idle table about n one))
+pub last_idle : (table : TableId) (about : About) (n : ℕ) (all front : List Passed) (pass : Passed) → about.shards ≡ 1 → all ≡ fresh_passes table about n → all ≡ front ++ pass ∷ [] → All (IsIdlePass table) front × IsIdlePass table pass
+last_idle table about n all front pass one fresh split = All-pop (IsIdlePass table) all front (Some pass) split (subst (All (IsIdlePass table)) (sym fresh) (all_idle table about n one))
 
 -- a call of an idle pass is one more job
-pub one_more : (table : TableId) (book : Booked) (pass : Passed) (jobs put : List Job) (call : Call) (t : Announced) → book.table ≡ table → book.about.shards ≡ 1 → book.shard ≡ 0 → IsIdle table pass → AreNumbers call → AreReady book jobs
+pub one_more : (table : TableId) (book : Booked) (pass : Passed) (jobs put : List Job) (call : Call) (t : Announced) → book.table ≡ table → book.about.shards ≡ 1 → book.shard ≡ 0 → IsIdlePass table pass → AreNumbers call → AreReady book jobs
     → t ≡ record { table = table; ask = ask_of pass.caller (pass.caller.last + 1) call; doubted = false; before = before_of pass.caller (pass.caller.last + 1) call }
     → put ≡ jobs ++ record { ticket = t; call = call } ∷ [] → AreReady book put
 one_more table book pass jobs put call t book_table one only idle numbers ready is put_is =

@@ -14,18 +14,18 @@ use Rattle.history.specs.Plays.{IsRested, ask_of, before_of, announce_to, withdr
 use Rattle.history.specs.Handles.{Announced, Booked, Passed, Received, AreOf, asks_of}
 use Rattle.history.proofs.Sharding.{shard_below}
 use Rattle.shard.specs.declared.fault.ApplyFault.{ApplyFault}
-use Rattle.shard.specs.declared.front.Job.{Job}
-use Rattle.shard.specs.declared.front.Ended.{Ended}
+use Rattle.shard.specs.declared.first_jobs.Job.{Job}
+use Rattle.shard.specs.declared.first_jobs.GroupEnd.{GroupEnd}
 use Rattle.shard.specs.declared.group.Settled.{Settled}
-use Rattle.shard.specs.declared.group.Settled.TheVariants.{Answered, Refused}
+use Rattle.shard.specs.declared.group.Settled.TheVariants.{Answered, GivenBack}
 use Rattle.shard.specs.Groups.{HaveStepsOr, with_step}
 use Rattle.shard.specs.Jobs.{tickets_of, jobs_by, jobs_but, AreLawful, AreInPassTurn}
 use Rattle.shard.specs.Queues.{settled_of}
 use Rattle.shard.specs.Shards.{Sharded}
-use Rattle.shard.specs.Turns.{AreReady, AreStepped, IsAlone, IsGivenBack, IsTurn, refused_of}
+use Rattle.shard.specs.Turns.{AreReady, AreStepped, IsAlone, IsGivenBack, IsTurn, given_back_of}
 use Rattle.shard.proofs.Turning.{of_both}
 use Rattle.lone_shard.proofs.Books.{alone_same}
-use Rattle.lone_shard.specs.Rounds.{asks_settled, AreOwn, AreSettled, IsOpen}
+use Rattle.lone_shard.specs.Rounds.{asks_settled, AreOwn, AreSettled, IsOpenRound}
 
 -- Lists.
 
@@ -44,7 +44,7 @@ asks_length (j ∷ jobs) = ap suc (asks_length jobs)
 settled_both : (ss us : List Settled) → asks_settled (ss ++ us) ≡ asks_settled ss ++ asks_settled us
 settled_both [] us = refl
 settled_both (Answered reply receipt ∷ ss) us = ap (λ (l : List Ask). receipt.step.ask ∷ l) (settled_both ss us)
-settled_both (Refused fault t ∷ ss) us = ap (λ (l : List Ask). t.ask ∷ l) (settled_both ss us)
+settled_both (GivenBack fault t ∷ ss) us = ap (λ (l : List Ask). t.ask ∷ l) (settled_both ss us)
 
 own_both : (table : TableId) (p : ℕ) (ts us : List Announced) → AreOwn table p ts → AreOwn table p us → AreOwn table p (ts ++ us)
 own_both table p [] us h k = k
@@ -61,7 +61,7 @@ own_rest table p (t ∷ ts) us h = own_rest table p ts us h.1
 settled_own_both : (table : TableId) (p : ℕ) (ss us : List Settled) → AreSettled table p ss → AreSettled table p us → AreSettled table p (ss ++ us)
 settled_own_both table p [] us h k = k
 settled_own_both table p (Answered reply receipt ∷ ss) us h k = (h.0, settled_own_both table p ss us h.1 k)
-settled_own_both table p (Refused fault t ∷ ss) us h k = (h.0, settled_own_both table p ss us h.1 k)
+settled_own_both table p (GivenBack fault t ∷ ss) us h k = (h.0, settled_own_both table p ss us h.1 k)
 
 lawful_both : (about : About) (k : ℕ) (js ks : List Job) → AreLawful about k js → AreLawful about k ks → AreLawful about k (js ++ ks)
 lawful_both about k [] ks h l = l
@@ -103,11 +103,11 @@ pass_turn_last items front [] t h last = (subst (λ (l : List Ask). HaveStepsOr 
 pass_turn_last items front (s ∷ ts) t h last =
     (h.0, pass_turn_last items (front ++ s.ask ∷ []) ts t h.1 (subst (λ (l : List Ask). HaveStepsOr t.before items (of_pass t.ask.pass l)) (sym (append_assoc front (s.ask ∷ []) (asks_of ts))) last))
 
-pub nothing_settled : (table : TableId) (book : Booked) (pass : Passed) (jobs : List Job) (settled : List Settled) → IsOpen table book pass jobs settled → settled ≡ [] → pass.caller.pending ≡ asks_of (tickets_of jobs)
+pub nothing_settled : (table : TableId) (book : Booked) (pass : Passed) (jobs : List Job) (settled : List Settled) → IsOpenRound table book pass jobs settled → settled ≡ [] → pass.caller.pending ≡ asks_of (tickets_of jobs)
 nothing_settled table book pass jobs settled h none = h.pending ∙ ap (λ (ss : List Settled). asks_settled ss ++ asks_of (tickets_of jobs)) none
 
 -- so there are as many open calls as jobs
-pub few_open : (table : TableId) (book : Booked) (pass : Passed) (jobs : List Job) (settled : List Settled) → IsOpen table book pass jobs settled → settled ≡ [] → length pass.caller.pending ≡ length jobs
+pub few_open : (table : TableId) (book : Booked) (pass : Passed) (jobs : List Job) (settled : List Settled) → IsOpenRound table book pass jobs settled → settled ≡ [] → length pass.caller.pending ≡ length jobs
 few_open table book pass jobs settled h none = ap length (nothing_settled table book pass jobs settled h none) ∙ asks_length jobs
 
 own_turn : (table : TableId) (c : Caller) (call : Call) (items : List Item) (ts : List Announced) (t : Announced) → t ≡ record { table = table; ask = ask_of c (c.last + 1) call; doubted = false; before = before_of c (c.last + 1) call }
@@ -134,10 +134,10 @@ still_rested : (c : Caller) (n : ℕ) (call : Call) → (c.pending ≡ []) ⊎ I
 still_rested c n call (inl idle) f = f idle
 still_rested c n call (inr r) f = r
 
-open_next : (table : TableId) (book : Booked) (pass : Passed) (jobs : List Job) (settled : List Settled) (call : Call) (t : Announced) → IsOpen table book pass jobs settled → settled ≡ [] → AreNumbers call
+open_next : (table : TableId) (book : Booked) (pass : Passed) (jobs : List Job) (settled : List Settled) (call : Call) (t : Announced) → IsOpenRound table book pass jobs settled → settled ≡ [] → AreNumbers call
     → t ≡ record { table = table; ask = ask_of pass.caller (pass.caller.last + 1) call; doubted = false; before = before_of pass.caller (pass.caller.last + 1) call }
     → (pass.caller.pending ≡ [] → IsRested pass.caller)
-    → IsOpen table book (record pass { caller = announce_to pass.caller (pass.caller.last + 1) call }) (jobs ++ record { ticket = t; call = call } ∷ []) settled
+    → IsOpenRound table book (record pass { caller = announce_to pass.caller (pass.caller.last + 1) call }) (jobs ++ record { ticket = t; call = call } ∷ []) settled
 open_next table book pass jobs settled call t h none numbers is rested =
     let c = pass.caller in
     let a : Ask = ask_of c (c.last + 1) call in
@@ -165,13 +165,13 @@ open_next table book pass jobs settled call t h none numbers is rested =
     }
 
 -- the call is the last job
-pub open_more : (table : TableId) (book : Booked) (pass next : Passed) (jobs put : List Job) (settled : List Settled) (call : Call) (t : Announced) → IsOpen table book pass jobs settled → settled ≡ [] → AreNumbers call
+pub open_more : (table : TableId) (book : Booked) (pass next : Passed) (jobs put : List Job) (settled : List Settled) (call : Call) (t : Announced) → IsOpenRound table book pass jobs settled → settled ≡ [] → AreNumbers call
     → t ≡ record { table = table; ask = ask_of pass.caller (pass.caller.last + 1) call; doubted = false; before = before_of pass.caller (pass.caller.last + 1) call }
     → (pass.caller.pending ≡ [] → IsRested pass.caller)
     → next ≡ record pass { caller = announce_to pass.caller (pass.caller.last + 1) call } → put ≡ jobs ++ record { ticket = t; call = call } ∷ []
-    → IsOpen table book next put settled
+    → IsOpenRound table book next put settled
 open_more table book pass next jobs put settled call t h none numbers is rested next_is put_is =
-    subst (λ (z : Passed × List Job). IsOpen table book z.0 z.1 settled) (λ i. (sym next_is i, sym put_is i)) (open_next table book pass jobs settled call t h none numbers is rested)
+    subst (λ (z : Passed × List Job). IsOpenRound table book z.0 z.1 settled) (λ i. (sym next_is i, sym put_is i)) (open_next table book pass jobs settled call t h none numbers is rested)
 
 -- Some are made.
 
@@ -183,11 +183,11 @@ settled_own : (book : Booked) (ts : List Announced) (moment : ℕ × ℕ) (table
 settled_own book [] moment table p h = tt
 settled_own book (t ∷ ts) moment table p h = ((h.0.0, h.0.1), settled_own (with_step book t.ask) ts moment table p h.1)
 
-refused_asks : (fault : ApplyFault) (ts : List Announced) → asks_settled (refused_of fault ts) ≡ asks_of ts
+refused_asks : (fault : ApplyFault) (ts : List Announced) → asks_settled (given_back_of fault ts) ≡ asks_of ts
 refused_asks fault [] = refl
 refused_asks fault (t ∷ ts) = ap (λ (l : List Ask). t.ask ∷ l) (refused_asks fault ts)
 
-refused_own : (fault : ApplyFault) (ts : List Announced) (table : TableId) (p : ℕ) → AreOwn table p ts → AreSettled table p (refused_of fault ts)
+refused_own : (fault : ApplyFault) (ts : List Announced) (table : TableId) (p : ℕ) → AreOwn table p ts → AreSettled table p (given_back_of fault ts)
 refused_own fault [] table p h = tt
 refused_own fault (t ∷ ts) table p h = (h.0, refused_own fault ts table p h.1)
 
@@ -215,7 +215,7 @@ record HasGone (table : TableId) (p : ℕ) (old new : Booked) (jobs rest : List 
   pub same_about : new.about ≡ old.about
   pub same_shard : new.shard ≡ old.shard
 
-module _ {D : Type 0} (sight : D → Sight) (follows : D → Type 0) (table : TableId) (p : ℕ) (old new : Sharded D) (jobs rest : List Job) (was now : List Settled) (ended : Ended) where
+module _ {D : Type 0} (sight : D → Sight) (follows : D → Type 0) (table : TableId) (p : ℕ) (old new : Sharded D) (jobs rest : List Job) (was now : List Settled) (ended : GroupEnd) where
   stepped_gone : (front : List Announced) → tickets_of jobs ≡ front ++ tickets_of rest → AreStepped sight old new front was now → HasGone table p old.book new.book jobs rest was now
   stepped_gone front split (inl made) = record {
     gone = front;
@@ -265,8 +265,8 @@ module _ {D : Type 0} (sight : D → Sight) (follows : D → Type 0) (table : Ta
       record {
         gone = tickets_of jobs;
         split = sym (append-nil (tickets_of jobs)) ∙ ap (λ (l : List Job). tickets_of jobs ++ tickets_of l) (sym none);
-        more = refused_of h.fault (tickets_of jobs);
-        now_is = h.settled ∙ ap (λ (l : List Job). was ++ refused_of h.fault (tickets_of l)) by;
+        more = given_back_of h.fault (tickets_of jobs);
+        now_is = h.settled ∙ ap (λ (l : List Job). was ++ given_back_of h.fault (tickets_of l)) by;
         asks = refused_asks h.fault (tickets_of jobs);
         own = refused_own h.fault (tickets_of jobs) table p;
         same_table = ap (λ (s : Sharded D). s.book.table) h.same;
@@ -279,7 +279,7 @@ module _ {D : Type 0} (sight : D → Sight) (follows : D → Type 0) (table : Ta
   turn_gone own (inr (inl h)) = alone_gone h
   turn_gone own (inr (inr h)) = back_gone own h
 
-gone_open : (table : TableId) (old new : Booked) (pass : Passed) (jobs rest : List Job) (was now : List Settled) → IsOpen table old pass jobs was → HasGone table pass.caller.pass old new jobs rest was now → AreReady new rest → IsOpen table new pass rest now
+gone_open : (table : TableId) (old new : Booked) (pass : Passed) (jobs rest : List Job) (was now : List Settled) → IsOpenRound table old pass jobs was → HasGone table pass.caller.pass old new jobs rest was now → AreReady new rest → IsOpenRound table new pass rest now
 gone_open table old new pass jobs rest was now h g ready =
     let p = pass.caller.pass in
     let own : AreOwn table p (g.gone ++ tickets_of rest) = subst (λ (l : List Announced). AreOwn table p l) g.split h.own in
@@ -301,8 +301,8 @@ gone_open table old new pass jobs rest was now h g ready =
     }
 
 -- a turn at the jobs
-pub open_turn : {D : Type 0} (sight : D → Sight) (follows : D → Type 0) (table : TableId) (pass : Passed) (old new : Sharded D) (jobs rest : List Job) (was now : List Settled) (ended : Ended) → IsOpen table old.book pass jobs was
-    → IsTurn sight follows old new jobs rest was now ended → AreReady new.book rest → IsOpen table new.book pass rest now
+pub open_turn : {D : Type 0} (sight : D → Sight) (follows : D → Type 0) (table : TableId) (pass : Passed) (old new : Sharded D) (jobs rest : List Job) (was now : List Settled) (ended : GroupEnd) → IsOpenRound table old.book pass jobs was
+    → IsTurn sight follows old new jobs rest was now ended → AreReady new.book rest → IsOpenRound table new.book pass rest now
 open_turn sight follows table pass old new jobs rest was now ended h turn ready =
     gone_open table old.book new.book pass jobs rest was now h (turn_gone sight follows table pass.caller.pass old new jobs rest was now ended h.own turn) ready
 
@@ -325,7 +325,7 @@ pub record IsCollectable (table : TableId) (pass : Passed) (receipt : Received) 
   pub number : IsFirstNumber receipt.step.ask.number pass.caller.pending
   pub rested : IsRested pass.caller
 
-pub open_collectable : (table : TableId) (book : Booked) (pass : Passed) (jobs : List Job) (settled rest : List Settled) (reply : Reply) (receipt : Received) → IsOpen table book pass jobs settled → settled ≡ Answered reply receipt ∷ rest
+pub open_collectable : (table : TableId) (book : Booked) (pass : Passed) (jobs : List Job) (settled rest : List Settled) (reply : Reply) (receipt : Received) → IsOpenRound table book pass jobs settled → settled ≡ Answered reply receipt ∷ rest
     → IsCollectable table pass receipt
 open_collectable table book pass jobs settled rest reply receipt h is =
     let first = subst (λ (l : List Settled). AreSettled table pass.caller.pass l) is h.settled_own in
@@ -337,8 +337,8 @@ open_collectable table book pass jobs settled rest reply receipt h is =
       rested = rested_open pass.caller receipt.step.ask _ pending h.rested;
     }
 
-pub open_collected : (table : TableId) (book : Booked) (pass next : Passed) (jobs : List Job) (settled rest : List Settled) (reply : Reply) (receipt : Received) → IsOpen table book pass jobs settled → settled ≡ Answered reply receipt ∷ rest
-    → next ≡ record pass { caller = collect_to pass.caller receipt.step receipt.upto } → IsRested next.caller → IsOpen table book next jobs rest
+pub open_collected : (table : TableId) (book : Booked) (pass next : Passed) (jobs : List Job) (settled rest : List Settled) (reply : Reply) (receipt : Received) → IsOpenRound table book pass jobs settled → settled ≡ Answered reply receipt ∷ rest
+    → next ≡ record pass { caller = collect_to pass.caller receipt.step receipt.upto } → IsRested next.caller → IsOpenRound table book next jobs rest
 open_collected table book pass next jobs settled rest reply receipt h is next_is rested =
     let first = subst (λ (l : List Settled). AreSettled table pass.caller.pass l) is h.settled_own in
     let pending = h.pending ∙ ap (λ (l : List Settled). asks_settled l ++ asks_of (tickets_of jobs)) is in
@@ -362,7 +362,7 @@ pub record IsWithdrawable (table : TableId) (pass : Passed) (t : Announced) : Ty
   pub pass_is : (t.ask.pass ≡ pass.caller.pass) × (t.doubted ≡ false)
   pub number : IsFirstNumber t.ask.number pass.caller.pending
 
-pub open_withdrawable : (table : TableId) (book : Booked) (pass : Passed) (jobs : List Job) (settled rest : List Settled) (fault : ApplyFault) (t : Announced) → IsOpen table book pass jobs settled → settled ≡ Refused fault t ∷ rest
+pub open_withdrawable : (table : TableId) (book : Booked) (pass : Passed) (jobs : List Job) (settled rest : List Settled) (fault : ApplyFault) (t : Announced) → IsOpenRound table book pass jobs settled → settled ≡ GivenBack fault t ∷ rest
     → IsWithdrawable table pass t
 open_withdrawable table book pass jobs settled rest fault t h is =
     let first = subst (λ (l : List Settled). AreSettled table pass.caller.pass l) is h.settled_own in
@@ -372,13 +372,13 @@ open_withdrawable table book pass jobs settled rest fault t h is =
       number = first_number t.ask pass.caller.pending _ (h.pending ∙ ap (λ (l : List Settled). asks_settled l ++ asks_of (tickets_of jobs)) is);
     }
 
-pub open_withdrawn : (table : TableId) (book : Booked) (pass next : Passed) (jobs : List Job) (settled rest : List Settled) (fault : ApplyFault) (t : Announced) → IsOpen table book pass jobs settled → settled ≡ Refused fault t ∷ rest
-    → next ≡ record pass { caller = withdraw_to pass.caller t.ask.number } → IsOpen table book next jobs rest
+pub open_withdrawn : (table : TableId) (book : Booked) (pass next : Passed) (jobs : List Job) (settled rest : List Settled) (fault : ApplyFault) (t : Announced) → IsOpenRound table book pass jobs settled → settled ≡ GivenBack fault t ∷ rest
+    → next ≡ record pass { caller = withdraw_to pass.caller t.ask.number } → IsOpenRound table book next jobs rest
 open_withdrawn table book pass next jobs settled rest fault t h is next_is =
     let first = subst (λ (l : List Settled). AreSettled table pass.caller.pass l) is h.settled_own in
     let pending = h.pending ∙ ap (λ (l : List Settled). asks_settled l ++ asks_of (tickets_of jobs)) is in
     let rested = rested_open pass.caller t.ask _ pending h.rested in
-    subst (λ (q : Passed). IsOpen table book q jobs rest) (sym next_is) (record {
+    subst (λ (q : Passed). IsOpenRound table book q jobs rest) (sym next_is) (record {
       book_table = h.book_table;
       pass_table = h.pass_table;
       one = h.one;
@@ -394,9 +394,9 @@ open_withdrawn table book pass next jobs settled rest fault t h is next_is =
 -- No call.
 
 pub open_idle : (table : TableId) (book : Booked) (pass : Passed) (jobs : List Job) (settled : List Settled) → book.table ≡ table → pass.table ≡ table → book.about.shards ≡ 1 → book.shard ≡ 0 → pass.caller.about.shards ≡ 1
-    → pass.caller.pending ≡ [] → jobs ≡ [] → settled ≡ [] → IsOpen table book pass jobs settled
+    → pass.caller.pending ≡ [] → jobs ≡ [] → settled ≡ [] → IsOpenRound table book pass jobs settled
 open_idle table book pass jobs settled book_table pass_table one only pass_one idle no_jobs none =
-    subst (λ (z : List Job × List Settled). IsOpen table book pass z.0 z.1) (λ i. (sym no_jobs i, sym none i)) (record {
+    subst (λ (z : List Job × List Settled). IsOpenRound table book pass z.0 z.1) (λ i. (sym no_jobs i, sym none i)) (record {
       book_table = book_table;
       pass_table = pass_table;
       one = one;
@@ -409,5 +409,5 @@ open_idle table book pass jobs settled book_table pass_table one only pass_one i
       ready = record { of_book = tt; lawful = tt; turn = tt };
     })
 
-pub idle_open : (table : TableId) (book : Booked) (pass : Passed) (jobs : List Job) (settled : List Settled) → IsOpen table book pass jobs settled → jobs ≡ [] → settled ≡ [] → pass.caller.pending ≡ []
+pub idle_open : (table : TableId) (book : Booked) (pass : Passed) (jobs : List Job) (settled : List Settled) → IsOpenRound table book pass jobs settled → jobs ≡ [] → settled ≡ [] → pass.caller.pending ≡ []
 idle_open table book pass jobs settled h no_jobs none = nothing_settled table book pass jobs settled h none ∙ ap (λ (l : List Job). asks_of (tickets_of l)) no_jobs

@@ -4,7 +4,7 @@ use Rattle.atomic_table.specs.Seated.{TableId}
 use Rattle.history.specs.Handles.{Booked, Passed}
 
 -- the pass is of the table, which is of one shard, and waits for no answer
-pub record IsIdle (table : TableId) (pass : Passed) : Type 0 where
+pub record IsIdlePass (table : TableId) (pass : Passed) : Type 0 where
   pub table_is : pass.table ≡ table
   pub one : pass.caller.about.shards ≡ 1
   pub idle : pass.caller.pending ≡ []

@@ -4,9 +4,9 @@ use Rattle.atomic_table.specs.Seated.{TableId}
 use Rattle.accept.specs.declared.history.Ask.{Ask}
 use Rattle.history.specs.Plays.{IsRested}
 use Rattle.history.specs.Handles.{Announced, Booked, Passed, asks_of}
-use Rattle.shard.specs.declared.front.Job.{Job}
+use Rattle.shard.specs.declared.first_jobs.Job.{Job}
 use Rattle.shard.specs.declared.group.Settled.{Settled}
-use Rattle.shard.specs.declared.group.Settled.TheVariants.{Answered, Refused}
+use Rattle.shard.specs.declared.group.Settled.TheVariants.{Answered, GivenBack}
 use Rattle.shard.specs.Jobs.{tickets_of}
 use Rattle.shard.specs.Turns.{AreReady}
 
@@ -14,7 +14,7 @@ use Rattle.shard.specs.Turns.{AreReady}
 abbrev pub asks_settled : List Settled → List Ask
 asks_settled [] = []
 asks_settled (Answered reply receipt ∷ ss) = receipt.step.ask ∷ asks_settled ss
-asks_settled (Refused fault t ∷ ss) = t.ask ∷ asks_settled ss
+asks_settled (GivenBack fault t ∷ ss) = t.ask ∷ asks_settled ss
 
 -- the ticket is of pass p of the table, and in no doubt
 abbrev pub IsOwn : TableId → ℕ → Announced → Type 0
@@ -27,12 +27,13 @@ AreOwn table p (t ∷ ts) = IsOwn table p t × AreOwn table p ts
 -- the settled calls are of pass p of the table
 abbrev pub AreSettled : TableId → ℕ → List Settled → Type 0
 AreSettled table p [] = Unit {0}
-AreSettled table p (Answered reply receipt ∷ ss) = ((receipt.table ≡ table) × (receipt.step.ask.pass ≡ p))
+AreSettled table p (Answered reply receipt ∷ ss) =
+    ((receipt.table ≡ table) × (receipt.step.ask.pass ≡ p))
     × AreSettled table p ss
-AreSettled table p (Refused fault t ∷ ss) = IsOwn table p t × AreSettled table p ss
+AreSettled table p (GivenBack fault t ∷ ss) = IsOwn table p t × AreSettled table p ss
 
 -- The open calls of the pass are those that are settled and then the jobs, which may be made.
-pub record IsOpen (table : TableId) (book : Booked) (pass : Passed) (jobs : List Job)
+pub record IsOpenRound (table : TableId) (book : Booked) (pass : Passed) (jobs : List Job)
     (settled : List Settled) : Type 0 where
   pub book_table : book.table ≡ table
   pub pass_table : pass.table ≡ table

@@ -1,6 +1,6 @@
 //! Calls that are made as a group, each by a pass of its own.
 ghost use Rattle.std.specs.Prelude.{◌≡◌, ◌≤◌, IfOk, All};
-ghost use Rattle.lone_shard.specs.Passes.{IsIdle, IsSameBook};
+ghost use Rattle.lone_shard.specs.Passes.{IsIdlePass, IsSameBook};
 ghost use Rattle.shard.specs.Turns.{AreReady};
 
 use crate::grouped::{Grouped, Turn};
@@ -23,7 +23,7 @@ impl Grouped {
         for it in settled {
             answers.push(match it {
                 Settled::Answered(reply, _) => Ok(reply),
-                Settled::Refused(fault, _) => Err(fault),
+                Settled::GivenBack(fault, _) => Err(fault),
             })?;
         }
         Ok(Grouped { answers, turns })
@@ -59,7 +59,7 @@ impl<D: Disk + Drop> LoneShard<D> {
         passes: Vec<Pass>,
         calls: &mut VecDeque<Call>,
     ) -> Result<VecDeque<Job>>
-        requires { All (IsIdle self.now.history) passes.items }
+        requires { All (IsIdlePass self.now.history) passes.items }
         ensures { IfOk result (λ jobs. AreReady self.now.shard.book jobs.items) }
     {
         let mut passes = passes;
@@ -77,8 +77,8 @@ impl<D: Disk + Drop> LoneShard<D> {
         Ok(jobs)
     }
 
-    /// Opens the shard as `open` does, and makes these calls as a group, each by a pass of its own. Turns are taken until
-    /// none is left. Those passes make no other call.
+    /// Opens the shard as `open` does, and makes these calls as a group, each by a pass of its own. Turns are taken
+    /// until none is left. Those passes make no other call.
     ///
     /// # Errors
     /// Limits that aren't lawful, a capacity above 2^30, more than 63 calls, a number that no call may have, or want of

@@ -5,7 +5,7 @@ use crate::round::{MOST, Round};
 use accept::{Call, Reply};
 use anyhow::Result;
 use disk::Disk;
-use shard::{ApplyFault, Ended};
+use shard::{ApplyFault, GroupEnd};
 use std::alloc::Global;
 use std::collections::VecDeque;
 
@@ -15,7 +15,7 @@ pub struct Turn {
     /// How many calls were made, or came back.
     pub calls: usize,
     /// Why the turn ended.
-    pub ended: Ended,
+    pub ended: GroupEnd,
 }
 
 /// What became of a group of calls.

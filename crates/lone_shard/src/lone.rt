@@ -2,7 +2,7 @@ ghost use Rattle.std.specs.Prelude.{◌≡◌, ◌≤◌, [], IfOk, All};
 ghost use Rattle.accept.specs.Calls.{AreNumbers};
 ghost use Rattle.accept.specs.Histories.{is_marked};
 ghost use Rattle.wal.specs.Opening.{disks};
-ghost use Rattle.lone_shard.specs.Passes.{IsIdle};
+ghost use Rattle.lone_shard.specs.Passes.{IsIdlePass};
 
 use accept::{Call, Limits, Reply};
 use anyhow::{Result, bail};
@@ -19,7 +19,8 @@ pub struct LoneShard<D: Disk> {
     pub(crate) shard: Shard<D>,
     pub(crate) pass: Pass,
     ghost table: { (shard.book.table ≡ history) × (pass.table ≡ history) },
-    ghost only: { (shard.book.about.shards ≡ 1) × (shard.book.shard ≡ 0) × (pass.caller.about.shards ≡ 1) },
+    ghost only: { (shard.book.about.shards ≡ 1) × (shard.book.shard ≡ 0)
+        × (pass.caller.about.shards ≡ 1) },
     ghost idle: { pass.caller.pending ≡ [] },
 }
 
@@ -32,7 +33,8 @@ pub(crate) fn opened<D: Disk + Drop>(
     passes: u32,
 ) -> Result<Result<(LoneShard<D>, Vec<Pass>), (OpenFault, [D; 2])>>
     requires passes { passes ≤ 64 }
-    ensures idle { IfOk result (λ opened. IfOk opened (λ it. All (IsIdle it.0.history) it.1.items)) }
+    ensures idle { IfOk result
+        (λ opened. IfOk opened (λ it. All (IsIdlePass it.0.history) it.1.items)) }
 {
     if !limits.are_lawful() || capacity > 1 << 30 {
         bail!("a limit is out of its bounds");

@@ -7,7 +7,7 @@ use accept::{Call, Reply};
 use anyhow::{Result, bail};
 use disk::Disk;
 use history::{History, Pass};
-use shard::{ApplyFault, Ended, Job, Settled, Shard};
+use shard::{ApplyFault, GroupEnd, Job, Settled, Shard};
 use std::alloc::Global;
 use std::collections::VecDeque;
 use std::marker::Model;
@@ -28,13 +28,14 @@ pub struct Round<D: Disk> {
 
 impl<D: Disk> Model for Round<D> {
     ghost use Rattle.std.specs.Prelude.{ℕ, length};
-    ghost use Rattle.lone_shard.specs.Rounds.{IsOpen};
+    ghost use Rattle.lone_shard.specs.Rounds.{IsOpenRound};
 
     ghost Value = { ℕ };
 
     ghost view = { λ r. length r.jobs.items };
 
-    ghost invariant = { λ r. IsOpen r.history r.shard.book r.pass r.jobs.items r.settled.items };
+    ghost invariant = { λ r. IsOpenRound r.history r.shard.book r.pass r.jobs.items
+        r.settled.items };
 }
 
 impl<D: Disk + Drop> Round<D> {
@@ -107,7 +108,7 @@ impl<D: Disk + Drop> Round<D> {
     ///
     /// # Errors
     /// There is no job, a settled call is not collected yet, or want of memory. Nothing has then changed.
-    pub fn turn(&mut self, alloc: Global) -> Result<Ended> {
+    pub fn turn(&mut self, alloc: Global) -> Result<GroupEnd> {
         if self.jobs.is_empty() || !self.settled.is_empty() {
             bail!("there is no call, or an answer that was not taken in");
         }
@@ -129,7 +130,7 @@ impl<D: Disk + Drop> Round<D> {
                 self.history.collect(&mut self.pass, receipt);
                 Some(Ok(reply))
             }
-            Settled::Refused(fault, ticket) => {
+            Settled::GivenBack(fault, ticket) => {
                 self.history.withdraw(&mut self.pass, ticket);
                 Some(Err(fault))
             }

@@ -10,7 +10,8 @@ use Rattle.headline.specs.Lives.{Life, HandedOut, IsLife}
 
 -- a life of an opening over these slots, where the disks have followed the model: this one call was made, and this was
 -- handed out
-pub record IsLivedOnce {D : Type 0} (sight : D → Sight) (follows : D → Type 0) (given : List (List D)) (call : Call)
+pub record IsLivedOnce {D : Type 0} (sight : D → Sight) (follows : D → Type 0)
+    (given : List (List D)) (call : Call)
     (handed : List D × Bool) : Type 0 where
   pub life : Life D
   pub is_life : AllFollow follows handed.0 → IsLife sight follows life

@@ -13,7 +13,7 @@ use Rattle.wal.specs.Opening.{disks}
 use Rattle.openings.specs.declared.place.Place.{Place}
 use Rattle.openings.specs.declared.place.Place.TheVariants.{Given, Out, Opened, Refused}
 use Rattle.openings.specs.Findings.{IsOpenedFrom, AreOpenedFrom, IsReturned, AreReturned, IsRefusal, AreGood, IsFirstRefused}
-use Rattle.openings.specs.Places.{IsOpened, IsHere, IsTried, AreTried, slots_in, logs_in, images_in, first_refused}
+use Rattle.openings.specs.Places.{IsOpened, AreSlotsThere, IsTried, AreTried, slots_in, logs_in, images_in, first_refused}
 use Rattle.openings.proofs.Ordered.{ordered}
 
 module _ {D : Type 0} (sight : D → Sight) (follows : D → Type 0) where
@@ -69,21 +69,21 @@ module _ {D : Type 0} (sight : D → Sight) (follows : D → Type 0) where
 
   -- the slots of a shard that was tried are there, and nothing was written
   tried_back : (whose : Owner) (capacity : ℕ) (given : List D) (place : Place D) → IsTried sight follows whose capacity given place
-      → IsHere place × IsReturned sight follows given (slots_in place)
+      → AreSlotsThere place × IsReturned sight follows given (slots_in place)
   tried_back whose capacity given (Given a b) h = absurd h
   tried_back whose capacity given Out h = absurd h
   tried_back whose capacity given (Opened log m) h = (tt, log_returned whose capacity given log m h)
   tried_back whose capacity given (Refused fault a b) h = (tt, h.returned)
 
   pub all_back : (count capacity k : ℕ) (all : List (List D)) (places : List (Place D)) → AreTried sight follows count capacity k all places
-      → All IsHere places × AreReturned sight follows all (map slots_in places)
-  all_back count capacity k [] [] h = (All-nil IsHere, tt)
+      → All AreSlotsThere places × AreReturned sight follows all (map slots_in places)
+  all_back count capacity k [] [] h = (All-nil AreSlotsThere, tt)
   all_back count capacity k [] (place ∷ places) h = absurd h
   all_back count capacity k (given ∷ all) [] h = absurd h
   all_back count capacity k (given ∷ all) (place ∷ places) h =
       let one = tried_back (owner_of k count) capacity given place h.0 in
       let more = all_back count capacity (k + 1) all places h.1 in
-      (All-cons IsHere place places one.0 more.0, (one.1, more.1))
+      (All-cons AreSlotsThere place places one.0 more.0, (one.1, more.1))
 
   -- where none is refused, all logs are opened
   pub all_opened : (count capacity k : ℕ) (all : List (List D)) (places : List (Place D)) → AreTried sight follows count capacity k all places

@@ -12,7 +12,7 @@ use Rattle.wal.specs.declared.fault.OpenFault.{OpenFault}
 use Rattle.wal.specs.declared.log.Wal.{Wal}
 use Rattle.wal.specs.Recovery.{Recovers}
 use Rattle.wal.specs.Moments.{HasNoFailure}
-use Rattle.wal.specs.Logs.{Follow, slots, owner, IsSettled}
+use Rattle.wal.specs.Logs.{Follow, slots, owner, IsOnDisk}
 use Rattle.wal.specs.Covers.{Covers, IsAfter}
 use Rattle.wal.specs.Opening.{slots_of, AllFollow, PairRests, CountsCause, IsOfDeviceOrMemory, IsOpenFault}
 use Rattle.openings.specs.declared.fault.LogsFault.{LogsFault}
@@ -20,10 +20,11 @@ use Rattle.openings.specs.declared.fault.LogsFault.TheVariants as faults
 
 module _ {D : Type 0} (sight : D → Sight) (follows : D → Type 0) where
   -- The log that was opened over these slots, and the streams that stood in them. Nothing was written.
-  pub record IsOpenedFrom (whose : Owner) (capacity : ℕ) (given : List D) (log : Wal D) (m : Streams) : Type 0 where
+  pub record IsOpenedFrom (whose : Owner) (capacity : ℕ) (given : List D) (log : Wal D)
+      (m : Streams) : Type 0 where
     pub before : Follow follows log → AllFollow follows given
     pub rests : Follow follows log → PairRests (slots_of sight given) (slots sight log)
-    pub settled : Follow follows log → IsSettled sight log m
+    pub settled : Follow follows log → IsOnDisk sight log m
     pub recovers : Follow follows log
         → Recovers whose (slots_of sight given).first.seen (slots_of sight given).second.seen m
     pub covered : Follow follows log → (limits : Limits) (h : History) (doubt : List Ask)
@@ -39,7 +40,8 @@ module _ {D : Type 0} (sight : D → Sight) (follows : D → Type 0) where
   abbrev pub AreOpenedFrom : ℕ → ℕ → ℕ → List (List D) → List (Wal D) → List Streams → Type 0
   AreOpenedFrom count capacity k [] [] [] = Unit {0}
   AreOpenedFrom count capacity k (given ∷ all) (log ∷ logs) (m ∷ ms) =
-      IsOpenedFrom (owner_of k count) capacity given log m × AreOpenedFrom count capacity (k + 1) all logs ms
+      IsOpenedFrom (owner_of k count) capacity given log m
+      × AreOpenedFrom count capacity (k + 1) all logs ms
   AreOpenedFrom count capacity k all logs ms = ⊥
 
   -- the slots of a shard come back, and nothing was written
@@ -56,7 +58,8 @@ module _ {D : Type 0} (sight : D → Sight) (follows : D → Type 0) where
   pub record IsRefusal (whose : Owner) (given back : List D) (fault : OpenFault) : Type 0 where
     pub returned : IsReturned given back
     pub why : IsOfDeviceOrMemory fault ⊎ (AllFollow follows back
-        → IsOpenFault whose (slots_of sight given).first.seen (slots_of sight given).second.seen fault)
+        → IsOpenFault whose (slots_of sight given).first.seen
+        (slots_of sight given).second.seen fault)
     pub covered : AllFollow follows back → (limits : Limits) (h : History) (doubt : List Ask)
         → Covers whose limits (slots_of sight given) h doubt → IsOfDeviceOrMemory fault
     pub counted : CountsCause fault (slots_of sight given) (slots_of sight back)
@@ -66,13 +69,15 @@ module _ {D : Type 0} (sight : D → Sight) (follows : D → Type 0) where
   AreGood count k [] [] = Unit {0}
   AreGood count k (given ∷ all) (back ∷ backs) =
       (IsReturned given back × ((m : Streams) × (AllFollow follows back
-      → Recovers (owner_of k count) (slots_of sight given).first.seen (slots_of sight given).second.seen m)))
+      → Recovers (owner_of k count) (slots_of sight given).first.seen
+      (slots_of sight given).second.seen m)))
       × AreGood count (k + 1) all backs
   AreGood count k all backs = ⊥
 
   -- The shard of this number is the first that is refused. Those behind it may have been opened or refused meanwhile:
   -- their slots come back, and nothing was written.
-  pub record IsFirstRefused (count : ℕ) (shard : ℕ) (fault : OpenFault) (all backs : List (List D)) : Type 0 where
+  pub record IsFirstRefused (count : ℕ) (shard : ℕ) (fault : OpenFault)
+      (all backs : List (List D)) : Type 0 where
     pub front : List (List D)
     pub given : List D
     pub behind : List (List D)
@@ -88,5 +93,6 @@ module _ {D : Type 0} (sight : D → Sight) (follows : D → Type 0) where
 
   -- All slots come back in their order, and this is why. Without memory they are untouched.
   abbrev pub AreRefused : ℕ → List (List D) → List (List D) → LogsFault → Type 0
-  AreRefused count all backs (faults.Refused shard fault) = IsFirstRefused count shard fault all backs
+  AreRefused count all backs (faults.Refused shard fault) =
+      IsFirstRefused count shard fault all backs
   AreRefused count all backs faults.Memory = backs ≡ all

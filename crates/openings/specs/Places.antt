@@ -18,11 +18,11 @@ first_of k (Some fault) behind = Some (k, fault)
 
 module _ {D : Type 0} where
   -- the slots were not looked at
-  abbrev pub IsGiven : Place D → Type 0
-  IsGiven (Given a b) = Unit {0}
-  IsGiven Out = ⊥
-  IsGiven (Opened log m) = ⊥
-  IsGiven (Refused fault a b) = ⊥
+  abbrev pub IsNotLookedAt : Place D → Type 0
+  IsNotLookedAt (Given a b) = Unit {0}
+  IsNotLookedAt Out = ⊥
+  IsNotLookedAt (Opened log m) = ⊥
+  IsNotLookedAt (Refused fault a b) = ⊥
 
   -- the log is opened
   abbrev pub IsOpened : Place D → Type 0
@@ -32,11 +32,11 @@ module _ {D : Type 0} where
   IsOpened (Refused fault a b) = ⊥
 
   -- the slots are there, alone or under their log
-  abbrev pub IsHere : Place D → Type 0
-  IsHere (Given a b) = Unit {0}
-  IsHere Out = ⊥
-  IsHere (Opened log m) = Unit {0}
-  IsHere (Refused fault a b) = Unit {0}
+  abbrev pub AreSlotsThere : Place D → Type 0
+  AreSlotsThere (Given a b) = Unit {0}
+  AreSlotsThere Out = ⊥
+  AreSlotsThere (Opened log m) = Unit {0}
+  AreSlotsThere (Refused fault a b) = Unit {0}
 
   abbrev pub slots_in : Place D → List D
   slots_in (Given a b) = a ∷ b ∷ []
@@ -75,8 +75,10 @@ module _ {D : Type 0} (sight : D → Sight) (follows : D → Type 0) where
   abbrev pub IsTried : Owner → ℕ → List D → Place D → Type 0
   IsTried whose capacity given (Given a b) = ⊥
   IsTried whose capacity given Out = ⊥
-  IsTried whose capacity given (Opened log m) = IsOpenedFrom sight follows whose capacity given log m
-  IsTried whose capacity given (Refused fault a b) = IsRefusal sight follows whose given (a ∷ b ∷ []) fault
+  IsTried whose capacity given (Opened log m) =
+      IsOpenedFrom sight follows whose capacity given log m
+  IsTried whose capacity given (Refused fault a b) =
+      IsRefusal sight follows whose given (a ∷ b ∷ []) fault
 
   -- so were those of each shard from k on
   abbrev pub AreTried : ℕ → ℕ → ℕ → List (List D) → List (Place D) → Type 0

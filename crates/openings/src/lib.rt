@@ -2,10 +2,10 @@
 #![tactic(auto)]
 
 mod fault;
-mod opening;
 mod place;
 mod returning;
+mod side_by_side;
 
 pub use fault::LogsFault;
-pub use opening::open_logs;
 pub use returning::give_back;
+pub use side_by_side::open_logs;

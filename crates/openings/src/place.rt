@@ -2,7 +2,7 @@
 ghost use Rattle.std.specs.Prelude.{◌≡◌, ◌<◌, ◌≤◌, ◌*◌, ◌^◌, ◌∷◌, []};
 ghost use Rattle.std.specs.Mem.{type_size};
 ghost use Rattle.segment.specs.Segments.{owner_of};
-ghost use Rattle.openings.specs.Places.{IsGiven, IsHere, IsTried, slots_in, refusal_in};
+ghost use Rattle.openings.specs.Places.{IsNotLookedAt, AreSlotsThere, IsTried, slots_in, refusal_in};
 
 use accept::Image;
 use disk::Disk;
@@ -29,7 +29,7 @@ fn both<D>(slots: [D; 2]) -> (D, D)
 
 // A place for the slots of a shard.
 pub(crate) fn given_place<D: Disk + Drop>(slots: [D; 2]) -> Place<D>
-    ensures given { IsGiven result }
+    ensures given { IsNotLookedAt result }
     ensures slots { slots_in result ≡ slots }
 {
     let (first, second) = both(slots);
@@ -68,10 +68,11 @@ pub(crate) fn open_place<D: Disk + Drop>(
     capacity: u64,
 )
     requires fits { 2 * type_size D.row < 2 ^ 63 }
-    requires given { IsGiven place.old }
+    requires given { IsNotLookedAt place.old }
     requires shard { (shard < count) × (count ≤ 64) }
     requires capacity { capacity ≤ 2 ^ 30 }
-    ensures { IsTried D.sight D.follows (owner_of shard count) capacity (slots_in place.old) place.new }
+    ensures { IsTried D.sight D.follows (owner_of shard count) capacity
+        (slots_in place.old) place.new }
 {
     let Place::Given(first, second) = mem::replace(place, Place::Out) else {
         unreachable!();
@@ -91,7 +92,7 @@ pub(crate) fn refusal_of<D: Disk + Drop>(place: &Place<D>) -> Option<OpenFault>
 
 // The slots that are in a place, or under its log.
 pub(crate) fn take_slots<D: Disk + Drop>(place: Place<D>) -> [D; 2]
-    requires { IsHere place }
+    requires { AreSlotsThere place }
     ensures { result ≡ slots_in place }
 {
     match place {

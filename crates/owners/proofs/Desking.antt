@@ -10,9 +10,9 @@ use Rattle.keyed.specs.declared.ends.QueueSender.{QueueSender}
 use Rattle.keyed.specs.declared.binding.Binding.TheVariants.{Bound}
 use Rattle.keyed.specs.Queues.{sends_to}
 use Rattle.shard.specs.declared.fault.ApplyFault.TheVariants.{Memory, GenerationSpent}
-use Rattle.shard.specs.declared.front.Job.{Job}
+use Rattle.shard.specs.declared.first_jobs.Job.{Job}
 use Rattle.shard.specs.declared.group.Settled.{Settled}
-use Rattle.shard.specs.declared.group.Settled.TheVariants.{Answered, Refused}
+use Rattle.shard.specs.declared.group.Settled.TheVariants.{Answered, GivenBack}
 use Rattle.owners.specs.declared.desk.Desk.{Desk}
 use Rattle.owners.specs.declared.letters.Letter.{Letter}
 use Rattle.owners.specs.Homes.{Homed, NeedsGeneration}
@@ -52,7 +52,7 @@ module _ (home : Homed) where
   -- what is told of a call after another one
   pub told_due : (s : Settled) → IsOfCall home.table s → IsDue home (pass_in (with_memory s)) (with_memory s)
   told_due (Answered reply receipt) h = record { pass = refl; call = h; spent = tt }
-  told_due (Refused fault t) h = record { pass = refl; call = h; spent = λ (e : Memory ≡ GenerationSpent). absurd (clash e) }
+  told_due (GivenBack fault t) h = record { pass = refl; call = h; spent = λ (e : Memory ≡ GenerationSpent). absurd (clash e) }
     where
       clash : Memory ≡ GenerationSpent → ⊥
       clash e = cc
@@ -114,7 +114,7 @@ module _ {D : Type 0} (opening : Opening D) where
 
   spent_free : (s : Settled) → IsSpentAsSaid opening s → IsSpentAt (home_of opening) s
   spent_free (Answered reply receipt) h = tt
-  spent_free (Refused fault t) h = λ e. needs (shard_in opening.about t.ask) t.ask.call (h e)
+  spent_free (GivenBack fault t) h = λ e. needs (shard_in opening.about t.ask) t.ask.call (h e)
 
   calls_free : (ss : List Settled) → AreOfCalls opening ss → AreCalls (home_of opening) ss
   calls_free [] h = tt

@@ -11,10 +11,10 @@ use Rattle.history.specs.Histories.{shard_in, step_of}
 use Rattle.history.specs.Handles.{Announced, Booked, Received, AreOf, asks_of}
 use Rattle.shard.specs.declared.fault.ApplyFault.{ApplyFault}
 use Rattle.shard.specs.declared.fault.ApplyFault.TheVariants.{Memory, GenerationSpent}
-use Rattle.shard.specs.declared.front.Ended.{Ended}
-use Rattle.shard.specs.declared.front.Job.{Job}
+use Rattle.shard.specs.declared.first_jobs.GroupEnd.{GroupEnd}
+use Rattle.shard.specs.declared.first_jobs.Job.{Job}
 use Rattle.shard.specs.declared.group.Settled.{Settled}
-use Rattle.shard.specs.declared.group.Settled.TheVariants.{Answered, Refused}
+use Rattle.shard.specs.declared.group.Settled.TheVariants.{Answered, GivenBack}
 use Rattle.shard.specs.Calls.{IsSpent}
 use Rattle.shard.specs.Groups.{with_step, marked_by}
 use Rattle.shard.specs.Keeping.{moments}
@@ -22,9 +22,9 @@ use Rattle.shard.specs.Jobs.{tickets_of, jobs_by, jobs_but, AreLawful, AreInPass
 use Rattle.shard.specs.Parts.{IsApplied}
 use Rattle.shard.specs.Queues.{settled_of}
 use Rattle.shard.specs.Shards.{Sharded}
-use Rattle.shard.specs.Turns.{AreReady, AreStepped, IsAlone, IsGivenBack, IsTurn, refused_of}
+use Rattle.shard.specs.Turns.{AreReady, AreStepped, IsAlone, IsGivenBack, IsTurn, given_back_of}
 use Rattle.shard.proofs.Turning.{pass_turn_more}
-use Rattle.owners.specs.Calls.{AreOpen, AreWaiting, AreOfCalls, IsFirstSpent, AreTurned, IsOfCall, IsSpentAsSaid, IsDueTo, pass_in, with_memory}
+use Rattle.owners.specs.Calls.{AreSureTickets, AreWaiting, AreOfCalls, IsFirstSpent, AreTurned, IsOfCall, IsSpentAsSaid, IsDueTo, pass_in, with_memory}
 use Rattle.owners.specs.Openings.{Opening}
 use Rattle.owners.specs.Places.{IsOf}
 
@@ -39,7 +39,7 @@ had_memory (Ok x) e h = h
 had_memory (Err y) e h = absurd (clash e)
 
 module _ (table : TableId) (about : About) where
-  pub waiting_open : (k : ℕ) (jobs : List Job) → AreWaiting table about k jobs → AreOpen table about (tickets_of jobs)
+  pub waiting_open : (k : ℕ) (jobs : List Job) → AreWaiting table about k jobs → AreSureTickets table about (tickets_of jobs)
   waiting_open k [] h = tt
   waiting_open k (j ∷ jobs) h = (h.0.ticket, waiting_open k jobs h.1)
 
@@ -58,27 +58,27 @@ module _ (table : TableId) (about : About) where
 
   -- Tickets among others.
 
-  open_front : (xs ys : List Announced) → AreOpen table about (xs ++ ys) → AreOpen table about xs
+  open_front : (xs ys : List Announced) → AreSureTickets table about (xs ++ ys) → AreSureTickets table about xs
   open_front [] ys h = tt
   open_front (x ∷ xs) ys h = (h.0, open_front xs ys h.1)
 
-  open_back : (xs ys : List Announced) → AreOpen table about (xs ++ ys) → AreOpen table about ys
+  open_back : (xs ys : List Announced) → AreSureTickets table about (xs ++ ys) → AreSureTickets table about ys
   open_back [] ys h = h
   open_back (x ∷ xs) ys h = open_back xs ys h.1
 
-  open_by : (p : ℕ) (jobs : List Job) → AreOpen table about (tickets_of jobs) → AreOpen table about (tickets_of (jobs_by p jobs))
+  open_by : (p : ℕ) (jobs : List Job) → AreSureTickets table about (tickets_of jobs) → AreSureTickets table about (tickets_of (jobs_by p jobs))
   open_by p [] h = tt
   open_by p (j ∷ jobs) h = pick (open_by p jobs h.1) (p == j.ticket.ask.pass)
     where
-      pick : AreOpen table about (tickets_of (jobs_by p jobs)) → (b : Bool) → AreOpen table about (tickets_of (cond b (j ∷ jobs_by p jobs) (jobs_by p jobs)))
+      pick : AreSureTickets table about (tickets_of (jobs_by p jobs)) → (b : Bool) → AreSureTickets table about (tickets_of (cond b (j ∷ jobs_by p jobs) (jobs_by p jobs)))
       pick behind true = (h.0, behind)
       pick behind false = behind
 
-  open_but : (p : ℕ) (jobs : List Job) → AreOpen table about (tickets_of jobs) → AreOpen table about (tickets_of (jobs_but p jobs))
+  open_but : (p : ℕ) (jobs : List Job) → AreSureTickets table about (tickets_of jobs) → AreSureTickets table about (tickets_of (jobs_but p jobs))
   open_but p [] h = tt
   open_but p (j ∷ jobs) h = pick (open_but p jobs h.1) (p == j.ticket.ask.pass)
     where
-      pick : AreOpen table about (tickets_of (jobs_but p jobs)) → (b : Bool) → AreOpen table about (tickets_of (cond b (jobs_but p jobs) (j ∷ jobs_but p jobs)))
+      pick : AreSureTickets table about (tickets_of (jobs_but p jobs)) → (b : Bool) → AreSureTickets table about (tickets_of (cond b (jobs_but p jobs) (j ∷ jobs_but p jobs)))
       pick behind true = behind
       pick behind false = (h.0, behind)
 
@@ -103,11 +103,11 @@ length_tickets (j ∷ jobs) = ap suc (length_tickets jobs)
 -- What came of calls.
 
 module _ {D : Type 0} (opening : Opening D) where
-  settled_calls : (ts : List Announced) (moment : ℕ × ℕ) → AreOpen opening.table opening.about ts → (book : Booked) → AreTurned opening (settled_of book ts moment)
+  settled_calls : (ts : List Announced) (moment : ℕ × ℕ) → AreSureTickets opening.table opening.about ts → (book : Booked) → AreTurned opening (settled_of book ts moment)
   settled_calls [] moment h book = (tt, tt)
   settled_calls (t ∷ ts) moment h book = (((h.0.pass, (h.0.same_table, refl)), (settled_calls ts moment h.1 (with_step book t.ask)).0), tt)
 
-  refused_calls : (fault : ApplyFault) (ts : List Announced) → AreOpen opening.table opening.about ts → AreOfCalls opening (refused_of fault ts)
+  refused_calls : (fault : ApplyFault) (ts : List Announced) → AreSureTickets opening.table opening.about ts → AreOfCalls opening (given_back_of fault ts)
   refused_calls fault [] h = tt
   refused_calls fault (t ∷ ts) h = ((h.0.pass, (h.0.same_table, h.0.sure)), refused_calls fault ts h.1)
 
@@ -138,15 +138,15 @@ module _ {D : Type 0} (opening : Opening D) where
   -- where there was no memory, no generation is wanted
   pub memory_pass : (s : Settled) → pass_in (with_memory s) ≡ pass_in s
   memory_pass (Answered reply receipt) = refl
-  memory_pass (Refused fault t) = refl
+  memory_pass (GivenBack fault t) = refl
 
   pub memory_call : (s : Settled) → IsOfCall opening.table s → IsOfCall opening.table (with_memory s)
   memory_call (Answered reply receipt) h = h
-  memory_call (Refused fault t) h = h
+  memory_call (GivenBack fault t) h = h
 
   pub memory_spent : (s : Settled) → IsSpentAsSaid opening (with_memory s)
   memory_spent (Answered reply receipt) = tt
-  memory_spent (Refused fault t) = λ (e : Memory ≡ GenerationSpent). absurd (clash e)
+  memory_spent (GivenBack fault t) = λ (e : Memory ≡ GenerationSpent). absurd (clash e)
     where
       clash : Memory ≡ GenerationSpent → ⊥
       clash e = cc
@@ -165,9 +165,9 @@ module _ {D : Type 0} (opening : Opening D) where
 
 -- A turn.
 
-module _ {D : Type 0} (sight : D → Sight) (follows : D → Type 0) (opening : Opening D) (old new : Sharded D) (jobs rest : List Job) (was now : List Settled) (ended : Ended) where
+module _ {D : Type 0} (sight : D → Sight) (follows : D → Type 0) (opening : Opening D) (old new : Sharded D) (jobs rest : List Job) (was now : List Settled) (ended : GroupEnd) where
   abbrev Opens : List Job → Type 0
-  Opens l = AreOpen opening.table opening.about (tickets_of l)
+  Opens l = AreSureTickets opening.table opening.about (tickets_of l)
 
   record IsSame : Type 0 where
     pub table : new.book.table ≡ old.book.table
@@ -197,7 +197,7 @@ module _ {D : Type 0} (sight : D → Sight) (follows : D → Type 0) (opening : 
 
   -- the calls that are left are open
   pub turn_open : IsTurn sight follows old new jobs rest was now ended → Opens jobs → Opens rest
-  turn_open (inl h) o = open_back opening.table opening.about h.front (tickets_of rest) (subst (AreOpen opening.table opening.about) h.split o)
+  turn_open (inl h) o = open_back opening.table opening.about h.front (tickets_of rest) (subst (AreSureTickets opening.table opening.about) h.split o)
   turn_open (inr (inl h)) o = (subst Opens h.split o).1
   turn_open (inr (inr h)) o = subst Opens (sym h.rest_is) (open_but opening.table opening.about h.job.ticket.ask.pass jobs o)
 
@@ -215,7 +215,7 @@ module _ {D : Type 0} (sight : D → Sight) (follows : D → Type 0) (opening : 
       let all : length jobs ≡ length (h.job ∷ h.others) = ap length h.split in
       omega arith
 
-  stepped_turned : (front : List Announced) → AreOpen opening.table opening.about front → was ≡ [] → AreStepped sight old new front was now → AreTurned opening now
+  stepped_turned : (front : List Announced) → AreSureTickets opening.table opening.about front → was ≡ [] → AreStepped sight old new front was now → AreTurned opening now
   stepped_turned front o none (inl made) = let more = settled_of old.book front (moments (slots sight new.log)) in
       subst (AreTurned opening) (sym (made.2 ∙ ap (λ (l : List Settled). l ++ more) none)) (settled_calls opening front (moments (slots sight new.log)) o old.book)
   stepped_turned front o none (inr lost) = let marked = marked_by old.book (asks_of front) in let more = settled_of marked front (moments (slots sight new.log)) in
@@ -243,7 +243,7 @@ module _ {D : Type 0} (sight : D → Sight) (follows : D → Type 0) (opening : 
       let by : jobs_by p jobs ≡ h.job ∷ jobs_by p h.others = ap (jobs_by p) h.split ∙ by_first h.job h.others in
       let all = subst Opens by (open_by opening.table opening.about p jobs o) in
       let ready' = subst (AreReady old.book) h.split ready in
-      subst (AreTurned opening) (sym (h.settled ∙ (λ i. none i ++ refused_of h.fault (tickets_of (by i))))) (
+      subst (AreTurned opening) (sym (h.settled ∙ (λ i. none i ++ given_back_of h.fault (tickets_of (by i))))) (
         refused_calls opening h.fault (tickets_of (h.job ∷ jobs_by p h.others)) all,
         λ (cause : h.fault ≡ GenerationSpent). record {
           shard = old;
@@ -256,6 +256,6 @@ module _ {D : Type 0} (sight : D → Sight) (follows : D → Type 0) (opening : 
 
   -- what came of the calls
   pub turn_turned : (k : ℕ) → IsTurn sight follows old new jobs rest was now ended → IsOf opening k old → AreReady old.book jobs → Opens jobs → was ≡ [] → AreTurned opening now
-  turn_turned k (inl h) is ready o none = stepped_turned h.front (open_front opening.table opening.about h.front (tickets_of rest) (subst (AreOpen opening.table opening.about) h.split o)) none h.applied.stepped
+  turn_turned k (inl h) is ready o none = stepped_turned h.front (open_front opening.table opening.about h.front (tickets_of rest) (subst (AreSureTickets opening.table opening.about) h.split o)) none h.applied.stepped
   turn_turned k (inr (inl h)) is ready o none = alone_turned o none h
   turn_turned k (inr (inr h)) is ready o none = back_turned k is ready o none h

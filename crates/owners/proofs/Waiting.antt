@@ -6,7 +6,7 @@ use Rattle.accept.specs.declared.history.Item.{Item}
 use Rattle.history.specs.declared.views.About.{About}
 use Rattle.history.specs.Histories.{of_pass, IsAmong}
 use Rattle.history.specs.Handles.{Announced, AreInLine}
-use Rattle.shard.specs.declared.front.Job.{Job}
+use Rattle.shard.specs.declared.first_jobs.Job.{Job}
 use Rattle.shard.specs.Groups.{HaveStepsOr}
 use Rattle.shard.specs.Jobs.{tickets_of, AreInPassTurn}
 use Rattle.owners.specs.Calls.{AreOfPass, IsWaiting, AreWaiting, IsBatch}

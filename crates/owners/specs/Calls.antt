@@ -6,9 +6,9 @@ use Rattle.history.specs.declared.views.About.{About}
 use Rattle.history.specs.Histories.{shard_in, step_of}
 use Rattle.history.specs.Handles.{Announced, AreInLine}
 use Rattle.shard.specs.declared.fault.ApplyFault.TheVariants.{Memory, GenerationSpent}
-use Rattle.shard.specs.declared.front.Job.{Job}
+use Rattle.shard.specs.declared.first_jobs.Job.{Job}
 use Rattle.shard.specs.declared.group.Settled.{Settled}
-use Rattle.shard.specs.declared.group.Settled.TheVariants.{Answered, Refused}
+use Rattle.shard.specs.declared.group.Settled.TheVariants.{Answered, GivenBack}
 use Rattle.shard.specs.Jobs.{tickets_of}
 use Rattle.owners.specs.Homes.{Homed, NeedsGeneration}
 use Rattle.owners.specs.Openings.{Opening, HasSpentLog}
@@ -16,17 +16,17 @@ use Rattle.owners.specs.Openings.{Opening, HasSpentLog}
 -- whose call it was
 abbrev pub pass_in : Settled → ℕ
 pass_in (Answered reply receipt) = receipt.step.ask.pass
-pass_in (Refused fault t) = t.ask.pass
+pass_in (GivenBack fault t) = t.ask.pass
 
 -- the number of the call
-abbrev pub number_in : Settled → ℕ
-number_in (Answered reply receipt) = receipt.step.ask.number
-number_in (Refused fault t) = t.ask.number
+abbrev pub number_of_settled : Settled → ℕ
+number_of_settled (Answered reply receipt) = receipt.step.ask.number
+number_of_settled (GivenBack fault t) = t.ask.number
 
 -- what is told in its place: that there was no memory, where the call has no step
 abbrev pub with_memory : Settled → Settled
 with_memory (Answered reply receipt) = Answered reply receipt
-with_memory (Refused fault t) = Refused Memory t
+with_memory (GivenBack fault t) = GivenBack Memory t
 
 -- each is of pass p
 abbrev pub AreOfPass : ℕ → List Announced → Type 0
@@ -35,19 +35,19 @@ AreOfPass p (t ∷ ts) = (t.ask.pass ≡ p) × AreOfPass p ts
 
 module _ (table : TableId) (about : About) where
   -- the ticket is of a pass of the opening with this table, and in no doubt
-  pub record IsOpen (t : Announced) : Type 0 where
+  pub record IsSureTicket (t : Announced) : Type 0 where
     pub same_table : t.table ≡ table
     pub pass : t.ask.pass < about.passes
     pub sure : t.doubted ≡ false
 
   -- so is each
-  abbrev pub AreOpen : List Announced → Type 0
-  AreOpen [] = Unit {0}
-  AreOpen (t ∷ ts) = IsOpen t × AreOpen ts
+  abbrev pub AreSureTickets : List Announced → Type 0
+  AreSureTickets [] = Unit {0}
+  AreSureTickets (t ∷ ts) = IsSureTicket t × AreSureTickets ts
 
   -- the call is to be made at shard k
   pub record IsWaiting (k : ℕ) (job : Job) : Type 0 where
-    pub ticket : IsOpen job.ticket
+    pub ticket : IsSureTicket job.ticket
     pub shard : shard_in about job.ticket.ask ≡ k
     pub call : job.ticket.ask.call ≡ job.call
     pub numbers : AreNumbers job.call
@@ -66,15 +66,17 @@ module _ (table : TableId) (about : About) where
 
 -- it came of a call on this table: the call's step has this reply, or the call has none
 abbrev pub IsOfCall : TableId → Settled → Type 0
-IsOfCall table (Answered reply receipt) = (receipt.table ≡ table) × (receipt.step ≡ step_of receipt.step.ask reply)
-IsOfCall table (Refused fault t) = (t.table ≡ table) × (t.doubted ≡ false)
+IsOfCall table (Answered reply receipt) = (receipt.table ≡ table)
+    × (receipt.step ≡ step_of receipt.step.ask reply)
+IsOfCall table (GivenBack fault t) = (t.table ≡ table) × (t.doubted ≡ false)
 
 -- What came of a call of pass p, as queues carry it: where the call needs another generation, the log of its shard is
 -- spent.
 module _ (home : Homed) where
   abbrev pub IsSpentAt : Settled → Type 0
   IsSpentAt (Answered reply receipt) = Unit {0}
-  IsSpentAt (Refused fault t) = fault ≡ GenerationSpent → NeedsGeneration home (shard_in home.about t.ask) t.ask.call
+  IsSpentAt (GivenBack fault t) = fault ≡ GenerationSpent
+      → NeedsGeneration home (shard_in home.about t.ask) t.ask.call
 
   pub record IsDue (p : ℕ) (settled : Settled) : Type 0 where
     pub pass : pass_in settled ≡ p
@@ -100,7 +102,7 @@ module _ (home : Homed) where
 module _ {D : Type 0} (opening : Opening D) where
   abbrev pub IsSpentAsSaid : Settled → Type 0
   IsSpentAsSaid (Answered reply receipt) = Unit {0}
-  IsSpentAsSaid (Refused fault t) = fault ≡ GenerationSpent
+  IsSpentAsSaid (GivenBack fault t) = fault ≡ GenerationSpent
       → HasSpentLog opening (shard_in opening.about t.ask) t.ask.call
 
   pub record IsDueTo (p : ℕ) (settled : Settled) : Type 0 where
@@ -111,7 +113,8 @@ module _ {D : Type 0} (opening : Opening D) where
   -- each came of a call of one of the opening's passes
   abbrev pub AreOfCalls : List Settled → Type 0
   AreOfCalls [] = Unit {0}
-  AreOfCalls (s ∷ ss) = ((pass_in s < opening.about.passes) × IsOfCall opening.table s) × AreOfCalls ss
+  AreOfCalls (s ∷ ss) = ((pass_in s < opening.about.passes) × IsOfCall opening.table s)
+      × AreOfCalls ss
 
   -- of the first the log is spent, where it says so
   abbrev pub IsFirstSpent : List Settled → Type 0

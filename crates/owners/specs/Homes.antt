@@ -8,7 +8,7 @@ use Rattle.history.specs.declared.views.About.{About}
 use Rattle.history.specs.Handles.{Booked}
 use Rattle.history.specs.Histories.{IsLegalAt, IsByPasses, bound}
 use Rattle.streams.specs.Changes.{change_of}
-use Rattle.shard.specs.Calls.{Writes, block_length, answer_in}
+use Rattle.shard.specs.Calls.{NeedsWrite, block_length, answer_in}
 
 -- the table of the histories, what was opened, and each log's generation then
 pub record Homed : Type 0 where
@@ -17,10 +17,11 @@ pub record Homed : Type 0 where
   pub generations : List ℕ
 
 abbrev pub home_with : Booked → List ℕ → Homed
-home_with first generations = record { table = first.table; about = first.about; generations = generations }
+home_with first generations =
+    record { table = first.table; about = first.about; generations = generations }
 
--- The call writes, and its change does not fit behind a segment of the last generation, after a legal history of shard k.
--- Each roll since the log of the shard was opened took a call of that history, so it was opened late.
+-- The call writes, and its change does not fit behind a segment of the last generation, after a legal history of shard
+-- k. Each roll since the log of the shard was opened took a call of that history, so it was opened late.
 pub record NeedsGeneration (home : Homed) (k : ℕ) (call : Call) : Type 0 where
   pub book : Booked
   pub about : book.about ≡ home.about
@@ -32,8 +33,9 @@ pub record NeedsGeneration (home : Homed) (k : ℕ) (call : Call) : Type 0 where
   pub opened : ℕ
   pub opened_is : slice_get home.generations k ≡ Some opened
   pub last : 2 ^ 63 - 1 ≤ generation
-  pub writes : Writes book call
-  pub full : ¬ ((0 < generation) × (version ≡ latest) × (end + 1 + block_length (change_of call (answer_in book call)) ≤ cap))
+  pub writes : NeedsWrite book call
+  pub full : ¬ ((0 < generation) × (version ≡ latest)
+      × (end + 1 + block_length (change_of call (answer_in book call)) ≤ cap))
   pub legal : IsLegalAt book.about book.shard book.items
   pub by_passes : IsByPasses book.about.passes book.items
   pub rolled : generation ≤ opened + length book.items

@@ -1,7 +1,7 @@
 -- The ways of a pass to the shards and back, and what comes of a call.
 use Rattle.std.specs.Prelude.{◌≡◌, ℕ, ◌≤◌, List, [], Some, slice_get}
 use Rattle.std.specs.VecDeque.{deque_len}
-use Rattle.shard.specs.declared.front.Job.{Job}
+use Rattle.shard.specs.declared.first_jobs.Job.{Job}
 use Rattle.keyed.specs.Queues.{sends_to, receives_as}
 use Rattle.keyed.specs.declared.binding.Binding.TheVariants.{Bound}
 use Rattle.owners.specs.declared.letters.Letter.{Letter}
@@ -30,14 +30,15 @@ abbrev pub AreWays : Homed → ℕ → List Way → Type 0
 AreWays home p ways = (k : ℕ) (way : Way) → slice_get ways k ≡ Some way → IsWay home p k way
 
 -- The way of pass p to shard k. What became of calls is not in its letter.
-pub record IsReady (home : Homed) (p k : ℕ) (way : Way) : Type 0 where
+pub record IsReadyWay (home : Homed) (p k : ℕ) (way : Way) : Type 0 where
   pub pass : way.letter.pass ≡ p
   pub settled : way.letter.settled.items ≡ []
   pub orders : sends_to way.orders ≡ Bound home k
   pub answers : receives_as way.answers ≡ Bound home p
 
-abbrev pub AreReady : Homed → ℕ → List Way → Type 0
-AreReady home p ways = (k : ℕ) (way : Way) → slice_get ways k ≡ Some way → IsReady home p k way
+abbrev pub AreReadyWays : Homed → ℕ → List Way → Type 0
+AreReadyWays home p ways = (k : ℕ) (way : Way) → slice_get ways k ≡ Some way
+    → IsReadyWay home p k way
 
 -- but for the calls in their letters two ways are alike
 pub record HasSameRest (old new : Way) : Type 0 where
@@ -48,7 +49,7 @@ pub record HasSameRest (old new : Way) : Type 0 where
 
 -- In the letter are calls that are to be made at shard k, 64 at most.
 pub record IsLoaded (home : Homed) (p k : ℕ) (way : Way) : Type 0 where
-  pub ready : IsReady home p k way
+  pub ready : IsReadyWay home p k way
   pub batch : IsBatch home.table home.about k p way.letter.jobs.items
   pub few : deque_len way.letter.jobs ≤ 64
 

@@ -28,7 +28,7 @@ pub(crate) fn pass_of(settled: &Settled) -> usize
 {
     match settled {
         Settled::Answered(_, receipt) => receipt.pass(),
-        Settled::Refused(_, ticket) => ticket.pass(),
+        Settled::GivenBack(_, ticket) => ticket.pass(),
     }
 }
 

@@ -26,7 +26,8 @@ impl Letter {
         ensures jobs { self.new.jobs.items ≡ self.old.jobs.items }
         ensures settled { self.new.settled.items ≡ self.old.settled.items }
         ensures room { result ≡ true → deque_len self.new.jobs < deque_capacity self.new.jobs }
-        ensures answers { result ≡ true → deque_len self.new.jobs < deque_capacity self.new.settled }
+        ensures answers { result ≡ true
+            → deque_len self.new.jobs < deque_capacity self.new.settled }
     {
         let Some(calls) = self.jobs.len().checked_add(1) else {
             return false;

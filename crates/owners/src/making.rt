@@ -22,7 +22,7 @@ fn after_another(settled: Settled) -> Settled
     ensures { result ≡ with_memory settled }
 {
     match settled {
-        Settled::Refused(_, ticket) => Settled::Refused(ApplyFault::Memory, ticket),
+        Settled::GivenBack(_, ticket) => Settled::GivenBack(ApplyFault::Memory, ticket),
         answered => answered,
     }
 }

@@ -166,7 +166,8 @@ fn make_all_ends<D: Disk + Drop>(
         × (deque_len seeds ≡ vec_len logs.now) }
     ensures ends { IfOk result (λ made. AreEnds (opening_of first.now logs.now.items) made.0.items
         × (deque_len made.0 ≡ vec_len logs.now)) }
-    ensures backs { IfOk result (λ made. ReceiveFrom (opening_of first.now logs.now.items) made.1.items
+    ensures backs { IfOk result
+        (λ made. ReceiveFrom (opening_of first.now logs.now.items) made.1.items
         × (length made.1.items ≡ vec_len logs.now)) }
 {
     let mut backs = Vec::with_capacity(alloc, logs.len())?;
@@ -215,7 +216,8 @@ fn finish_plan<D: Disk + Drop>(
     ends: VecDeque<Ends<D>>,
 ) -> Result<Plan<D>, AllocError>
     requires home { home ≡ home_of origin }
-    requires rows { AreRows home origin.about.shards rows.items × (vec_len rows ≡ origin.about.passes) }
+    requires rows { AreRows home origin.about.shards rows.items
+        × (vec_len rows ≡ origin.about.passes) }
     requires backs { AreBacks origin backs.items }
     requires ends { AreEnds origin ends.items × (deque_len ends ≡ origin.about.shards) }
     ensures { IfOk result (IsPlan origin) }

@@ -97,7 +97,8 @@ pub fn make_rows(
     passes: usize,
 ) -> Result<(Vec<Option<Vec<Way>>>, VecDeque<Seed>), AllocError>
     ensures rows { IfOk result (λ r. AreRows home.now shards r.0.items × (vec_len r.0 ≡ passes)) }
-    ensures seeds { IfOk result (λ r. AreSeeds home.now passes r.1.items × (deque_len r.1 ≡ shards)) }
+    ensures seeds { IfOk result (λ r. AreSeeds home.now passes r.1.items
+        × (deque_len r.1 ≡ shards)) }
 {
     let mut seeds = VecDeque::with_capacity(alloc, shards)?;
     for shard in 0..shards {

@@ -1,6 +1,6 @@
 //! Several calls of a pass at once: those to one shard go in one letter, and what became of each is taken out of it.
 ghost use Rattle.std.specs.Prelude.{◌≡◌, IfSome, vec_len};
-ghost use Rattle.owners.specs.Calls.{IsOpen, IsDue, number_in};
+ghost use Rattle.owners.specs.Calls.{IsSureTicket, IsDue, number_of_settled};
 ghost use Rattle.owners.specs.Ways.{IsWay, IsLoaded, IsIdleWay, AreWays, AreLoaded, AreIdleWays};
 
 use crate::letters::Order;
@@ -15,11 +15,11 @@ use std::sync::Wait;
 
 // The number of the call.
 fn number_of(settled: &Settled) -> u64
-    ensures { result ≡ number_in settled.now }
+    ensures { result ≡ number_of_settled settled.now }
 {
     match settled {
         Settled::Answered(_, receipt) => receipt.number(),
-        Settled::Refused(_, ticket) => ticket.number(),
+        Settled::GivenBack(_, ticket) => ticket.number(),
     }
 }
 
@@ -65,7 +65,7 @@ impl Way {
         requires { IsWay home.now pass shard self.old }
         ensures way { IsWay home.now pass shard self.new }
         ensures due { IfSome result (IsDue home.now pass) }
-        ensures number { IfSome result (λ settled. number_in settled ≡ number) }
+        ensures number { IfSome result (λ settled. number_of_settled settled ≡ number) }
     {
         let _ = home;
         let _ = pass;
@@ -104,7 +104,7 @@ impl Way {
     pub fn take_back(&mut self, home: &Home, pass: usize, shard: usize) -> Option<Ticket>
         requires { IsWay home.now pass shard self.old }
         ensures way { IsWay home.now pass shard self.new }
-        ensures ticket { IfSome result (λ ticket. IsOpen home.now.table home.now.about ticket
+        ensures ticket { IfSome result (λ ticket. IsSureTicket home.now.table home.now.about ticket
             × (ticket.ask.pass ≡ pass)) }
     {
         let _ = home;

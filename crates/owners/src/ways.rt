@@ -54,7 +54,8 @@ pub(crate) fn blank(alloc: Global, pass: usize) -> Letter
 fn write(letter: &mut Letter, job: Job) -> Result<(), Job>
     requires { IsBlank letter.old.pass letter.old }
     ensures pass { letter.new.pass ≡ letter.old.pass }
-    ensures written { IfOk result (λ _. (letter.new.jobs.items ≡ job ∷ []) × (letter.new.settled.items ≡ [])) }
+    ensures written { IfOk result (λ _. (letter.new.jobs.items ≡ job ∷ [])
+        × (letter.new.settled.items ≡ [])) }
     ensures len { IfOk result (λ _. deque_len letter.new.jobs ≡ 1) }
     ensures back { IfErr result (λ back. (back ≡ job) × IsBlank letter.old.pass letter.new) }
 {
@@ -88,7 +89,7 @@ impl Way {
         let _ = shard;
         if let Err(job) = write(&mut self.letter, job) {
             let Job { ticket, call: _ } = job;
-            return Came::Settled(Settled::Refused(ApplyFault::Memory, ticket));
+            return Came::Settled(Settled::GivenBack(ApplyFault::Memory, ticket));
         }
         let letter = mem::replace(&mut self.letter, blank(alloc, pass));
         if let Err(back) = self.orders.send(rt, Order::Make(letter)) {

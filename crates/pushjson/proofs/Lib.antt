@@ -1,6 +1,6 @@
 pub mod Deciding
 pub mod Existence
-pub mod Fronts
+pub mod Beginnings
 pub mod OneAnswer
 pub mod OneQuery
 pub mod Thirds

@@ -40,7 +40,8 @@ stream_tree s =
     (member (codes "values") (array (items_of (map value_tree s.values))) no_members))
 
 abbrev pub body_tree : List Stream → Data
-body_tree streams = object (member (codes "streams") (array (items_of (map stream_tree streams))) no_members)
+body_tree streams = object
+    (member (codes "streams") (array (items_of (map stream_tree streams))) no_members)
 
 -- the names stand in strictly rising byte order
 abbrev pub HaveRisingNames : List Label → Type 0
@@ -73,8 +74,13 @@ abbrev pub entry_count : List Stream → ℕ
 entry_count streams = sum_by (λ s. length s.values) streams
 
 -- without a third element there is no metadata
-abbrev pub entry_of : TimedLine → Entry
-entry_of v = record { time = digits_value 10 v.time; line = v.line; meta = unwrap_or v.third [] }
+abbrev pub entry_of_line : TimedLine → Entry
+entry_of_line v = record {
+  time = digits_value 10 v.time;
+  line = v.line;
+  meta =
+      unwrap_or v.third [];
+}
 
 abbrev pub batch_of : Stream → RawBatch
-batch_of s = record { pairs = s.pairs; entries = map entry_of s.values }
+batch_of s = record { pairs = s.pairs; entries = map entry_of_line s.values }

@@ -3,7 +3,7 @@ use Rattle.std.specs.Prelude.{◌≡◌, ◌≢◌, ⊤, ℕ, ◌<◌, ◌≤◌
 use Rattle.std.specs.declared.alloc.Global.{Global}
 use Rattle.serde_json.specs.Data.{Data}
 use Rattle.entries.specs.declared.entry.Entry.{Entry}
-use Rattle.pushjson.specs.Bodies.{Stream, TimedLine, body_tree, IsJson, AreTimed, HaveTimes, IsFirstBad, IsFirstBadTime, entry_count, entry_of, batch_of}
+use Rattle.pushjson.specs.Bodies.{Stream, TimedLine, body_tree, IsJson, AreTimed, HaveTimes, IsFirstBad, IsFirstBadTime, entry_count, entry_of_line, batch_of}
 use Rattle.pushjson.specs.declared.push.RawBatch.{RawBatch}
 use Rattle.pushjson.specs.declared.fault.PushFault.{PushFault}
 use Rattle.pushjson.specs.declared.fault.PushFault.TheVariants.{NotJson, WrongShape, BadTime, TooManyEntries, Memory}
@@ -11,10 +11,12 @@ use Rattle.pushjson.specs.declared.fault.PushFault.TheVariants.{NotJson, WrongSh
 -- the answer to a push body of these bytes
 abbrev pub IsPushAnswer : List ℕ → Result (List RawBatch) PushFault → Type 0
 IsPushAnswer bytes (Ok batches) =
-    (streams : List Stream) × IsJson bytes (body_tree streams) × HaveTimes streams × (entry_count streams ≤ 10000)
+    (streams : List Stream) × IsJson bytes (body_tree streams) × HaveTimes streams
+    × (entry_count streams ≤ 10000)
     × (batches ≡ map batch_of streams)
 IsPushAnswer bytes (Err NotJson) = (d : Data) → ¬ IsJson bytes d
-IsPushAnswer bytes (Err WrongShape) = (d : Data) × IsJson bytes d × ((streams : List Stream) → d ≢ body_tree streams)
+IsPushAnswer bytes (Err WrongShape) = (d : Data) × IsJson bytes d
+    × ((streams : List Stream) → d ≢ body_tree streams)
 IsPushAnswer bytes (Err (BadTime i j)) = (streams : List Stream) × IsJson bytes (body_tree streams)
     × IsFirstBadTime streams i j
 IsPushAnswer bytes (Err TooManyEntries) = (streams : List Stream) × IsJson bytes (body_tree streams)
@@ -22,12 +24,13 @@ IsPushAnswer bytes (Err TooManyEntries) = (streams : List Stream) × IsJson byte
 IsPushAnswer bytes (Err Memory) = ⊤
 
 -- an answer, without where its batches lie in memory
-abbrev pub answer_of : Result (Vec RawBatch Global) PushFault → Result (List RawBatch) PushFault
-answer_of (Ok batches) = Ok batches.items
-answer_of (Err fault) = Err fault
+abbrev pub batches_answered : Result (Vec RawBatch Global) PushFault
+    → Result (List RawBatch) PushFault
+batches_answered (Ok batches) = Ok batches.items
+batches_answered (Err fault) = Err fault
 
 abbrev pub ReadsPush : List ℕ → Result (Vec RawBatch Global) PushFault → Type 0
-ReadsPush bytes read = IsPushAnswer bytes (answer_of read)
+ReadsPush bytes read = IsPushAnswer bytes (batches_answered read)
 
 -- while memory lasts, bytes have one answer, and one alone: its kind, its place and its batches
 abbrev pub HasOneAnswer : List ℕ → Type 0
@@ -37,7 +40,7 @@ HasOneAnswer bytes =
 
 -- for private clauses: the entries of the stream at i, which has these values
 abbrev pub GivesEntries : ℕ → List TimedLine → Result (Vec Entry Global) PushFault → Type 0
-GivesEntries i values (Ok entries) = AreTimed values × (entries.items ≡ map entry_of values)
+GivesEntries i values (Ok entries) = AreTimed values × (entries.items ≡ map entry_of_line values)
 GivesEntries i values (Err (BadTime k j)) = (k ≡ i) × IsFirstBad values j
 GivesEntries i values (Err Memory) = ⊤
 GivesEntries i values (Err NotJson) = ⊥

@@ -37,13 +37,27 @@ ReadsData bytes (Err TooManyEntries) = ⊥
 
 -- the texts, without where they lie in memory
 abbrev pub value_texts_of : ValueTexts → TimedLine
-value_texts_of v = record { time = string_bytes v.time; line = string_bytes v.line; third = v.third }
+value_texts_of v = record {
+  time = string_bytes v.time;
+  line = string_bytes v.line;
+  third =
+      v.third;
+}
 
 abbrev pub stream_texts_of : StreamTexts → Stream
-stream_texts_of s = record { pairs = map label_of s.pairs.items; values = map value_texts_of s.values.items }
+stream_texts_of s = record {
+  pairs = map label_of s.pairs.items;
+  values =
+      map value_texts_of s.values.items;
+}
 
 abbrev pub query_texts_of : QueryTexts → Query
-query_texts_of q = record { pairs = map label_of q.pairs.items; from = string_bytes q.from; to = string_bytes q.to }
+query_texts_of q = record {
+  pairs = map label_of q.pairs.items;
+  from = string_bytes q.from;
+  to =
+      string_bytes q.to;
+}
 
 abbrev pub trim_texts_of : TrimTexts → Trim
 trim_texts_of t = record { pairs = map label_of t.pairs.items; bound = string_bytes t.bound }

@@ -9,7 +9,8 @@ const MAX_DIGITS: usize = 19;
 /// `None` where it writes none.
 #[tactic(auto, unfolding(crate::specs::Times::IsTime))]
 pub fn time_of(text: &str) -> Option<u64>
-    ensures { MatchOption result (¬ IsTime text.now) (λ time. IsTime text.now × (time ≡ digits_value 10 text.now)
+    ensures { MatchOption result
+        (¬ IsTime text.now) (λ time. IsTime text.now × (time ≡ digits_value 10 text.now)
         × (time < 2 ^ 63)) }
 {
     if text.len() > MAX_DIGITS {

@@ -47,7 +47,8 @@ reason_of statuses.ServiceUnavailable = codes "Service Unavailable"
 reason_of statuses.InsufficientStorage = codes "Insufficient Storage"
 
 unfoldable pub status_line : Status → List ℕ
-status_line status = codes "HTTP/1.1 " ++ decimal (code_of status) ++ codes " " ++ reason_of status ++ crlf
+status_line status = codes "HTTP/1.1 " ++ decimal
+    (code_of status) ++ codes " " ++ reason_of status ++ crlf
 
 unfoldable pub type_line : Content → List ℕ
 type_line Text = codes "Content-Type: text/plain; charset=utf-8" ++ crlf
@@ -67,7 +68,8 @@ last_lines closes = (if closes then codes "Connection: close" ++ crlf else []) +
 abbrev pub answer_text : Status → Content → Option Method → Bool → List ℕ → List ℕ
 answer_text status content allow closes body =
     if code_of status == 204 then status_line status ++ last_lines closes
-    else status_line status ++ type_line content ++ length_line (length body) ++ allow_line allow ++ last_lines closes
+    else status_line status ++ type_line content ++ length_line
+    (length body) ++ allow_line allow ++ last_lines closes
     ++ body
 
 abbrev pub status_of : FixedAnswer → Status
@@ -134,7 +136,8 @@ allow_of ContentType = None
 -- the whole text of a fixed answer to a request that asks to close or not
 abbrev pub fixed_text : FixedAnswer → Bool → List ℕ
 fixed_text answer closes =
-    answer_text (status_of answer) Text (allow_of answer) (always_closes answer || closes) (body_of answer)
+    answer_text (status_of answer) Text (allow_of answer) (always_closes answer || closes)
+    (body_of answer)
 
 abbrev pub failure_body : Failure → List ℕ
 failure_body OutOfMemory = codes "out of memory"
@@ -144,7 +147,8 @@ failure_body LogSpent = codes "log spent"
 
 -- the whole text of an answer of status 500
 unfoldable pub failure_text : Failure → List ℕ
-failure_text failure = answer_text statuses.InternalServerError Text None true (failure_body failure)
+failure_text failure = answer_text statuses.InternalServerError Text None true
+    (failure_body failure)
 
 -- the same text, written out
 abbrev pub failure_bytes : Failure → List ℕ

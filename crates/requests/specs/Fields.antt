@@ -19,7 +19,8 @@ is_same_word a b = bytes_eq (map to_ascii_lowercase a) (map to_ascii_lowercase b
 -- the values of the fields of this name, in whatever case, in order
 abbrev pub values_of : List ℕ → List Field → List (List ℕ)
 values_of name [] = []
-values_of name (f ∷ fs) = if is_same_word f.0 name then f.1 ∷ values_of name fs else values_of name fs
+values_of name (f ∷ fs) =
+    if is_same_word f.0 name then f.1 ∷ values_of name fs else values_of name fs
 
 -- whether a field has this name
 abbrev pub has_field : List ℕ → List Field → Bool

@@ -10,18 +10,21 @@ use Rattle.requests.specs.declared.fixed.FixedAnswer.TheVariants.{TransferEncodi
 
 -- 1 to 19 decimal digits
 unfoldable pub is_length : List ℕ → Bool
-is_length value = nat_lt 0 (length value) && nat_le (length value) 19 && list_all is_ascii_digit value
+is_length value = nat_lt 0 (length value) && nat_le
+    (length value) 19 && list_all is_ascii_digit value
 
 -- the framing by the one value of Content-Length
 abbrev pub framing_of_value : List ℕ → Framing
 framing_of_value value =
-    if is_length value then (if nat_le (digits_value 10 value) 4194304 then Length (digits_value 10 value)
+    if is_length value then (if nat_le (digits_value 10 value) 4194304 then Length
+    (digits_value 10 value)
     else Refused BodyTooLarge)
     else Refused BadLength
 
 -- the framing by the values of Content-Length
 abbrev pub framing_of_values : List ℕ → List (List ℕ) → Framing
-framing_of_values method [] = if bytes_eq method (codes "POST") then Refused LengthRequired else Length 0
+framing_of_values method [] = if bytes_eq method
+    (codes "POST") then Refused LengthRequired else Length 0
 framing_of_values method (value ∷ []) = framing_of_value value
 framing_of_values method (value ∷ second ∷ more) = Refused BadLength
 

@@ -55,8 +55,8 @@ IsRefusedBody bytes why =
 
 -- the bytes begin with what is refused so: no head of at most 64 fields, whatever may follow; 16,384
 -- bytes that are still no head; or a head of no lawful length
-abbrev pub IsRefused : List ℕ → FixedAnswer → Type 0
-IsRefused bytes why =
+abbrev pub BeginsRefused : List ℕ → FixedAnswer → Type 0
+BeginsRefused bytes why =
     ((why ≡ BadRequest) × (length bytes ≤ 16384) × RequestOverflows 64 bytes)
     ⊎ ((why ≡ HeadTooLarge) × (length bytes ≡ 16384) × IsUnfinished bytes)
     ⊎ IsRefusedBody bytes why
@@ -78,7 +78,7 @@ abbrev pub IsNext : List ℕ → Option (List ℕ) → Result Next ServeFault �
 IsNext buffer left (Ok (Is.Whole m)) =
     (r : Request) × ReadsMessage buffer r (drop m.end buffer) × IsMessage buffer r m
     × (length (drop m.end buffer) ≤ 16384)
-IsNext buffer left (Ok (Is.Refused why)) = IsRefused buffer why
+IsNext buffer left (Ok (Is.Refused why)) = BeginsRefused buffer why
 IsNext buffer left (Ok Is.Ended) = (buffer ≡ []) × IsAtEnd left
 IsNext buffer left (Err Fault.CutShort) = IsCut buffer × IsAtEnd left
 IsNext buffer left (Err Fault.Read) = (buffer ≡ []) ⊎ IsCut buffer
@@ -87,7 +87,8 @@ IsNext buffer left (Err Fault.Write) = ⊥
 
 -- a whole request lies in the buffer, and little behind it; what `body`, `finish` and the next `next` ask for
 abbrev pub Fits : List ℕ → Result Next ServeFault → Type 0
-Fits buffer (Ok (Is.Whole m)) = (m.start ≤ m.end) × (m.end ≤ length buffer) × (length (drop m.end buffer) ≤ 16384)
+Fits buffer (Ok (Is.Whole m)) = (m.start ≤ m.end) × (m.end ≤ length buffer)
+    × (length (drop m.end buffer) ≤ 16384)
 Fits buffer (Ok (Is.Refused why)) = ⊤
 Fits buffer (Ok Is.Ended) = ⊤
 Fits buffer (Err fault) = ⊤
@@ -99,7 +100,8 @@ StopsAt buffer left headers (Ok (Came.Whole spans)) = IsRequestOf buffer headers
 StopsAt buffer left headers (Ok Came.Refused) = RequestOverflows 64 buffer
 StopsAt buffer left headers (Ok Came.TooLarge) = (length buffer ≡ 16384) × IsUnfinished buffer
 StopsAt buffer left headers (Ok Came.Ended) = (buffer ≡ []) × IsAtEnd left
-StopsAt buffer left headers (Err Fault.CutShort) = (buffer ≢ []) × (length buffer < 16384) × IsUnfinished buffer
+StopsAt buffer left headers (Err Fault.CutShort) = (buffer ≢ []) × (length buffer < 16384)
+    × IsUnfinished buffer
     × IsAtEnd left
 StopsAt buffer left headers (Err Fault.Read) = (length buffer < 16384) × IsUnfinished buffer
 StopsAt buffer left headers (Err Fault.Memory) = (length buffer < 16384) × IsUnfinished buffer
@@ -108,7 +110,8 @@ StopsAt buffer left headers (Err Fault.Write) = ⊥
 -- the bytes are these requests, one behind another, and then rest
 abbrev pub ReadsRequests : List ℕ → List Request → List ℕ → Type 0
 ReadsRequests bytes [] rest = rest ≡ bytes
-ReadsRequests bytes (r ∷ rs) rest = (mid : List ℕ) × ReadsMessage bytes r mid × ReadsRequests mid rs rest
+ReadsRequests bytes (r ∷ rs) rest = (mid : List ℕ) × ReadsMessage bytes r mid
+    × ReadsRequests mid rs rest
 
 -- no request stands at the front
 abbrev pub HoldsNone : List ℕ → Type 0

@@ -80,12 +80,12 @@ abbrev pub AsksForCalls : Verdict → Type 0
 AsksForCalls verdict = (route : Route) × (tenant : List ℕ) × (verdict ≡ Is.Call route tenant)
 
 -- for a request of this verdict it is found, unless there was no memory for the tenant of its calls
-abbrev pub IsFound : Verdict → Verdict → Type 0
-IsFound verdict found = (found ≡ verdict) ⊎ ((found ≡ Is.NoMemory) × AsksForCalls verdict)
+abbrev pub IsFoundVerdict : Verdict → Verdict → Type 0
+IsFoundVerdict verdict found = (found ≡ verdict) ⊎ ((found ≡ Is.NoMemory) × AsksForCalls verdict)
 
 -- what is found of a request with this method, target and these fields
 abbrev pub IsVerdict : List ℕ → List ℕ → List Field → Verdict → Type 0
-IsVerdict method target fields found = IsFound (verdict_of method target fields) found
+IsVerdict method target fields found = IsFoundVerdict (verdict_of method target fields) found
 
 -- HTTP/1.0, or a field `Connection: close`
 abbrev pub asks_close : ℕ → List Field → Bool

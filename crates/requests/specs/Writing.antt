@@ -13,5 +13,6 @@ IsOut text n (Err Read) = ⊥
 IsOut text n (Err CutShort) = ⊥
 
 -- the writer holds a beginning of the text behind what it held
-abbrev pub Writes : Option (List ℕ) → Option (List ℕ) → List ℕ → Result (Unit {0}) ServeFault → Type 0
-Writes old new text result = (n : ℕ) × Appends old new (take n text) × IsOut text n result
+abbrev pub WritesBeginning : Option (List ℕ) → Option (List ℕ) → List ℕ
+    → Result (Unit {0}) ServeFault → Type 0
+WritesBeginning old new text result = (n : ℕ) × Appends old new (take n text) × IsOut text n result

@@ -1,6 +1,6 @@
 ghost use Rattle.std.specs.Prelude.{◌≡◌, IfErr};
 ghost use Rattle.requests.specs.Answers.{failure_bytes, failure_text};
-ghost use Rattle.requests.specs.Writing.{Writes};
+ghost use Rattle.requests.specs.Writing.{WritesBeginning};
 
 use crate::fault::ServeFault;
 use crate::writing::write_text;
@@ -34,13 +34,14 @@ impl Failure {
     }
 }
 
-/// Writes the answer of a failure. Takes no memory.
+/// WritesBeginning the answer of a failure. Takes no memory.
 ///
 /// # Errors
 ///
 /// `Write`: a beginning of the text was written.
 pub fn write_failure<W: Write>(writer: &mut W, failure: Failure) -> Result<(), ServeFault>
-    ensures writes { Writes (W.contents writer.old) (W.contents writer.new) (failure_text failure) result }
+    ensures writes { WritesBeginning (W.contents writer.old) (W.contents writer.new)
+        (failure_text failure) result }
     ensures fault { IfErr result (λ e. e ≡ ServeFault.Write) }
 {
     write_text(writer, failure.text())

@@ -45,7 +45,8 @@ fn value_of(digits: &[u8]) -> u64
 #[tactic(auto, unfolding(crate::specs::Framings::is_length))]
 fn is_length(value: &[u8]) -> bool
     ensures known { result ≡ is_length value.now }
-    ensures digits { IsTrue result → IsTrue (list_all is_ascii_digit value.now) × (length value.now ≤ MAX_DIGITS) }
+    ensures digits { IsTrue result → IsTrue (list_all is_ascii_digit value.now)
+        × (length value.now ≤ MAX_DIGITS) }
 {
     !value.is_empty() && value.len() <= MAX_DIGITS && are_digits(value)
 }

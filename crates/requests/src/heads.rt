@@ -36,7 +36,8 @@ pub(crate) fn read_head<R: Read>(
     requires room { length fields.old ≡ MAX_FIELDS }
     requires few { vec_len buffer.old ≤ MAX_HEAD }
     ensures few { vec_len buffer.new ≤ MAX_HEAD }
-    ensures grows { Grows (R.remaining reader.old) (R.remaining reader.new) buffer.old.items buffer.new.items }
+    ensures grows { Grows (R.remaining reader.old)
+        (R.remaining reader.new) buffer.old.items buffer.new.items }
     ensures stops { StopsAt buffer.new.items (R.remaining reader.new) fields.new result }
     ensures room { length fields.new ≡ MAX_FIELDS }
 {

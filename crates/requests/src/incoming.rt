@@ -49,7 +49,8 @@ fn judge(
 ) -> Result<Message, FixedAnswer>
     requires within { IsRequestWithin bytes.now fields.now spans }
     requires short { length bytes.now ≤ MAX_HEAD }
-    ensures { (h : RequestHead) → IsRequestAt bytes.now fields.now spans h → IsJudged h spans.len result }
+    ensures { (h : RequestHead) → IsRequestAt bytes.now fields.now spans h
+        → IsJudged h spans.len result }
 {
     let fields = &fields[..spans.headers];
     let method = spans.method.of(bytes);
@@ -76,7 +77,8 @@ fn read_message<R: Read>(
     requires within { IsRequestWithin buffer.old.items fields.now spans }
     requires room { length fields.now ≡ MAX_FIELDS }
     requires short { vec_len buffer.old ≤ MAX_HEAD }
-    ensures grows { Grows (R.remaining reader.old) (R.remaining reader.new) buffer.old.items buffer.new.items }
+    ensures grows { Grows (R.remaining reader.old)
+        (R.remaining reader.new) buffer.old.items buffer.new.items }
     ensures next { IsNext buffer.new.items (R.remaining reader.new) result }
     ensures fits { Fits buffer.new.items result }
 {

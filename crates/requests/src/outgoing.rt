@@ -1,7 +1,7 @@
 //! Answers as bytes.
 ghost use Rattle.std.specs.Prelude.{◌≡◌, ◌++◌, length, decimal, None, OnOk};
 ghost use Rattle.requests.specs.Answers.{status_line, type_line, length_line, allow_line, last_lines, answer_text, fixed_text};
-ghost use Rattle.requests.specs.Writing.{Writes};
+ghost use Rattle.requests.specs.Writing.{WritesBeginning};
 
 use crate::answer::{Answer, Content};
 use crate::fault::ServeFault;
@@ -77,7 +77,8 @@ fn push_answer(
     closes: bool,
     body: &[u8],
 ) -> Result<(), AllocError>
-    ensures { OnOk result (text.new.items ≡ text.old.items ++ answer_text status content allow closes body.now) }
+    ensures { OnOk result (text.new.items
+        ≡ text.old.items ++ answer_text status content allow closes body.now) }
 {
     push_status(text, status)?;
     if status == Status::NoContent {
@@ -104,7 +105,7 @@ impl Outgoing {
         }
     }
 
-    /// Writes an answer: its head and its body, or with status 204 its head alone.
+    /// WritesBeginning an answer: its head and its body, or with status 204 its head alone.
     ///
     /// # Errors
     ///
@@ -116,7 +117,7 @@ impl Outgoing {
         content: Content,
         closes: bool,
     ) -> Result<(), ServeFault>
-        ensures { Writes (W.contents writer.old) (W.contents writer.new)
+        ensures { WritesBeginning (W.contents writer.old) (W.contents writer.new)
             (answer_text answer.now.status content None closes answer.now.body.items) result }
     {
         self.text.clear();
@@ -131,7 +132,7 @@ impl Outgoing {
         write_text(writer, self.text.as_slice())
     }
 
-    /// Writes a fixed answer, to a request that asks that the connection ends or to one that does not.
+    /// WritesBeginning a fixed answer, to a request that asks that the connection ends or to one that does not.
     ///
     /// # Errors
     ///
@@ -142,7 +143,8 @@ impl Outgoing {
         answer: FixedAnswer,
         closes: bool,
     ) -> Result<(), ServeFault>
-        ensures { Writes (W.contents writer.old) (W.contents writer.new) (fixed_text answer closes) result }
+        ensures { WritesBeginning (W.contents writer.old) (W.contents writer.new)
+            (fixed_text answer closes) result }
     {
         self.text.clear();
         push_answer(

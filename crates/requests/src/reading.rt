@@ -13,7 +13,8 @@ pub(crate) const CHUNK: usize = 4_096;
 /// One read, tried again where it is interrupted.
 fn read_some<R: Read>(reader: &mut R, space: &mut [u8]) -> Result<usize, ServeFault>
     ensures bound { ReadsAtMost result space.new }
-    ensures bytes { ReadConsumes (R.remaining reader.old) (R.remaining reader.new) result space.new }
+    ensures bytes { ReadConsumes (R.remaining reader.old)
+        (R.remaining reader.new) result space.new }
     ensures cause { IfErr result (λ e. e ≡ ServeFault.Read) }
 {
     for _turn in 0..u64::MAX {
@@ -37,7 +38,8 @@ pub(crate) fn fill<R: Read>(
 ) -> Result<usize, ServeFault>
     requires some { 0 < most }
     requires chunk { most ≤ CHUNK }
-    ensures grows { Grows (R.remaining reader.old) (R.remaining reader.new) buffer.old.items buffer.new.items }
+    ensures grows { Grows (R.remaining reader.old)
+        (R.remaining reader.new) buffer.old.items buffer.new.items }
     ensures len { IfOk result (λ n. (vec_len buffer.new ≡ vec_len buffer.old + n) × (n ≤ most)) }
     ensures none { IfOk result (λ n. n ≡ 0 → IsAtEnd (R.remaining reader.new)) }
     ensures err { OnErr result (buffer.new.items ≡ buffer.old.items) }
@@ -82,7 +84,8 @@ pub(crate) fn fill_to<R: Read>(
     reader: &mut R,
     end: usize,
 ) -> Result<(), ServeFault>
-    ensures grows { Grows (R.remaining reader.old) (R.remaining reader.new) buffer.old.items buffer.new.items }
+    ensures grows { Grows (R.remaining reader.old)
+        (R.remaining reader.new) buffer.old.items buffer.new.items }
     ensures ok { OnOk result (vec_len buffer.new ≡ max (vec_len buffer.old) end) }
     ensures err { OnErr result (vec_len buffer.new < end) }
     ensures cause { IfErr result (λ e. (e ≡ ServeFault.Read) ⊎ (e ≡ ServeFault.Memory)

@@ -2,7 +2,7 @@ ghost use Rattle.std.specs.Prelude.{◌≡◌, ◌⊎◌, length, map, All, IsTr
 ghost use Rattle.httparse.specs.Spans.{IsHeaderWithin, header_bytes};
 ghost use Rattle.labels.specs.Tenants.{is_tenant};
 ghost use Rattle.requests.specs.Fields.{values_of};
-ghost use Rattle.requests.specs.Verdicts.{is_json_type, path_of, verdict_of_content, verdict_of_tenants, tenants_of, IsFound, IsVerdict, asks_close};
+ghost use Rattle.requests.specs.Verdicts.{is_json_type, path_of, verdict_of_content, verdict_of_tenants, tenants_of, IsFoundVerdict, IsVerdict, asks_close};
 
 use crate::fields::{Found, before, find, has_field, has_word, is_same_word, trim_spaces};
 use crate::fixed::FixedAnswer;
@@ -58,7 +58,7 @@ fn tenant_of(alloc: Global, name: &[u8]) -> Result<Tenant, LabelFault>
 /// The tests from the tenant's on.
 fn verdict_of_tenants(alloc: Global, bytes: &[u8], fields: &[HeaderSpan], route: Route) -> Verdict
     requires { All (IsHeaderWithin (length bytes.now)) fields.now }
-    ensures { let all = map (header_bytes bytes.now) fields.now in IsFound
+    ensures { let all = map (header_bytes bytes.now) fields.now in IsFoundVerdict
         (verdict_of_tenants route (tenants_of all) all) result }
 {
     let name = match find(bytes, fields, b"x-scope-orgid") {

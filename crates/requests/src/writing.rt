@@ -1,12 +1,13 @@
 ghost use Rattle.std.specs.Prelude.{◌≡◌, IfErr};
-ghost use Rattle.requests.specs.Writing.{Writes};
+ghost use Rattle.requests.specs.Writing.{WritesBeginning};
 
 use crate::fault::ServeFault;
 use std::io::{ErrorKind, Write};
 
-/// Writes all the bytes, in one write where the writer takes them all.
+/// WritesBeginning all the bytes, in one write where the writer takes them all.
 pub(crate) fn write_text<W: Write>(writer: &mut W, text: &[u8]) -> Result<(), ServeFault>
-    ensures writes { Writes (W.contents writer.old) (W.contents writer.new) text.now result }
+    ensures writes { WritesBeginning (W.contents writer.old)
+        (W.contents writer.new) text.now result }
     ensures fault { IfErr result (λ e. e ≡ ServeFault.Write) }
 {
     let mut done = 0;

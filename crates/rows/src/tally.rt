@@ -26,7 +26,8 @@ impl Tally {
     pub fn judge<R: Print>(&mut self, rt: &R, row: &Row<'_>, said: &str) -> Result<()>
         ensures rows { self.new.rows ≡ one_more self.old.rows }
         ensures same { said.now ≡ string_bytes row.now.wanted → self.new.differ ≡ self.old.differ }
-        ensures other { ¬ (said.now ≡ string_bytes row.now.wanted) → self.new.differ ≡ one_more self.old.differ }
+        ensures other { ¬ (said.now ≡ string_bytes row.now.wanted)
+            → self.new.differ ≡ one_more self.old.differ }
     {
         self.rows = self.rows.saturating_add(1);
         let (name, wanted) = (row.name, row.wanted.as_str());

@@ -1,5 +1,5 @@
 use crate::given::{append_of, key_of, state_of, trim_of};
-use crate::reading::{say_front, say_header, say_records, say_segment};
+use crate::reading::{say_header, say_records, say_segment, say_slot_records};
 use crate::runs::{say_cuts, say_each};
 use crate::trimming::trimmed;
 use crate::version_one::put_block_of_1;
@@ -59,7 +59,7 @@ impl Desk {
             "header" => say_header(&self.slot, rest, said),
             "read" => say_segment(self.alloc, &self.slot, rest, said),
             "records" => say_records(self.alloc, &self.slot, rest, said),
-            "front" => say_front(self.alloc, &self.slot, rest, said),
+            "front" => say_slot_records(self.alloc, &self.slot, rest, said),
             "cuts" => say_cuts(self.alloc, &self.slot, said),
             "each" => say_each(self.alloc, &mut self.slot, rest, said),
             _ => bail!("no such word"),

@@ -4,7 +4,7 @@ use accept::EntryList;
 use anyhow::Result;
 use log_words::{owner_of, write_entry, write_image, write_key, write_stream};
 use segment::{Record, read_header};
-use segment_reader::{Ending, Front, read_front, read_records, read_segment};
+use segment_reader::{Ending, SlotRecords, read_records, read_segment, read_slot_records};
 use std::alloc::Global;
 use std::fmt::Write;
 
@@ -48,17 +48,17 @@ pub fn say_records(alloc: Global, slot: &[u8], words: &str, said: &mut String) -
 }
 
 /// The header, how the blocks end, and the records up to there.
-pub fn say_front(alloc: Global, slot: &[u8], words: &str, said: &mut String) -> Result<()> {
+pub fn say_slot_records(alloc: Global, slot: &[u8], words: &str, said: &mut String) -> Result<()> {
     let (shard, count) = owner_of(words)?;
-    match read_front(alloc, slot, shard, count) {
-        Ok(Some(front)) => say_front_of(&front, said)?,
+    match read_slot_records(alloc, slot, shard, count) {
+        Ok(Some(front)) => say_records_of(&front, said)?,
         Ok(None) => writeln!(said, "closed")?,
         Err(fault) => writeln!(said, "{fault}")?,
     }
     Ok(())
 }
 
-fn say_front_of(front: &Front, said: &mut String) -> Result<()> {
+fn say_records_of(front: &SlotRecords, said: &mut String) -> Result<()> {
     let header = Shown(front.header);
     match front.ending {
         Ending::Closed(end) => writeln!(said, "{header} end {end}")?,

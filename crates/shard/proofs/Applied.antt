@@ -16,7 +16,7 @@ use Rattle.history.specs.Histories.{doubt_of, step_of}
 use Rattle.history.specs.Handles.{Booked, Announced, Received, history_in, longer}
 use Rattle.streams.specs.Mapped.{Mapped}
 use Rattle.shard.specs.Keeping.{moments, LeavesSince, owner_in, IsAllowed}
-use Rattle.shard.specs.Calls.{answer_in, after_in, reply_in, Writes, FitsBehind, MayLeave}
+use Rattle.shard.specs.Calls.{answer_in, after_in, reply_in, NeedsWrite, FitsBehind, MayLeave}
 use Rattle.shard.specs.Shards.{IsShard}
 use Rattle.shard.specs.Parts.{IsApplied}
 use Rattle.shard.proofs.Replies.{due_written, writes_not_quiet}
@@ -39,7 +39,7 @@ nothing_written sight follows clocked log book opened states flag limits call s 
 pub applied_quiet : {D : Type 0} (sight : D → Sight) (follows : D → Type 0) → IsClocked sight follows → (log : Wal D) (book : Booked) (opened : Wal D) (states : Mapped) (flag : Bool) (limits : Limits)
     (ticket : Announced) (reply given : Reply) (receipt : Received)
     → IsShard sight follows log book opened states flag limits → IsShard sight follows log (longer book (Answered (step_of ticket.ask reply))) opened states flag limits
-    → reply ≡ reply_in book ticket.ask.call → ¬ Writes book ticket.ask.call → given ≡ reply
+    → reply ≡ reply_in book ticket.ask.call → ¬ NeedsWrite book ticket.ask.call → given ≡ reply
     → receipt ≡ record { table = ticket.table; step = step_of ticket.ask reply; upto = (longer book (Answered (step_of ticket.ask reply))).items; moment = moments (slots sight log) }
     → IsApplied sight follows (record { log = log; book = book; opened = opened }) (record { log = log; book = longer book (Answered (step_of ticket.ask reply)); opened = opened }) ticket given receipt
 applied_quiet sight follows clocked log book opened states flag limits ticket reply given receipt s after_step due quiet gives receipt_is =
@@ -57,7 +57,7 @@ applied_quiet sight follows clocked log book opened states flag limits ticket re
     })
 
 -- the old streams or the new
-either_may : (book : Booked) (whose : Owner) (call : Call) (a b : List ℕ) → whose ≡ owner_in book → Writes book call → IsEither whose (meaning (history_in book)) (after_in book call) a b → MayLeave book call a b
+either_may : (book : Booked) (whose : Owner) (call : Call) (a b : List ℕ) → whose ≡ owner_in book → NeedsWrite book call → IsEither whose (meaning (history_in book)) (after_in book call) a b → MayLeave book call a b
 either_may book whose call a b same writes either =
     elim (subst (λ (o : Owner). IsEither o (meaning (history_in book)) (after_in book call) a b) same either) [
       | inl old ↦ inl (0, omega arith, old)
@@ -68,7 +68,7 @@ either_may book whose call a b same writes either =
 pub applied_made : {D : Type 0} (sight : D → Sight) (follows : D → Type 0) → IsClocked sight follows → (old new : Wal D) (book : Booked) (opened : Wal D) (before states : Mapped) (limits : Limits)
     (ticket : Announced) (reply given : Reply) (receipt : Received)
     → IsShard sight follows old book opened before false limits → IsShard sight follows new (longer book (Answered (step_of ticket.ask reply))) opened states false limits
-    → Writes book ticket.ask.call → reply ≡ answer_in book ticket.ask.call → given ≡ reply
+    → NeedsWrite book ticket.ask.call → reply ≡ answer_in book ticket.ask.call → given ≡ reply
     → receipt ≡ record { table = ticket.table; step = step_of ticket.ask reply; upto = (longer book (Answered (step_of ticket.ask reply))).items; moment = moments (slots sight new) }
     → ¬ FitsBehind old book ticket.ask.call
     → (Follow follows new → Follow follows old)
@@ -99,7 +99,7 @@ pub applied_lost : {D : Type 0} (sight : D → Sight) (follows : D → Type 0) �
     (ticket : Announced) (reply given : Reply) (receipt : Received)
     → IsShard sight follows old book opened before false limits
     → IsShard sight follows new (longer (longer book (Failed (ticket.ask ∷ []))) (Answered (step_of ticket.ask Unavailable))) opened states true limits
-    → Writes book ticket.ask.call → reply ≡ answer_in book ticket.ask.call → given ≡ Unavailable
+    → NeedsWrite book ticket.ask.call → reply ≡ answer_in book ticket.ask.call → given ≡ Unavailable
     → receipt ≡ record { table = ticket.table; step = step_of ticket.ask Unavailable; upto = (longer (longer book (Failed (ticket.ask ∷ []))) (Answered (step_of ticket.ask Unavailable))).items; moment = moments (slots sight new) }
     → ¬ FitsBehind old book ticket.ask.call
     → (Follow follows new → Follow follows old)

@@ -18,9 +18,9 @@ use Rattle.wal.specs.Moments.{Pair}
 use Rattle.history.specs.Histories.{HaveSteps, HasStep, steps_by, doubt_or, doubt_of, reply_of, step_of}
 use Rattle.history.specs.Handles.{Booked, Announced, history_in, longer}
 use Rattle.history.proofs.Past.{marked_step, marked_mark, doubt_marked, doubt_unmarked, have_more}
-use Rattle.shard.specs.Keeping.{owner_in, Keeps}
-use Rattle.shard.specs.Calls.{answer_in, after_in, reply_in, Writes, IsCommitted, IsLost, MayLeave}
-use Rattle.shard.specs.Groups.{with_step, with_steps, dues, changing_of, HaveStepsOr, AreInTurn, marked_by, AreCommitted, AreLost, MayLeaveAll}
+use Rattle.shard.specs.Keeping.{owner_in, KeepsHistory}
+use Rattle.shard.specs.Calls.{answer_in, after_in, reply_in, NeedsWrite, IsCommitted, IsMarkedInDoubt, MayLeave}
+use Rattle.shard.specs.Groups.{with_step, with_steps, dues, changing_of, HaveStepsOr, AreInTurn, marked_by, AreCommitted, AreMarkedInDoubt, MayLeaveAll}
 use Rattle.shard.proofs.Growing.{doubt_step, doubt_mark}
 use Rattle.shard.proofs.Replies.{due_written, due_marked, within_due}
 
@@ -46,14 +46,14 @@ has_room true cap n e f = grind (arith, nat_tests)
 has_room false cap n e f = absurd (cc)
 
 -- a reply that is due changes something where the call writes, and nowhere else
-pub changes_writes : (book : Booked) (call : Call) → changes (reply_in book call) ≡ true → Writes book call
+pub changes_writes : (book : Booked) (call : Call) → changes (reply_in book call) ≡ true → NeedsWrite book call
 unfolding reply_of
 changes_writes book call e =
     let changing = changes (answer_in book call) in
     let w = changing_answer (is_marked book.items) (changing && nat_lt book.about.capacity (room (after_in book call))) (answer_in book call) e in
     record { unmarked = w.0; changing = w.2; has_room = has_room changing book.about.capacity (room (after_in book call)) w.2 w.1 }
 
-pub writes_changes : (book : Booked) (call : Call) → Writes book call → changes (reply_in book call) ≡ true
+pub writes_changes : (book : Booked) (call : Call) → NeedsWrite book call → changes (reply_in book call) ≡ true
 writes_changes book call w = ap changes (sym (due_written book call w)) ∙ w.changing
 
 -- a step keeps the history within its limits
@@ -61,7 +61,7 @@ pub within_step : (book : Booked) (ask : Ask) → IsWithin book.about.limits (hi
 within_step book ask within = within_due book ask (reply_in book ask.call) refl within
 
 -- what a step of a call that writes, and of one that doesn't, makes of the meaning
-pub step_written : (book : Booked) (ask : Ask) → Writes book ask.call → meaning (history_in (with_step book ask)) ≡ after_in book ask.call
+pub step_written : (book : Booked) (ask : Ask) → NeedsWrite book ask.call → meaning (history_in (with_step book ask)) ≡ after_in book ask.call
 step_written book ask w =
     ap (λ (r : Reply). meaning (then_step (history_in book) ask r)) (sym (due_written book ask.call w)) ∙ meaning-answered book.about.limits (history_in book) ask
 
@@ -128,7 +128,7 @@ failed_means book (a ∷ asks) within marked =
 
 -- what is kept of all steps is kept of none of them, with those that change something in doubt: so the doubt shrinks by one at each
 pub rest_kept : (now : Pair) (book : Booked) (asks : List Ask) → IsWithin book.about.limits (history_in book) → is_marked book.items ≡ false
-    → Keeps now (with_steps book asks) [] → Keeps now book (changing_of book asks)
+    → KeepsHistory now (with_steps book asks) [] → KeepsHistory now book (changing_of book asks)
 rest_kept now book asks within unmarked keeps a b x y =
     let all = changing_of book asks in
     let last = history_in (with_steps book asks) in
@@ -141,7 +141,7 @@ rest_kept now book asks within unmarked keeps a b x y =
 
 -- after a mark it is kept with the mark's list
 marked_kept : (now : Pair) (book : Booked) (asks doubt : List Ask) → IsWithin book.about.limits (history_in book) → is_marked book.items ≡ true
-    → Keeps now (with_steps book asks) doubt → Keeps now book doubt
+    → KeepsHistory now (with_steps book asks) doubt → KeepsHistory now book doubt
 marked_kept now book asks doubt within marked keeps a b x y =
     let k = keeps a b x y in (
       k.0,
@@ -151,12 +151,12 @@ marked_kept now book asks doubt within marked keeps a b x y =
     )
 
 pub part_kept : (now : Pair) (book : Booked) (asks : List Ask) → IsWithin book.about.limits (history_in book)
-    → Keeps now (with_steps book asks) (doubt_of book.items) → Keeps now book (doubt_or book.items (changing_of book asks))
+    → KeepsHistory now (with_steps book asks) (doubt_of book.items) → KeepsHistory now book (doubt_or book.items (changing_of book asks))
 part_kept now book asks within keeps =
-    elim (is_marked book.items) as (λ b. is_marked book.items ≡ b → Keeps now book (doubt_or book.items (changing_of book asks))) [
-      | true ↦ λ e. subst (λ (d : List Ask). Keeps now book d) (sym (doubt_marked book.items (changing_of book asks) e)) (marked_kept now book asks (doubt_of book.items) within e keeps)
-      | false ↦ λ e. subst (λ (d : List Ask). Keeps now book d) (sym (doubt_unmarked book.items (changing_of book asks) e))
-          (rest_kept now book asks within e (subst (λ (d : List Ask). Keeps now (with_steps book asks) d) (doubt_unmarked book.items [] e) keeps))
+    elim (is_marked book.items) as (λ b. is_marked book.items ≡ b → KeepsHistory now book (doubt_or book.items (changing_of book asks))) [
+      | true ↦ λ e. subst (λ (d : List Ask). KeepsHistory now book d) (sym (doubt_marked book.items (changing_of book asks) e)) (marked_kept now book asks (doubt_of book.items) within e keeps)
+      | false ↦ λ e. subst (λ (d : List Ask). KeepsHistory now book d) (sym (doubt_unmarked book.items (changing_of book asks) e))
+          (rest_kept now book asks within e (subst (λ (d : List Ask). KeepsHistory now (with_steps book asks) d) (doubt_unmarked book.items [] e) keeps))
     ] refl
 
 -- after a failure the calls that change something are in doubt
@@ -166,7 +166,7 @@ failed_doubt book asks unmarked = steps_doubt (marked_by book asks) asks ∙ dou
 -- the old streams or the new: the history with the mark, or with all calls in doubt behind it
 pub failed_allows : (now : Pair) (book : Booked) (asks : List Ask) → IsWithin book.about.limits (history_in book)
     → ((a b : List ℕ) → now.first.may_leave a → now.second.may_leave b → IsEither (owner_in book) (meaning (history_in book)) (meaning (history_in (with_steps book asks))) a b)
-    → Keeps now (marked_by book asks) (changing_of book asks)
+    → KeepsHistory now (marked_by book asks) (changing_of book asks)
 failed_allows now book asks within either a b x y =
     let all = changing_of book asks in
     let h = history_in book in
@@ -195,8 +195,8 @@ one_made old new book ticket behind reply made =
       book = made.book ∙ ap (λ (r : Reply). longer book (Answered (step_of ticket.ask r))) (sym due);
     }
 
-pub one_lost : (old new : Pair) (book : Booked) (ticket : Announced) (behind : Booked) (reply : Reply) → Writes book ticket.ask.call
-    → AreLost old new book (ticket.ask ∷ []) behind (reply ∷ []) → IsLost old new book ticket behind reply
+pub one_lost : (old new : Pair) (book : Booked) (ticket : Announced) (behind : Booked) (reply : Reply) → NeedsWrite book ticket.ask.call
+    → AreMarkedInDoubt old new book (ticket.ask ∷ []) behind (reply ∷ []) → IsMarkedInDoubt old new book ticket behind reply
 one_lost old new book ticket behind reply writes lost =
     let ask = ticket.ask in
     let alone : changing_of book (ask ∷ []) ≡ ask ∷ [] = ap (λ (b : Bool). cond b (ask ∷ []) []) (writes_changes book ask.call writes) in

@@ -20,7 +20,7 @@ pub mod GroupWriting
 pub mod Finishing
 pub mod GroupApplied
 pub mod Beginnings
-pub mod Fronts
+pub mod FirstJobs
 pub mod Turning
 pub mod Taking
 pub mod Refusals

@@ -1,4 +1,4 @@
--- What stands of jobs while those of a pass are given back, and while a front of them is refused.
+-- What stands of jobs while those of a pass are given back, and while the first of them are refused.
 use Rattle.std.proofs.Common.{◌≡◌, ℕ, ◌+◌, ◌<◌, ◌≤◌, Bool, true, cond, List, [], ◌∷◌, ◌++◌, length, inl, refl, sym, ap, ◌∙◌, subst, append_assoc, append-nil, length-append, eq-eqb, ne_eqb, arith}
 use Rattle.accept.specs.declared.limits.Limits.{Limits}
 use Rattle.accept.specs.declared.call.Reply.{Reply}
@@ -12,19 +12,19 @@ use Rattle.history.specs.Histories.{HaveSteps, doubt_of, step_of}
 use Rattle.history.specs.Handles.{Booked, Announced, Received, asks_of, longer}
 use Rattle.streams.specs.Mapped.{Mapped}
 use Rattle.shard.specs.declared.fault.ApplyFault.{ApplyFault}
-use Rattle.shard.specs.declared.front.Ended.TheVariants.{Most, Last}
-use Rattle.shard.specs.declared.front.Job.{Job}
+use Rattle.shard.specs.declared.first_jobs.GroupEnd.TheVariants.{Most, Last}
+use Rattle.shard.specs.declared.first_jobs.Job.{Job}
 use Rattle.shard.specs.declared.group.Settled.{Settled}
 use Rattle.shard.specs.declared.group.Settled.TheVariants as settled
 use Rattle.shard.specs.declared.parts.Parts.{Parts}
-use Rattle.shard.specs.Keeping.{moments, Keeps}
+use Rattle.shard.specs.Keeping.{moments, KeepsHistory}
 use Rattle.shard.specs.Calls.{reply_in}
 use Rattle.shard.specs.Shards.{IsShard}
 use Rattle.shard.specs.Groups.{with_step, with_steps, MayLeaveAll}
 use Rattle.shard.specs.Queues.{receipt_at, settled_of}
 use Rattle.shard.specs.Jobs.{tickets_of, jobs_by, jobs_but}
 use Rattle.shard.specs.Parts.{seen_of, ArePartsOf}
-use Rattle.shard.specs.Turns.{AreApplied, HasFront, refused_of, AreReady}
+use Rattle.shard.specs.Turns.{AreApplied, AreTogether, given_back_of, AreReady}
 use Rattle.shard.proofs.Slots.{IsClocked, no_time, none_yet}
 use Rattle.shard.proofs.Replies.{within_due, refused_after}
 use Rattle.shard.proofs.Shards.{shard_answered, kept_step}
@@ -59,7 +59,7 @@ pub record ArePartly (fault : ApplyFault) (p : ℕ) (start : List Job) (was : Li
   pub left : length todo + n ≡ count
   pub jobs_are : jobs ≡ todo ++ stay
   pub kept : stay ++ jobs_but p todo ≡ jobs_but p start
-  pub given : now ++ refused_of fault (tickets_of (jobs_by p todo)) ≡ was ++ refused_of fault (tickets_of (jobs_by p start))
+  pub given : now ++ given_back_of fault (tickets_of (jobs_by p todo)) ≡ was ++ given_back_of fault (tickets_of (jobs_by p start))
 
 pub partly_first : (fault : ApplyFault) (p : ℕ) (start : List Job) (was : List Settled) (count : ℕ) → length start ≡ count → ArePartly fault p start was count 0 start was
 partly_first fault p start was count long = record {
@@ -76,14 +76,14 @@ partly_some fault p start was count n jobs now h more = omega (arith, h.left, ap
 
 mine_next : (fault : ApplyFault) (p : ℕ) (start : List Job) (was : List Settled) (count n : ℕ) (todo stay jobs rest : List Job) (j : Job) (now pushed : List Settled)
     → length todo + n ≡ count → jobs ≡ todo ++ stay → stay ++ jobs_but p todo ≡ jobs_but p start
-    → now ++ refused_of fault (tickets_of (jobs_by p todo)) ≡ was ++ refused_of fault (tickets_of (jobs_by p start))
-    → n < count → jobs ≡ j ∷ rest → p ≡ j.ticket.ask.pass → pushed ≡ now ++ settled.Refused fault j.ticket ∷ [] → ArePartly fault p start was count (n + 1) rest pushed
+    → now ++ given_back_of fault (tickets_of (jobs_by p todo)) ≡ was ++ given_back_of fault (tickets_of (jobs_by p start))
+    → n < count → jobs ≡ j ∷ rest → p ≡ j.ticket.ask.pass → pushed ≡ now ++ settled.GivenBack fault j.ticket ∷ [] → ArePartly fault p start was count (n + 1) rest pushed
 mine_next fault p start was count n [] stay jobs rest j now pushed left is kept given more popped mine pushed_is = absurd (omega arith)
 mine_next fault p start was count n (t ∷ todo) stay jobs rest j now pushed left is kept given more popped mine pushed_is =
     let split : j ∷ rest ≡ t ∷ (todo ++ stay) = sym popped ∙ is in
     let head : j ≡ t = same_head j t rest (todo ++ stay) split in
     let own : p ≡ t.ticket.ask.pass = mine ∙ ap (λ (i : Job). i.ticket.ask.pass) head in
-    let back = refused_of fault (tickets_of (jobs_by p todo)) in
+    let back = given_back_of fault (tickets_of (jobs_by p todo)) in
     record {
       todo = todo;
       stay = stay;
@@ -91,21 +91,21 @@ mine_next fault p start was count n (t ∷ todo) stay jobs rest j now pushed lef
       jobs_are = same_tail j t rest (todo ++ stay) split;
       kept = ap (λ (l : List Job). stay ++ l) (sym (but_mine p t todo own)) ∙ kept;
       given = ap (λ (l : List Settled). l ++ back) pushed_is
-          ∙ (append_assoc now (settled.Refused fault j.ticket ∷ []) back
-          ∙ (ap (λ (i : Job). now ++ settled.Refused fault i.ticket ∷ back) head
-          ∙ (ap (λ (l : List Job). now ++ refused_of fault (tickets_of l)) (sym (by_mine p t todo own))
+          ∙ (append_assoc now (settled.GivenBack fault j.ticket ∷ []) back
+          ∙ (ap (λ (i : Job). now ++ settled.GivenBack fault i.ticket ∷ back) head
+          ∙ (ap (λ (l : List Job). now ++ given_back_of fault (tickets_of l)) (sym (by_mine p t todo own))
           ∙ given)));
     }
 
 -- the next is of the pass
 pub partly_mine : (fault : ApplyFault) (p : ℕ) (start : List Job) (was : List Settled) (count n : ℕ) (jobs rest : List Job) (j : Job) (now pushed : List Settled) → ArePartly fault p start was count n jobs now
-    → n < count → jobs ≡ j ∷ rest → p ≡ j.ticket.ask.pass → pushed ≡ now ++ settled.Refused fault j.ticket ∷ [] → ArePartly fault p start was count (n + 1) rest pushed
+    → n < count → jobs ≡ j ∷ rest → p ≡ j.ticket.ask.pass → pushed ≡ now ++ settled.GivenBack fault j.ticket ∷ [] → ArePartly fault p start was count (n + 1) rest pushed
 partly_mine fault p start was count n jobs rest j now pushed h more popped mine pushed_is =
     mine_next fault p start was count n h.todo h.stay jobs rest j now pushed h.left h.jobs_are h.kept h.given more popped mine pushed_is
 
 other_next : (fault : ApplyFault) (p : ℕ) (start : List Job) (was : List Settled) (count n : ℕ) (todo stay jobs rest pushed : List Job) (j : Job) (now : List Settled)
     → length todo + n ≡ count → jobs ≡ todo ++ stay → stay ++ jobs_but p todo ≡ jobs_but p start
-    → now ++ refused_of fault (tickets_of (jobs_by p todo)) ≡ was ++ refused_of fault (tickets_of (jobs_by p start))
+    → now ++ given_back_of fault (tickets_of (jobs_by p todo)) ≡ was ++ given_back_of fault (tickets_of (jobs_by p start))
     → n < count → jobs ≡ j ∷ rest → ¬ (p ≡ j.ticket.ask.pass) → pushed ≡ rest ++ j ∷ [] → ArePartly fault p start was count (n + 1) pushed now
 other_next fault p start was count n [] stay jobs rest pushed j now left is kept given more popped other pushed_is = absurd (omega arith)
 other_next fault p start was count n (t ∷ todo) stay jobs rest pushed j now left is kept given more popped other pushed_is =
@@ -119,7 +119,7 @@ other_next fault p start was count n (t ∷ todo) stay jobs rest pushed j now le
       left = omega arith;
       jobs_are = pushed_is ∙ ((λ i. tail i ++ head i ∷ []) ∙ append_assoc todo stay (t ∷ []));
       kept = append_assoc stay (t ∷ []) (jobs_but p todo) ∙ (ap (λ (l : List Job). stay ++ l) (sym (but_other p t todo foreign)) ∙ kept);
-      given = ap (λ (l : List Job). now ++ refused_of fault (tickets_of l)) (sym (by_other p t todo foreign)) ∙ given;
+      given = ap (λ (l : List Job). now ++ given_back_of fault (tickets_of l)) (sym (by_other p t todo foreign)) ∙ given;
     }
 
 -- the next is of another pass
@@ -130,19 +130,19 @@ partly_other fault p start was count n jobs rest pushed j now h more popped othe
 
 all_done : (fault : ApplyFault) (p : ℕ) (start : List Job) (was : List Settled) (todo stay jobs : List Job) (now : List Settled)
     → length todo ≡ 0 → jobs ≡ todo ++ stay → stay ++ jobs_but p todo ≡ jobs_but p start
-    → now ++ refused_of fault (tickets_of (jobs_by p todo)) ≡ was ++ refused_of fault (tickets_of (jobs_by p start))
-    → (jobs ≡ jobs_but p start) × (now ≡ was ++ refused_of fault (tickets_of (jobs_by p start)))
+    → now ++ given_back_of fault (tickets_of (jobs_by p todo)) ≡ was ++ given_back_of fault (tickets_of (jobs_by p start))
+    → (jobs ≡ jobs_but p start) × (now ≡ was ++ given_back_of fault (tickets_of (jobs_by p start)))
 all_done fault p start was [] stay jobs now none is kept given = (is ∙ (sym (append-nil stay) ∙ kept), sym (append-nil now) ∙ given)
 all_done fault p start was (t ∷ todo) stay jobs now none is kept given = absurd (omega arith)
 
 -- all were looked at
 pub partly_all : (fault : ApplyFault) (p : ℕ) (start : List Job) (was : List Settled) (count n : ℕ) (jobs : List Job) (now : List Settled) → ArePartly fault p start was count n jobs now → count ≤ n
-    → (jobs ≡ jobs_but p start) × (now ≡ was ++ refused_of fault (tickets_of (jobs_by p start)))
+    → (jobs ≡ jobs_but p start) × (now ≡ was ++ given_back_of fault (tickets_of (jobs_by p start)))
 partly_all fault p start was count n jobs now h all =
     let none : length h.todo ≡ 0 = omega (arith, h.left, all) in
     all_done fault p start was h.todo h.stay jobs now none h.jobs_are h.kept h.given
 
--- A front of the jobs is refused.
+-- The first jobs are refused.
 
 pub none_left : (jobs : List Job) → length jobs ≡ 0 → jobs ≡ []
 none_left [] none = refl
@@ -171,7 +171,7 @@ refused_shard sight follows log book opened states flag limits ask s marked =
     shard_answered sight follows log book opened states flag limits ask Unavailable s none.same (within_due book ask Unavailable none.due s.within)
 
 pub refused_kept : {D : Type 0} (sight : D → Sight) (follows : D → Type 0) (log : Wal D) (book : Booked) (opened : Wal D) (states : Mapped) (flag : Bool) (limits : Limits) (ask : Ask)
-    → IsShard sight follows log book opened states flag limits → flag ≡ true → Follow follows log → Keeps (slots sight log) (longer book (Answered (step_of ask Unavailable))) (doubt_of book.items)
+    → IsShard sight follows log book opened states flag limits → flag ≡ true → Follow follows log → KeepsHistory (slots sight log) (longer book (Answered (step_of ask Unavailable))) (doubt_of book.items)
 refused_kept sight follows log book opened states flag limits ask s marked =
     kept_step sight follows log book opened states flag limits ask Unavailable (refused_shard sight follows log book opened states flag limits ask s marked)
 
@@ -184,7 +184,7 @@ refused_settled book new t r receipt moment due is replied receipt_is =
     let stepped = refused_step book new t.ask due is in
     (λ i. settled.Answered (replied i) (receipt_is i)) ∙ (λ i. settled.Answered (due i) (receipt_at (stepped i).items t (due i) moment))
 
--- A front of the jobs has its steps, and was settled.
+-- The first jobs have their steps, and were settled.
 pub record IsRefusing {D : Type 0} (sight : D → Sight) (follows : D → Type 0) (start : Parts D) (all : List Job) (was : List Settled) (p : Parts D) (jobs : List Job) (now : List Settled) (n : ℕ) : Type 0 where
   pub front : List Announced
   pub count : length front ≡ n
@@ -264,7 +264,7 @@ module _ {D : Type 0} (sight : D → Sight) (follows : D → Type 0) (start : Pa
 
   -- 64 of them were refused
   pub refused_most : IsClocked sight follows → ArePartsOf sight follows start → (p : Parts D) (jobs : List Job) (now : List Settled) (n : ℕ) → IsRefusing sight follows start all was p jobs now n → n ≡ 64
-      → HasFront sight follows (seen_of start) (seen_of p) all jobs was now Most
+      → AreTogether sight follows (seen_of start) (seen_of p) all jobs was now Most
   refused_most clocked before p jobs now n h most = record {
     front = h.front;
     some = omega (arith, h.count, most);
@@ -276,7 +276,7 @@ module _ {D : Type 0} (sight : D → Sight) (follows : D → Type 0) (start : Pa
 
   -- none is left
   pub refused_last : IsClocked sight follows → ArePartsOf sight follows start → 0 < length all → (p : Parts D) (jobs rest : List Job) (now : List Settled) (n : ℕ) → IsRefusing sight follows start all was p jobs now n
-      → n ≤ 64 → jobs ≡ [] → rest ≡ [] → HasFront sight follows (seen_of start) (seen_of p) all rest was now Last
+      → n ≤ 64 → jobs ≡ [] → rest ≡ [] → AreTogether sight follows (seen_of start) (seen_of p) all rest was now Last
   refused_last clocked before more p jobs rest now n h few none empty = record {
     front = h.front;
     some = omega (arith, more, length_tickets all, ap length h.split, length-append h.front (tickets_of jobs), ap (λ (l : List Job). length (tickets_of l)) none);

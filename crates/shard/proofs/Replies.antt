@@ -19,7 +19,7 @@ use Rattle.history.specs.Histories.{terms_of, reply_of, shard_in, step_of}
 use Rattle.history.specs.Handles.{Booked, history_in, longer}
 use Rattle.history.proofs.Books.{refuses}
 use Rattle.shard.specs.Keeping.{owner_in}
-use Rattle.shard.specs.Calls.{answer_in, after_in, reply_in, Writes, IsQuiet}
+use Rattle.shard.specs.Calls.{answer_in, after_in, reply_in, NeedsWrite, IsQuiet}
 use Rattle.shard.specs.Readies.{answer_of, after_of, IsUnchanged}
 
 chosen : (marked full : Bool) (r : Reply) → marked ≡ false → full ≡ false → cond marked Unavailable (cond full NoRoom r) ≡ r
@@ -49,7 +49,7 @@ pub due_unchanged : (book : Booked) (call : Call) → is_marked book.items ≡ f
 unfolding reply_of
 due_unchanged book call unmarked same = sym (chosen (is_marked book.items) _ (answer_in book call) unmarked (unchanged_not_full (changes (answer_in book call)) (nat_lt book.about.capacity (room (after_in book call))) same))
 
-pub due_written : (book : Booked) (call : Call) → Writes book call → answer_in book call ≡ reply_in book call
+pub due_written : (book : Booked) (call : Call) → NeedsWrite book call → answer_in book call ≡ reply_in book call
 unfolding reply_of
 due_written book call w = sym (chosen (is_marked book.items) _ (answer_in book call) w.unmarked (not_full (changes (answer_in book call)) book.about.capacity (room (after_in book call)) w.has_room))
 
@@ -67,7 +67,7 @@ within_due book ask reply due within =
     subst (λ (r : Reply). IsWithin book.about.limits (then_step (history_in book) ask r)) (sym due) (within-reply_to (terms_of book.about book.shard) (history_in book) ask within)
 
 -- a call that writes is none that is refused or changes nothing
-pub writes_not_quiet : (book : Booked) (call : Call) → IsWithin book.about.limits (history_in book) → Writes book call → IsQuiet book call → ⊥
+pub writes_not_quiet : (book : Booked) (call : Call) → IsWithin book.about.limits (history_in book) → NeedsWrite book call → IsQuiet book call → ⊥
 writes_not_quiet book call within w (inl e) =
     let f : changes Unavailable ≡ true = ap changes (sym (due_written book call w ∙ e)) ∙ w.changing in
     absurd (cc)
@@ -90,7 +90,7 @@ stands_in book limits m call same within means =
 pub record IsNoChange (book : Booked) (ask : Ask) (reply : Reply) : Type 0 where
   pub due : reply ≡ reply_in book ask.call
   pub same : meaning (history_in (longer book (Answered (step_of ask reply)))) ≡ meaning (history_in book)
-  pub quiet : ¬ Writes book ask.call
+  pub quiet : ¬ NeedsWrite book ask.call
 
 pub no_change : (book : Booked) (limits : Limits) (m : Streams) (cap : ℕ) (ask : Ask) (reply : Reply) → limits ≡ book.about.limits → IsWithin book.about.limits (history_in book) → meaning (history_in book) ≡ m
     → is_marked book.items ≡ false → cap ≡ book.about.capacity → IsUnchanged limits cap m ask.call reply → IsNoChange book ask reply
@@ -108,7 +108,7 @@ no_change book limits m cap ask reply same within means unmarked caps u =
         record {
           due = is ∙ due_unchanged book ask.call unmarked still;
           same = ap (λ (r : Reply). meaning (then_step (history_in book) ask r)) is ∙ (meaning-answered book.about.limits (history_in book) ask ∙ after-unchanged book.about.limits (history_in book) ask.call within still);
-          quiet = λ (w : Writes book ask.call). let h : changes (answer_in book ask.call) ≡ true = w.changing in absurd (cc);
+          quiet = λ (w : NeedsWrite book ask.call). let h : changes (answer_in book ask.call) ≡ true = w.changing in absurd (cc);
         }
 
     no_change-full : (answer_of limits m ask.call ≡ answer_in book ask.call) × (after_of limits m ask.call ≡ after_in book ask.call) → (changes (answer_of limits m ask.call) ≡ true) × (cap < room (after_of limits m ask.call)) × (reply ≡ NoRoom) → IsNoChange book ask reply
@@ -117,7 +117,7 @@ no_change book limits m cap ask reply same within means unmarked caps u =
         record {
           due = why.2 ∙ due_full book ask.call unmarked (ap changes (sym s.0) ∙ why.0) full;
           same = ap (λ (r : Reply). meaning (then_step (history_in book) ask r)) why.2 ∙ meaning-NoRoom (history_in book) ask;
-          quiet = λ (w : Writes book ask.call). omega (arith, full, w.has_room);
+          quiet = λ (w : NeedsWrite book ask.call). omega (arith, full, w.has_room);
         }
 
 -- a call after the mark
@@ -125,7 +125,7 @@ pub refused_after : (book : Booked) (ask : Ask) (reply : Reply) → is_marked bo
 refused_after book ask reply marked is = record {
   due = is ∙ due_marked book ask.call marked;
   same = ap (λ (r : Reply). meaning (then_step (history_in book) ask r)) is ∙ meaning-Unavailable (history_in book) ask;
-  quiet = λ (w : Writes book ask.call). let h : is_marked book.items ≡ false = w.unmarked in absurd (cc);
+  quiet = λ (w : NeedsWrite book ask.call). let h : is_marked book.items ≡ false = w.unmarked in absurd (cc);
 }
 
 -- a key of the book's shard is one of its slots

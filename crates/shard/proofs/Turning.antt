@@ -11,7 +11,7 @@ use Rattle.history.specs.declared.views.About.{About}
 use Rattle.history.specs.Histories.{HaveSteps, HasStep, IsAmong, of_pass, steps_by, reply_of, shard_in, step_of}
 use Rattle.history.specs.Handles.{Booked, Announced, Received, AreOf, asks_of, longer}
 use Rattle.history.proofs.Past.{made_now, have_more}
-use Rattle.shard.specs.declared.front.Job.{Job}
+use Rattle.shard.specs.declared.first_jobs.Job.{Job}
 use Rattle.shard.specs.declared.group.Settled.{Settled}
 use Rattle.shard.specs.Groups.{items_with, with_steps, changing_of, marked_by, HaveStepsOr, AreInTurn}
 use Rattle.shard.specs.Jobs.{tickets_of, jobs_by, jobs_but, AreLawful, AreInPassTurn}
@@ -186,7 +186,7 @@ of_items book items (t ∷ ts) h = (h.0, h.1, of_items book items ts h.2)
 
 -- Jobs that may be made.
 
--- those behind a front that has its steps
+-- those behind a group that has its steps
 pub ready_front : (book : Booked) (front : List Announced) (jobs rest : List Job) → AreReady book jobs → tickets_of jobs ≡ front ++ tickets_of rest → AreLawful book.about book.shard rest
     → AreReady (with_steps book (asks_of front)) rest
 ready_front book front jobs rest ready split lawful =

@@ -31,7 +31,7 @@ abbrev pub reply_in : Booked → Call → Reply
 reply_in book call = reply_of book.about book.shard book.items call
 
 -- the call is answered, its answer changes something, and there is room for that
-pub record Writes (book : Booked) (call : Call) : Type 0 where
+pub record NeedsWrite (book : Booked) (call : Call) : Type 0 where
   pub unmarked : is_marked book.items ≡ false
   pub changing : changes (answer_in book call) ≡ true
   pub has_room : room (after_in book call) ≤ book.about.capacity
@@ -62,7 +62,7 @@ IsLate opened book = 2 ^ 63 - 1 ≤ opened.generation + (book.about.passes * bou
 -- took a call of the history, which is legal, so the log was opened late.
 pub record IsSpent {D : Type 0} (log opened : Wal D) (book : Booked) (call : Call) : Type 0 where
   pub last : 2 ^ 63 - 1 ≤ log.generation
-  pub writes : Writes book call
+  pub writes : NeedsWrite book call
   pub full : ¬ FitsBehind log book call
   pub legal : IsLegalAt book.about book.shard book.items
   pub by_passes : IsByPasses book.about.passes book.items
@@ -77,15 +77,16 @@ pub record IsCommitted (old new : Pair) (before : Booked) (ticket : Announced) (
   pub book : behind ≡ longer before (Answered (step_of ticket.ask reply))
 
 -- A device call failed: a mark with this one call stands before its step.
-pub record IsLost (old new : Pair) (before : Booked) (ticket : Announced) (behind : Booked)
+pub record IsMarkedInDoubt (old new : Pair) (before : Booked) (ticket : Announced) (behind : Booked)
     (reply : Reply) : Type 0 where
   pub failure : HasFailed old new
   pub unmarked : is_marked before.items ≡ false
   pub replied : reply ≡ Unavailable
-  pub book : behind ≡ longer (longer before (Failed (ticket.ask ∷ []))) (Answered (step_of ticket.ask Unavailable))
+  pub book : behind ≡ longer (longer before (Failed (ticket.ask ∷ [])))
+      (Answered (step_of ticket.ask Unavailable))
 
 -- What a crash may leave while the call is on its way: what was allowed at its start, or, where it writes, what stands
 -- for the streams after it.
 abbrev pub MayLeave : Booked → Call → List ℕ → List ℕ → Type 0
 MayLeave book call a b = IsAllowed book (doubt_of book.items) a b
-    ⊎ (Writes book call × Recovers (owner_in book) a b (after_in book call))
+    ⊎ (NeedsWrite book call × Recovers (owner_in book) a b (after_in book call))

@@ -54,12 +54,14 @@ listed (Some r) = r ∷ []
 -- what the calls change, each judged after the steps before it
 abbrev pub records_of : Booked → List Ask → List Record
 records_of book [] = []
-records_of book (a ∷ asks) = listed (change_of a.call (reply_in book a.call)) ++ records_of (with_step book a) asks
+records_of book (a ∷ asks) = listed (change_of a.call (reply_in book a.call)) ++ records_of
+    (with_step book a) asks
 
 -- the block of what these calls change, with what this one changes behind it, fits behind the segment in use
 abbrev pub FitsAfter : {D : Type 0} → Wal D → Booked → List Ask → Call → Type 0
 FitsAfter log book asks call = FitsInUse log
-    (length (frame latest (records_of book asks ++ listed (change_of call (reply_in (with_steps book asks) call)))) + 1)
+    (length (frame latest (records_of book asks ++ listed
+    (change_of call (reply_in (with_steps book asks) call)))) + 1)
 
 -- each of the calls has a step in these items, or is one of those in front
 abbrev pub HaveStepsOr : List Ask → List Item → List Ask → Type 0
@@ -70,7 +72,8 @@ HaveStepsOr (a ∷ asks) items front = (HasStep a (steps_by a.pass items) ⊎ Is
 -- each ticket names calls with a step, those in front, and those of the tickets before it
 abbrev pub AreInTurn : List Item → List Ask → List Announced → Type 0
 AreInTurn items front [] = Unit {0}
-AreInTurn items front (t ∷ ts) = HaveStepsOr t.before items front × AreInTurn items (front ++ t.ask ∷ []) ts
+AreInTurn items front (t ∷ ts) = HaveStepsOr t.before items front
+    × AreInTurn items (front ++ t.ask ∷ []) ts
 
 -- the book with the mark of a failure while the calls were written
 abbrev pub marked_by : Booked → List Ask → Booked
@@ -84,7 +87,7 @@ pub record AreCommitted (old new : Pair) (before : Booked) (asks : List Ask) (be
   pub book : behind ≡ with_steps before asks
 
 -- A device call failed: a mark with the calls that change something stands before the steps.
-pub record AreLost (old new : Pair) (before : Booked) (asks : List Ask) (behind : Booked)
+pub record AreMarkedInDoubt (old new : Pair) (before : Booked) (asks : List Ask) (behind : Booked)
     (replies : List Reply) : Type 0 where
   pub failure : HasFailed old new
   pub unmarked : is_marked before.items ≡ false

@@ -6,7 +6,7 @@ use Rattle.accept.specs.Calls.{AreNumbers}
 use Rattle.history.specs.declared.views.About.{About}
 use Rattle.history.specs.Histories.{shard_in, of_pass}
 use Rattle.history.specs.Handles.{Announced}
-use Rattle.shard.specs.declared.front.Job.{Job}
+use Rattle.shard.specs.declared.first_jobs.Job.{Job}
 use Rattle.shard.specs.Groups.{HaveStepsOr}
 
 abbrev pub tickets_of : List Job → List Announced
@@ -16,7 +16,8 @@ tickets_of (j ∷ jobs) = j.ticket ∷ tickets_of jobs
 -- each call is its ticket's, is of shard k, and has lawful numbers
 abbrev pub AreLawful : About → ℕ → List Job → Type 0
 AreLawful about k [] = Unit {0}
-AreLawful about k (j ∷ jobs) = (shard_in about j.ticket.ask ≡ k) × (j.ticket.ask.call ≡ j.call) × AreNumbers j.call
+AreLawful about k (j ∷ jobs) = (shard_in about j.ticket.ask ≡ k) × (j.ticket.ask.call ≡ j.call)
+    × AreNumbers j.call
     × AreLawful about k jobs
 
 -- the jobs of pass p

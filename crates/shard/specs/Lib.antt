@@ -9,7 +9,7 @@ pub mod Gathered
 pub mod Gathering
 pub mod Adding
 pub mod Jobs
-pub mod Fronts
+pub mod FirstJobs
 pub mod Parts
 pub mod Turns
 pub mod Taking

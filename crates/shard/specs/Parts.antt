@@ -10,9 +10,9 @@ use Rattle.history.specs.Handles.{Announced, Received}
 use Rattle.shard.specs.declared.parts.Parts.{Parts}
 use Rattle.streams.specs.Mapped.{Mapped}
 use Rattle.shard.specs.Keeping.{moments, LeavesSince, IsAllowed}
-use Rattle.shard.specs.Calls.{Writes, IsQuiet, FitsBehind, IsCommitted, IsLost, MayLeave}
+use Rattle.shard.specs.Calls.{NeedsWrite, IsQuiet, FitsBehind, IsCommitted, IsMarkedInDoubt, MayLeave}
 use Rattle.shard.specs.Shards.{Sharded, IsShard}
-use Rattle.shard.specs.Readies.{IsNext}
+use Rattle.shard.specs.Readies.{IsNextSegment}
 
 -- what contracts see of them
 abbrev pub seen_of : {D : Type 0} → Parts D → Sharded D
@@ -20,28 +20,32 @@ seen_of p = record { log = p.log.wal; book = p.book; opened = p.opened.value }
 
 -- the parts are those of a shard
 abbrev pub ArePartsOf : {D : Type 0} → (D → Sight) → (D → Type 0) → Parts D → Type 0
-ArePartsOf sight follows p = IsShard sight follows p.log.wal p.book p.opened.value p.states p.is_marked p.limits
+ArePartsOf sight follows p =
+    IsShard sight follows p.log.wal p.book p.opened.value p.states p.is_marked p.limits
 
 -- The change of a call that does not fit behind the segment in use is stored in memory, and the segment of the next
 -- generation is ready: all else is as before.
-pub record IsStored {D : Type 0} (sight : D → Sight) (follows : D → Type 0) (p : Parts D) (ask : Ask)
+pub record IsReadyToRoll {D : Type 0} (sight : D → Sight) (follows : D → Type 0) (p : Parts D)
+    (ask : Ask)
     (reply : Reply) : Type 0 where
   pub before : Mapped
   pub shard : IsShard sight follows p.log.wal p.book p.opened.value before false p.limits
   pub unmarked : p.is_marked ≡ false
-  pub writes : Writes p.book ask.call
+  pub writes : NeedsWrite p.book ask.call
   pub full : ¬ FitsBehind p.log.wal p.book ask.call
-  pub next : IsNext p.limits p.log.wal before ask.call p.states p.buffer.items reply
+  pub next : IsNextSegment p.limits p.log.wal before ask.call p.states p.buffer.items reply
 
 -- The call has its step.
-pub record IsApplied {D : Type 0} (sight : D → Sight) (follows : D → Type 0) (old new : Sharded D) (ticket : Announced)
+pub record IsApplied {D : Type 0} (sight : D → Sight) (follows : D → Type 0) (old new : Sharded D)
+    (ticket : Announced)
     (reply : Reply) (receipt : Received) : Type 0 where
   pub step : IsCommitted (slots sight old.log) (slots sight new.log) old.book ticket new.book reply
-      ⊎ IsLost (slots sight old.log) (slots sight new.log) old.book ticket new.book reply
+      ⊎ IsMarkedInDoubt (slots sight old.log) (slots sight new.log) old.book ticket new.book reply
   pub quiet : IsQuiet old.book ticket.ask.call → new.log ≡ old.log
   pub before : Follow follows new.log → Follow follows old.log
   pub any_moment : Follow follows new.log
-      → PairLeavesOnly (slots sight old.log) (slots sight new.log) (MayLeave old.book ticket.ask.call)
+      → PairLeavesOnly (slots sight old.log) (slots sight new.log)
+      (MayLeave old.book ticket.ask.call)
   pub receipt_is : receipt ≡ record {
     table = ticket.table;
     step = step_of ticket.ask reply;
@@ -49,9 +53,11 @@ pub record IsApplied {D : Type 0} (sight : D → Sight) (follows : D → Type 0)
     moment = moments (slots sight new.log);
   }
   pub since : Follow follows new.log
-      → LeavesSince (moments (slots sight new.log)) (slots sight new.log) (IsAllowed new.book (doubt_of new.book.items))
-  pub appended : FitsBehind old.log old.book ticket.ask.call → new.log.generation ≡ old.log.generation
-  pub rolled : Writes old.book ticket.ask.call → ¬ FitsBehind old.log old.book ticket.ask.call
+      → LeavesSince (moments (slots sight new.log)) (slots sight new.log)
+      (IsAllowed new.book (doubt_of new.book.items))
+  pub appended : FitsBehind old.log old.book ticket.ask.call
+      → new.log.generation ≡ old.log.generation
+  pub rolled : NeedsWrite old.book ticket.ask.call → ¬ FitsBehind old.log old.book ticket.ask.call
       → HasNoFailure (slots sight old.log) (slots sight new.log)
       → new.log.generation ≡ old.log.generation + 1
   pub opened : new.opened ≡ old.opened

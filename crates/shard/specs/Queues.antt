@@ -13,7 +13,7 @@ use Rattle.shard.specs.declared.group.Judged.{Judged}
 use Rattle.shard.specs.declared.group.Judged.TheVariants.{Quiet, Changing}
 use Rattle.shard.specs.declared.group.Settled.{Settled}
 use Rattle.shard.specs.declared.group.Settled.TheVariants as settled
-use Rattle.shard.specs.Keeping.{Keeps}
+use Rattle.shard.specs.Keeping.{KeepsHistory}
 use Rattle.shard.specs.Calls.{reply_in}
 use Rattle.shard.specs.Groups.{with_step, with_steps, AreInTurn}
 
@@ -42,13 +42,15 @@ asks_in [] = []
 asks_in (w ∷ ws) = w.0.ask ∷ asks_in ws
 
 -- the reply of each is due after the steps before it
-abbrev pub AreDue : Booked → List (Announced × Reply) → Type 0
-AreDue book [] = Unit {0}
-AreDue book (w ∷ ws) = (w.1 ≡ reply_in book w.0.ask.call) × AreDue (with_step book w.0.ask) ws
+abbrev pub HaveDueReplies : Booked → List (Announced × Reply) → Type 0
+HaveDueReplies book [] = Unit {0}
+HaveDueReplies book (w ∷ ws) = (w.1 ≡ reply_in book w.0.ask.call)
+    × HaveDueReplies (with_step book w.0.ask) ws
 
 -- the receipt of a call whose step is the last of these items
 abbrev pub receipt_at : List Item → Announced → Reply → ℕ × ℕ → Received
-receipt_at upto t r moment = record { table = t.table; step = step_of t.ask r; upto = upto; moment = moment }
+receipt_at upto t r moment =
+    record { table = t.table; step = step_of t.ask r; upto = upto; moment = moment }
 
 -- the calls of these tickets answered, one after another, at a moment of the clocks
 abbrev pub settled_of : Booked → List Announced → ℕ × ℕ → List Settled
@@ -59,19 +61,22 @@ settled_of book (t ∷ ts) moment =
     ∷ settled_of (with_step book t.ask) ts moment
 
 -- The waiting calls may be added to the book: each with its reply, in its turn, and all of them are kept.
-pub record IsReady {D : Type 0} (sight : D → Sight) (follows : D → Type 0) (log : Wal D) (book : Booked)
+pub record AreReadyToCommit {D : Type 0} (sight : D → Sight) (follows : D → Type 0) (log : Wal D)
+    (book : Booked)
     (waiting : List (Announced × Reply)) : Type 0 where
-  pub due : AreDue book waiting
+  pub due : HaveDueReplies book waiting
   pub here : AreOf book (tickets_in waiting)
   pub turn : AreInTurn book.items [] (tickets_in waiting)
   pub within : IsWithin book.about.limits (history_in book)
-  pub kept : Follow follows log → Keeps (slots sight log) (with_steps book (asks_in waiting)) (doubt_of book.items)
+  pub kept : Follow follows log
+      → KeepsHistory (slots sight log) (with_steps book (asks_in waiting)) (doubt_of book.items)
 
 -- After a failure mark the waiting calls may be refused, each in its turn.
-pub record IsRefusable {D : Type 0} (sight : D → Sight) (follows : D → Type 0) (log : Wal D) (book : Booked)
+pub record IsRefusable {D : Type 0} (sight : D → Sight) (follows : D → Type 0) (log : Wal D)
+    (book : Booked)
     (waiting : List (Announced × Reply)) : Type 0 where
   pub marked : is_marked book.items ≡ true
   pub here : AreOf book (tickets_in waiting)
   pub turn : AreInTurn book.items [] (tickets_in waiting)
   pub within : IsWithin book.about.limits (history_in book)
-  pub kept : Follow follows log → Keeps (slots sight log) book (doubt_of book.items)
+  pub kept : Follow follows log → KeepsHistory (slots sight log) book (doubt_of book.items)

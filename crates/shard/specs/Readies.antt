@@ -20,15 +20,19 @@ answer_of limits m call = answer_from limits (finite.get m (key_of call)) call
 
 abbrev pub after_of : Limits → Streams → Call → Streams
 after_of limits m call =
-    set_stream m (key_of call) (stream_after (finite.get m (key_of call)) call (answer_of limits m call))
+    set_stream m (key_of call)
+    (stream_after (finite.get m (key_of call)) call (answer_of limits m call))
 
 -- nothing is to be written: the answer changes nothing, or there is no room
-pub record IsUnchanged (limits : Limits) (cap : ℕ) (m : Streams) (call : Call) (r : Reply) : Type 0 where
+pub record IsUnchanged (limits : Limits) (cap : ℕ) (m : Streams) (call : Call)
+    (r : Reply) : Type 0 where
   pub why : ((changes (answer_of limits m call) ≡ false) × (r ≡ answer_of limits m call))
-      ⊎ ((changes (answer_of limits m call) ≡ true) × (cap < room (after_of limits m call)) × (r ≡ NoRoom))
+      ⊎ ((changes (answer_of limits m call) ≡ true) × (cap < room (after_of limits m call))
+      × (r ≡ NoRoom))
 
 -- the change is stored in memory, and these bytes are to be written as the segment of the next generation
-pub record IsNext {D : Type 0} (limits : Limits) (log : Wal D) (old : Mapped) (call : Call) (new : Mapped)
+pub record IsNextSegment {D : Type 0} (limits : Limits) (log : Wal D) (old : Mapped) (call : Call)
+    (new : Mapped)
     (written : List ℕ) (r : Reply) : Type 0 where
   pub owner_is : new.owner ≡ old.owner
   pub no_change : new.change ≡ None
@@ -36,4 +40,5 @@ pub record IsNext {D : Type 0} (limits : Limits) (log : Wal D) (old : Mapped) (c
   pub next : new.streams ≡ after_of limits old.streams call
   pub early : log.generation < 2 ^ 63 - 1
   pub has_place : 1 + length written ≤ log.cap
-  pub segment : IsSegmentBehind (owner log) written (latest_header (log.generation + 1)) (length written) new.streams
+  pub segment : IsSegmentBehind (owner log) written (latest_header (log.generation + 1))
+      (length written) new.streams

@@ -6,11 +6,11 @@ use Rattle.accept.specs.Histories.{meaning, is_marked, IsWithin}
 use Rattle.disk.specs.Sight.{Sight}
 use Rattle.wal.specs.declared.log.Wal.{Wal}
 use Rattle.wal.specs.Moments.{HasFailed, HasNoFailure}
-use Rattle.wal.specs.Logs.{Follow, slots, owner, IsSettled}
+use Rattle.wal.specs.Logs.{Follow, slots, owner, IsOnDisk}
 use Rattle.history.specs.Histories.{doubt_of}
 use Rattle.history.specs.Handles.{Booked, history_in}
 use Rattle.streams.specs.Mapped.{Mapped}
-use Rattle.shard.specs.Keeping.{owner_in, Keeps}
+use Rattle.shard.specs.Keeping.{owner_in, KeepsHistory}
 
 -- a shard as contracts see it: its log, its book, and the log as it was opened
 pub record Sharded (D : Type 0) : Type 0 where
@@ -20,7 +20,8 @@ pub record Sharded (D : Type 0) : Type 0 where
 
 -- The flag, the limits, the states and the log are those of the book's history. Of the states nothing is said once a
 -- device has failed.
-pub record IsShard {D : Type 0} (sight : D → Sight) (follows : D → Type 0) (log : Wal D) (book : Booked)
+pub record IsShard {D : Type 0} (sight : D → Sight) (follows : D → Type 0) (log : Wal D)
+    (book : Booked)
     (opened : Wal D) (states : Mapped) (flag : Bool) (limits : Limits) : Type 0 where
   pub marked : flag ≡ is_marked book.items
   pub within : IsWithin book.about.limits (history_in book)
@@ -33,8 +34,8 @@ pub record IsShard {D : Type 0} (sight : D → Sight) (follows : D → Type 0) (
   pub no_change : flag ≡ false → states.change ≡ None
   pub means : flag ≡ false → meaning (history_in book) ≡ states.streams
   pub usable : flag ≡ false → log.failed ≡ false
-  pub holds : flag ≡ false → Follow follows log → IsSettled sight log (meaning (history_in book))
-  pub covers : Follow follows log → Keeps (slots sight log) book (doubt_of book.items)
+  pub holds : flag ≡ false → Follow follows log → IsOnDisk sight log (meaning (history_in book))
+  pub covers : Follow follows log → KeepsHistory (slots sight log) book (doubt_of book.items)
   pub not_failed : flag ≡ false → HasNoFailure (slots sight opened) (slots sight log)
   pub failed : flag ≡ true → HasFailed (slots sight opened) (slots sight log)
   pub before : Follow follows log → Follow follows opened

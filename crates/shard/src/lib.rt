@@ -6,7 +6,7 @@
 
 mod adding;
 mod fault;
-mod front;
+mod first_jobs;
 mod group;
 mod joining;
 mod keeping;
@@ -17,6 +17,6 @@ mod shard;
 mod turn;
 
 pub use fault::ApplyFault;
-pub use front::{Ended, Job};
+pub use first_jobs::{GroupEnd, Job};
 pub use group::Settled;
 pub use shard::Shard;

@@ -169,7 +169,8 @@ fn play_four<R: Threads + Wait + Clock + Sync>(
     turns: [Turn; 4],
     opener: Opener,
 ) -> Result<bool, Fail>
-    requires { (p : ℕ) (pass : Passed) → slice_get passes.old.items p ≡ Some pass → IsPassOf ingester.now pass }
+    requires { (p : ℕ) (pass : Passed) → slice_get passes.old.items p ≡ Some pass
+        → IsPassOf ingester.now pass }
     ensures { IsOk result → (p : ℕ) (pass : Passed) → slice_get passes.new.items p ≡ Some pass
         → IsPassOf ingester.now pass }
 {
@@ -200,9 +201,11 @@ fn next_part<'a, R: Wait>(
     passes: &mut Vec<Pass>,
     turn: Turn,
 ) -> Result<Part<'a, R>, Fail>
-    requires { (p : ℕ) (pass : Passed) → slice_get passes.old.items p ≡ Some pass → IsPassOf ingester.now pass }
+    requires { (p : ℕ) (pass : Passed) → slice_get passes.old.items p ≡ Some pass
+        → IsPassOf ingester.now pass }
     ensures part { IfOk result (λ it. IsPassOf it.ingester.now it.pass) }
-    ensures passes { (p : ℕ) (pass : Passed) → slice_get passes.new.items p ≡ Some pass → IsPassOf ingester.now pass }
+    ensures passes { (p : ℕ) (pass : Passed) → slice_get passes.new.items p ≡ Some pass
+        → IsPassOf ingester.now pass }
 {
     Ok(Part {
         rt,

@@ -106,9 +106,11 @@ where
 
 /// The last of these passes.
 pub(crate) fn last_of(ingester: &Ingester<Slot>, passes: &mut Vec<Pass>) -> Result<Pass, Fail>
-    requires { (p : ℕ) (pass : Passed) → slice_get passes.old.items p ≡ Some pass → IsPassOf ingester.now pass }
+    requires { (p : ℕ) (pass : Passed) → slice_get passes.old.items p ≡ Some pass
+        → IsPassOf ingester.now pass }
     ensures pass { IfOk result (IsPassOf ingester.now) }
-    ensures passes { (p : ℕ) (pass : Passed) → slice_get passes.new.items p ≡ Some pass → IsPassOf ingester.now pass }
+    ensures passes { (p : ℕ) (pass : Passed) → slice_get passes.new.items p ≡ Some pass
+        → IsPassOf ingester.now pass }
 {
     match passes.pop() {
         Some(pass) => Ok(pass),
@@ -125,7 +127,8 @@ fn open_three<R>(
 where
     R: Threads + Wait + Copy + Send + Sync + 'static,
     requires { (0 < vec_len slots) × (vec_len slots ≤ 64) }
-    ensures passes { IfOk result (λ it. IsPassOf it.0 it.1 × IsPassOf it.0 it.2 × IsPassOf it.0 it.3) }
+    ensures passes { IfOk result (λ it. IsPassOf it.0 it.1 × IsPassOf it.0 it.2
+        × IsPassOf it.0 it.3) }
     ensures shards { IfOk result (λ it. it.0.about.shards ≡ vec_len slots) }
 {
     let (ingester, mut passes) = open(rt, alloc, slots, 3)?;
@@ -262,8 +265,8 @@ fn act_and_open<R: Wait + Clock>(
     looked
 }
 
-/// The first pass makes the first pushes in its own thread. Meanwhile the second makes the others, or waits for a while,
-/// looks at shard 0, and opens the gate. Gives both passes, and the number of steps that the second saw.
+/// The first pass makes the first pushes in its own thread. Meanwhile the second makes the others, or waits for a
+/// while, looks at shard 0, and opens the gate. Gives both passes, and the number of steps that the second saw.
 fn push_together<R: Threads + Wait + Clock + Sync>(
     rt: &R,
     alloc: Global,

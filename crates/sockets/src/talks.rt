@@ -238,7 +238,8 @@ where
         rt,
         move || answers_of(client).ok(),
         move || -> (Vec<Pass>, Result<(), WorkersFault>)
-            requires { (i : ℕ) (pass : Passed) → slice_get passes.items i ≡ Some pass → IsPassOf lent.now pass }
+            requires { (i : ℕ) (pass : Passed) → slice_get passes.items i ≡ Some pass
+                → IsPassOf lent.now pass }
             ensures { (i : ℕ) (pass : Passed) → slice_get result.0.items i ≡ Some pass
                 → IsPassOf lent.entry.now pass }
         { serve_listener(rt, alloc, lent, passes, servers, listener, connections) },

@@ -21,7 +21,7 @@ use Rattle.segment.specs.Segments.{owner_of, state_record}
 use Rattle.segment.specs.Images.{then_record}
 use Rattle.segment.specs.Fitting.{FitsStream}
 use Rattle.segment.proofs.More.{image-states_of}
-use Rattle.split.specs.Maps.{map_at, AreApart, IsSplit, given, dealt, all_dealt, AreFit, AreWithin}
+use Rattle.split.specs.Maps.{map_at, AreApart, IsSplit, put_in_map, dealt, all_dealt, AreFit, HaveRoomWithin}
 
 abbrev Pairs : Type 0
 Pairs = List (StreamKey × StreamImage)
@@ -62,13 +62,13 @@ module _ (m : ℕ) where
       ap (λ (t : Bool). cond t o None) other ∙ ap (λ (t : Bool). cond t (Some e.1) None) (sym other)
   at_others s k e o false not same = refl
 
-  one_given : (maps : List Streams) (all : Streams) (e : StreamKey × StreamImage) → 0 < m → length maps ≡ m → AreParts maps all → AreParts (given m maps e) (put all e)
+  one_given : (maps : List Streams) (all : Streams) (e : StreamKey × StreamImage) → 0 < m → length maps ≡ m → AreParts maps all → AreParts (put_in_map m maps e) (put all e)
   one_given maps all e some len parts s k lt =
       let i = shard e.0 m in
       let after : finite.get (put all e) k ≡ cond (same_key k e.0) (Some e.1) (finite.get all k) = get-set_stream all e.0 (Some e.1) k in
       ⊎_elim
       (λ (is : s ≡ i).
-      ap (λ (j : ℕ). finite.get (map_at (given m maps e) j) k) is
+      ap (λ (j : ℕ). finite.get (map_at (put_in_map m maps e) j) k) is
       ∙ ap (λ (x : Streams). finite.get x k) (get_or-set_same maps i (put (map_at maps i) e) finite.empty (omega (arith, shard_within e.0 m some, len)))
       ∙ get-set_stream (map_at maps i) e.0 (Some e.1) k
       ∙ ap (cond (same_key k e.0) (Some e.1)) (parts i k (shard_within e.0 m some))
@@ -82,16 +82,16 @@ module _ (m : ℕ) where
       ∙ ap (λ (o : Option StreamImage). cond (shard k m == s) o None) (sym after))
       (cases_eq s i)
 
-  pub length-given : (maps : List Streams) (e : StreamKey × StreamImage) → length (given m maps e) ≡ length maps
+  pub length-given : (maps : List Streams) (e : StreamKey × StreamImage) → length (put_in_map m maps e) ≡ length maps
   length-given maps e = length-set maps (shard e.0 m) (put (map_at maps (shard e.0 m)) e)
 
-  pub length-given_all : (es : Pairs) (maps : List Streams) → length (fold (given m) maps es) ≡ length maps
+  pub length-given_all : (es : Pairs) (maps : List Streams) → length (fold (put_in_map m) maps es) ≡ length maps
   length-given_all [] maps = refl
-  length-given_all (e ∷ es) maps = length-given_all es (given m maps e) ∙ length-given maps e
+  length-given_all (e ∷ es) maps = length-given_all es (put_in_map m maps e) ∙ length-given maps e
 
-  all_given : (es : Pairs) (maps : List Streams) (all : Streams) → 0 < m → length maps ≡ m → AreParts maps all → AreParts (fold (given m) maps es) (put_all all es)
+  all_given : (es : Pairs) (maps : List Streams) (all : Streams) → 0 < m → length maps ≡ m → AreParts maps all → AreParts (fold (put_in_map m) maps es) (put_all all es)
   all_given [] maps all some len parts = parts
-  all_given (e ∷ es) maps all some len parts = all_given es (given m maps e) (put all e) some (length-given maps e ∙ len) (one_given maps all e some len parts)
+  all_given (e ∷ es) maps all some len parts = all_given es (put_in_map m maps e) (put all e) some (length-given maps e ∙ len) (one_given maps all e some len parts)
 
   each_dealt : (olds : List Streams) (maps : List Streams) (all : Streams) → 0 < m → length maps ≡ m → AreParts maps all → AreParts (all_dealt m maps olds) (merged all olds)
   each_dealt [] maps all some len parts = parts
@@ -170,26 +170,26 @@ is_split m olds news some apart is s k lt =
 -- ---- how much room
 
 module _ (m : ℕ) where
-  one_more : (maps : List Streams) (e : StreamKey × StreamImage) (s : ℕ) → 0 < m → length maps ≡ m → room (map_at (given m maps e) s) ≤ room (map_at maps s) + stream_room e
+  one_more : (maps : List Streams) (e : StreamKey × StreamImage) (s : ℕ) → 0 < m → length maps ≡ m → room (map_at (put_in_map m maps e) s) ≤ room (map_at maps s) + stream_room e
   one_more maps e s some len =
       let i = shard e.0 m in
       ⊎_elim
-      (λ (is : s ≡ i). subst (λ (j : ℕ). room (map_at (given m maps e) j) ≤ room (map_at maps j) + stream_room e) (sym is)
+      (λ (is : s ≡ i). subst (λ (j : ℕ). room (map_at (put_in_map m maps e) j) ≤ room (map_at maps j) + stream_room e) (sym is)
       (subst (λ (x : Streams). room x ≤ room (map_at maps i) + stream_room e) (sym (get_or-set_same maps i (put (map_at maps i) e) finite.empty (omega (arith, shard_within e.0 m some, len))))
       (omega (arith, room-set_stream (map_at maps i) e.0 (Some e.1)))))
       (λ (not : s ≢ i). subst (λ (x : Streams). room x ≤ room (map_at maps s) + stream_room e) (sym (get_or-set_other maps i s (put (map_at maps i) e) finite.empty not)) (omega arith))
       (cases_eq s i)
 
-  some_more : (es : Pairs) (maps : List Streams) (s : ℕ) → 0 < m → length maps ≡ m → room (map_at (fold (given m) maps es) s) ≤ room (map_at maps s) + sum_by stream_room es
+  some_more : (es : Pairs) (maps : List Streams) (s : ℕ) → 0 < m → length maps ≡ m → room (map_at (fold (put_in_map m) maps es) s) ≤ room (map_at maps s) + sum_by stream_room es
   some_more [] maps s some len = omega arith
-  some_more (e ∷ es) maps s some len = omega (arith, some_more es (given m maps e) s some (length-given m maps e ∙ len), one_more maps e s some len, sum_by-cons stream_room e es)
+  some_more (e ∷ es) maps s some len = omega (arith, some_more es (put_in_map m maps e) s some (length-given m maps e ∙ len), one_more maps e s some len, sum_by-cons stream_room e es)
 
-  all_more : (olds : List Streams) (maps : List Streams) (s bound : ℕ) → 0 < m → length maps ≡ m → AreWithin bound (length olds) olds → room (map_at (all_dealt m maps olds) s) ≤ room (map_at maps s) + length olds * bound
+  all_more : (olds : List Streams) (maps : List Streams) (s bound : ℕ) → 0 < m → length maps ≡ m → HaveRoomWithin bound (length olds) olds → room (map_at (all_dealt m maps olds) s) ≤ room (map_at maps s) + length olds * bound
   all_more [] maps s bound some len small = omega arith
   all_more (old ∷ olds) maps s bound some len small =
       omega (arith, all_more olds (dealt m maps old) s bound some (length-given_all m (finite.entries old) maps ∙ len) (λ t lt. small (suc t) (omega (arith, lt))), some_more (finite.entries old) maps s some len, small 0 (omega arith))
 
-  pub rooms_within : (olds news : List Streams) → 0 < m → length olds ≤ 64 → AreWithin (2 ^ 31 + 27) (length olds) olds → news ≡ all_dealt m (replicate m finite.empty) olds → AreWithin (2 ^ 40) m news
+  pub rooms_within : (olds news : List Streams) → 0 < m → length olds ≤ 64 → HaveRoomWithin (2 ^ 31 + 27) (length olds) olds → news ≡ all_dealt m (replicate m finite.empty) olds → HaveRoomWithin (2 ^ 40) m news
   rooms_within olds news some few small is s lt =
       let more = all_more olds (replicate m finite.empty) s (2 ^ 31 + 27) some (length-replicate m finite.empty) small in
       let none : room (map_at (replicate m finite.empty) s) ≡ 27 = ap room (get_or-replicate m s finite.empty finite.empty lt) ∙ room-empty in

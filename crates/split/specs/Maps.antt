@@ -27,12 +27,12 @@ IsSplit n m olds news = (s : ℕ) (k : StreamKey) → s < m → finite.get (news
 -- ---- how streams are dealt
 
 -- a stream goes to the map of its shard among m
-abbrev pub given : ℕ → List Streams → StreamKey × StreamImage → List Streams
-given m maps e = set maps (shard e.0 m) (set_stream (map_at maps (shard e.0 m)) e.0 (Some e.1))
+abbrev pub put_in_map : ℕ → List Streams → StreamKey × StreamImage → List Streams
+put_in_map m maps e = set maps (shard e.0 m) (set_stream (map_at maps (shard e.0 m)) e.0 (Some e.1))
 
 -- so does each stream of a map, and of each of some maps
 abbrev pub dealt : ℕ → List Streams → Streams → List Streams
-dealt m maps old = fold (given m) maps (finite.entries old)
+dealt m maps old = fold (put_in_map m) maps (finite.entries old)
 
 abbrev pub all_dealt : ℕ → List Streams → List Streams → List Streams
 all_dealt m maps olds = fold (dealt m) maps olds
@@ -41,8 +41,8 @@ all_dealt m maps olds = fold (dealt m) maps olds
 abbrev pub AreFit : ℕ → List Streams → Type 0
 AreFit n maps = (s : ℕ) → s < n → FitStreams (owner_of s n) (map_at maps s)
 
-abbrev pub AreWithin : ℕ → ℕ → List Streams → Type 0
-AreWithin bound n maps = (s : ℕ) → s < n → room (map_at maps s) ≤ bound
+abbrev pub HaveRoomWithin : ℕ → ℕ → List Streams → Type 0
+HaveRoomWithin bound n maps = (s : ℕ) → s < n → room (map_at maps s) ≤ bound
 
 -- this is the first map that takes more room
 pub record IsFirstAbove (cap s : ℕ) (maps : List Streams) : Type 0 where

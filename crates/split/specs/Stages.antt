@@ -10,19 +10,20 @@ use Rattle.wal.specs.Logs.{slots}
 use Rattle.wal.specs.Opening.{slots_of, AllFollow}
 use Rattle.split.specs.declared.fault.SplitFault.{SplitFault}
 use Rattle.split.specs.declared.fault.SplitFault.TheVariants.{NotEmpty, Device, Memory}
-use Rattle.split.specs.Splits.{pair_at, Keeps, IsFirst, IsEmptyPair, IsFirstFull, IsBefore, IsAtRest, IsRead}
+use Rattle.split.specs.Splits.{pair_at, KeepsStreams, IsFirstSegment, IsEmptyPair, IsFirstFull, HaveFollowed, IsAtRest, IsOldShardRead}
 
 -- of the first n pairs this holds, and the others are as they were
-pub record AreDone {D : Type 0} (P : ℕ → List D → List D → Type 0) (n : ℕ) (givens backs : List (List D)) : Type 0 where
+pub record AreDone {D : Type 0} (P : ℕ → List D → List D → Type 0) (n : ℕ)
+    (givens backs : List (List D)) : Type 0 where
   pub len : length backs ≡ length givens
   pub done : (s : ℕ) → s < n → P s (pair_at givens s) (pair_at backs s)
   pub same : (s : ℕ) → n ≤ s → pair_at backs s ≡ pair_at givens s
 
 module _ {D : Type 0} (sight : D → Sight) (follows : D → Type 0) where
   -- an old shard's slots were read, and held these streams, which its segments can hold
-  pub record IsOpened (owner : Owner) (given back : List D) (m : Streams) : Type 0 where
+  pub record IsOldShardOpened (owner : Owner) (given back : List D) (m : Streams) : Type 0 where
     pub rests : IsAtRest sight follows given back
-    pub read : IsRead sight follows owner given back m
+    pub read : IsOldShardRead sight follows owner given back m
     pub fit : FitStreams owner m
     pub small : room m ≤ 2 ^ 31 + 27
 
@@ -34,29 +35,36 @@ module _ {D : Type 0} (sight : D → Sight) (follows : D → Type 0) where
 
   -- or they are not, or a device failed
   pub data IsTestFault (s : ℕ) (given back : List D) (fault : SplitFault) : Type 0 where
-    filled : (slot : ℕ) → fault ≡ NotEmpty s slot → (AllFollow follows back → IsFirstFull slot (slots_of sight given))
+    filled : (slot : ℕ) → fault ≡ NotEmpty s slot
+        → (AllFollow follows back → IsFirstFull slot (slots_of sight given))
         → IsTestFault s given back fault
     unmeasured : fault ≡ Device s → HasFailed (slots_of sight given) (slots_of sight back)
         → IsTestFault s given back fault
 
   -- generation 1 stands in slot 1 with these streams
-  pub record IsBegun (owner : Owner) (given back : List D) (m : Streams) : Type 0 where
-    pub before : IsBefore sight follows given back
-    pub keeps : AllFollow follows back → Keeps owner (slots_of sight back) m
+  pub record IsShardBegun (owner : Owner) (given back : List D) (m : Streams) : Type 0 where
+    pub before : HaveFollowed sight follows given back
+    pub keeps : AllFollow follows back → KeepsStreams owner (slots_of sight back) m
     pub first : AllFollow follows back → (a b : List ℕ) → (slots_of sight back).first.may_leave a
-        → (slots_of sight back).second.may_leave b → IsFirst owner a b m
+        → (slots_of sight back).second.may_leave b → IsFirstSegment owner a b m
     pub not_failed : HasNoFailure (slots_of sight given) (slots_of sight back)
 
   -- or it is not there, and why
   pub data IsStartFault (s : ℕ) (given back : List D) (fault : SplitFault) : Type 0 where
     found_more : (slot : ℕ) → fault ≡ NotEmpty s slot
-        → (AllFollow follows back → IsEmptyPair (slots_of sight given) → ⊥) → IsStartFault s given back fault
-    broken : fault ≡ Device s → HasFailed (slots_of sight given) (slots_of sight back) → IsStartFault s given back fault
-    short : fault ≡ Memory → HasNoFailure (slots_of sight given) (slots_of sight back) → IsStartFault s given back fault
+        → (AllFollow follows back → IsEmptyPair (slots_of sight given) → ⊥)
+        → IsStartFault s given back fault
+    broken : fault ≡ Device s → HasFailed (slots_of sight given) (slots_of sight back)
+        → IsStartFault s given back fault
+    short : fault ≡ Memory → HasNoFailure (slots_of sight given) (slots_of sight back)
+        → IsStartFault s given back fault
 
 -- why a log has no first generation of these streams
-pub data IsBeginFault {D : Type 0} (sight : D → Sight) (old new : Wal D) (fault : SplitFault) : Type 0 where
-  in_use : (slot : ℕ) → fault ≡ NotEmpty old.shard slot → 0 < old.generation → IsBeginFault sight old new fault
+pub data IsBeginFault {D : Type 0} (sight : D → Sight) (old new : Wal D)
+    (fault : SplitFault) : Type 0 where
+  in_use : (slot : ℕ) → fault ≡ NotEmpty old.shard slot → 0 < old.generation
+      → IsBeginFault sight old new fault
   unwritten : fault ≡ Device old.shard → HasFailed (slots sight old) (slots sight new)
       → IsBeginFault sight old new fault
-  no_memory : fault ≡ Memory → HasNoFailure (slots sight old) (slots sight new) → IsBeginFault sight old new fault
+  no_memory : fault ≡ Memory → HasNoFailure (slots sight old) (slots sight new)
+      → IsBeginFault sight old new fault

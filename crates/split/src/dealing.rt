@@ -2,7 +2,7 @@
 ghost use Rattle.std.specs.Prelude.{◌≡◌, ◌≤◌, ◌<◌, ◌+◌, ◌^◌, ℕ, IfOk, OnOk, IfErr, length, replicate, vec_len};
 ghost use Rattle.std.specs.FinMap as finite;
 ghost use Rattle.accept.specs.Rooms.{room};
-ghost use Rattle.split.specs.Maps.{map_at, IsSplit, dealt, AreFit, AreWithin, IsFirstAbove};
+ghost use Rattle.split.specs.Maps.{map_at, IsSplit, dealt, AreFit, HaveRoomWithin, IsFirstAbove};
 
 use crate::fault::SplitFault;
 use accept::Image;
@@ -45,11 +45,12 @@ pub(crate) fn deal_all(
     requires olds { (0 < vec_len olds) × (vec_len olds ≤ 64) }
     requires count { (1 ≤ count) × (count ≤ 64) }
     requires fit { AreFit (vec_len olds) olds.items }
-    requires small { AreWithin (2 ^ 31 + 27) (vec_len olds) olds.items }
+    requires small { HaveRoomWithin (2 ^ 31 + 27) (vec_len olds) olds.items }
     ensures len { IfOk result (λ news. vec_len news ≡ count) }
-    ensures split { IfOk result (λ news. IsSplit (vec_len olds) count (map_at olds.items) (map_at news.items)) }
+    ensures split { IfOk result
+        (λ news. IsSplit (vec_len olds) count (map_at olds.items) (map_at news.items)) }
     ensures fit { IfOk result (λ news. AreFit count news.items) }
-    ensures small { IfOk result (λ news. AreWithin (2 ^ 40) count news.items) }
+    ensures small { IfOk result (λ news. HaveRoomWithin (2 ^ 40) count news.items) }
 {
     let mut news = empty_maps(alloc, count)?;
     for old in olds {
@@ -65,9 +66,10 @@ pub(crate) fn deal_all(
 /// `NoRoom`: the first map that needs more.
 pub(crate) fn test_rooms(news: &[Image], cap: u64) -> Result<(), SplitFault>
     requires few { length news.now ≤ 64 }
-    requires small { AreWithin (2 ^ 40) (length news.now) news.now }
-    ensures ok { OnOk result (AreWithin cap (length news.now) news.now) }
-    ensures full { IfErr result (λ fault. (s : ℕ) × (fault ≡ SplitFault.NoRoom s) × IsFirstAbove cap s news.now) }
+    requires small { HaveRoomWithin (2 ^ 40) (length news.now) news.now }
+    ensures ok { OnOk result (HaveRoomWithin cap (length news.now) news.now) }
+    ensures full { IfErr result (λ fault. (s : ℕ) × (fault ≡ SplitFault.NoRoom s)
+        × IsFirstAbove cap s news.now) }
 {
     for shard in 0..news.len() {
         if state_size(&news[shard]) > cap {

@@ -18,7 +18,8 @@ pub(crate) fn take<T>(list: &mut Vec<T>, place: usize) -> T
 pub(crate) fn put<T>(list: &mut Vec<T>, place: usize, value: T)
     requires place { place < vec_len list.old + 1 }
     requires room { vec_len list.old < vec_capacity list.old }
-    ensures items { (all : List T) (taken : T) → place < length all → list.old.items ≡ swap_remove all place taken
+    ensures items { (all : List T) (taken : T) → place < length all
+        → list.old.items ≡ swap_remove all place taken
         → list.new.items ≡ set all place value }
     ensures len { vec_len list.new ≡ vec_len list.old + 1 }
 {

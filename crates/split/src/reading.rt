@@ -1,9 +1,9 @@
 //! The streams that the slots of old shards hold.
 ghost use Rattle.std.specs.Prelude.{◌≡◌, ◌<◌, ◌≤◌, ◌+◌, ◌^◌, List, set, IfOk, IfErr, vec_len};
 ghost use Rattle.segment.specs.Segments.{owner_of};
-ghost use Rattle.split.specs.Maps.{map_at, AreFit, AreWithin};
-ghost use Rattle.split.specs.Splits.{pair_at, EachPair, IsAtRest, IsRead, IsRefusal, IsCause};
-ghost use Rattle.split.specs.Stages.{IsOpened};
+ghost use Rattle.split.specs.Maps.{map_at, AreFit, HaveRoomWithin};
+ghost use Rattle.split.specs.Splits.{pair_at, EachPair, IsAtRest, IsOldShardRead, IsOldShardRefused, IsCause};
+ghost use Rattle.split.specs.Stages.{IsOldShardOpened};
 
 use crate::fault::SplitFault;
 use crate::moving::{put, take};
@@ -23,9 +23,10 @@ fn read_pair<D: Disk>(
     requires shard { (shard < count) × (count ≤ 64) }
     requires cap { cap ≤ 2 ^ 30 }
     ensures rests { IsAtRest D.sight D.follows given result.1 }
-    ensures read { IfOk result.0 (λ m. IsOpened D.sight D.follows (owner_of shard count) given result.1 m) }
+    ensures read { IfOk result.0
+        (λ m. IsOldShardOpened D.sight D.follows (owner_of shard count) given result.1 m) }
     ensures refused { IfErr result.0 (λ fault.
-        IsRefusal D.sight D.follows (owner_of shard count) given result.1 fault) }
+        IsOldShardRefused D.sight D.follows (owner_of shard count) given result.1 fault) }
 {
     match Wal::open(alloc, given, shard, count, cap) {
         Ok((log, image)) => {
@@ -50,12 +51,15 @@ fn read_at<D: Disk>(
     requires cap { cap ≤ 2 ^ 30 }
     ensures set { old.new.items ≡ set old.old.items shard (pair_at old.new.items shard) }
     ensures len { vec_len old.new ≡ vec_len old.old }
-    ensures rests { IsAtRest D.sight D.follows (pair_at old.old.items shard) (pair_at old.new.items shard) }
+    ensures rests { IsAtRest D.sight D.follows (pair_at old.old.items shard)
+        (pair_at old.new.items shard) }
     ensures read { IfOk result (λ m.
-        IsOpened D.sight D.follows (owner_of shard (vec_len old.old)) (pair_at old.old.items shard)
+        IsOldShardOpened D.sight D.follows (owner_of shard (vec_len old.old))
+        (pair_at old.old.items shard)
         (pair_at old.new.items shard) m) }
     ensures refused { IfErr result (λ fault.
-        IsRefusal D.sight D.follows (owner_of shard (vec_len old.old)) (pair_at old.old.items shard)
+        IsOldShardRefused D.sight D.follows (owner_of shard (vec_len old.old))
+        (pair_at old.old.items shard)
         (pair_at old.new.items shard) fault) }
 {
     let count = old.len() as u32;
@@ -81,10 +85,12 @@ pub(crate) fn read_all<D: Disk>(
     ensures rests { EachPair (λ _. IsAtRest D.sight D.follows) old.old.items old.new.items }
     ensures images { IfOk result (λ maps. vec_len maps ≡ vec_len old.old) }
     ensures read { IfOk result (λ maps. EachPair
-        (λ s given back. IsRead D.sight D.follows (owner_of s (vec_len old.old)) given back (map_at maps.items s))
+        (λ s given back. IsOldShardRead D.sight D.follows (owner_of s (vec_len old.old)) given back
+        (map_at maps.items s))
         old.old.items old.new.items) }
     ensures fit { IfOk result (λ maps. AreFit (vec_len old.old) maps.items) }
-    ensures small { IfOk result (λ maps. AreWithin (2 ^ 31 + 27) (vec_len old.old) maps.items) }
+    ensures small { IfOk result
+        (λ maps. HaveRoomWithin (2 ^ 31 + 27) (vec_len old.old) maps.items) }
     ensures refused { IfErr result (λ fault. (new : List (List D))
         → IsCause D.sight D.follows fault cap old.old.items old.new.items new new) }
 {

@@ -1,6 +1,6 @@
 //! Shards split into another number of shards.
 ghost use Rattle.std.specs.Prelude.{◌≡◌, ◌<◌, ◌≤◌, ◌^◌, IfOk, IfErr, OnOk, vec_len};
-ghost use Rattle.split.specs.Splits.{back, EachPair, IsBefore, IsAtRest, AreSplit, IsCause};
+ghost use Rattle.split.specs.Splits.{back, EachPair, HaveFollowed, IsAtRest, AreSplit, IsCause};
 
 use crate::dealing::{deal_all, test_rooms};
 use crate::fault::SplitFault;
@@ -31,8 +31,8 @@ pub struct Slots<D> {
 /// `Old`: the first old shard whose slots are refused. `NotEmpty`: all were read, and this is the first slot of a new
 /// shard that holds something. `NoRoom`: all new slots are empty, and this is the first new shard whose streams need
 /// more room than `cap`. Up to there nothing was written. `Device`: a device of this new shard failed, and no other.
-/// `Memory`: want of memory, but for the opening of an old shard. After any fault what the new slots hold is to be given
-/// up.
+/// `Memory`: want of memory, but for the opening of an old shard. After any fault what the new slots hold is to be
+/// given up.
 pub fn split<D: Disk>(
     alloc: Global,
     old: Vec<[D; 2]>,
@@ -42,10 +42,13 @@ pub fn split<D: Disk>(
     requires old { (0 < vec_len old) × (vec_len old ≤ 64) }
     requires new { (0 < vec_len new) × (vec_len new ≤ 64) }
     requires cap { cap ≤ 2 ^ 30 }
-    ensures lengths { (vec_len (back result).old ≡ vec_len old) × (vec_len (back result).new ≡ vec_len new) }
+    ensures lengths { (vec_len (back result).old ≡ vec_len old)
+        × (vec_len (back result).new ≡ vec_len new) }
     // A crash at any moment leaves of the old slots only what it could have left at the start.
-    ensures old_rests { EachPair (λ _. IsAtRest D.sight D.follows) old.items (back result).old.items }
-    ensures new_before { EachPair (λ _. IsBefore D.sight D.follows) new.items (back result).new.items }
+    ensures old_rests { EachPair (λ _. IsAtRest D.sight D.follows) old.items
+        (back result).old.items }
+    ensures new_before { EachPair (λ _. HaveFollowed D.sight D.follows) new.items
+        (back result).new.items }
     ensures split { IfOk result (λ it.
         AreSplit D.sight D.follows cap old.items it.old.items new.items it.new.items) }
     ensures cause { IfErr result (λ e.
@@ -72,11 +75,13 @@ fn split_over<D: Disk>(
     requires cap { cap ≤ 2 ^ 30 }
     ensures lengths { (vec_len old.new ≡ vec_len old.old) × (vec_len new.new ≡ vec_len new.old) }
     ensures old_rests { EachPair (λ _. IsAtRest D.sight D.follows) old.old.items old.new.items }
-    ensures new_before { EachPair (λ _. IsBefore D.sight D.follows) new.old.items new.new.items }
+    ensures new_before { EachPair
+        (λ _. HaveFollowed D.sight D.follows) new.old.items new.new.items }
     ensures split { OnOk result
         (AreSplit D.sight D.follows cap old.old.items old.new.items new.old.items new.new.items) }
     ensures cause { IfErr result (λ fault.
-        IsCause D.sight D.follows fault cap old.old.items old.new.items new.old.items new.new.items) }
+        IsCause D.sight D.follows fault cap old.old.items old.new.items new.old.items
+        new.new.items) }
 {
     let count = new.len() as u32;
     let olds = read_all(alloc, old, cap)?;

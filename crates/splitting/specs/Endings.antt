@@ -24,9 +24,12 @@ split_line old new = codes "split " ++ decimal old ++ codes " to " ++ decimal ne
 
 -- How it ended, by what its output held before and after: its words or its setting were wrong; or it split as the words
 -- say; or it stopped, and where that is not for its output, it said nothing.
-pub data SplitEnds (words : List (String Global)) (before after : Option (List ℕ)) (status : ℕ) : Type 0 where
+pub data SplitEnds (words : List (String Global)) (before after : Option (List ℕ))
+    (status : ℕ) : Type 0 where
   unasked_split : status ≡ 2 → after ≡ before → SplitEnds words before after status
-  divided_split : (said : SplitWords) → SaysSplit words said → (shards : ℕ) → 1 ≤ shards → shards ≤ 64
-      → Appends before after (split_line shards said.shards) → status ≡ 0 → SplitEnds words before after status
+  divided_split : (said : SplitWords) → SaysSplit words said → (shards : ℕ) → 1 ≤ shards
+      → shards ≤ 64
+      → Appends before after (split_line shards said.shards) → status ≡ 0
+      → SplitEnds words before after status
   stopped_split : (stop : Stopped) → (stop ≡ Output) ⊎ (after ≡ before) → status ≡ split_status stop
       → SplitEnds words before after status

@@ -21,4 +21,5 @@ pub record SaysOfSplit (old new count : List ℕ) (split : SplitWords) : Type 0 
 -- the split that the words say
 pub record SaysSplit (words : List (String Global)) (split : SplitWords) : Type 0 where
   pub given : GiveSplit words
-  pub says : SaysOfSplit (string_bytes given.old) (string_bytes given.new) (string_bytes given.count) split
+  pub says : SaysOfSplit (string_bytes given.old) (string_bytes given.new)
+      (string_bytes given.count) split

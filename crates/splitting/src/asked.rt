@@ -21,7 +21,8 @@ pub fn split_in(words: &[String]) -> Option<SplitWords<'_>>
 }
 
 fn split_of<'a>(old: &'a str, new: &'a str, count: &str) -> Option<SplitWords<'a>>
-    ensures named { MatchOption result (¬ IsNumberIn 1 64 count.now) (λ _. IsNumberIn 1 64 count.now) }
+    ensures named { MatchOption result
+        (¬ IsNumberIn 1 64 count.now) (λ _. IsNumberIn 1 64 count.now) }
     ensures says { IfSome result (SaysOfSplit old.now new.now count.now) }
 {
     let shards = time_of(count)?;

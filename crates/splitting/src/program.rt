@@ -47,7 +47,8 @@ pub fn run_walsplit<R: Files<File = File>, W: Write, E: Write>(
     marks: Option<Stderr>,
 ) -> u8
     ensures status { result ≤ 3 }
-    ensures usage { (result ≡ 2) ↔ (¬ (GiveSplit words.now × GivesCapacity (option_map (λ s. s.now) setting.entry))) }
+    ensures usage { (result ≡ 2)
+        ↔ (¬ (GiveSplit words.now × GivesCapacity (option_map (λ s. s.now) setting.entry))) }
     ensures ends { SplitEnds words.now (W.contents output.old) (W.contents output.new) result }
 {
     let Some(words) = split_in(words) else {
@@ -78,7 +79,8 @@ fn split_and_print<R: Files<File = File>, W: Write>(
 ) -> Result<(), Stopped>
     requires { capacity ≤ 2 ^ 30 }
     ensures said { OnOk result ((shards : ℕ) × (1 ≤ shards) × (shards ≤ 64)
-        × Appends (W.contents output.old) (W.contents output.new) (split_line shards words.entry.shards)) }
+        × Appends (W.contents output.old) (W.contents output.new)
+        (split_line shards words.entry.shards)) }
     ensures stopped { IfErr result (λ stop. (stop ≡ Stopped.Output)
         ⊎ (W.contents output.new ≡ W.contents output.old)) }
 {
@@ -147,8 +149,10 @@ fn split_slots<D: Disk + Drop>(
     requires capacity { capacity ≤ 2 ^ 30 }
     ensures done { OnOk result ((backs : Slots D)
         × AreSplit D.sight D.follows capacity old.items backs.old.items new.items backs.new.items) }
-    ensures cause { IfErr result (λ stop. (fault : SplitFault) × (backs : Slots D) × (stop ≡ Stopped.Split fault)
-        × IsCause D.sight D.follows fault capacity old.items backs.old.items new.items backs.new.items) }
+    ensures cause { IfErr result (λ stop. (fault : SplitFault) × (backs : Slots D)
+        × (stop ≡ Stopped.Split fault)
+        × IsCause D.sight D.follows fault capacity old.items backs.old.items new.items
+        backs.new.items) }
 {
     match split(alloc, old, new, capacity) {
         Ok(_slots) => Ok(()),

@@ -15,7 +15,7 @@ use Rattle.history.specs.Shards.{shard_of}
 use Rattle.history.specs.Histories.{shard_in, step_of, HaveSteps, asks_on}
 use Rattle.history.specs.Plays.{ask_of, before_of, announce_to, IsRested}
 use Rattle.history.specs.Handles.{Announced, Booked, Passed, Received, longer}
-use Rattle.threads.specs.Windows.{asks_in, AreTo, IsWindow, MayFollowIn, with_step}
+use Rattle.threads.specs.Windows.{asks_received, AreTo, IsWindow, MayFollowIn, with_step_of_shard}
 use Rattle.history.proofs.Past.{have_more, have_last, made_now}
 
 cond_asks : (b : Bool) (a : Ask) (xs ys : List Ask) → cond b (a ∷ (xs ++ ys)) (xs ++ ys) ≡ cond b (a ∷ xs) xs ++ ys
@@ -31,10 +31,10 @@ pub at_shard : (about : About) (a : Ask) (call : Call) (key : StreamKey) (n k : 
 unfolding shard_of
 at_shard about a call key n k e two is at it = (λ i. shard (key_of (e i)) (two i)) ∙ ap (λ (x : StreamKey). shard x 2) (sym is) ∙ sym at ∙ it
 
-pub with_step_here : (about : About) (k : ℕ) (book : Booked) (s : Step) → k ≡ shard_in about s.ask → with_step about k book s ≡ longer book (Answered s)
+pub with_step_here : (about : About) (k : ℕ) (book : Booked) (s : Step) → k ≡ shard_in about s.ask → with_step_of_shard about k book s ≡ longer book (Answered s)
 with_step_here about k book s here = ap (λ (b : Bool). cond b (longer book (Answered s)) book) (eq-eqb k (shard_in about s.ask) here)
 
-pub with_step_there : (about : About) (k : ℕ) (book : Booked) (s : Step) → k ≢ shard_in about s.ask → with_step about k book s ≡ book
+pub with_step_there : (about : About) (k : ℕ) (book : Booked) (s : Step) → k ≢ shard_in about s.ask → with_step_of_shard about k book s ≡ book
 with_step_there about k book s there = ap (λ (b : Bool). cond b (longer book (Answered s)) book) (ne_eqb k (shard_in about s.ask) there)
 
 -- a call that is announced may follow the open ones of its shard
@@ -49,12 +49,12 @@ had_one about k pending a r book true had =
 had_one about k pending a r book false had = subst (λ (l : List Ask). HaveSteps l book.items) (sym (append-nil (asks_on about k pending))) had
 
 -- one open call more, whose step is in the book of its shard
-pub had_more : (about : About) (k : ℕ) (pending pending' : List Ask) (a : Ask) (r : Reply) (book book' : Booked) → pending' ≡ pending ++ a ∷ [] → book' ≡ with_step about k book (step_of a r) → HaveSteps (asks_on about k pending) book.items → HaveSteps (asks_on about k pending') book'.items
+pub had_more : (about : About) (k : ℕ) (pending pending' : List Ask) (a : Ask) (r : Reply) (book book' : Booked) → pending' ≡ pending ++ a ∷ [] → book' ≡ with_step_of_shard about k book (step_of a r) → HaveSteps (asks_on about k pending) book.items → HaveSteps (asks_on about k pending') book'.items
 had_more about k pending pending' a r book book' more is had =
     subst (λ (z : List Ask × Booked). HaveSteps (asks_on about k z.0) z.1.items) (λ i. (sym more i, sym is i))
-    (subst (λ (l : List Ask). HaveSteps l (with_step about k book (step_of a r)).items) (sym (asks_on_append about k pending (a ∷ []))) (had_one about k pending a r book (eqb k (shard_in about a)) had))
+    (subst (λ (l : List Ask). HaveSteps l (with_step_of_shard about k book (step_of a r)).items) (sym (asks_on_append about k pending (a ∷ []))) (had_one about k pending a r book (eqb k (shard_in about a)) had))
 
-asks_last : (rs : List Received) (r : Received) → asks_in (rs ++ r ∷ []) ≡ asks_in rs ++ r.step.ask ∷ []
+asks_last : (rs : List Received) (r : Received) → asks_received (rs ++ r ∷ []) ≡ asks_received rs ++ r.step.ask ∷ []
 asks_last [] r = refl
 asks_last (x ∷ rs) r = ap (λ l. x.step.ask ∷ l) (asks_last rs r)
 

@@ -12,9 +12,9 @@ use Rattle.history.specs.Plays.{IsRested}
 use Rattle.history.specs.Handles.{Announced, Booked, Passed, Received, longer}
 
 -- the calls of these answers
-abbrev pub asks_in : List Received → List Ask
-asks_in [] = []
-asks_in (r ∷ rs) = r.step.ask ∷ asks_in rs
+abbrev pub asks_received : List Received → List Ask
+asks_received [] = []
+asks_received (r ∷ rs) = r.step.ask ∷ asks_received rs
 
 -- the answers are to this pass
 abbrev pub AreTo : TableId → ℕ → List Received → Type 0
@@ -22,10 +22,11 @@ AreTo table p [] = Unit {0}
 AreTo table p (r ∷ rs) = (r.table ≡ table) × (r.step.ask.pass ≡ p) × AreTo table p rs
 
 -- a pass of the opening, and the answers to its open calls, in their order
-pub record IsWindow (table : TableId) (about : About) (pass : Passed) (answers : List Received) : Type 0 where
+pub record IsWindow (table : TableId) (about : About) (pass : Passed)
+    (answers : List Received) : Type 0 where
   pub table_is : pass.table ≡ table
   pub about_is : pass.caller.about ≡ about
-  pub answers_are : asks_in answers ≡ pass.caller.pending
+  pub answers_are : asks_received answers ≡ pass.caller.pending
   pub theirs : AreTo table pass.caller.pass answers
   pub rested : (pass.caller.pending ≡ []) ⊎ IsRested pass.caller
 
@@ -44,14 +45,16 @@ pub record AreBooks (table : TableId) (about : About) (zero one : Booked) : Type
   pub one_at : one.shard ≡ 1
 
 -- the books of an opening of two shards, and two of its passes, with no open call
-pub record IsOpening (table : TableId) (about : About) (zero one : Booked) (first second : Passed) : Type 0 where
+pub record IsOpeningOfTwo (table : TableId) (about : About) (zero one : Booked)
+    (first second : Passed) : Type 0 where
   pub books_are : AreBooks table about zero one
   pub first_is : IsWindow table about first []
   pub second_is : IsWindow table about second []
 
 -- a thread has this opening's table, at most 64 calls, and a pass with no open call
 abbrev pub IsThreadReady : TableId → About → TableId → List Call → Passed → Type 0
-IsThreadReady table about history calls pass = (history ≡ table) × (length calls ≤ 64) × IsWindow table about pass []
+IsThreadReady table about history calls pass = (history ≡ table) × (length calls ≤ 64)
+    × IsWindow table about pass []
 
 -- the open calls of a pass have steps in the book of their shard
 abbrev pub HaveAll : About → List Ask → Booked → Booked → Type 0
@@ -63,5 +66,6 @@ abbrev pub MayFollowIn : About → ℕ → Announced → Booked → Type 0
 MayFollowIn about k ticket book = k ≡ shard_in about ticket.ask → HaveSteps ticket.before book.items
 
 -- the book of shard k, with this step if it is the shard's
-abbrev pub with_step : About → ℕ → Booked → Step → Booked
-with_step about k book s = if k == shard_in about s.ask then longer book (Answered s) else book
+abbrev pub with_step_of_shard : About → ℕ → Booked → Step → Booked
+with_step_of_shard about k book s =
+    if k == shard_in about s.ask then longer book (Answered s) else book

@@ -1,6 +1,6 @@
 //! One lock for each of a list of values, taken by many threads.
 ghost use Rattle.std.specs.Prelude.{◌≡◌, ◌+◌, ◌<◌, ◌≤◌, ℕ, [], ◌∷◌, length, vec_len, slice_get, Some, IfSome};
-ghost use Rattle.keyed.specs.Grips.{count_of, key_of};
+ghost use Rattle.keyed.specs.Grips.{count_of, key_of_locks};
 
 use keyed::{Fits, Locks};
 use std::alloc::{AllocError, Global};
@@ -30,7 +30,7 @@ type Counters = Locks<Counter, u64, AtHome>;
 // Locks with the key 1000.
 fn counters(alloc: Global, count: usize) -> Option<Counters>
     requires { count < 100 }
-    ensures { IfSome result (λ l. (count_of l ≡ count) × (key_of l ≡ 1000)) }
+    ensures { IfSome result (λ l. (count_of l ≡ count) × (key_of_locks l ≡ 1000)) }
 {
     let mut values = Vec::with_capacity(alloc, count).ok()?;
     for number in 0..count {

@@ -37,7 +37,15 @@ trait Room {
 }
 
 impl Room for Brand {
-    ghost table = { record { words = 0; slots = 0; views_name = 0; atom = 0; block = 0; offset = 0; slot_names = [] } };
+    ghost table = { record {
+      words = 0;
+      slots = 0;
+      views_name = 0;
+      atom = 0;
+      block = 0;
+      offset = 0;
+      slot_names = [];
+    } };
 }
 
 /// The book of the one shard, whose log has not failed. Contracts see the length of its history.
@@ -55,7 +63,8 @@ impl<J: Room> Model for Desk<J> {
 
     ghost view = { λ d. length d.book.items };
 
-    ghost invariant = { λ d. (d.book.table ≡ J.table) × (d.book.about.shards ≡ 1) × (d.book.shard ≡ 0)
+    ghost invariant = { λ d. (d.book.table ≡ J.table) × (d.book.about.shards ≡ 1)
+        × (d.book.shard ≡ 0)
         × (is_marked d.book.items ≡ false) };
 }
 
@@ -92,11 +101,14 @@ pub(crate) fn read_call(alloc: Global, value: &str) -> Option<Call>
 
 /// The history of one shard, its book, and two passes.
 fn open(alloc: Global) -> Result<(History, Book, Pass, Pass), Fail>
-    ensures book { IfOk result (λ it. (it.1.table ≡ it.0) × (it.1.about.shards ≡ 1) × (it.1.shard ≡ 0)
+    ensures book { IfOk result (λ it. (it.1.table ≡ it.0) × (it.1.about.shards ≡ 1)
+        × (it.1.shard ≡ 0)
         × (it.1.items ≡ [])) }
-    ensures one { IfOk result (λ it. (it.2.table ≡ it.0) × (it.2.caller.about.shards ≡ 1) × (it.2.caller.pending ≡ [])
+    ensures one { IfOk result (λ it. (it.2.table ≡ it.0) × (it.2.caller.about.shards ≡ 1)
+        × (it.2.caller.pending ≡ [])
         × (it.2.caller.last ≡ 0)) }
-    ensures two { IfOk result (λ it. (it.3.table ≡ it.0) × (it.3.caller.about.shards ≡ 1) × (it.3.caller.pending ≡ [])
+    ensures two { IfOk result (λ it. (it.3.table ≡ it.0) × (it.3.caller.about.shards ≡ 1)
+        × (it.3.caller.pending ≡ [])
         × (it.3.caller.last ≡ 0)) }
 {
     let bases = vec![in alloc; Image::new(alloc)]?;
@@ -145,9 +157,11 @@ fn calls<J: Room>(
     mut pass: Pass,
 ) -> Option<Pass>
     requires history { history.now ≡ J.table }
-    requires pass { (pass.table ≡ J.table) × (pass.caller.about.shards ≡ 1) × (pass.caller.pending ≡ [])
+    requires pass { (pass.table ≡ J.table) × (pass.caller.about.shards ≡ 1)
+        × (pass.caller.pending ≡ [])
         × (pass.caller.last ≡ 0) }
-    ensures pass { IfSome result (λ p. (p.table ≡ J.table) × (p.caller.about.shards ≡ 1) × (p.caller.pending ≡ [])) }
+    ensures pass { IfSome result (λ p. (p.table ≡ J.table) × (p.caller.about.shards ≡ 1)
+        × (p.caller.pending ≡ [])) }
     ensures number { IfSome result (λ p. p.caller.last ≡ 100) }
 {
     let read = read_call(alloc, "1")?;
@@ -168,7 +182,8 @@ fn both_call<J: Room + Send + Sync, R: Threads + Wait + Abort + Sync>(
     two: Pass,
 ) -> Result<(), Fail>
     requires history { history ≡ J.table }
-    requires book { (book.table ≡ J.table) × (book.about.shards ≡ 1) × (book.shard ≡ 0) × (book.items ≡ []) }
+    requires book { (book.table ≡ J.table) × (book.about.shards ≡ 1) × (book.shard ≡ 0)
+        × (book.items ≡ []) }
     requires one { (one.table ≡ J.table) × (one.caller.about.shards ≡ 1) × (one.caller.pending ≡ [])
         × (one.caller.last ≡ 0) }
     requires two { (two.table ≡ J.table) × (two.caller.about.shards ≡ 1) × (two.caller.pending ≡ [])
@@ -182,12 +197,14 @@ fn both_call<J: Room + Send + Sync, R: Threads + Wait + Abort + Sync>(
     let (one, two) = join(
         rt,
         move || -> Option<Pass>
-            requires { (history.now ≡ J.table) × (one.table ≡ J.table) × (one.caller.about.shards ≡ 1)
+            requires { (history.now ≡ J.table) × (one.table ≡ J.table)
+                × (one.caller.about.shards ≡ 1)
                 × (one.caller.pending ≡ []) × (one.caller.last ≡ 0) }
             ensures { IfSome result (λ p. (p.table ≡ J.table) × (p.caller.about.shards ≡ 1)) }
         { calls(rt, alloc, history, desk, one) },
         move || -> Option<Pass>
-            requires { (history.now ≡ J.table) × (two.table ≡ J.table) × (two.caller.about.shards ≡ 1)
+            requires { (history.now ≡ J.table) × (two.table ≡ J.table)
+                × (two.caller.about.shards ≡ 1)
                 × (two.caller.pending ≡ []) × (two.caller.last ≡ 0) }
             ensures { IfSome result (λ p. (p.table ≡ J.table) × (p.caller.about.shards ≡ 1)) }
         { calls(rt, alloc, history, desk, two) },

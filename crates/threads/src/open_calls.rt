@@ -4,7 +4,7 @@ ghost use Rattle.accept.specs.declared.call.Reply.TheVariants.{Unavailable};
 ghost use Rattle.accept.specs.declared.history.Item.TheVariants.{Answered};
 ghost use Rattle.history.specs.Histories.{HaveSteps, shard_in, step_of};
 ghost use Rattle.history.specs.Handles.{longer};
-ghost use Rattle.threads.specs.Windows.{AreBooks, HaveAll, IsMarkedBook, IsOpening, IsThreadReady, IsWindow, MayFollowIn, with_step};
+ghost use Rattle.threads.specs.Windows.{AreBooks, HaveAll, IsMarkedBook, IsOpeningOfTwo, IsThreadReady, IsWindow, MayFollowIn, with_step_of_shard};
 
 use crate::meetings::{Memory, read_call};
 use accept::{Call, Image, Limits, Reply};
@@ -34,7 +34,15 @@ trait Opening {
 impl Opening for Brand {
     ghost use Rattle.history.specs.Handles.{no_about};
 
-    ghost table = { record { words = 0; slots = 0; views_name = 0; atom = 0; block = 0; offset = 0; slot_names = [] } };
+    ghost table = { record {
+      words = 0;
+      slots = 0;
+      views_name = 0;
+      atom = 0;
+      block = 0;
+      offset = 0;
+      slot_names = [];
+    } };
 
     ghost about = { no_about };
 }
@@ -65,8 +73,9 @@ fn refuse<J: Opening>(
     requires books { AreBooks J.table J.about zero.old one.old }
     requires order { MayFollowIn J.about 0 ticket zero.old × MayFollowIn J.about 1 ticket one.old }
     ensures books { AreBooks J.table J.about zero.new one.new }
-    ensures zero { zero.new ≡ with_step J.about 0 zero.old (step_of ticket.ask Unavailable) }
-    ensures one { one.new ≡ with_step J.about 1 one.old (step_of ticket.ask Unavailable) }
+    ensures zero { zero.new ≡ with_step_of_shard J.about 0 zero.old
+        (step_of ticket.ask Unavailable) }
+    ensures one { one.new ≡ with_step_of_shard J.about 1 one.old (step_of ticket.ask Unavailable) }
     ensures table { result.1.table ≡ J.table }
     ensures step { result.1.step ≡ step_of ticket.ask Unavailable }
 {
@@ -220,7 +229,7 @@ fn both_call<J: Opening + Send + Sync, R: Threads + Wait + Abort + Sync>(
 ) -> Result<(), Fail>
     requires history { history.now ≡ J.table }
     requires few { length calls.now ≤ 64 }
-    requires opening { IsOpening J.table J.about books.0 books.1 one two }
+    requires opening { IsOpeningOfTwo J.table J.about books.0 books.1 one two }
 {
     let (zero, first) = books;
     let books = Mutex::new(Books::<J> {
@@ -252,7 +261,7 @@ fn both_call<J: Opening + Send + Sync, R: Threads + Wait + Abort + Sync>(
 
 /// A history of two shards, their books, each with a failure mark, and two passes.
 fn open(alloc: Global) -> Result<(History, (Book, Book), Pass, Pass), Fail>
-    ensures { IfOk result (λ it. IsOpening it.0 it.2.caller.about it.1.0 it.1.1 it.2 it.3) }
+    ensures { IfOk result (λ it. IsOpeningOfTwo it.0 it.2.caller.about it.1.0 it.1.1 it.2 it.3) }
 {
     let bases = vec![in alloc; Image::new(alloc), Image::new(alloc)]?;
     let (history, mut books, mut passes) = History::new(alloc, &bases, 2, Limits::PROFILE, 4_096)?;

@@ -27,7 +27,8 @@ const FIRST: u64 = 1_001;
 
 /// A queue with room for two messages.
 fn numbers(alloc: Global) -> Result<(Sends, Receives), Fail>
-    ensures { IfOk result (λ ends. (sends_to ends.0 ≡ Bound 1000 1) × (receives_as ends.1 ≡ Bound 1000 1)) }
+    ensures { IfOk result (λ ends. (sends_to ends.0 ≡ Bound 1000 1)
+        × (receives_as ends.1 ≡ Bound 1000 1)) }
 {
     Ok(queue(alloc, 2, &1_000, 1)?)
 }

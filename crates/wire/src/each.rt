@@ -57,7 +57,8 @@ impl Each {
     /// The manner of the run at this place.
     pub fn manner(self, manner: Manner, place: usize) -> Manner
         ensures cut { self ≡ Each.Cut → result ≡ record manner { length = place } }
-        ensures fails { self ≡ Each.Fails → result ≡ record manner { length = place; fails = true } }
+        ensures fails { self ≡ Each.Fails
+            → result ≡ record manner { length = place; fails = true } }
         ensures room { self ≡ Each.Room → result ≡ record manner { room = place } }
         ensures step { self ≡ Each.Step → result ≡ record manner { step = max place 1 } }
     {

@@ -47,7 +47,8 @@ SaysClock words now = (given : GiveClock words) × (now ≡ value (string_bytes 
 
 -- a port, 1 to 64 shards and 1 to 64 workers
 abbrev pub NameServer : List ℕ → List ℕ → List ℕ → Type 0
-NameServer port shards workers = IsNumberIn 0 65535 port × IsNumberIn 1 64 shards × IsNumberIn 1 64 workers
+NameServer port shards workers = IsNumberIn 0 65535 port × IsNumberIn 1 64 shards
+    × IsNumberIn 1 64 workers
 
 -- nothing, or after how many connections the server ends
 abbrev pub IsLimit : List (String Global) → Type 0
@@ -83,7 +84,8 @@ connections_of (limit ∷ more) = Some (value (string_bytes limit))
 -- the server that the words say
 pub record SaysServer (words : List (String Global)) (server : ServerWords) : Type 0 where
   pub given : GiveServer words
-  pub says : SaysOfServer (string_bytes given.folder) (string_bytes given.port) (string_bytes given.shards)
+  pub says : SaysOfServer (string_bytes given.folder) (string_bytes given.port)
+      (string_bytes given.shards)
       (string_bytes given.workers) (connections_of given.limit) server
 
 -- what is asked for
@@ -97,7 +99,8 @@ IsVerb verb = (verb ≡ codes "push") ⊎ ((verb ≡ codes "read") ⊎ (verb ≡
 
 -- what is asked for, of 1 to 64 shards, by a lawful tenant, at a time
 abbrev pub NameCall : List ℕ → List ℕ → List ℕ → List ℕ → Type 0
-NameCall verb shards tenant now = IsVerb verb × IsNumberIn 1 64 shards × IsTrue (is_tenant tenant) × IsTime now
+NameCall verb shards tenant now = IsVerb verb × IsNumberIn 1 64 shards × IsTrue (is_tenant tenant)
+    × IsTime now
 
 -- five words: what is asked for, a folder, the number of shards, a tenant, and the clock
 pub record GiveCall (words : List (String Global)) : Type 0 where
@@ -107,7 +110,8 @@ pub record GiveCall (words : List (String Global)) : Type 0 where
   pub tenant : String Global
   pub now : String Global
   pub words_are : words ≡ verb ∷ folder ∷ shards ∷ tenant ∷ now ∷ []
-  pub named : NameCall (string_bytes verb) (string_bytes shards) (string_bytes tenant) (string_bytes now)
+  pub named : NameCall (string_bytes verb) (string_bytes shards) (string_bytes tenant)
+      (string_bytes now)
 
 -- what names a call says of it, where there is memory for its tenant's name
 pub record SaysOfCall (verb folder shards tenant now : List ℕ) (call : CallWords) : Type 0 where
@@ -120,7 +124,8 @@ pub record SaysOfCall (verb folder shards tenant now : List ℕ) (call : CallWor
 -- the call that the words say
 pub record SaysCall (words : List (String Global)) (call : CallWords) : Type 0 where
   pub given : GiveCall words
-  pub says : SaysOfCall (string_bytes given.verb) (string_bytes given.folder) (string_bytes given.shards)
+  pub says : SaysOfCall (string_bytes given.verb) (string_bytes given.folder)
+      (string_bytes given.shards)
       (string_bytes given.tenant) (string_bytes given.now) call
 
 -- what the environment says of a slot's bytes: nothing, or 4,096 to 2^30 of them

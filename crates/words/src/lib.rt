@@ -70,7 +70,8 @@ pub fn place_in(words: &[String]) -> Option<ShardPlace>
 }
 
 fn place_of(shard: &str, count: &str) -> Option<ShardPlace>
-    ensures { MatchOption result (¬ NameShard shard.now count.now) (λ place. NameShard shard.now count.now
+    ensures { MatchOption result
+        (¬ NameShard shard.now count.now) (λ place. NameShard shard.now count.now
         × (place.shard ≡ value shard.now) × (place.count ≡ value count.now)) }
 {
     let shard = time_of(shard)?;
@@ -86,7 +87,8 @@ fn place_of(shard: &str, count: &str) -> Option<ShardPlace>
 
 /// The clock that the word `NOW` gives: `None` where the words are not one such word.
 pub fn clock_in(words: &[String]) -> Option<u64>
-    ensures given { MatchOption result (¬ GiveClock words.now) (λ now. (now < 2 ^ 63) × GiveClock words.now) }
+    ensures given { MatchOption result
+        (¬ GiveClock words.now) (λ now. (now < 2 ^ 63) × GiveClock words.now) }
     ensures says { IfSome result (SaysClock words.now) }
 {
     match words {
@@ -97,7 +99,8 @@ pub fn clock_in(words: &[String]) -> Option<u64>
 
 // A number in decimal digits, within these bounds.
 fn number_in(text: &str, least: u64, most: u64) -> Option<u64>
-    ensures { MatchOption result (¬ IsNumberIn least most text.now) (λ n. IsNumberIn least most text.now
+    ensures { MatchOption result
+        (¬ IsNumberIn least most text.now) (λ n. IsNumberIn least most text.now
         × (n ≡ value text.now)) }
 {
     let number = time_of(text)?;
@@ -112,7 +115,8 @@ fn number_in(text: &str, least: u64, most: u64) -> Option<u64>
 pub fn capacity_in(setting: Option<&str>) -> Option<u64>
     ensures given { MatchOption result (¬ GivesCapacity (option_map (λ s. s.now) setting.entry))
         (λ _. GivesCapacity (option_map (λ s. s.now) setting.entry)) }
-    ensures says { IfSome result (λ capacity. capacity ≡ capacity_of (option_map (λ s. s.now) setting.entry)) }
+    ensures says { IfSome result (λ capacity. capacity
+        ≡ capacity_of (option_map (λ s. s.now) setting.entry)) }
     ensures few { IfSome result (λ capacity. capacity ≤ 2 ^ 30) }
 {
     match setting {
@@ -176,7 +180,8 @@ fn ending_of<'a>(
     ensures named { MatchOption result (¬ (NameServer port.now shards.now workers.now
         × IsNumberIn 1 4294967295 limit.now)) (λ _. NameServer port.now shards.now workers.now
         × IsNumberIn 1 4294967295 limit.now) }
-    ensures says { IfSome result (SaysOfServer folder.now port.now shards.now workers.now (Some (value limit.now))) }
+    ensures says { IfSome result
+        (SaysOfServer folder.now port.now shards.now workers.now (Some (value limit.now))) }
 {
     let endless = endless_of(folder, port, shards, workers)?;
     let limit = number_in(limit, 1, MAX_CONNECTIONS)?;
@@ -246,7 +251,8 @@ fn route_of(verb: &str) -> Option<Route>
 
 // A lawful tenant, where there is memory for its name.
 fn tenant_of(alloc: Global, text: &str) -> Option<Result<Tenant, AllocError>>
-    ensures named { MatchOption result (¬ IsTrue (is_tenant text.now)) (λ _. IsTrue (is_tenant text.now)) }
+    ensures named { MatchOption result
+        (¬ IsTrue (is_tenant text.now)) (λ _. IsTrue (is_tenant text.now)) }
     ensures says { IfSome result (λ tenant. IfOk tenant (λ name. name ≡ text.now)) }
 {
     match Tenant::new(alloc, text) {

@@ -160,7 +160,8 @@ where
     R: Threads + Wait + Sync,
     requires passes { (i : ℕ) (pass : Passed) → slice_get crew.old.passes.items i ≡ Some pass
         → IsPassOf ingester.now pass }
-    requires threads { All (λ thread. thread.promise.0.value ≡ ingester.now) crew.old.threads.items }
+    requires threads { All (λ thread. thread.promise.0.value
+        ≡ ingester.now) crew.old.threads.items }
     ensures passes { (i : ℕ) (pass : Passed) → slice_get crew.new.passes.items i ≡ Some pass
         → IsPassOf ingester.now pass }
     ensures threads { All (λ thread. thread.promise.0.value ≡ ingester.now) crew.new.threads.items }
@@ -191,7 +192,8 @@ fn join_all<D: Disk + Drop, R: Threads>(rt: &R, ingester: &Ingester<D>, crew: Cr
     requires passes { (i : ℕ) (pass : Passed) → slice_get crew.passes.items i ≡ Some pass
         → IsPassOf ingester.now pass }
     requires threads { All (λ thread. thread.promise.0.value ≡ ingester.now) crew.threads.items }
-    ensures passes { (i : ℕ) (pass : Passed) → slice_get result.items i ≡ Some pass → IsPassOf ingester.now pass }
+    ensures passes { (i : ℕ) (pass : Passed) → slice_get result.items i ≡ Some pass
+        → IsPassOf ingester.now pass }
 {
     let _ = ingester;
     let Crew {
@@ -227,7 +229,8 @@ where
     D: Disk + Drop + Send,
     S: Serve<D> + Drop + Send,
     R: Threads + Wait + rt::Clock + Sync,
-    requires passes { (i : ℕ) (pass : Passed) → slice_get passes.items i ≡ Some pass → IsPassOf ingester.now pass }
+    requires passes { (i : ℕ) (pass : Passed) → slice_get passes.items i ≡ Some pass
+        → IsPassOf ingester.now pass }
     ensures passes { (i : ℕ) (pass : Passed) → slice_get result.0.items i ≡ Some pass
         → IsPassOf ingester.now pass }
 {
@@ -238,7 +241,8 @@ where
         thread::scope_env(),
         rt,
         |scope| -> (Vec<Pass>, Result<(), WorkersFault>)
-            requires { (i : ℕ) (pass : Passed) → slice_get passes.items i ≡ Some pass → IsPassOf ingester.now pass }
+            requires { (i : ℕ) (pass : Passed) → slice_get passes.items i ≡ Some pass
+                → IsPassOf ingester.now pass }
             ensures { (i : ℕ) (pass : Passed) → slice_get result.0.items i ≡ Some pass
                 → IsPassOf ingester.entry.now pass }
         {

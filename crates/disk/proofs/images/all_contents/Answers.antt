@@ -1,7 +1,7 @@
 use Rattle.std.proofs.Common.{rules, sym, ap, ◌∙◌, ◌-◌, ℕ, List, [], ◌∷◌, ◌++◌, get_or, true, false, Vec, Global}
 use Rattle.std.proofs.lemmas.List.{with_items_is}
 use Rattle.disk.specs.Images.{contents}
-use Rattle.disk.specs.Fronts.{open_bytes, longer, of_lengths}
+use Rattle.disk.specs.Beginnings.{open_bytes, each_longer, of_lengths}
 use Rattle.disk.proofs.CountLemmas.{of_lengths-suc, of_lengths-before, next-fronts}
 use Rattle.disk.proofs.images.all_contents.Goals as goal
 use Rattle.disk.proofs.images.all_contents.Goals.{then-i-low+in_ok-append_copies, else-i-low, then-mask-i+in_ok-fronts, else-mask-i+in_ok-push_to_each}
@@ -12,12 +12,12 @@ loop-i-preserved c = record {
     | then-mask-i+in_ok-fronts w ↦ next-fronts c.args.mask.now c.args.now.now c.args.values.now c.loop-i.i (contents c.loop-i.fronts.items) (contents c.if-mask-i.fronts.items) true
         c.loop-i.invariant.fronts w.if-mask-i.true
         (ap (λ (v : Vec (Vec ℕ Global) Global). contents v.items) w.fronts-is ∙ w.in_ok-fronts.ensures
-        ∙ ap (λ (xs : List (Vec ℕ Global)). longer (contents xs) c.args.values.now) w.deref-then-mask-i.ensures.value)
+        ∙ ap (λ (xs : List (Vec ℕ Global)). each_longer (contents xs) c.args.values.now) w.deref-then-mask-i.ensures.value)
     | else-mask-i+in_ok-push_to_each w ↦ next-fronts c.args.mask.now c.args.now.now c.args.values.now c.loop-i.i (contents c.loop-i.fronts.items) (contents c.if-mask-i.fronts.items) false
         c.loop-i.invariant.fronts w.if-mask-i.false
         (ap (λ (v : Vec (Vec ℕ Global) Global). contents v.items) w.fronts-is
         ∙ ap contents (with_items_is c.loop-i.fronts w.push_to_each.new.fronts (search rules)) ∙ w.in_ok-push_to_each.ensures
-        ∙ ap (λ (xs : List (Vec ℕ Global)). longer (contents xs) (get_or c.args.now.now c.loop-i.i 0 ∷ [])) w.deref_mut.ensures.value)
+        ∙ ap (λ (xs : List (Vec ℕ Global)). each_longer (contents xs) (get_or c.args.now.now c.loop-i.i 0 ∷ [])) w.deref_mut.ensures.value)
   ];
   found = elim c.if-i-low.branch [
     | then-i-low+in_ok-append_copies w ↦ ap (λ (v : Vec (Vec ℕ Global) Global). contents v.items) w.found-is ∙ w.in_ok-append_copies.ensures

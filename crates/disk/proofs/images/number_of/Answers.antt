@@ -1,5 +1,5 @@
 use Rattle.std.proofs.Common.{rules, arith, sym, ap, ◌∙◌, ◌≡◌, ◌+◌, ◌-◌, ℕ, length, true, false}
-use Rattle.disk.specs.Fronts.{open_bytes, of_lengths}
+use Rattle.disk.specs.Beginnings.{open_bytes, of_lengths}
 use Rattle.disk.proofs.CountLemmas.{of_lengths-before, too-many-so-far, too-many-fronts, counted-fronts, counted-all, some-total}
 use Rattle.disk.proofs.images.number_of.Goals as goal
 use Rattle.disk.proofs.images.number_of.Goals.{then-i-low+in_ok-all, else-i-low, then-is_unsynced+in_ok-fronts, else-is_unsynced}

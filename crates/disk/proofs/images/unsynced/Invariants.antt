@@ -1,6 +1,6 @@
 use Rattle.std.proofs.Common.{◌≡◌, [], length, take}
 use Rattle.disk.specs.Memory.{ranges_after}
-use Rattle.disk.specs.Fronts.{IsMarked}
+use Rattle.disk.specs.Beginnings.{IsMarked}
 use Rattle.disk.proofs.images.unsynced.Given as goal
 
 abbrev pub invariant-loop-step : goal.invariant-loop-step

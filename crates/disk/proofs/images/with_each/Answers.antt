@@ -2,7 +2,7 @@ use Rattle.std.proofs.Common.{arith, ◌≡◌, refl, ap, ◌∙◌, ◌++◌, [
 use Rattle.std.proofs.lemmas.List.{take_all}
 use Rattle.std.proofs.lemmas.Grind.{elements}
 use Rattle.disk.specs.Images.{contents}
-use Rattle.disk.specs.Fronts.{extended}
+use Rattle.disk.specs.Beginnings.{extended}
 use Rattle.disk.proofs.CopyLemmas.{extended-more, longer-more}
 use Rattle.disk.proofs.images.with_each.Goals as goal
 

@@ -6,7 +6,7 @@ use Rattle.history.specs.declared.views.Role.TheVariants.{Nobody, Keeps}
 use Rattle.history.specs.declared.views.Token.TheVariants.{Nothing}
 use Rattle.history.specs.Rule.{alone}
 use Rattle.history.specs.Histories.{shard_in}
-use Rattle.history.specs.Plays.{kept_back, given, in_doubt}
+use Rattle.history.specs.Plays.{kept_back, seat_alone, in_doubt}
 use Rattle.history.specs.Handles.{announced, doubted, asks_of, doubted_to, shelf_in, booked, with_doubt, ask_in, doubt_in, before_in}
 use Rattle.history.proofs.HandOvers.{gives}
 use Rattle.history.proofs.Marks.{doubts_as}
@@ -58,7 +58,7 @@ loop-ticket-preserved c =
     let own = c.split_seat-blank.ensures.2 ∙ ap (λ m. (kept_back m.0, m.1)) inv.1 in
     let held = ap (λ s. s.me.0) c.replace-held.ensures.value ∙ ap (λ m. m.0) c.ticket.invariant.0 in
     let joined = c.join_seat.ensures.2 ∙ (λ j. (in_doubt (own j).0 (held j), (own j).1)) in
-    let right = c.split_seat.ensures.4 ∙ ap (λ m. (given m.0, [])) joined in
+    let right = c.split_seat.ensures.4 ∙ ap (λ m. (seat_alone m.0, [])) joined in
     let named = c.split_seat.ensures.3 ∙ table ∙ sym (of_at (booked c.args.seat.now) ts i d c.requires.tickets lt).0 in
     let asks : (shelf.doubt ++ asks_of (take i ts)) ++ a ∷ [] ≡ shelf.doubt ++ asks_of (take (i + 1) ts) =
     append_assoc shelf.doubt (asks_of (take i ts)) (a ∷ []) ∙ ap (λ l. shelf.doubt ++ l) (ap (λ b. asks_of (take i ts) ++ b ∷ []) same ∙ sym (asks_more ts i d lt)) in

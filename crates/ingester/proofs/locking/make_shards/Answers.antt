@@ -2,7 +2,7 @@ use Rattle.std.proofs.Common.{rules, ◌≡◌, ◌≤◌, ◌++◌, ◌∷◌, 
 use Rattle.std.specs.VecDeque.{deque_len, deque_capacity}
 use Rattle.std.proofs.lemmas.List.{nil_from_length}
 use Rattle.wal.specs.Opening.{disks}
-use Rattle.ingester.specs.Makings.{AreMade, AreThere, logs_in}
+use Rattle.ingester.specs.Makings.{AreShardsOfLogs, AreThere, logs_of_shards}
 use Rattle.ingester.proofs.Grounding.{partly_none, partly_more, partly_all, partly_back, made_there, ground_popped}
 use Rattle.ingester.proofs.locking.make_shards.Goals as goal
 
@@ -76,7 +76,7 @@ returns-in-Err-clause-unmade g c =
     let shards = c.into_vec.ensures.items ∙ ap (λ d. d.items) err.1 in
     let slots = ap (λ d. d.items) inv.slots in
     partly_back c.loop-log.shards.items c.loop-log.logs.items c.pop.new.self.items c.args.logs.items c.loop-log.books.items c.args.books.items c.in-Some.log c.in-Err.log c.args.slots.now.items _ _ _ inv.partly c.in-Some.ensures.items err.0
-    (c.return_shards.ensures.items ∙ (λ i. map disks (logs_in (shards i)) ++ slots i)) (c.push_front_reserved.ensures.items ∙ ap (λ s. s ∷ c.return_shards.new.slots.items) c.into_slots.ensures) c.give_back.ensures.items
+    (c.return_shards.ensures.items ∙ (λ i. map disks (logs_of_shards (shards i)) ++ slots i)) (c.push_front_reserved.ensures.items ∙ ap (λ s. s ∷ c.return_shards.new.slots.items) c.into_slots.ensures) c.give_back.ensures.items
 
 pub loop-log-preserved : goal.loop-log-preserved
 loop-log-preserved g c =
@@ -108,5 +108,5 @@ returns-clause-made g c =
     let books_as = inv.books in
     let no_logs : length c.loop-log.logs.items ≡ 0 = omega arith in
     let no_books : length c.loop-log.books.items ≡ 0 = omega arith in
-    subst (λ s. AreMade s c.args.logs.items c.args.books.items) (sym c.into_vec-2.ensures.items)
+    subst (λ s. AreShardsOfLogs s c.args.logs.items c.args.books.items) (sym c.into_vec-2.ensures.items)
     (partly_all c.loop-log.shards.items c.loop-log.logs.items c.args.logs.items c.loop-log.books.items c.args.books.items inv.partly (nil_from_length _ no_logs) (nil_from_length _ no_books))

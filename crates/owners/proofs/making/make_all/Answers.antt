@@ -3,7 +3,7 @@ use Rattle.std.specs.Vec.{vec_capacity}
 use Rattle.atomic_table.specs.Seated.{TableId}
 use Rattle.history.specs.declared.views.About.{About}
 use Rattle.shard.specs.Jobs.{tickets_of}
-use Rattle.owners.specs.Calls.{AreOpen}
+use Rattle.owners.specs.Calls.{AreSureTickets}
 use Rattle.owners.proofs.Turning.{waiting_open, waiting_ready, turn_of, turn_open, turn_fewer, turn_turned}
 use Rattle.owners.specs.Homes.{Homed}
 use Rattle.owners.specs.Openings.{home_of}
@@ -27,7 +27,7 @@ loop-alloc-init g c =
     record {
       state = state;
       ready = waiting_ready c.args.home.now.table c.args.home.now.about book same_table same_about jobs desk.waiting desk.turn;
-      open_calls = subst (λ (z : TableId × About). AreOpen z.0 z.1 (tickets_of jobs)) (λ i. ((home i).table, (home i).about)) all;
+      open_calls = subst (λ (z : TableId × About). AreSureTickets z.0 z.1 (tickets_of jobs)) (λ i. ((home i).table, (home i).about)) all;
       settled = desk.settled;
       places = desk.letters;
       fits = omega arith;

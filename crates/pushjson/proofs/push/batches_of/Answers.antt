@@ -2,7 +2,7 @@ use Rattle.std.proofs.Common.{◌≡◌, suc, ◌∷◌, map, vec_len, drop, tak
 use Rattle.std.proofs.lemmas.Grind.{common_steps}
 use Rattle.pushjson.specs.Shape.{stream_texts_of}
 use Rattle.pushjson.specs.Bodies.{AreTimed, batch_of}
-use Rattle.pushjson.proofs.Fronts.{left, whole, all_more, map_more}
+use Rattle.pushjson.proofs.Beginnings.{left, whole, all_more, map_more}
 use Rattle.pushjson.proofs.push.batches_of.Goals as goal
 
 pub loop-pairs-preserved : goal.loop-pairs-preserved

@@ -1,5 +1,5 @@
 use Rattle.pushjson.specs.Bodies.{HaveRisingNames}
-use Rattle.pushjson.proofs.Fronts.{all_batches, low_batches}
+use Rattle.pushjson.proofs.Beginnings.{all_batches, low_batches}
 use Rattle.pushjson.proofs.push.read_push.Goals as goal
 
 pub returns-clause-sorted : goal.returns-clause-sorted

@@ -4,7 +4,7 @@ use Rattle.std.proofs.lemmas.Result.{err_from_is_err_and}
 use Rattle.std.specs.Io.KnownBytes.{Appends}
 use Rattle.requests.specs.Answers.{fixed_text}
 use Rattle.requests.specs.Streams.{IsNext, Fits, Grows}
-use Rattle.requests.specs.Writing.{Writes}
+use Rattle.requests.specs.Writing.{WritesBeginning}
 use Rattle.answering.specs.Turns.{ConnectionTakesMessage, ends_of, world_of}
 use Rattle.answering.proofs.Turning.{turn, unread, turned_away, turned_away_err}
 use Rattle.answering.proofs.serving.Connection.take_turn.Goals as goal
@@ -30,7 +30,7 @@ returns-in_err-fixed-in-Refused-clause-turns g c =
     let next = subst (λ r. IsNext bytes (g.I.Read.remaining r) (Ok c.in_ok-next.field-0)) read c.in_ok-next.ensures.next in
     let refused = subst (λ n. IsNext bytes left (Ok n)) c.in-Refused.is next in
     let grows = subst (λ r. Grows (g.I.Read.remaining old.ends.now.reader.now) (g.I.Read.remaining r) old.incoming.now bytes) read c.in_ok-next.ensures.grows in
-    let writes = subst (λ w. Writes (g.O.Write.contents w) (g.O.Write.contents new.writer.now) (fixed_text c.in-Refused.why true) (Err c.in_err-fixed-in-Refused.field-0.0)) c.in_ok-next.ensures.writer c.in_err-fixed-in-Refused.ensures.writes in
+    let writes = subst (λ w. WritesBeginning (g.O.Write.contents w) (g.O.Write.contents new.writer.now) (fixed_text c.in-Refused.why true) (Err c.in_err-fixed-in-Refused.field-0.0)) c.in_ok-next.ensures.writer c.in_err-fixed-in-Refused.ensures.writes in
     rw (p.1, p.2) (turn (g.S.Calls.gives old.service.now) g.C.Clock.ticks _ _ old.incoming.now bytes bytes (world_of old) (world_of old) _ grows
     (turned_away_err (g.S.Calls.gives old.service.now) g.C.Clock.ticks bytes bytes left _ _ (world_of old) c.in-Refused.why c.in_err-fixed-in-Refused.field-0.0 refused writes))
 
@@ -45,7 +45,7 @@ returns-in_ok-fixed-in-Refused-clause-turns g c =
     let next = subst (λ r. IsNext bytes (g.I.Read.remaining r) (Ok c.in_ok-next.field-0)) read c.in_ok-next.ensures.next in
     let refused = subst (λ n. IsNext bytes left (Ok n)) c.in-Refused.is next in
     let grows = subst (λ r. Grows (g.I.Read.remaining old.ends.now.reader.now) (g.I.Read.remaining r) old.incoming.now bytes) read c.in_ok-next.ensures.grows in
-    let writes = subst (λ w. Writes (g.O.Write.contents w) (g.O.Write.contents new.writer.now) (fixed_text c.in-Refused.why true) (Ok tt)) c.in_ok-next.ensures.writer c.in_ok-fixed-in-Refused.ensures.writes in
+    let writes = subst (λ w. WritesBeginning (g.O.Write.contents w) (g.O.Write.contents new.writer.now) (fixed_text c.in-Refused.why true) (Ok tt)) c.in_ok-next.ensures.writer c.in_ok-fixed-in-Refused.ensures.writes in
     turn (g.S.Calls.gives old.service.now) g.C.Clock.ticks _ _ old.incoming.now bytes bytes (world_of old) (world_of old) _ grows
     (turned_away (g.S.Calls.gives old.service.now) g.C.Clock.ticks bytes bytes left _ _ (world_of old) c.in-Refused.why tt refused writes)
 

@@ -7,7 +7,7 @@ use Rattle.disk.specs.Laws.{always_sound, sound_nothing}
 use Rattle.disk.specs.Memory.{acts, ranges_after, AreWithin}
 use Rattle.disk.specs.MemDisk.{state_of}
 use Rattle.disk.specs.Images.{Lists, IsImageOf, contents}
-use Rattle.disk.specs.Fronts.{IsMarked, open_bytes, of_lengths}
+use Rattle.disk.specs.Beginnings.{IsMarked, open_bytes, of_lengths}
 use Rattle.disk.proofs.MaskLemmas.{within-after, furthest-within}
 use Rattle.disk.proofs.ImageLemmas.{all-listed}
 use Rattle.disk.proofs.memory.MemDisk.images.Goals as goal

@@ -3,7 +3,7 @@ use Rattle.std.specs.VecDeque.{deque_len}
 use Rattle.history.specs.declared.views.About.{About}
 use Rattle.history.specs.Handles.{Passed}
 use Rattle.owners.specs.Openings.{home_of}
-use Rattle.owners.specs.Ways.{AreReady}
+use Rattle.owners.specs.Ways.{AreReadyWays}
 use Rattle.owners.proofs.Each.{ways_set}
 use Rattle.ingester.proofs.Batching.{below_same}
 use Rattle.ingester.proofs.Gathering.{some_first, some_more, first_waits, more_wait, left_numbers}
@@ -49,7 +49,7 @@ loop-shard-preserved g c =
       some = some_more c.args.pass.now was now c.args.calls.now.items c.loop-shard.calls.items left.items c.in_ok-first.first c.loop-shard.count c.in-Some.field-0-0 inv.some inv.waiting inv.next next;
       ways = c.in-Some.ensures.count ∙ inv.ways;
       batches = c.in-Some.ensures.batches;
-      ready = subst (λ p. AreReady (home_of c.args.self.now) p c.announce_next-in-loop-shard.new.ways.items) inv.pass c.in-Some.ensures.ready;
+      ready = subst (λ p. AreReadyWays (home_of c.args.self.now) p c.announce_next-in-loop-shard.new.ways.items) inv.pass c.in-Some.ensures.ready;
       positive = omega arith;
       waiting = more_wait was now next.call c.loop-shard.count inv.waiting next.pass;
       calls = let had = inv.calls in let fewer : deque_len left + 1 ≡ deque_len c.loop-shard.calls = c.in-Some.ensures.not in omega arith;

@@ -5,7 +5,7 @@ use Rattle.std.specs.declared.collections.VecDeque.{VecDeque}
 use Rattle.accept.specs.declared.call.Call.{Call}
 use Rattle.history.specs.Handles.{Passed}
 use Rattle.owners.specs.Openings.{home_of}
-use Rattle.owners.specs.Ways.{AreReady, AreIdleWays}
+use Rattle.owners.specs.Ways.{AreReadyWays, AreIdleWays}
 use Rattle.ingester.specs.Batches.{IsNextRefused}
 use Rattle.ingester.proofs.Receiving.{announced_ahead, round_more, refused_more, refused_pass, ended_pass, rest_numbers}
 use Rattle.ingester.proofs.opened.Ingester.call_by.Goals as goal
@@ -38,7 +38,7 @@ pub make_round-requires-clause-ready : goal.make_round-requires-clause-ready
 make_round-requires-clause-ready g c =
     let some = c.in-Some.ensures.some in
     let ahead = announced_ahead c.loop-alloc.pass c.announce_some.new.pass some.front some.announced in
-    subst (λ p. AreReady (home_of c.args.self.now) p c.announce_some.new.ways.items) (sym ahead.pass) c.in-Some.ensures.ready
+    subst (λ p. AreReadyWays (home_of c.args.self.now) p c.announce_some.new.ways.items) (sym ahead.pass) c.in-Some.ensures.ready
 
 pub loop-alloc-preserved-in-Some : goal.loop-alloc-preserved-in-Some
 loop-alloc-preserved-in-Some g c =

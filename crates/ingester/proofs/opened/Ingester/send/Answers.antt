@@ -1,7 +1,7 @@
 use Rattle.std.proofs.Common.{◌≡◌, ◌<◌, ℕ, length, length-set, sym, ap, ◌∙◌, subst}
 use Rattle.std.specs.Prelude.{Some}
 use Rattle.std.proofs.lemmas.Option.{slice_get-get_or}
-use Rattle.keyed.specs.Grips.{key_of}
+use Rattle.keyed.specs.Grips.{key_of_locks}
 use Rattle.owners.specs.Homes.{Homed}
 use Rattle.owners.specs.Openings.{home_of}
 use Rattle.owners.specs.Ways.{IsIdleWay, AreIdleWays}
@@ -29,5 +29,5 @@ give-requires-clause-value g c =
     let long : length items ≡ c.args.self.now.about.shards = held.1 ∙ ap (λ (h : Homed). h.about.shards) (inv.rows_are ∙ (inv.home_is ∙ ap home_of c.self.view_is)) in
     let lt = subst (λ n. k < n) (sym long) c.requires.shard in
     let now = subst (λ (z : Homed × ℕ). IsIdleWay z.0 z.1 k c.call-came.new.self) (λ i. (sym key i, sym grip.lock i)) c.call-came.ensures.way in
-    let was = subst (λ p. AreIdleWays (key_of c.self.inside.rows) p items) (sym grip.lock) held.0 in
-    (ways_set (IsIdleWay (key_of c.self.inside.rows) c.take-ways.result.1.lock) items k c.call-came.new.self lt was now, length-set items k c.call-came.new.self ∙ held.1)
+    let was = subst (λ p. AreIdleWays (key_of_locks c.self.inside.rows) p items) (sym grip.lock) held.0 in
+    (ways_set (IsIdleWay (key_of_locks c.self.inside.rows) c.take-ways.result.1.lock) items k c.call-came.new.self lt was now, length-set items k c.call-came.new.self ∙ held.1)

@@ -1,6 +1,6 @@
 use Rattle.std.proofs.Common.{rules, ◌≡◌, List, length, ◌∙◌, sym, subst}
 use Rattle.shard.specs.declared.group.Settled.{Settled}
-use Rattle.lone_shard.specs.Rounds.{IsOpen}
+use Rattle.lone_shard.specs.Rounds.{IsOpenRound}
 use Rattle.lone_shard.proofs.Rounds.{no_settled, open_turn}
 use Rattle.lone_shard.proofs.round.Round.turn.Goals as goal
 
@@ -9,7 +9,7 @@ invariant_of-self g c =
     let r = c.self.inside in
     let made = c.apply_group-ended in
     let nothing : length r.settled.items ≡ 0 = search rules in
-    let begun = subst (λ (l : List Settled). IsOpen r.history r.shard.book r.pass r.jobs.items l)
+    let begun = subst (λ (l : List Settled). IsOpenRound r.history r.shard.book r.pass r.jobs.items l)
     (no_settled r.settled.items nothing ∙ sym c.in_ok-settled.ensures.items) c.self.invariant in
     let turned = open_turn _ _ r.history r.pass r.shard made.new.self r.jobs.items made.new.jobs.items c.in_ok-settled.settled.items made.new.settled.items made.result begun made.ensures.turn made.ensures.ready in
-    subst (λ (l : List Settled). IsOpen r.history made.new.self.book r.pass made.new.jobs.items l) (sym c.from.ensures.0) turned
+    subst (λ (l : List Settled). IsOpenRound r.history made.new.self.book r.pass made.new.jobs.items l) (sym c.from.ensures.0) turned

@@ -1,0 +1,101 @@
+//! Shards that programs open and close.
+ghost use Rattle.std.specs.Prelude.{◌≡◌, ◌<◌, ◌≤◌, ◌^◌, ◌∷◌, [], ℕ, List, Some, slice_get, vec_len, IfOk, IfErr};
+ghost use Rattle.history.specs.Handles.{Passed};
+ghost use Rattle.ingester.specs.Calls.{IsPassOf};
+ghost use Rattle.ingester.specs.declared.refusal.OpenFault.{OpenFault};
+ghost use Rattle.openings.specs.Findings.{AreOpenedFrom};
+ghost use Rattle.ingester.specs.Findings.{IsUnmade};
+ghost use Rattle.ingesterd.specs.Openings.{IsProfiled};
+
+use crate::stopped::Stopped;
+use accept::Limits;
+use disk::Disk;
+use history::Pass;
+use ingester::Ingester;
+use std::alloc::Global;
+use std::sync::Wait;
+use std::thread::Threads;
+
+/// Opens shards over these slots under the profile's limits, with 1 to 64 passes, and starts a thread for each shard
+/// that owns it. `capacity` is how many bytes a segment may have, at most 2^30.
+pub fn open_shards<D, R>(
+    rt: &R,
+    alloc: Global,
+    slots: Vec<[D; 2]>,
+    passes: u32,
+    capacity: u64,
+) -> Result<(Ingester<D>, Vec<Pass>), Stopped>
+where
+    D: Disk + Drop + Send + 'static,
+    R: Threads + Wait + Copy + Send + Sync + 'static,
+    requires slots { (0 < vec_len slots) × (vec_len slots ≤ 64) }
+    requires passes { (0 < passes) × (passes ≤ 64) }
+    requires capacity { capacity ≤ 2 ^ 30 }
+    ensures profiled { IfOk result
+        (λ it. IsProfiled (vec_len slots) passes capacity it.0 it.1.items) }
+    ensures found { IfOk result (λ it.
+        AreOpenedFrom D.sight D.follows
+        (vec_len slots) capacity 0 slots.items it.0.logs it.0.about.bases) }
+    ensures refused { IfErr result (λ stop. (fault : OpenFault) × (backs : List (List D))
+        × (stop ≡ Stopped.Opening fault)
+        × IsUnmade D.sight D.follows (vec_len slots) slots.items backs fault) }
+    ensures passes { IfOk result (λ it. (p : ℕ) (pass : Passed) → slice_get it.1.items p ≡ Some pass
+        → IsPassOf it.0 pass) }
+{
+    match Ingester::open(rt, *rt, alloc, slots, passes, Limits::PROFILE, capacity) {
+        Ok(opened) => Ok(opened),
+        Err(refusal) => Err(Stopped::Opening(refusal.0)),
+    }
+}
+
+/// Opens shards over these slots, with one pass.
+pub fn open_for_one<D, R>(
+    rt: &R,
+    alloc: Global,
+    slots: Vec<[D; 2]>,
+    capacity: u64,
+) -> Result<(Ingester<D>, Pass), Stopped>
+where
+    D: Disk + Drop + Send + 'static,
+    R: Threads + Wait + Copy + Send + Sync + 'static,
+    requires slots { (0 < vec_len slots) × (vec_len slots ≤ 64) }
+    requires capacity { capacity ≤ 2 ^ 30 }
+    ensures profiled { IfOk result (λ it. IsProfiled (vec_len slots) 1 capacity it.0 (it.1 ∷ [])) }
+    ensures refused { IfErr result (λ stop. (fault : OpenFault) × (backs : List (List D))
+        × (stop ≡ Stopped.Opening fault)
+        × IsUnmade D.sight D.follows (vec_len slots) slots.items backs fault) }
+    ensures pass { IfOk result (λ it. IsPassOf it.0 it.1) }
+{
+    let (ingester, mut passes) = open_shards(rt, alloc, slots, 1, capacity)?;
+    let Some(pass) = passes.pop() else {
+        unreachable!();
+    };
+    Ok((ingester, pass))
+}
+
+/// Closes shards and their slots by the passes that are left. Where no pass is left, the threads of the shards end by
+/// themselves, a little later.
+pub fn close_shards<D: Disk + Drop, R: Wait>(rt: &R, ingester: Ingester<D>, passes: Vec<Pass>)
+    requires passes { (p : ℕ) (pass : Passed) → slice_get passes.items p ≡ Some pass
+        → IsPassOf ingester pass }
+{
+    if !passes.is_empty() {
+        drop(ingester.close(rt, passes));
+    }
+}
+
+/// Closes shards and their slots by their one pass. Where there is no memory for that, the threads of the shards end by
+/// themselves, a little later.
+pub fn close_for_one<D: Disk + Drop, R: Wait>(
+    rt: &R,
+    alloc: Global,
+    ingester: Ingester<D>,
+    pass: Pass,
+)
+    requires pass { IsPassOf ingester pass }
+{
+    let mut passes = Vec::new(alloc);
+    if passes.push(pass).is_ok() {
+        close_shards(rt, ingester, passes);
+    }
+}
