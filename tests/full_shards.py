@@ -139,7 +139,8 @@ def drop_from_cache(slots):
 # ---- a start -------------------------------------------------------------------------------------------------------
 
 def start(folder, count, settings, **how):
-    """How many seconds a server takes to be ready, those of a processor, and the most memory it has till then."""
+    """How many seconds a server takes to be ready, those of a processor, the most memory it has till then, and what it
+    has then."""
     began = time.monotonic()
     with servers.Server(folder, count, WORKERS, settings, **how) as server:
-        return time.monotonic() - began, server.processor(), server.memory("VmHWM")
+        return time.monotonic() - began, server.processor(), server.memory("VmHWM"), server.memory()
