@@ -5,8 +5,11 @@ use entries::{Entry, EntryList};
 use labels::StreamKey;
 use std::alloc::{AllocError, Global};
 
-/// The most entries of a push.
+/// The most entries of a push: this project's profile.
 pub const MAX_ENTRIES: usize = 10_000;
+
+/// The first time that is too late for an entry and for a clock, in nanoseconds since 1970: this project's profile.
+pub const END_OF_TIME: u64 = 1 << 63;
 
 /// A call on the stream of a key. Times are in nanoseconds.
 #[derive(Debug, Drop)]
@@ -14,9 +17,9 @@ pub enum Call {
     /// Judges the entries in order, and stores the accepted ones.
     Push {
         key: StreamKey,
-        /// What the clock says: below 2^63.
+        /// What the clock says: below `END_OF_TIME`.
         now: u64,
-        /// At most `MAX_ENTRIES`, with times below 2^63 and lines of any length.
+        /// At most `MAX_ENTRIES`, with times below `END_OF_TIME` and lines of any length.
         entries: EntryList,
     },
     /// Reads the kept entries with `from <= time < to`.
@@ -87,7 +90,7 @@ impl Call {
         })
     }
 
-    /// Whether the clock and the times of a push are below 2^63, and its entries are at most `MAX_ENTRIES`.
+    /// Whether the clock and the times of a push are below `END_OF_TIME`, and its entries are at most `MAX_ENTRIES`.
     pub fn has_lawful_numbers(&self) -> bool
         ensures { IsTrue result ↔ AreNumbers self.now }
     {
@@ -106,7 +109,7 @@ impl Call {
 fn is_time(time: u64) -> bool
     ensures { IsTrue result ↔ (time < 2 ^ 63) }
 {
-    time < 1 << 63
+    time < END_OF_TIME
 }
 
 fn copy_of(alloc: Global, entries: &[Entry]) -> Result<EntryList, AllocError>
