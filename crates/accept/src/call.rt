@@ -1,7 +1,7 @@
-ghost use Rattle.std.specs.Prelude.{◌≡◌, ◌↔◌, ◌<◌, ◌^◌, IsTrue, IfOk};
+ghost use Rattle.std.specs.Prelude.{◌↔◌, ◌<◌, ◌^◌, IsTrue};
 
 use crate::outcome::OutcomeList;
-use entries::{Entry, EntryList};
+use entries::EntryList;
 use labels::StreamKey;
 use std::alloc::{AllocError, Global};
 
@@ -76,7 +76,7 @@ impl Call {
             Call::Push { key, now, entries } => Call::Push {
                 key: key.clone()?,
                 now: *now,
-                entries: copy_of(alloc, entries.as_slice())?,
+                entries: EntryList::copy_of(alloc, entries.as_slice())?,
             },
             Call::Read { key, from, to } => Call::Read {
                 key: key.clone()?,
@@ -110,14 +110,4 @@ fn is_time(time: u64) -> bool
     ensures { IsTrue result ↔ (time < 2 ^ 63) }
 {
     time < END_OF_TIME
-}
-
-fn copy_of(alloc: Global, entries: &[Entry]) -> Result<EntryList, AllocError>
-    ensures { IfOk result (λ es. es ≡ entries.now) }
-{
-    let mut copies = Vec::with_capacity(alloc, entries.len())?;
-    for entry in entries {
-        copies.push(entry.clone()?)?;
-    }
-    Ok(EntryList::new(copies))
 }
