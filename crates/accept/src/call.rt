@@ -1,12 +1,15 @@
-ghost use Rattle.std.specs.Prelude.{◌≡◌, ◌↔◌, ◌<◌, ◌^◌, IsTrue, IfOk};
+ghost use Rattle.std.specs.Prelude.{◌↔◌, ◌<◌, ◌^◌, IsTrue};
 
 use crate::outcome::OutcomeList;
-use entries::{Entry, EntryList};
+use entries::EntryList;
 use labels::StreamKey;
 use std::alloc::{AllocError, Global};
 
-/// The most entries of a push.
+/// The most entries of a push: this project's profile.
 pub const MAX_ENTRIES: usize = 10_000;
+
+/// The first time that is too late for an entry and for a clock, in nanoseconds since 1970: this project's profile.
+pub const END_OF_TIME: u64 = 1 << 63;
 
 /// A call on the stream of a key. Times are in nanoseconds.
 #[derive(Debug, Drop)]
@@ -14,9 +17,9 @@ pub enum Call {
     /// Judges the entries in order, and stores the accepted ones.
     Push {
         key: StreamKey,
-        /// What the clock says: below 2^63.
+        /// What the clock says: below `END_OF_TIME`.
         now: u64,
-        /// At most `MAX_ENTRIES`, with times below 2^63 and lines of any length.
+        /// At most `MAX_ENTRIES`, with times below `END_OF_TIME` and lines of any length.
         entries: EntryList,
     },
     /// Reads the kept entries with `from <= time < to`.
@@ -73,7 +76,7 @@ impl Call {
             Call::Push { key, now, entries } => Call::Push {
                 key: key.clone()?,
                 now: *now,
-                entries: copy_of(alloc, entries.as_slice())?,
+                entries: EntryList::copy_of(alloc, entries.as_slice())?,
             },
             Call::Read { key, from, to } => Call::Read {
                 key: key.clone()?,
@@ -87,7 +90,7 @@ impl Call {
         })
     }
 
-    /// Whether the clock and the times of a push are below 2^63, and its entries are at most `MAX_ENTRIES`.
+    /// Whether the clock and the times of a push are below `END_OF_TIME`, and its entries are at most `MAX_ENTRIES`.
     pub fn has_lawful_numbers(&self) -> bool
         ensures { IsTrue result ↔ AreNumbers self.now }
     {
@@ -106,15 +109,5 @@ impl Call {
 fn is_time(time: u64) -> bool
     ensures { IsTrue result ↔ (time < 2 ^ 63) }
 {
-    time < 1 << 63
-}
-
-fn copy_of(alloc: Global, entries: &[Entry]) -> Result<EntryList, AllocError>
-    ensures { IfOk result (λ es. es ≡ entries.now) }
-{
-    let mut copies = Vec::with_capacity(alloc, entries.len())?;
-    for entry in entries {
-        copies.push(entry.clone()?)?;
-    }
-    Ok(EntryList::new(copies))
+    time < END_OF_TIME
 }

@@ -10,7 +10,7 @@ mod outcome;
 mod refusal;
 mod stream;
 
-pub use call::{Call, MAX_ENTRIES, Reply};
+pub use call::{Call, END_OF_TIME, MAX_ENTRIES, Reply};
 pub use entries::{Entry, EntryList, Line};
 pub use history::{Ask, History, Item, Step};
 pub use image::{Image, StreamImage};

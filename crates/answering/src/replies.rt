@@ -61,7 +61,7 @@ fn answer_of_reply(alloc: Global, reply: &Reply) -> Result<Answer, AllocError>
 {
     match reply {
         Reply::Entries(entries) => {
-            let copy = copy_of_entries(alloc, entries.as_slice())?;
+            let copy = EntryList::copy_of(alloc, entries.as_slice())?;
             answer_of_entries(alloc, copy)
         }
         Reply::Trimmed(count) => answer_of_trimmed(alloc, *count),
@@ -73,16 +73,6 @@ fn answer_of_reply(alloc: Global, reply: &Reply) -> Result<Answer, AllocError>
         Reply::NoStream => answer_of_text(alloc, Status::NotFound, b"no such stream"),
         Reply::Verdict(_) | Reply::NoRoom | Reply::Unavailable => answer_of_lines(alloc, reply),
     }
-}
-
-fn copy_of_entries(alloc: Global, entries: &[Entry]) -> Result<EntryList, AllocError>
-    ensures { IfOk result (λ copy. copy ≡ entries.now) }
-{
-    let mut copy = Vec::with_capacity(alloc, entries.len())?;
-    for entry in entries {
-        copy.push(entry.clone()?)?;
-    }
-    Ok(EntryList::new(copy))
 }
 
 fn answer_of_lines(alloc: Global, reply: &Reply) -> Result<Answer, AllocError>

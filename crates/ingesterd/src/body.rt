@@ -5,11 +5,9 @@ ghost use Rattle.ingesterd.specs.Endings.{answer_lines};
 
 use crate::stopped::Stopped;
 use front::Answer;
+use requests::MAX_BODY;
 use std::alloc::Global;
 use std::io::{ErrorKind, Read, Write};
-
-/// The greatest length of a body, in bytes.
-const MAX_BODY: u64 = 4_194_304;
 
 /// The whole input, where it is no longer than a body may be.
 pub fn read_body<I: Read>(alloc: Global, input: &mut I) -> Result<Vec<u8>, Stopped>
@@ -18,13 +16,13 @@ pub fn read_body<I: Read>(alloc: Global, input: &mut I) -> Result<Vec<u8>, Stopp
     ensures cause { IfErr result (λ stop. (stop ≡ Stopped.Body) ⊎ (stop ≡ Stopped.Memory)) }
 {
     let mut body = Vec::new(alloc);
-    if let Err(error) = input.take(MAX_BODY + 1).read_to_end(&mut body) {
+    if let Err(error) = input.take(MAX_BODY as u64 + 1).read_to_end(&mut body) {
         return Err(match error.kind() {
             ErrorKind::OutOfMemory => Stopped::Memory,
             _ => Stopped::Body,
         });
     }
-    if body.len() as u64 > MAX_BODY {
+    if body.len() > MAX_BODY {
         return Err(Stopped::Body);
     }
     Ok(body)

@@ -34,10 +34,21 @@ pair_room p = 4 + length p.0 + length p.1
 abbrev pub meta_room : List Label → ℕ
 meta_room ps = sum_by pair_room ps
 
--- a name of 1 to 256 bytes with a value of at most 1,024
-abbrev pub is_short_pair : Label → Bool
-is_short_pair p = nat_lt 0 (length p.0) && nat_le (length p.0) 256 && nat_le (length p.1) 1024
+-- the most pairs of a line's metadata, and the most bytes of a pair's name and of its value
+abbrev pub max_pairs : ℕ
+max_pairs = 16
 
--- metadata that a line may have: at most 16 such pairs
+abbrev pub max_meta_name : ℕ
+max_meta_name = 256
+
+abbrev pub max_meta_value : ℕ
+max_meta_value = 1024
+
+-- a name that is not empty, with a value, neither of them too long
+abbrev pub is_short_pair : Label → Bool
+is_short_pair p = nat_lt 0 (length p.0) && nat_le (length p.0) max_meta_name
+    && nat_le (length p.1) max_meta_value
+
+-- metadata that a line may have: such pairs, and not too many
 abbrev pub is_short_meta : List Label → Bool
-is_short_meta ps = nat_le (length ps) 16 && list_all is_short_pair ps
+is_short_meta ps = nat_le (length ps) max_pairs && list_all is_short_pair ps

@@ -23,5 +23,5 @@ pub use label_set::LabelSet;
 pub use laws::{one_set, one_text, order_of_keys, some_text};
 pub use meta::{Meta, MetaFault};
 pub use pairs::LabelPairs;
-pub use shards::shard_of;
+pub use shards::{MAX_SHARDS, shard_of};
 pub use tenant::Tenant;

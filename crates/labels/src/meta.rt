@@ -13,13 +13,6 @@ use std::alloc::{AllocError, Global};
 use std::marker::Model;
 use thiserror::Error;
 
-/// The most pairs of a line's metadata.
-const MAX_PAIRS: usize = 16;
-/// The longest name of a pair, in bytes.
-const MAX_NAME: usize = 256;
-/// The longest value of a pair, in bytes.
-const MAX_VALUE: usize = 1_024;
-
 /// Why structured metadata is refused. `Memory` may come at any point.
 #[derive(Clone, Copy, Debug, PartialEq, Eq, Error)]
 pub enum MetaFault {
@@ -82,7 +75,7 @@ fn are_short(pairs: &[(String, String)]) -> bool
     ensures { result ≡ list_all is_short_pair (map label_of pairs.now) }
 {
     for (name, value) in pairs {
-        if name.is_empty() || name.len() > MAX_NAME || value.len() > MAX_VALUE {
+        if name.is_empty() || name.len() > Meta::MAX_NAME || value.len() > Meta::MAX_VALUE {
             return false;
         }
     }
@@ -90,6 +83,13 @@ fn are_short(pairs: &[(String, String)]) -> bool
 }
 
 impl Meta {
+    /// The most pairs of a line's metadata: this project's profile, as are the two below.
+    pub const MAX_PAIRS: usize = 16;
+    /// The longest name of a pair, in bytes.
+    pub const MAX_NAME: usize = 256;
+    /// The longest value of a pair, in bytes.
+    pub const MAX_VALUE: usize = 1_024;
+
     /// No metadata.
     pub fn none() -> Meta
         ensures { result ≡ [] }
@@ -145,13 +145,13 @@ impl Meta {
         room
     }
 
-    /// Whether a line may have it: at most 16 pairs, with names of 1 to 256 bytes and values of at most 1,024. These
-    /// limits are this project's profile.
+    /// Whether a line may have it: at most `MAX_PAIRS` pairs, with names of 1 to `MAX_NAME` bytes and values of at most
+    /// `MAX_VALUE`.
     pub fn is_short(&self) -> bool
         ensures { result ≡ is_short_meta self.now }
     {
         let pairs = self.as_slice();
-        pairs.len() <= MAX_PAIRS && are_short(pairs)
+        pairs.len() <= Meta::MAX_PAIRS && are_short(pairs)
     }
 
     /// The pairs, in order.

@@ -1,8 +1,11 @@
 ghost use Rattle.std.specs.Prelude.{◌≡◌, ◌≤◌, ◌<◌, ◌^◌};
 ghost use Rattle.std.specs.List.{fold};
-ghost use Rattle.labels.specs.Shards.{fnv_step, shard};
+ghost use Rattle.labels.specs.Shards.{fnv_step, max_shards, shard};
 
 use crate::key::StreamKey;
+
+/// The most shards among which keys may be spread: this project's profile.
+pub const MAX_SHARDS: u32 = 64;
 
 const FNV_BASIS: u64 = 14_695_981_039_346_656_037;
 
@@ -20,11 +23,11 @@ fn hash_bytes(hash: u64, bytes: &[u8]) -> u64
     bytes.iter().fold(hash, |hash, byte| hash_byte(hash, *byte))
 }
 
-/// The shard of a key among `count` shards, 1 to 64: the FNV-1a hash of 64 bits over the tenant, one zero byte and the
-/// canonical text, modulo the count.
+/// The shard of a key among `count` shards, 1 to `MAX_SHARDS`: the FNV-1a hash of 64 bits over the tenant, one zero byte
+/// and the canonical text, modulo the count.
 pub fn shard_of(key: &StreamKey, count: u32) -> u32
     requires some { 1 ≤ count }
-    requires few { count ≤ 64 }
+    requires few { count ≤ max_shards }
     ensures shard { result ≡ shard key.now count }
     ensures within { result < count }
 {

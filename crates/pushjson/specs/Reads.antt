@@ -3,6 +3,7 @@ use Rattle.std.specs.Prelude.{◌≡◌, ◌≢◌, ⊤, ℕ, ◌<◌, ◌≤◌
 use Rattle.std.specs.declared.alloc.Global.{Global}
 use Rattle.serde_json.specs.Data.{Data}
 use Rattle.entries.specs.declared.entry.Entry.{Entry}
+use Rattle.accept.specs.Calls.{max_entries}
 use Rattle.pushjson.specs.Bodies.{Stream, TimedLine, body_tree, IsJson, AreTimed, HaveTimes, IsFirstBad, IsFirstBadTime, entry_count, entry_of_line, batch_of}
 use Rattle.pushjson.specs.declared.push.RawBatch.{RawBatch}
 use Rattle.pushjson.specs.declared.fault.PushFault.{PushFault}
@@ -12,7 +13,7 @@ use Rattle.pushjson.specs.declared.fault.PushFault.TheVariants.{NotJson, WrongSh
 abbrev pub IsPushAnswer : List ℕ → Result (List RawBatch) PushFault → Type 0
 IsPushAnswer bytes (Ok batches) =
     (streams : List Stream) × IsJson bytes (body_tree streams) × HaveTimes streams
-    × (entry_count streams ≤ 10000)
+    × (entry_count streams ≤ max_entries)
     × (batches ≡ map batch_of streams)
 IsPushAnswer bytes (Err NotJson) = (d : Data) → ¬ IsJson bytes d
 IsPushAnswer bytes (Err WrongShape) = (d : Data) × IsJson bytes d
@@ -20,7 +21,7 @@ IsPushAnswer bytes (Err WrongShape) = (d : Data) × IsJson bytes d
 IsPushAnswer bytes (Err (BadTime i j)) = (streams : List Stream) × IsJson bytes (body_tree streams)
     × IsFirstBadTime streams i j
 IsPushAnswer bytes (Err TooManyEntries) = (streams : List Stream) × IsJson bytes (body_tree streams)
-    × HaveTimes streams × (10000 < entry_count streams)
+    × HaveTimes streams × (max_entries < entry_count streams)
 IsPushAnswer bytes (Err Memory) = ⊤
 
 -- an answer, without where its batches lie in memory

@@ -1,4 +1,5 @@
 ghost use Rattle.std.specs.Prelude.{◌≡◌, ◌↔◌, ◌<◌, ◌^◌, IsTrue, IfOk, All, map, length, sum_by};
+ghost use Rattle.accept.specs.Calls.{max_entries};
 ghost use Rattle.pushjson.specs.Bodies.{HaveRisingNames};
 ghost use Rattle.pushjson.specs.Reads.{ReadsPush, GivesEntries, GivesBatches};
 ghost use Rattle.pushjson.specs.Shape.{stream_texts_of, value_texts_of};
@@ -84,7 +85,7 @@ fn entries_of(
 }
 
 fn is_too_many(batches: &[RawBatch]) -> bool
-    ensures { IsTrue result ↔ (10000 < sum_by (λ b. length b.entries) batches.now) }
+    ensures { IsTrue result ↔ (max_entries < sum_by (λ b. length b.entries) batches.now) }
 {
     let mut room = MAX_ENTRIES;
     for batch in batches {

@@ -2,11 +2,13 @@ ghost use Rattle.std.specs.Prelude.{◌≡◌, ◌<◌, ◌^◌, MatchOption};
 ghost use Rattle.std.specs.Str.Parse.{digits_value};
 ghost use Rattle.pushjson.specs.Times.{IsTime};
 
+use accept::END_OF_TIME;
+
 // The most digits that a time has.
 const MAX_DIGITS: usize = 19;
 
-/// The time that a text writes, in nanoseconds: 1 to 19 decimal digits, leading zeros included, of a value below 2^63.
-/// `None` where it writes none.
+/// The time that a text writes, in nanoseconds: 1 to 19 decimal digits, leading zeros included, of a value below
+/// `END_OF_TIME`. `None` where it writes none.
 #[tactic(auto, unfolding(crate::specs::Times::IsTime))]
 pub fn time_of(text: &str) -> Option<u64>
     ensures { MatchOption result
@@ -20,7 +22,7 @@ pub fn time_of(text: &str) -> Option<u64>
         return None;
     }
     match text.parse::<u64>() {
-        Ok(time) if time < 1 << 63 => Some(time),
+        Ok(time) if time < END_OF_TIME => Some(time),
         _ => None,
     }
 }

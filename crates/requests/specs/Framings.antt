@@ -13,10 +13,14 @@ unfoldable pub is_length : List ℕ → Bool
 is_length value = nat_lt 0 (length value) && nat_le
     (length value) 19 && list_all is_ascii_digit value
 
+-- the most bytes of a body: 4 MiB
+abbrev pub max_body : ℕ
+max_body = 4194304
+
 -- the framing by the one value of Content-Length
 abbrev pub framing_of_value : List ℕ → Framing
 framing_of_value value =
-    if is_length value then (if nat_le (digits_value 10 value) 4194304 then Length
+    if is_length value then (if nat_le (digits_value 10 value) max_body then Length
     (digits_value 10 value)
     else Refused BodyTooLarge)
     else Refused BadLength

@@ -22,11 +22,18 @@ pub record Request : Type 0 where
   pub head : RequestHead
   pub body : List ℕ
 
--- the bytes are this head, of at most 64 fields and 16,384 bytes, and then rest
+-- the most bytes of a head, and the most fields
+abbrev pub max_head : ℕ
+max_head = 16384
+
+abbrev pub max_fields : ℕ
+max_fields = 64
+
+-- the bytes are this head, which is not too long and has not too many fields, and then rest
 pub record ReadsHead (bytes : List ℕ) (h : RequestHead) (rest : List ℕ) : Type 0 where
   pub reads : ReadsRequest bytes h rest
-  pub few : length h.fields ≤ 64
-  pub short : length (print_request h) ≤ 16384
+  pub few : length h.fields ≤ max_fields
+  pub short : length (print_request h) ≤ max_head
 
 -- the bytes are this request, and then rest
 pub record ReadsMessage (bytes : List ℕ) (r : Request) (rest : List ℕ) : Type 0 where
@@ -45,7 +52,7 @@ IsCutInBody bytes =
 
 -- the bytes end inside a request's head or body
 abbrev pub IsCut : List ℕ → Type 0
-IsCut bytes = ((bytes ≢ []) × (length bytes < 16384) × IsUnfinished bytes) ⊎ IsCutInBody bytes
+IsCut bytes = ((bytes ≢ []) × (length bytes < max_head) × IsUnfinished bytes) ⊎ IsCutInBody bytes
 
 -- a head that says no lawful length of its body
 abbrev pub IsRefusedBody : List ℕ → FixedAnswer → Type 0
@@ -53,12 +60,12 @@ IsRefusedBody bytes why =
     (h : RequestHead) × (rest : List ℕ) × ReadsHead bytes h rest
     × (framing_of h.method (fields_of h) ≡ Refused why)
 
--- the bytes begin with what is refused so: no head of at most 64 fields, whatever may follow; 16,384
--- bytes that are still no head; or a head of no lawful length
+-- the bytes begin with what is refused so: no head, whatever may follow; as many bytes as a head may have
+-- that are still none; or a head of no lawful length
 abbrev pub BeginsRefused : List ℕ → FixedAnswer → Type 0
 BeginsRefused bytes why =
-    ((why ≡ BadRequest) × (length bytes ≤ 16384) × RequestOverflows 64 bytes)
-    ⊎ ((why ≡ HeadTooLarge) × (length bytes ≡ 16384) × IsUnfinished bytes)
+    ((why ≡ BadRequest) × (length bytes ≤ max_head) × RequestOverflows max_fields bytes)
+    ⊎ ((why ≡ HeadTooLarge) × (length bytes ≡ max_head) × IsUnfinished bytes)
     ⊎ IsRefusedBody bytes why
 
 -- the reader gave these bytes, and the buffer has them behind what it had
@@ -77,7 +84,7 @@ pub record IsMessage (buffer : List ℕ) (r : Request) (m : Message) : Type 0 wh
 abbrev pub IsNext : List ℕ → Option (List ℕ) → Result Next ServeFault → Type 0
 IsNext buffer left (Ok (Is.Whole m)) =
     (r : Request) × ReadsMessage buffer r (drop m.end buffer) × IsMessage buffer r m
-    × (length (drop m.end buffer) ≤ 16384)
+    × (length (drop m.end buffer) ≤ max_head)
 IsNext buffer left (Ok (Is.Refused why)) = BeginsRefused buffer why
 IsNext buffer left (Ok Is.Ended) = (buffer ≡ []) × IsAtEnd left
 IsNext buffer left (Err Fault.CutShort) = IsCut buffer × IsAtEnd left
@@ -88,7 +95,7 @@ IsNext buffer left (Err Fault.Write) = ⊥
 -- a whole request lies in the buffer, and little behind it; what `body`, `finish` and the next `next` ask for
 abbrev pub Fits : List ℕ → Result Next ServeFault → Type 0
 Fits buffer (Ok (Is.Whole m)) = (m.start ≤ m.end) × (m.end ≤ length buffer)
-    × (length (drop m.end buffer) ≤ 16384)
+    × (length (drop m.end buffer) ≤ max_head)
 Fits buffer (Ok (Is.Refused why)) = ⊤
 Fits buffer (Ok Is.Ended) = ⊤
 Fits buffer (Err fault) = ⊤
@@ -97,14 +104,14 @@ Fits buffer (Err fault) = ⊤
 abbrev pub StopsAt : List ℕ → Option (List ℕ) → List HeaderSpan → Result Head ServeFault → Type 0
 StopsAt buffer left headers (Ok (Came.Whole spans)) = IsRequestOf buffer headers spans
     × IsRequestWithin buffer headers spans
-StopsAt buffer left headers (Ok Came.Refused) = RequestOverflows 64 buffer
-StopsAt buffer left headers (Ok Came.TooLarge) = (length buffer ≡ 16384) × IsUnfinished buffer
+StopsAt buffer left headers (Ok Came.Refused) = RequestOverflows max_fields buffer
+StopsAt buffer left headers (Ok Came.TooLarge) = (length buffer ≡ max_head) × IsUnfinished buffer
 StopsAt buffer left headers (Ok Came.Ended) = (buffer ≡ []) × IsAtEnd left
-StopsAt buffer left headers (Err Fault.CutShort) = (buffer ≢ []) × (length buffer < 16384)
+StopsAt buffer left headers (Err Fault.CutShort) = (buffer ≢ []) × (length buffer < max_head)
     × IsUnfinished buffer
     × IsAtEnd left
-StopsAt buffer left headers (Err Fault.Read) = (length buffer < 16384) × IsUnfinished buffer
-StopsAt buffer left headers (Err Fault.Memory) = (length buffer < 16384) × IsUnfinished buffer
+StopsAt buffer left headers (Err Fault.Read) = (length buffer < max_head) × IsUnfinished buffer
+StopsAt buffer left headers (Err Fault.Memory) = (length buffer < max_head) × IsUnfinished buffer
 StopsAt buffer left headers (Err Fault.Write) = ⊥
 
 -- the bytes are these requests, one behind another, and then rest

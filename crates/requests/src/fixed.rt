@@ -26,9 +26,9 @@ impl Method {
 /// and end the connection.
 #[derive(Clone, Copy, Debug, PartialEq, Eq)]
 pub enum FixedAnswer {
-    /// What was read is no head, or a head of more than 64 fields: 400.
+    /// What was read is no head, or a head of more than `MAX_FIELDS` fields: 400.
     BadRequest,
-    /// 16,384 bytes are not yet a whole head: 431.
+    /// `MAX_HEAD` bytes are not yet a whole head: 431.
     HeadTooLarge,
     /// A field `Transfer-Encoding`: 501.
     TransferEncoding,

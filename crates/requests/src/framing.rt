@@ -9,7 +9,7 @@ use crate::fields::{Found, find, has_field};
 use crate::fixed::FixedAnswer;
 use httparse::spans::HeaderSpan;
 
-/// The longest body, in bytes.
+/// The longest body, in bytes: this project's profile.
 pub const MAX_BODY: usize = 4_194_304;
 
 /// The most digits of a Content-Length.

@@ -8,10 +8,10 @@ use httparse::Status;
 use httparse::spans::{HeaderSpan, RequestSpans, parse_request};
 use std::io::Read;
 
-/// The longest head, in bytes.
+/// The longest head, in bytes: this project's profile.
 pub const MAX_HEAD: usize = 16_384;
 
-/// The most fields of a head.
+/// The most fields of a head: this project's profile.
 pub const MAX_FIELDS: usize = 64;
 
 /// What came of reading a head.

@@ -1,8 +1,8 @@
 //! Requests and answers of HTTP/1.1 as bytes: which request is at the front of a connection's bytes, what it is, and
 //! the text of an answer. No call is made here.
 //!
-//! A head is what `httparse` reads, of at most 64 fields and 16,384 bytes. A body is as long as its Content-Length
-//! says, at most 4,194,304 bytes.
+//! A head is what `httparse` reads, of at most `MAX_FIELDS` fields and `MAX_HEAD` bytes. A body is as long as its
+//! Content-Length says, at most `MAX_BODY` bytes.
 #![tactic(auto)]
 
 mod answer;

@@ -51,20 +51,20 @@ pub fn say_records(alloc: Global, slot: &[u8], words: &str, said: &mut String) -
 pub fn say_slot_records(alloc: Global, slot: &[u8], words: &str, said: &mut String) -> Result<()> {
     let (shard, count) = owner_of(words)?;
     match read_slot_records(alloc, slot, shard, count) {
-        Ok(Some(front)) => say_records_of(&front, said)?,
+        Ok(Some(found)) => say_records_of(&found, said)?,
         Ok(None) => writeln!(said, "closed")?,
         Err(fault) => writeln!(said, "{fault}")?,
     }
     Ok(())
 }
 
-fn say_records_of(front: &SlotRecords, said: &mut String) -> Result<()> {
-    let header = Shown(front.header);
-    match front.ending {
+fn say_records_of(found: &SlotRecords, said: &mut String) -> Result<()> {
+    let header = Shown(found.header);
+    match found.ending {
         Ending::Closed(end) => writeln!(said, "{header} end {end}")?,
         Ending::DamagedAt(at) => writeln!(said, "{header} damaged at {at}")?,
     }
-    say_each_record(&front.records, said)
+    say_each_record(&found.records, said)
 }
 
 fn say_each_record(records: &[Record], said: &mut String) -> Result<()> {

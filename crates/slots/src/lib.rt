@@ -2,10 +2,12 @@
 //! are in use.
 #![tactic(auto)]
 
+mod slot_name;
 mod slots;
 mod terminal;
 mod watched;
 
+pub use slot_name::SlotName;
 pub use slots::{SlotsFault, open_slots};
 pub use terminal::terminal_in;
 pub use watched::Watched;

@@ -1,6 +1,7 @@
 //! The slots of a folder.
 ghost use Rattle.std.specs.Prelude.{◌≡◌, ◌≤◌, IfOk, vec_len};
 
+use crate::slot_name::SlotName;
 use crate::watched::Watched;
 use disk::{FileDisk, LockedFile};
 use std::alloc::{AllocError, Global};
@@ -100,7 +101,8 @@ fn open_slot<R: Files<File = File>>(
     shard: u32,
     slot: u32,
 ) -> Result<FileDisk, SlotsFault> {
-    let path = format!(in alloc; "{folder}/shard-{shard:02}-{slot}.wal")?;
+    let name = SlotName { shard, slot };
+    let path = format!(in alloc; "{folder}/{name}")?;
     match LockedFile::open(rt, path.as_str()) {
         Ok(file) => Ok(FileDisk::new(file)),
         Err(_) => Err(SlotsFault::Path(path)),

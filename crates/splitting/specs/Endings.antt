@@ -11,7 +11,7 @@ use Rattle.splitting.specs.declared.stopped.Stopped.TheVariants.{NoShards, Missi
 -- what stops it: 3 for old slots that are refused, else 1
 abbrev pub split_status : Stopped → ℕ
 split_status NoShards = 1
-split_status (Missing shard slot) = 1
+split_status (Missing name) = 1
 split_status (HasSlots folder) = 1
 split_status (Slots fault) = 1
 split_status (Split (faults.Old shard fault)) = 3

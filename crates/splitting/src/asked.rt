@@ -5,9 +5,7 @@ ghost use Rattle.splitting.specs.Words.{GiveSplit, SaysSplit, SaysOfSplit};
 
 use crate::said::SplitWords;
 use pushjson::time_of;
-
-/// The greatest number of shards.
-const MAX_SHARDS: u64 = 64;
+use words::MAX_SHARDS;
 
 /// What the words of `walsplit` say: `None` where they are not such words.
 pub fn split_in(words: &[String]) -> Option<SplitWords<'_>>

@@ -2,12 +2,12 @@
 ghost use Rattle.std.specs.Prelude.{◌≤◌, IfOk};
 
 use crate::stopped::Stopped;
-use slots::SlotsFault;
+use slots::{SlotName, SlotsFault};
 use std::alloc::Global;
 use std::fs::{self, Files};
 
 /// The greatest number of shards.
-const MAX_SHARDS: u32 = 64;
+const MAX_SHARDS: u32 = words::MAX_SHARDS as u32;
 
 /// The number of shards of which a folder has slots: those of shard 0, shard 1 and so on without a gap.
 ///
@@ -27,14 +27,14 @@ pub fn shards_in<R: Files>(rt: &R, alloc: Global, folder: &str) -> Result<u32, S
     }
     for shard in 0..shards {
         if !has_slot(rt, alloc, folder, shard, 1)? {
-            return Err(Stopped::Missing { shard, slot: 1 });
+            return Err(Stopped::Missing(SlotName { shard, slot: 1 }));
         }
     }
     if has_slots(rt, alloc, folder, shards)? {
-        return Err(Stopped::Missing {
+        return Err(Stopped::Missing(SlotName {
             shard: shards,
             slot: 0,
-        });
+        }));
     }
     Ok(shards)
 }
@@ -71,7 +71,8 @@ fn has_slot<R: Files>(
     shard: u32,
     slot: u32,
 ) -> Result<bool, Stopped> {
-    let path = format!(in alloc; "{folder}/shard-{shard:02}-{slot}.wal")?;
+    let name = SlotName { shard, slot };
+    let path = format!(in alloc; "{folder}/{name}")?;
     match fs::exists(rt, path.as_str()) {
         Ok(is_there) => Ok(is_there),
         Err(_) => Err(Stopped::Slots(SlotsFault::Path(path))),

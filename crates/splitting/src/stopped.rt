@@ -1,7 +1,7 @@
 //! What stops the program.
 ghost use Rattle.std.specs.Prelude.{◌≡◌, ◌≢◌, ◌≤◌};
 
-use slots::SlotsFault;
+use slots::{SlotName, SlotsFault};
 use split::SplitFault;
 use std::alloc::AllocError;
 use thiserror::Error;
@@ -13,8 +13,8 @@ pub enum Stopped {
     #[error("no shards")]
     NoShards,
     /// The folder to split lacks this slot.
-    #[error("missing shard-{shard:02}-{slot}.wal")]
-    Missing { shard: u32, slot: u32 },
+    #[error("missing {0}")]
+    Missing(SlotName),
     /// The folder to split into, at this path, has a slot already.
     #[error("{0} has slots: give a folder without slots as NEW")]
     HasSlots(String),

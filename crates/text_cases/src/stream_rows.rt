@@ -3,14 +3,14 @@ ghost use Rattle.accept.specs.OneStream.{AreTimes};
 
 use crate::shuffled_rows::{self, Order};
 use crate::texts::{text_of_word, write_word};
-use accept::{Entry, Limits, Line, Meta, Outcome, StreamState, TrimRefusal};
+use accept::{END_OF_TIME, Entry, Limits, Line, Meta, Outcome, StreamState, TrimRefusal};
 use anyhow::{Result, bail};
 use rows::{Row, split_pairs, word_of, write_pairs};
 use std::alloc::Global;
 use std::fmt::Write;
 
 /// The greatest time, and the greatest that a clock may tell.
-pub const MOST: u64 = 0x7fff_ffff_ffff_ffff;
+pub const MOST: u64 = END_OF_TIME - 1;
 
 /// A stream, and the limits of its calls.
 #[derive(Drop)]

@@ -2,6 +2,7 @@
 use Rattle.std.specs.Prelude.{codes, ℕ, ◌≡◌, ◌⊎◌, ◌≤◌, ◌<◌, IsTrue, IfOk, List, [], ◌∷◌, Option, None, Some, String, string_bytes}
 use Rattle.std.specs.Str.Parse.{digits_value}
 use Rattle.std.specs.declared.alloc.Global.{Global}
+use Rattle.labels.specs.Shards.{max_shards}
 use Rattle.labels.specs.Tenants.{is_tenant}
 use Rattle.pushjson.specs.Times.{IsTime}
 use Rattle.requests.specs.declared.route.Route.{Route}
@@ -20,7 +21,7 @@ IsNumberIn least most text = IsTime text × (least ≤ value text) × (value tex
 
 -- two numbers, of 1 to 19 digits each: a shard's, and among how many it is, 1 to 64
 abbrev pub NameShard : List ℕ → List ℕ → Type 0
-NameShard shard count = IsTime shard × IsTime count × (1 ≤ value count) × (value count ≤ 64)
+NameShard shard count = IsTime shard × IsTime count × (1 ≤ value count) × (value count ≤ max_shards)
     × (value shard < value count)
 
 -- three words: a file, a shard's number, and the number of shards
@@ -47,8 +48,8 @@ SaysClock words now = (given : GiveClock words) × (now ≡ value (string_bytes 
 
 -- a port, 1 to 64 shards and 1 to 64 workers
 abbrev pub NameServer : List ℕ → List ℕ → List ℕ → Type 0
-NameServer port shards workers = IsNumberIn 0 65535 port × IsNumberIn 1 64 shards
-    × IsNumberIn 1 64 workers
+NameServer port shards workers = IsNumberIn 0 65535 port × IsNumberIn 1 max_shards shards
+    × IsNumberIn 1 max_shards workers
 
 -- nothing, or after how many connections the server ends
 abbrev pub IsLimit : List (String Global) → Type 0
@@ -99,8 +100,8 @@ IsVerb verb = (verb ≡ codes "push") ⊎ ((verb ≡ codes "read") ⊎ (verb ≡
 
 -- what is asked for, of 1 to 64 shards, by a lawful tenant, at a time
 abbrev pub NameCall : List ℕ → List ℕ → List ℕ → List ℕ → Type 0
-NameCall verb shards tenant now = IsVerb verb × IsNumberIn 1 64 shards × IsTrue (is_tenant tenant)
-    × IsTime now
+NameCall verb shards tenant now = IsVerb verb × IsNumberIn 1 max_shards shards
+    × IsTrue (is_tenant tenant) × IsTime now
 
 -- five words: what is asked for, a folder, the number of shards, a tenant, and the clock
 pub record GiveCall (words : List (String Global)) : Type 0 where

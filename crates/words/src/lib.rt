@@ -17,7 +17,7 @@ use std::io;
 use std::rt::Env;
 
 /// The greatest number of shards, and of passes.
-const MAX_SHARDS: u64 = 64;
+pub const MAX_SHARDS: u64 = labels::MAX_SHARDS as u64;
 
 /// The greatest port.
 const MAX_PORT: u64 = 65_535;

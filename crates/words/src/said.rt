@@ -1,5 +1,6 @@
 //! What the words of programs say.
 ghost use Rattle.std.specs.Prelude.{◌<◌, ◌≤◌, ◌^◌};
+ghost use Rattle.labels.specs.Shards.{max_shards};
 
 use labels::Tenant;
 use requests::Route;
@@ -13,7 +14,7 @@ pub struct ShardPlace {
     /// The number of shards, 1 to 64.
     pub count: u32,
     ghost some: { 1 ≤ count },
-    ghost few: { count ≤ 64 },
+    ghost few: { count ≤ max_shards },
     ghost below: { shard < count },
 }
 
@@ -31,9 +32,9 @@ pub struct ServerWords<'a> {
     /// After how many connections the server ends, if it does.
     pub connections: Option<u64>,
     ghost some_shard: { 1 ≤ shards },
-    ghost few_shards: { shards ≤ 64 },
+    ghost few_shards: { shards ≤ max_shards },
     ghost some_worker: { 1 ≤ workers },
-    ghost few_workers: { workers ≤ 64 },
+    ghost few_workers: { workers ≤ max_shards },
 }
 
 /// The words of `ingestctl push|read|trim DIR SHARDS TENANT NOW`.
@@ -50,6 +51,6 @@ pub struct CallWords<'a> {
     /// The clock, in nanoseconds.
     pub now: u64,
     ghost some_shard: { 1 ≤ shards },
-    ghost few_shards: { shards ≤ 64 },
+    ghost few_shards: { shards ≤ max_shards },
     ghost small: { now < 2 ^ 63 },
 }
