@@ -10,9 +10,11 @@ use Rattle.segment.specs.Segments.{owner_of}
 use Rattle.wal.specs.declared.fault.OpenFault.{OpenFault}
 use Rattle.wal.specs.declared.log.Wal.{Wal}
 use Rattle.wal.specs.Opening.{disks}
+use Rattle.wal.specs.Opened.{IsOpenedFrom, IsReturned, IsRefusal}
+use Rattle.wal.proofs.Opened.{found_streams}
 use Rattle.openings.specs.declared.place.Place.{Place}
 use Rattle.openings.specs.declared.place.Place.TheVariants.{Given, Out, Opened, Refused}
-use Rattle.openings.specs.Findings.{IsOpenedFrom, AreOpenedFrom, IsReturned, AreReturned, IsRefusal, AreGood, IsFirstRefused}
+use Rattle.openings.specs.Findings.{AreOpenedFrom, AreReturned, AreGood, IsFirstRefused}
 use Rattle.openings.specs.Places.{IsOpened, AreSlotsThere, IsTried, AreTried, slots_in, logs_in, images_in, first_refused}
 use Rattle.openings.proofs.Ordered.{ordered}
 
@@ -135,7 +137,7 @@ module _ {D : Type 0} (sight : D → Sight) (follows : D → Type 0) where
         all_are = ap (λ l. given ∷ l) r.all_are;
         backs_are = ap (λ l. disks log ∷ l) r.backs_are;
         number = omega arith;
-        good = ((log_returned (owner_of k count) capacity given log m o, (m, λ f. o.recovers (are.both f))), r.good);
+        good = ((log_returned (owner_of k count) capacity given log m o, (m, λ f. found_streams sight follows (owner_of k count) capacity given log m o (are.both f))), r.good);
         refusal = r.refusal;
         returned = r.returned;
       }

@@ -7,9 +7,9 @@ use Rattle.segment.specs.Segments.{owner_of}
 use Rattle.wal.specs.declared.fault.OpenFault.{OpenFault}
 use Rattle.wal.specs.declared.log.Wal.{Wal}
 use Rattle.wal.specs.Opening.{disks}
+use Rattle.wal.specs.Opened.{IsOpenedFrom, IsRefusal}
 use Rattle.openings.specs.declared.place.Place.{Place}
 use Rattle.openings.specs.declared.place.Place.TheVariants.{Given, Out, Opened, Refused}
-use Rattle.openings.specs.Findings.{IsOpenedFrom, IsRefusal}
 
 -- this fault at place k, or else what is found behind it
 abbrev pub first_of : ℕ → Option OpenFault → Option (ℕ × OpenFault) → Option (ℕ × OpenFault)
