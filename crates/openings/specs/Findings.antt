@@ -50,6 +50,7 @@ module _ {D : Type 0} (sight : D → Sight) (follows : D → Type 0) where
     pub backs_are : backs ≡ front_back ++ back ∷ behind_back
     pub number : length front ≡ shard
     pub good : AreGood count 0 front front_back
+    pub came_back : IsReturned sight follows given back
     pub refusal : IsRefusal sight follows (owner_of shard count) given back fault
     pub returned : AreReturned behind behind_back
 

@@ -12,7 +12,7 @@ returns-in-Ok-clause-read g c =
 
 pub returns-clause-rests : goal.returns-clause-rests
 returns-clause-rests g c =
-    let returned = c.in-Err.ensures.refused.returned in
+    let returned = c.in-Err.ensures.returned in
     record { before = returned.before; rests = returned.rests }
 
 pub returns-clause-refused : goal.returns-clause-refused
