@@ -23,7 +23,8 @@ module _ {D : Type 0} (sight : D → Sight) (follows : D → Type 0) where
   -- the slots of each shard come back, and nothing was written
   abbrev pub AreReturned : List (List D) → List (List D) → Type 0
   AreReturned [] [] = Unit {0}
-  AreReturned (given ∷ all) (back ∷ backs) = IsReturned sight follows given back × AreReturned all backs
+  AreReturned (given ∷ all) (back ∷ backs) =
+      IsReturned sight follows given back × AreReturned all backs
   AreReturned all backs = ⊥
 
   -- of the shards from k on the slots come back, and hold streams
