@@ -12,7 +12,8 @@ use Rattle.wal.specs.declared.log.Wal.{Wal}
 use Rattle.wal.specs.Logs.{Follow}
 use Rattle.wal.specs.Covers.{Covers}
 use Rattle.wal.specs.Opening.{slots_of}
-use Rattle.openings.specs.Findings.{IsOpenedFrom, AreOpenedFrom}
+use Rattle.wal.specs.Opened.{IsOpenedFrom}
+use Rattle.openings.specs.Findings.{AreOpenedFrom}
 use Rattle.headline.specs.Lives.{ShardEnd, AreLeftBy, LeftAt, AreLeftAt, LogsFollow}
 
 module _ {D : Type 0} (sight : D → Sight) (follows : D → Type 0) where

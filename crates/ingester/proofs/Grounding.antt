@@ -14,11 +14,12 @@ use Rattle.segment.specs.Segments.{owner_of}
 use Rattle.segment.specs.Fitting.{FitStreams}
 use Rattle.wal.specs.declared.log.Wal.{Wal}
 use Rattle.wal.specs.Opening.{disks}
+use Rattle.wal.specs.Opened.{IsOpenedFrom}
 use Rattle.history.specs.declared.views.About.{About}
 use Rattle.history.specs.Handles.{Booked, Passed, about_of, fresh_book, fresh_books, fresh_pass, fresh_passes}
 use Rattle.shard.specs.Shards.{Sharded}
 use Rattle.keyed.proofs.Filling.{get_before, get_last}
-use Rattle.openings.specs.Findings.{IsOpenedFrom, AreOpenedFrom, AreReturned}
+use Rattle.openings.specs.Findings.{AreOpenedFrom, AreReturned}
 use Rattle.openings.proofs.Trying.{logs_returned}
 use Rattle.owners.specs.Openings.{Opening, opening_of}
 use Rattle.owners.specs.Places.{AreShardsOf, IsShardAt}

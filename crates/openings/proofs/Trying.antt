@@ -10,9 +10,11 @@ use Rattle.segment.specs.Segments.{owner_of}
 use Rattle.wal.specs.declared.fault.OpenFault.{OpenFault}
 use Rattle.wal.specs.declared.log.Wal.{Wal}
 use Rattle.wal.specs.Opening.{disks}
+use Rattle.wal.specs.Opened.{IsOpenedFrom, IsReturned, IsRefusal}
+use Rattle.wal.proofs.Opened.{found_streams}
 use Rattle.openings.specs.declared.place.Place.{Place}
 use Rattle.openings.specs.declared.place.Place.TheVariants.{Given, Out, Opened, Refused}
-use Rattle.openings.specs.Findings.{IsOpenedFrom, AreOpenedFrom, IsReturned, AreReturned, IsRefusal, AreGood, IsFirstRefused}
+use Rattle.openings.specs.Findings.{AreOpenedFrom, AreReturned, AreGood, IsFirstRefused}
 use Rattle.openings.specs.Places.{IsOpened, AreSlotsThere, IsTried, AreTried, slots_in, logs_in, images_in, first_refused}
 use Rattle.openings.proofs.Ordered.{ordered}
 
@@ -73,7 +75,7 @@ module _ {D : Type 0} (sight : D → Sight) (follows : D → Type 0) where
   tried_back whose capacity given (Given a b) h = absurd h
   tried_back whose capacity given Out h = absurd h
   tried_back whose capacity given (Opened log m) h = (tt, log_returned whose capacity given log m h)
-  tried_back whose capacity given (Refused fault a b) h = (tt, h.returned)
+  tried_back whose capacity given (Refused fault a b) h = (tt, h.0)
 
   pub all_back : (count capacity k : ℕ) (all : List (List D)) (places : List (Place D)) → AreTried sight follows count capacity k all places
       → All AreSlotsThere places × AreReturned sight follows all (map slots_in places)
@@ -110,6 +112,7 @@ module _ {D : Type 0} (sight : D → Sight) (follows : D → Type 0) where
     pub backs_are : backs ≡ front_back ++ back ∷ behind_back
     pub number : k + length front ≡ shard
     pub good : AreGood sight follows count k front front_back
+    pub came_back : IsReturned sight follows given back
     pub refusal : IsRefusal sight follows (owner_of shard count) given back fault
     pub returned : AreReturned sight follows behind behind_back
 
@@ -135,7 +138,8 @@ module _ {D : Type 0} (sight : D → Sight) (follows : D → Type 0) where
         all_are = ap (λ l. given ∷ l) r.all_are;
         backs_are = ap (λ l. disks log ∷ l) r.backs_are;
         number = omega arith;
-        good = ((log_returned (owner_of k count) capacity given log m o, (m, λ f. o.recovers (are.both f))), r.good);
+        good = ((log_returned (owner_of k count) capacity given log m o, (m, λ f. found_streams sight follows (owner_of k count) capacity given log m o (are.both f))), r.good);
+        came_back = r.came_back;
         refusal = r.refusal;
         returned = r.returned;
       }
@@ -152,7 +156,8 @@ module _ {D : Type 0} (sight : D → Sight) (follows : D → Type 0) where
         backs_are = refl;
         number = let at : k ≡ shard = ap (λ (p : ℕ × OpenFault). p.0) same in omega arith;
         good = tt;
-        refusal = subst (λ (p : ℕ × OpenFault). IsRefusal sight follows (owner_of p.0 count) given (a ∷ b ∷ []) p.1) same h.0;
+        came_back = h.0.0;
+        refusal = subst (λ (p : ℕ × OpenFault). IsRefusal sight follows (owner_of p.0 count) given (a ∷ b ∷ []) p.1) same h.0.1;
         returned = (all_back count capacity (k + 1) all places h.1).1;
       }
 
@@ -173,6 +178,7 @@ module _ {D : Type 0} (sight : D → Sight) (follows : D → Type 0) where
         backs_are = r.backs_are;
         number = omega arith;
         good = r.good;
+        came_back = r.came_back;
         refusal = r.refusal;
         returned = r.returned;
       }

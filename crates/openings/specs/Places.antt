@@ -7,9 +7,9 @@ use Rattle.segment.specs.Segments.{owner_of}
 use Rattle.wal.specs.declared.fault.OpenFault.{OpenFault}
 use Rattle.wal.specs.declared.log.Wal.{Wal}
 use Rattle.wal.specs.Opening.{disks}
+use Rattle.wal.specs.Opened.{IsOpenedFrom, IsReturned, IsRefusal}
 use Rattle.openings.specs.declared.place.Place.{Place}
 use Rattle.openings.specs.declared.place.Place.TheVariants.{Given, Out, Opened, Refused}
-use Rattle.openings.specs.Findings.{IsOpenedFrom, IsRefusal}
 
 -- this fault at place k, or else what is found behind it
 abbrev pub first_of : ℕ → Option OpenFault → Option (ℕ × OpenFault) → Option (ℕ × OpenFault)
@@ -78,7 +78,8 @@ module _ {D : Type 0} (sight : D → Sight) (follows : D → Type 0) where
   IsTried whose capacity given (Opened log m) =
       IsOpenedFrom sight follows whose capacity given log m
   IsTried whose capacity given (Refused fault a b) =
-      IsRefusal sight follows whose given (a ∷ b ∷ []) fault
+      IsReturned sight follows given (a ∷ b ∷ [])
+      × IsRefusal sight follows whose given (a ∷ b ∷ []) fault
 
   -- so were those of each shard from k on
   abbrev pub AreTried : ℕ → ℕ → ℕ → List (List D) → List (Place D) → Type 0

@@ -2,7 +2,20 @@ use Rattle.segment.specs.Segments.{owner_of}
 use Rattle.split.proofs.Logs.{opened_back}
 use Rattle.split.proofs.reading.read_pair.Goals as goal
 
+pub returns-in-Ok-clause-rests : goal.returns-in-Ok-clause-rests
+returns-in-Ok-clause-rests g c =
+    (opened_back g.D.Disk.sight g.D.Disk.follows c.in-Ok.log c.args.given c.into_slots-back.result (owner_of c.args.shard c.args.count) c.args.cap c.in-Ok.image c.into_slots-back.ensures c.in-Ok.ensures.opened).rests
+
 pub returns-in-Ok-clause-read : goal.returns-in-Ok-clause-read
 returns-in-Ok-clause-read g c =
-    let e = c.in-Ok.ensures in
-    opened_back g.D.Disk.sight g.D.Disk.follows c.in-Ok.log c.args.given c.into_slots-back.result (owner_of c.args.shard c.args.count) c.in-Ok.image c.into_slots-back.ensures e.owner e.before e.rests e.settled e.recovers e.fit e.room e.not_failed
+    opened_back g.D.Disk.sight g.D.Disk.follows c.in-Ok.log c.args.given c.into_slots-back.result (owner_of c.args.shard c.args.count) c.args.cap c.in-Ok.image c.into_slots-back.ensures c.in-Ok.ensures.opened
+
+pub returns-clause-rests : goal.returns-clause-rests
+returns-clause-rests g c =
+    let returned = c.in-Err.ensures.returned in
+    record { before = returned.before; rests = returned.rests }
+
+pub returns-clause-refused : goal.returns-clause-refused
+returns-clause-refused g c =
+    let refusal = c.in-Err.ensures.refused in
+    record { why = refusal.why; counted = refusal.counted }
