@@ -9,5 +9,5 @@ mod watched;
 
 pub use slot_name::SlotName;
 pub use slots::{SlotsFault, open_slots};
-pub use terminal::terminal_in;
+pub use terminal::{say_line, terminal_in};
 pub use watched::Watched;
