@@ -40,16 +40,14 @@ hand_out-requires-clause-made g c =
     let inv = c.loop-alloc.invariant in
     let opening = c.args.origin.now in
     let home = c.requires.home in
-    let turned = turn_turned g.D.Disk.sight g.D.Disk.follows opening c.loop-alloc.state c.apply_group.new.self c.loop-alloc.desk.jobs.items c.apply_group.new.jobs.items c.loop-alloc.desk.settled.items
-    c.apply_group.new.settled.items c.apply_group.result c.args.state.now.book.shard c.apply_group.ensures.turn inv.state inv.ready inv.open_calls inv.settled in
+    let turned = turn_turned g.D.Disk.sight g.D.Disk.follows opening _ c.args.state.now.book.shard c.apply_group.ensures.turn inv.state inv.ready inv.open_calls inv.settled in
     let made = turned_made opening c.apply_group.new.settled.items turned in
     let there = subst (λ v. AreMade (home_of opening) v.items) (sym c.replace-settled.ensures.value) made in
     subst (λ (h : Homed). AreMade h c.replace-settled.result.items) (sym home) there
 
 pub loop-alloc-smaller : goal.loop-alloc-smaller
 loop-alloc-smaller g c =
-    let fewer : length c.apply_group.new.jobs.items < length c.loop-alloc.desk.jobs.items = turn_fewer g.D.Disk.sight g.D.Disk.follows c.args.origin.now c.loop-alloc.state c.apply_group.new.self
-    c.loop-alloc.desk.jobs.items c.apply_group.new.jobs.items c.loop-alloc.desk.settled.items c.apply_group.new.settled.items c.apply_group.result c.apply_group.ensures.turn in
+    let fewer : length c.apply_group.new.jobs.items < length c.loop-alloc.desk.jobs.items = turn_fewer g.D.Disk.sight g.D.Disk.follows c.args.origin.now _ c.apply_group.ensures.turn in
     search (rules, fewer)
 
 pub loop-alloc-preserved : goal.loop-alloc-preserved
@@ -62,11 +60,9 @@ loop-alloc-preserved g c =
     let out = c.hand_out.ensures in
     let same : vec_capacity c.hand_out.result ≡ vec_capacity c.apply_group.new.settled = out.capacity ∙ ap vec_capacity c.replace-settled.ensures.value in
     record {
-      state = turn_of g.D.Disk.sight g.D.Disk.follows opening c.loop-alloc.state c.apply_group.new.self c.loop-alloc.desk.jobs.items c.apply_group.new.jobs.items c.loop-alloc.desk.settled.items c.apply_group.new.settled.items
-          c.apply_group.result c.args.state.now.book.shard made.turn inv.state;
+      state = turn_of g.D.Disk.sight g.D.Disk.follows opening _ c.args.state.now.book.shard made.turn inv.state;
       ready = made.ready;
-      open_calls = turn_open g.D.Disk.sight g.D.Disk.follows opening c.loop-alloc.state c.apply_group.new.self c.loop-alloc.desk.jobs.items c.apply_group.new.jobs.items c.loop-alloc.desk.settled.items
-          c.apply_group.new.settled.items c.apply_group.result made.turn inv.open_calls;
+      open_calls = turn_open g.D.Disk.sight g.D.Disk.follows opening _ made.turn inv.open_calls;
       settled = out.none;
       places = out.places;
       fits = omega arith;
