@@ -12,7 +12,6 @@ use Rattle.history.specs.Histories.{HaveSteps, HasStep, IsAmong, of_pass, steps_
 use Rattle.history.specs.Handles.{Booked, Announced, Received, AreOf, asks_of, longer}
 use Rattle.history.proofs.Past.{made_now, have_more}
 use Rattle.shard.specs.declared.first_jobs.Job.{Job}
-use Rattle.shard.specs.declared.group.Settled.{Settled}
 use Rattle.shard.specs.Groups.{items_with, with_steps, changing_of, marked_by, HaveStepsOr, AreInTurn}
 use Rattle.shard.specs.Jobs.{tickets_of, jobs_by, jobs_but, AreLawful, AreInPassTurn}
 use Rattle.shard.specs.Parts.{IsApplied}
