@@ -24,11 +24,11 @@ use Rattle.shard.specs.Groups.{with_steps, changing_of, MayLeaveAll}
 use Rattle.shard.specs.Jobs.{tickets_of}
 use Rattle.shard.specs.Keeping.{owner_in, IsAllowed, KeepsHistory}
 use Rattle.shard.specs.Shards.{Sharded}
-use Rattle.shard.specs.Turns.{IsTurn}
+use Rattle.shard.specs.Turns.{Turn, IsTurn}
 use Rattle.shard.proofs.Groups.{steps_mean, failed_means, step_written}
 use Rattle.owners.specs.Openings.{Opening}
 use Rattle.headline.specs.Threads.{Thread}
-use Rattle.headline.specs.Turns.{OneTurn, Moment, Between, Within, Stretch, shard_then, writing_then, IsMade, Lead, IsMoment, FollowThen, IsStretch, MayBeLeft, IsLeftThen}
+use Rattle.headline.specs.Turns.{Moment, Between, Within, Stretch, shard_then, writing_then, IsMade, Lead, IsMoment, FollowThen, IsStretch, MayBeLeft, IsLeftThen}
 use Rattle.headline.proofs.Leaving.{IsOpenedAt}
 
 take_none : {A : Type 0} (j : ℕ) → take {A = A} j [] ≡ []
@@ -114,7 +114,7 @@ module _ {D : Type 0} (sight : D → Sight) (follows : D → Type 0) (only_now :
     pub number : s.book.shard ≡ k
     pub covers : Follow follows s.log → KeepsHistory (slots sight s.log) s.book (doubt_of s.book.items)
 
-  same_book : (t : OneTurn D) → IsTurn sight follows t.old t.new t.jobs t.rest t.was t.now t.ended → (t.new.book.about ≡ t.old.book.about) × (t.new.book.shard ≡ t.old.book.shard)
+  same_book : (t : Turn D) → IsTurn sight follows t → (t.new.book.about ≡ t.old.book.about) × (t.new.book.shard ≡ t.old.book.shard)
   same_book t (inl h) = ⊎_elim
       (λ (c : _ × (t.new.book ≡ with_steps t.old.book (asks_of h.front)) × _). (ap (λ (b : Booked). b.about) c.1, ap (λ (b : Booked). b.shard) c.1))
       (λ (c : _ × (t.new.book ≡ _) × _). (ap (λ (b : Booked). b.about) c.1, ap (λ (b : Booked). b.shard) c.1))
@@ -125,12 +125,12 @@ module _ {D : Type 0} (sight : D → Sight) (follows : D → Type 0) (only_now :
       h.applied.step
   same_book t (inr (inr h)) = (ap (λ (s : Sharded D). s.book.about) h.same, ap (λ (s : Sharded D). s.book.shard) h.same)
 
-  made_rests : (about : About) (k : ℕ) (t : OneTurn D) → Rests about k t.old → IsMade sight follows t → Rests about k t.new
+  made_rests : (about : About) (k : ℕ) (t : Turn D) → Rests about k t.old → IsMade sight follows t → Rests about k t.new
   made_rests about k t r m =
       let same = same_book t m.turn in
       record { about_is = same.0 ∙ r.about_is; number = same.1 ∙ r.number; covers = m.covered }
 
-  lead_rests : (about : About) (k : ℕ) (start end : Sharded D) (ts : List (OneTurn D)) → Rests about k start → Lead sight follows start ts end → Rests about k end
+  lead_rests : (about : About) (k : ℕ) (start end : Sharded D) (ts : List (Turn D)) → Rests about k start → Lead sight follows start ts end → Rests about k end
   lead_rests about k start end [] r l = subst (Rests about k) (sym l) r
   lead_rests about k start end (t ∷ ts) r l = lead_rests about k t.new end ts (made_rests about k t (subst (Rests about k) (sym l.0) r) l.1) l.2
 
@@ -149,11 +149,11 @@ module _ {D : Type 0} (sight : D → Sight) (follows : D → Type 0) (only_now :
   }
 
   -- in the middle of a turn a crash leaves the history before it and a beginning of the calls that it writes
-  within_turn : (about : About) (k : ℕ) (t : OneTurn D) (a b : List ℕ) → Rests about k t.old → IsMade sight follows t → Follow follows t.new.log → IsWithin t.old.book.about.limits (history_in t.old.book)
+  within_turn : (about : About) (k : ℕ) (t : Turn D) (a b : List ℕ) → Rests about k t.old → IsMade sight follows t → Follow follows t.new.log → IsWithin t.old.book.about.limits (history_in t.old.book)
       → MayBeLeft sight follows (Within t) a b → IsAllowed t.old.book (writing_then (Within t)) a b
   within_turn about k t a b r m f within left = by m.turn
     where
-      by : IsTurn sight follows t.old t.new t.jobs t.rest t.was t.now t.ended → IsAllowed t.old.book (writing_then (Within t)) a b
+      by : IsTurn sight follows t → IsAllowed t.old.book (writing_then (Within t)) a b
       by (inl h) =
           subst (λ (ts : List Announced). IsAllowed t.old.book (doubt_or t.old.book.items (changing_of t.old.book (asks_of ts))) a b)
           (sym (front_of (tickets_of t.jobs) h.front (tickets_of t.rest) h.split))

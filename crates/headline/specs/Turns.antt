@@ -7,41 +7,28 @@ use Rattle.wal.specs.Logs.{Follow, slots}
 use Rattle.wal.specs.Opening.{slots_of}
 use Rattle.history.specs.Histories.{IsLegalAt, IsByPasses, doubt_of, doubt_or}
 use Rattle.history.specs.Handles.{Announced, asks_of, fresh_book}
-use Rattle.shard.specs.declared.first_jobs.Job.{Job}
-use Rattle.shard.specs.declared.first_jobs.GroupEnd.{GroupEnd}
-use Rattle.shard.specs.declared.group.Settled.{Settled}
 use Rattle.shard.specs.Groups.{changing_of}
 use Rattle.shard.specs.Jobs.{tickets_of}
 use Rattle.shard.specs.Keeping.{KeepsHistory}
 use Rattle.shard.specs.Shards.{Sharded}
-use Rattle.shard.specs.Turns.{IsTurn}
+use Rattle.shard.specs.Turns.{Turn, IsTurn}
 use Rattle.owners.specs.Openings.{Opening}
 use Rattle.ingester.specs.Closings.{IsTold}
 use Rattle.headline.specs.Threads.{Thread}
 use Rattle.headline.specs.Headline.{IsOneOf}
 
--- a turn of a shard at some jobs
-pub record OneTurn (D : Type 0) : Type 0 where
-  pub old : Sharded D
-  pub new : Sharded D
-  pub jobs : List Job
-  pub rest : List Job
-  pub was : List Settled
-  pub now : List Settled
-  pub ended : GroupEnd
-
--- the jobs that it takes, from the first on
-abbrev pub taken_in : {D : Type 0} → OneTurn D → List Announced
+-- the jobs that a turn takes, from the first on
+abbrev pub taken_in : {D : Type 0} → Turn D → List Announced
 taken_in t = take (length (tickets_of t.jobs) - length (tickets_of t.rest)) (tickets_of t.jobs)
 
 -- where the owner of a shard is: between two turns, or in the middle of one
 pub data Moment (D : Type 0) : Type 0 where
   Between : Sharded D → Moment D
-  Within : OneTurn D → Moment D
+  Within : Turn D → Moment D
 
 -- the turns that a shard made, and where its owner is then
 pub record Stretch (D : Type 0) : Type 0 where
-  pub turns : List (OneTurn D)
+  pub turns : List (Turn D)
   pub moment : Moment D
 
 -- the shard, without the turn that it is in
@@ -56,13 +43,13 @@ writing_then (Within t) = doubt_or t.old.book.items (changing_of t.old.book (ask
 
 module _ {D : Type 0} (sight : D → Sight) (follows : D → Type 0) where
   -- what `Shard::apply_group` says
-  pub record IsMade (t : OneTurn D) : Type 0 where
-    pub turn : IsTurn sight follows t.old t.new t.jobs t.rest t.was t.now t.ended
+  pub record IsMade (t : Turn D) : Type 0 where
+    pub turn : IsTurn sight follows t
     pub covered : Follow follows t.new.log
         → KeepsHistory (slots sight t.new.log) t.new.book (doubt_of t.new.book.items)
 
   -- these turns lead from one shard to another
-  abbrev pub Lead : Sharded D → List (OneTurn D) → Sharded D → Type 0
+  abbrev pub Lead : Sharded D → List (Turn D) → Sharded D → Type 0
   Lead start [] end = end ≡ start
   Lead start (t ∷ ts) end = (t.old ≡ start) × IsMade t × Lead t.new ts end
 

@@ -15,14 +15,13 @@ use Rattle.history.specs.Handles.{Announced, Booked, Passed, Received, AreOf, as
 use Rattle.history.proofs.Sharding.{shard_below}
 use Rattle.shard.specs.declared.fault.ApplyFault.{ApplyFault}
 use Rattle.shard.specs.declared.first_jobs.Job.{Job}
-use Rattle.shard.specs.declared.first_jobs.GroupEnd.{GroupEnd}
 use Rattle.shard.specs.declared.group.Settled.{Settled}
 use Rattle.shard.specs.declared.group.Settled.TheVariants.{Answered, GivenBack}
 use Rattle.shard.specs.Groups.{HaveStepsOr, with_step}
 use Rattle.shard.specs.Jobs.{tickets_of, jobs_by, jobs_but, AreLawful, AreInPassTurn}
 use Rattle.shard.specs.Queues.{settled_of}
 use Rattle.shard.specs.Shards.{Sharded}
-use Rattle.shard.specs.Turns.{AreReady, AreStepped, IsAlone, IsGivenBack, IsTurn, given_back_of}
+use Rattle.shard.specs.Turns.{Turn, span_of, AreReady, AreStepped, IsAlone, IsGivenBack, IsTurn, given_back_of}
 use Rattle.shard.proofs.Turning.{of_both}
 use Rattle.lone_shard.proofs.Books.{alone_same}
 use Rattle.lone_shard.specs.Rounds.{asks_settled, AreOwn, AreSettled, IsOpenRound}
@@ -215,15 +214,15 @@ record HasGone (table : TableId) (p : ℕ) (old new : Booked) (jobs rest : List 
   pub same_about : new.about ≡ old.about
   pub same_shard : new.shard ≡ old.shard
 
-module _ {D : Type 0} (sight : D → Sight) (follows : D → Type 0) (table : TableId) (p : ℕ) (old new : Sharded D) (jobs rest : List Job) (was now : List Settled) (ended : GroupEnd) where
-  stepped_gone : (front : List Announced) → tickets_of jobs ≡ front ++ tickets_of rest → AreStepped sight old new front was now → HasGone table p old.book new.book jobs rest was now
+module _ {D : Type 0} (sight : D → Sight) (follows : D → Type 0) (table : TableId) (p : ℕ) (t : Turn D) where
+  stepped_gone : (front : List Announced) → tickets_of t.jobs ≡ front ++ tickets_of t.rest → AreStepped sight (span_of t) front → HasGone table p t.old.book t.new.book t.jobs t.rest t.was t.now
   stepped_gone front split (inl made) = record {
     gone = front;
     split = split;
-    more = settled_of old.book front _;
+    more = settled_of t.old.book front _;
     now_is = made.2;
-    asks = settled_asks old.book front _;
-    own = settled_own old.book front _ table p;
+    asks = settled_asks t.old.book front _;
+    own = settled_own t.old.book front _ table p;
     same_table = ap (λ (b : Booked). b.table) made.1;
     same_about = ap (λ (b : Booked). b.about) made.1;
     same_shard = ap (λ (b : Booked). b.shard) made.1;
@@ -240,9 +239,9 @@ module _ {D : Type 0} (sight : D → Sight) (follows : D → Type 0) (table : Ta
     same_shard = ap (λ (b : Booked). b.shard) lost.1;
   }
 
-  alone_gone : IsAlone sight follows old new jobs rest was now ended → HasGone table p old.book new.book jobs rest was now
+  alone_gone : IsAlone sight follows t → HasGone table p t.old.book t.new.book t.jobs t.rest t.was t.now
   alone_gone h =
-      let b = alone_same sight follows old new h.job.ticket h.reply h.receipt h.applied in
+      let b = alone_same sight follows t.old t.new h.job.ticket h.reply h.receipt h.applied in
       let is = h.applied.receipt_is in
       record {
         gone = h.job.ticket ∷ [];
@@ -256,25 +255,25 @@ module _ {D : Type 0} (sight : D → Sight) (follows : D → Type 0) (table : Ta
         same_shard = b.shard;
       }
 
-  back_gone : AreOwn table p (tickets_of jobs) → IsGivenBack old new jobs rest was now ended → HasGone table p old.book new.book jobs rest was now
+  back_gone : AreOwn table p (tickets_of t.jobs) → IsGivenBack t → HasGone table p t.old.book t.new.book t.jobs t.rest t.was t.now
   back_gone own h =
       let q = h.job.ticket.ask.pass in
       let mine : q ≡ p = (subst (λ (l : List Job). AreOwn table p (tickets_of l)) h.split own).0.1 in
-      let by : jobs_by q jobs ≡ jobs = ap (λ (n : ℕ). jobs_by n jobs) mine ∙ all_by table p jobs own in
-      let none : rest ≡ [] = h.rest_is ∙ (ap (λ (n : ℕ). jobs_but n jobs) mine ∙ none_but table p jobs own) in
+      let by : jobs_by q t.jobs ≡ t.jobs = ap (λ (n : ℕ). jobs_by n t.jobs) mine ∙ all_by table p t.jobs own in
+      let none : t.rest ≡ [] = h.rest_is ∙ (ap (λ (n : ℕ). jobs_but n t.jobs) mine ∙ none_but table p t.jobs own) in
       record {
-        gone = tickets_of jobs;
-        split = sym (append-nil (tickets_of jobs)) ∙ ap (λ (l : List Job). tickets_of jobs ++ tickets_of l) (sym none);
-        more = given_back_of h.fault (tickets_of jobs);
-        now_is = h.settled ∙ ap (λ (l : List Job). was ++ given_back_of h.fault (tickets_of l)) by;
-        asks = refused_asks h.fault (tickets_of jobs);
-        own = refused_own h.fault (tickets_of jobs) table p;
+        gone = tickets_of t.jobs;
+        split = sym (append-nil (tickets_of t.jobs)) ∙ ap (λ (l : List Job). tickets_of t.jobs ++ tickets_of l) (sym none);
+        more = given_back_of h.fault (tickets_of t.jobs);
+        now_is = h.settled ∙ ap (λ (l : List Job). t.was ++ given_back_of h.fault (tickets_of l)) by;
+        asks = refused_asks h.fault (tickets_of t.jobs);
+        own = refused_own h.fault (tickets_of t.jobs) table p;
         same_table = ap (λ (s : Sharded D). s.book.table) h.same;
         same_about = ap (λ (s : Sharded D). s.book.about) h.same;
         same_shard = ap (λ (s : Sharded D). s.book.shard) h.same;
       }
 
-  turn_gone : AreOwn table p (tickets_of jobs) → IsTurn sight follows old new jobs rest was now ended → HasGone table p old.book new.book jobs rest was now
+  turn_gone : AreOwn table p (tickets_of t.jobs) → IsTurn sight follows t → HasGone table p t.old.book t.new.book t.jobs t.rest t.was t.now
   turn_gone own (inl h) = stepped_gone h.front h.split h.applied.stepped
   turn_gone own (inr (inl h)) = alone_gone h
   turn_gone own (inr (inr h)) = back_gone own h
@@ -301,10 +300,10 @@ gone_open table old new pass jobs rest was now h g ready =
     }
 
 -- a turn at the jobs
-pub open_turn : {D : Type 0} (sight : D → Sight) (follows : D → Type 0) (table : TableId) (pass : Passed) (old new : Sharded D) (jobs rest : List Job) (was now : List Settled) (ended : GroupEnd) → IsOpenRound table old.book pass jobs was
-    → IsTurn sight follows old new jobs rest was now ended → AreReady new.book rest → IsOpenRound table new.book pass rest now
-open_turn sight follows table pass old new jobs rest was now ended h turn ready =
-    gone_open table old.book new.book pass jobs rest was now h (turn_gone sight follows table pass.caller.pass old new jobs rest was now ended h.own turn) ready
+pub open_turn : {D : Type 0} (sight : D → Sight) (follows : D → Type 0) (table : TableId) (pass : Passed) (t : Turn D) → IsOpenRound table t.old.book pass t.jobs t.was
+    → IsTurn sight follows t → AreReady t.new.book t.rest → IsOpenRound table t.new.book pass t.rest t.now
+open_turn sight follows table pass t h turn ready =
+    gone_open table t.old.book t.new.book pass t.jobs t.rest t.was t.now h (turn_gone sight follows table pass.caller.pass t h.own turn) ready
 
 -- One is taken in.
 

@@ -11,7 +11,6 @@ use Rattle.history.specs.Histories.{shard_in, step_of}
 use Rattle.history.specs.Handles.{Announced, Booked, Received, AreOf, asks_of}
 use Rattle.shard.specs.declared.fault.ApplyFault.{ApplyFault}
 use Rattle.shard.specs.declared.fault.ApplyFault.TheVariants.{Memory, GenerationSpent}
-use Rattle.shard.specs.declared.first_jobs.GroupEnd.{GroupEnd}
 use Rattle.shard.specs.declared.first_jobs.Job.{Job}
 use Rattle.shard.specs.declared.group.Settled.{Settled}
 use Rattle.shard.specs.declared.group.Settled.TheVariants.{Answered, GivenBack}
@@ -22,7 +21,7 @@ use Rattle.shard.specs.Jobs.{tickets_of, jobs_by, jobs_but, AreLawful, AreInPass
 use Rattle.shard.specs.Parts.{IsApplied}
 use Rattle.shard.specs.Queues.{settled_of}
 use Rattle.shard.specs.Shards.{Sharded}
-use Rattle.shard.specs.Turns.{AreReady, AreStepped, IsAlone, IsGivenBack, IsTurn, given_back_of}
+use Rattle.shard.specs.Turns.{Turn, span_of, AreReady, AreStepped, IsAlone, IsGivenBack, IsTurn, given_back_of}
 use Rattle.shard.proofs.Turning.{pass_turn_more}
 use Rattle.owners.specs.Calls.{AreSureTickets, AreWaiting, AreOfCalls, IsFirstSpent, AreTurned, IsOfCall, IsSpentAsSaid, IsDueTo, pass_in, with_memory}
 use Rattle.owners.specs.Openings.{Opening}
@@ -165,63 +164,63 @@ module _ {D : Type 0} (opening : Opening D) where
 
 -- A turn.
 
-module _ {D : Type 0} (sight : D → Sight) (follows : D → Type 0) (opening : Opening D) (old new : Sharded D) (jobs rest : List Job) (was now : List Settled) (ended : GroupEnd) where
+module _ {D : Type 0} (sight : D → Sight) (follows : D → Type 0) (opening : Opening D) (turn : Turn D) where
   abbrev Opens : List Job → Type 0
   Opens l = AreSureTickets opening.table opening.about (tickets_of l)
 
   record IsSame : Type 0 where
-    pub table : new.book.table ≡ old.book.table
-    pub about : new.book.about ≡ old.book.about
-    pub shard : new.book.shard ≡ old.book.shard
-    pub opened : new.opened ≡ old.opened
+    pub table : turn.new.book.table ≡ turn.old.book.table
+    pub about : turn.new.book.about ≡ turn.old.book.about
+    pub shard : turn.new.book.shard ≡ turn.old.book.shard
+    pub opened : turn.new.opened ≡ turn.old.opened
 
-  stepped_same : (ts : List Announced) → AreStepped sight old new ts was now → new.opened ≡ old.opened → IsSame
+  stepped_same : (ts : List Announced) → AreStepped sight (span_of turn) ts → turn.new.opened ≡ turn.old.opened → IsSame
   stepped_same ts (inl made) opened = record { table = ap (λ (b : Booked). b.table) made.1; about = ap (λ (b : Booked). b.about) made.1; shard = ap (λ (b : Booked). b.shard) made.1; opened = opened }
   stepped_same ts (inr lost) opened = record { table = ap (λ (b : Booked). b.table) lost.1; about = ap (λ (b : Booked). b.about) lost.1; shard = ap (λ (b : Booked). b.shard) lost.1; opened = opened }
 
-  alone_same : (t : Announced) (reply : Reply) (receipt : Received) → IsApplied sight follows old new t reply receipt → IsSame
+  alone_same : (t : Announced) (reply : Reply) (receipt : Received) → IsApplied sight follows turn.old turn.new t reply receipt → IsSame
   alone_same t reply receipt h = elim h.step [
     | inl m ↦ record { table = ap (λ (b : Booked). b.table) m.book; about = ap (λ (b : Booked). b.about) m.book; shard = ap (λ (b : Booked). b.shard) m.book; opened = h.opened }
     | inr l ↦ record { table = ap (λ (b : Booked). b.table) l.book; about = ap (λ (b : Booked). b.about) l.book; shard = ap (λ (b : Booked). b.shard) l.book; opened = h.opened }
   ]
 
-  turn_same : IsTurn sight follows old new jobs rest was now ended → IsSame
+  turn_same : IsTurn sight follows turn → IsSame
   turn_same (inl h) = stepped_same h.front h.applied.stepped h.applied.opened
   turn_same (inr (inl h)) = alone_same h.job.ticket h.reply h.receipt h.applied
   turn_same (inr (inr h)) = let e = h.same in
       record { table = ap (λ (s : Sharded D). s.book.table) e; about = ap (λ (s : Sharded D). s.book.about) e; shard = ap (λ (s : Sharded D). s.book.shard) e; opened = ap (λ (s : Sharded D). s.opened) e }
 
   -- the shard is that of its lock
-  pub turn_of : (k : ℕ) → IsTurn sight follows old new jobs rest was now ended → IsOf opening k old → IsOf opening k new
+  pub turn_of : (k : ℕ) → IsTurn sight follows turn → IsOf opening k turn.old → IsOf opening k turn.new
   turn_of k h is = let s = turn_same h in record { table = s.table ∙ is.table; about = s.about ∙ is.about; number = s.shard ∙ is.number; opened = is.opened ∙ ap Some (sym s.opened) }
 
   -- the calls that are left are open
-  pub turn_open : IsTurn sight follows old new jobs rest was now ended → Opens jobs → Opens rest
-  turn_open (inl h) o = open_back opening.table opening.about h.front (tickets_of rest) (subst (AreSureTickets opening.table opening.about) h.split o)
+  pub turn_open : IsTurn sight follows turn → Opens turn.jobs → Opens turn.rest
+  turn_open (inl h) o = open_back opening.table opening.about h.front (tickets_of turn.rest) (subst (AreSureTickets opening.table opening.about) h.split o)
   turn_open (inr (inl h)) o = (subst Opens h.split o).1
-  turn_open (inr (inr h)) o = subst Opens (sym h.rest_is) (open_but opening.table opening.about h.job.ticket.ask.pass jobs o)
+  turn_open (inr (inr h)) o = subst Opens (sym h.rest_is) (open_but opening.table opening.about h.job.ticket.ask.pass turn.jobs o)
 
   -- and fewer
-  pub turn_fewer : IsTurn sight follows old new jobs rest was now ended → length rest < length jobs
+  pub turn_fewer : IsTurn sight follows turn → length turn.rest < length turn.jobs
   turn_fewer (inl h) =
       let some = h.some in
-      let all : length jobs ≡ length h.front + length rest = sym (length_tickets jobs) ∙ ap length h.split ∙ length-append h.front (tickets_of rest) ∙ ap (λ n. length h.front + n) (length_tickets rest) in
+      let all : length turn.jobs ≡ length h.front + length turn.rest = sym (length_tickets turn.jobs) ∙ ap length h.split ∙ length-append h.front (tickets_of turn.rest) ∙ ap (λ n. length h.front + n) (length_tickets turn.rest) in
       omega arith
-  turn_fewer (inr (inl h)) = let all : length jobs ≡ length (h.job ∷ rest) = ap length h.split in omega arith
+  turn_fewer (inr (inl h)) = let all : length turn.jobs ≡ length (h.job ∷ turn.rest) = ap length h.split in omega arith
   turn_fewer (inr (inr h)) =
       let p = h.job.ticket.ask.pass in
-      let left : length rest ≡ length (jobs_but p h.others) = ap length (h.rest_is ∙ ap (jobs_but p) h.split ∙ but_first h.job h.others) in
+      let left : length turn.rest ≡ length (jobs_but p h.others) = ap length (h.rest_is ∙ ap (jobs_but p) h.split ∙ but_first h.job h.others) in
       let few = length_but p h.others in
-      let all : length jobs ≡ length (h.job ∷ h.others) = ap length h.split in
+      let all : length turn.jobs ≡ length (h.job ∷ h.others) = ap length h.split in
       omega arith
 
-  stepped_turned : (front : List Announced) → AreSureTickets opening.table opening.about front → was ≡ [] → AreStepped sight old new front was now → AreTurned opening now
-  stepped_turned front o none (inl made) = let more = settled_of old.book front (moments (slots sight new.log)) in
-      subst (AreTurned opening) (sym (made.2 ∙ ap (λ (l : List Settled). l ++ more) none)) (settled_calls opening front (moments (slots sight new.log)) o old.book)
-  stepped_turned front o none (inr lost) = let marked = marked_by old.book (asks_of front) in let more = settled_of marked front (moments (slots sight new.log)) in
-      subst (AreTurned opening) (sym (lost.2 ∙ ap (λ (l : List Settled). l ++ more) none)) (settled_calls opening front (moments (slots sight new.log)) o marked)
+  stepped_turned : (front : List Announced) → AreSureTickets opening.table opening.about front → turn.was ≡ [] → AreStepped sight (span_of turn) front → AreTurned opening turn.now
+  stepped_turned front o none (inl made) = let more = settled_of turn.old.book front (moments (slots sight turn.new.log)) in
+      subst (AreTurned opening) (sym (made.2 ∙ ap (λ (l : List Settled). l ++ more) none)) (settled_calls opening front (moments (slots sight turn.new.log)) o turn.old.book)
+  stepped_turned front o none (inr lost) = let marked = marked_by turn.old.book (asks_of front) in let more = settled_of marked front (moments (slots sight turn.new.log)) in
+      subst (AreTurned opening) (sym (lost.2 ∙ ap (λ (l : List Settled). l ++ more) none)) (settled_calls opening front (moments (slots sight turn.new.log)) o marked)
 
-  alone_turned : Opens jobs → was ≡ [] → IsAlone sight follows old new jobs rest was now ended → AreTurned opening now
+  alone_turned : Opens turn.jobs → turn.was ≡ [] → IsAlone sight follows turn → AreTurned opening turn.now
   alone_turned o none h =
       let mine = (subst Opens h.split o).0 in
       let is = h.applied.receipt_is in
@@ -237,25 +236,25 @@ module _ {D : Type 0} (sight : D → Sight) (follows : D → Type 0) (opening : 
         tt,
       )
 
-  back_turned : (k : ℕ) → IsOf opening k old → AreReady old.book jobs → Opens jobs → was ≡ [] → IsGivenBack old new jobs rest was now ended → AreTurned opening now
+  back_turned : (k : ℕ) → IsOf opening k turn.old → AreReady turn.old.book turn.jobs → Opens turn.jobs → turn.was ≡ [] → IsGivenBack turn → AreTurned opening turn.now
   back_turned k is ready o none h =
       let p = h.job.ticket.ask.pass in
-      let by : jobs_by p jobs ≡ h.job ∷ jobs_by p h.others = ap (jobs_by p) h.split ∙ by_first h.job h.others in
-      let all = subst Opens by (open_by opening.table opening.about p jobs o) in
-      let ready' = subst (AreReady old.book) h.split ready in
+      let by : jobs_by p turn.jobs ≡ h.job ∷ jobs_by p h.others = ap (jobs_by p) h.split ∙ by_first h.job h.others in
+      let all = subst Opens by (open_by opening.table opening.about p turn.jobs o) in
+      let ready' = subst (AreReady turn.old.book) h.split ready in
       subst (AreTurned opening) (sym (h.settled ∙ (λ i. none i ++ given_back_of h.fault (tickets_of (by i))))) (
         refused_calls opening h.fault (tickets_of (h.job ∷ jobs_by p h.others)) all,
         λ (cause : h.fault ≡ GenerationSpent). record {
-          shard = old;
+          shard = turn.old;
           about = is.about;
           number = sym ready'.of_book.1 ∙ ap (λ (a : About). shard_in a h.job.ticket.ask) is.about;
-          opened = subst (λ (n : ℕ). slice_get opening.logs n ≡ Some old.opened) (sym is.number ∙ sym ready'.of_book.1 ∙ ap (λ (a : About). shard_in a h.job.ticket.ask) is.about) is.opened;
-          spent = subst (λ c. IsSpent old.log old.opened old.book c) (sym ready'.lawful.1) (h.spent cause);
+          opened = subst (λ (n : ℕ). slice_get opening.logs n ≡ Some turn.old.opened) (sym is.number ∙ sym ready'.of_book.1 ∙ ap (λ (a : About). shard_in a h.job.ticket.ask) is.about) is.opened;
+          spent = subst (λ c. IsSpent turn.old.log turn.old.opened turn.old.book c) (sym ready'.lawful.1) (h.spent cause);
         },
       )
 
   -- what came of the calls
-  pub turn_turned : (k : ℕ) → IsTurn sight follows old new jobs rest was now ended → IsOf opening k old → AreReady old.book jobs → Opens jobs → was ≡ [] → AreTurned opening now
-  turn_turned k (inl h) is ready o none = stepped_turned h.front (open_front opening.table opening.about h.front (tickets_of rest) (subst (AreSureTickets opening.table opening.about) h.split o)) none h.applied.stepped
+  pub turn_turned : (k : ℕ) → IsTurn sight follows turn → IsOf opening k turn.old → AreReady turn.old.book turn.jobs → Opens turn.jobs → turn.was ≡ [] → AreTurned opening turn.now
+  turn_turned k (inl h) is ready o none = stepped_turned h.front (open_front opening.table opening.about h.front (tickets_of turn.rest) (subst (AreSureTickets opening.table opening.about) h.split o)) none h.applied.stepped
   turn_turned k (inr (inl h)) is ready o none = alone_turned o none h
   turn_turned k (inr (inr h)) is ready o none = back_turned k is ready o none h

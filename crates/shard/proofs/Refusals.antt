@@ -244,14 +244,14 @@ module _ {D : Type 0} (sight : D → Sight) (follows : D → Type 0) (start : Pa
   -- what they make of the shard
   refused_applied : IsClocked sight follows → ArePartsOf sight follows start → (p : Parts D) (front : List Announced) (now : List Settled) → ArePartsOf sight follows p
       → p ≡ record start { book = with_steps start.book (asks_of front) } → now ≡ was ++ settled_of start.book front (moments (slots sight start.log.wal))
-      → AreApplied sight follows (seen_of start) (seen_of p) front was now
+      → AreApplied sight follows (record { old = seen_of start; new = seen_of p; was = was; now = now }) front
   refused_applied clocked before p front now parts is settled_are =
       let log = start.log.wal in
       let book = start.book in
       let last = with_steps book (asks_of front) in
       let opened = start.opened.value in
       let behind : IsShard sight follows log last opened start.states start.is_marked start.limits = subst (λ (q : Parts D). ArePartsOf sight follows q) is parts in
-      subst (λ (q : Parts D). AreApplied sight follows (seen_of start) (seen_of q) front was now) (sym is) (record {
+      subst (λ (q : Parts D). AreApplied sight follows (record { old = seen_of start; new = seen_of q; was = was; now = now }) front) (sym is) (record {
         stepped = inl (none_yet (slots sight log), refl, settled_are);
         quiet = λ _. refl;
         before = λ f. f;
@@ -264,7 +264,7 @@ module _ {D : Type 0} (sight : D → Sight) (follows : D → Type 0) (start : Pa
 
   -- 64 of them were refused
   pub refused_most : IsClocked sight follows → ArePartsOf sight follows start → (p : Parts D) (jobs : List Job) (now : List Settled) (n : ℕ) → IsRefusing sight follows start all was p jobs now n → n ≡ 64
-      → AreTogether sight follows (seen_of start) (seen_of p) all jobs was now Most
+      → AreTogether sight follows (record { old = seen_of start; new = seen_of p; jobs = all; rest = jobs; was = was; now = now; ended = Most })
   refused_most clocked before p jobs now n h most = record {
     front = h.front;
     some = omega (arith, h.count, most);
@@ -276,7 +276,7 @@ module _ {D : Type 0} (sight : D → Sight) (follows : D → Type 0) (start : Pa
 
   -- none is left
   pub refused_last : IsClocked sight follows → ArePartsOf sight follows start → 0 < length all → (p : Parts D) (jobs rest : List Job) (now : List Settled) (n : ℕ) → IsRefusing sight follows start all was p jobs now n
-      → n ≤ 64 → jobs ≡ [] → rest ≡ [] → AreTogether sight follows (seen_of start) (seen_of p) all rest was now Last
+      → n ≤ 64 → jobs ≡ [] → rest ≡ [] → AreTogether sight follows (record { old = seen_of start; new = seen_of p; jobs = all; rest = rest; was = was; now = now; ended = Last })
   refused_last clocked before more p jobs rest now n h few none empty = record {
     front = h.front;
     some = omega (arith, more, length_tickets all, ap length h.split, length-append h.front (tickets_of jobs), ap (λ (l : List Job). length (tickets_of l)) none);

@@ -12,12 +12,11 @@ use Rattle.history.specs.Histories.{HaveSteps, HasStep, IsAmong, of_pass, steps_
 use Rattle.history.specs.Handles.{Booked, Announced, Received, AreOf, asks_of, longer}
 use Rattle.history.proofs.Past.{made_now, have_more}
 use Rattle.shard.specs.declared.first_jobs.Job.{Job}
-use Rattle.shard.specs.declared.group.Settled.{Settled}
 use Rattle.shard.specs.Groups.{items_with, with_steps, changing_of, marked_by, HaveStepsOr, AreInTurn}
 use Rattle.shard.specs.Jobs.{tickets_of, jobs_by, jobs_but, AreLawful, AreInPassTurn}
 use Rattle.shard.specs.Parts.{IsApplied}
 use Rattle.shard.specs.Shards.{Sharded}
-use Rattle.shard.specs.Turns.{AreReady, AreStepped}
+use Rattle.shard.specs.Turns.{Span, AreReady, AreStepped}
 use Rattle.shard.proofs.Groups.{turn_step, turn_or}
 
 -- Turns by passes.
@@ -213,10 +212,10 @@ ready_front_lost book front jobs rest ready split lawful =
     ready_front (marked_by book asks) front jobs rest (ready_mark book (changing_of book asks) jobs ready) split lawful
 
 -- either way
-pub ready_stepped : {D : Type 0} (sight : D → Sight) (old new : Sharded D) (front : List Announced) (was now : List Settled) (jobs rest : List Job) → AreStepped sight old new front was now
-    → AreReady old.book jobs → tickets_of jobs ≡ front ++ tickets_of rest → AreLawful old.book.about old.book.shard rest → AreReady new.book rest
-ready_stepped sight old new front was now jobs rest (inl made) ready split lawful = subst (λ (b : Booked). AreReady b rest) (sym made.1) (ready_front old.book front jobs rest ready split lawful)
-ready_stepped sight old new front was now jobs rest (inr lost) ready split lawful = subst (λ (b : Booked). AreReady b rest) (sym lost.1) (ready_front_lost old.book front jobs rest ready split lawful)
+pub ready_stepped : {D : Type 0} (sight : D → Sight) (s : Span D) (front : List Announced) (jobs rest : List Job) → AreStepped sight s front
+    → AreReady s.old.book jobs → tickets_of jobs ≡ front ++ tickets_of rest → AreLawful s.old.book.about s.old.book.shard rest → AreReady s.new.book rest
+ready_stepped sight s front jobs rest (inl made) ready split lawful = subst (λ (b : Booked). AreReady b rest) (sym made.1) (ready_front s.old.book front jobs rest ready split lawful)
+ready_stepped sight s front jobs rest (inr lost) ready split lawful = subst (λ (b : Booked). AreReady b rest) (sym lost.1) (ready_front_lost s.old.book front jobs rest ready split lawful)
 
 -- those behind the first that has its step
 pub ready_step : (book : Booked) (j : Job) (rest : List Job) (r : Reply) → AreReady book (j ∷ rest) → AreReady (longer book (Answered (step_of j.ticket.ask r))) rest

@@ -3,6 +3,7 @@ use Rattle.std.specs.Vec.{vec_capacity}
 use Rattle.atomic_table.specs.Seated.{TableId}
 use Rattle.history.specs.declared.views.About.{About}
 use Rattle.shard.specs.Jobs.{tickets_of}
+use Rattle.shard.specs.Turns.{Turn}
 use Rattle.owners.specs.Calls.{AreSureTickets}
 use Rattle.owners.proofs.Turning.{waiting_open, waiting_ready, turn_of, turn_open, turn_fewer, turn_turned}
 use Rattle.owners.specs.Homes.{Homed}
@@ -40,16 +41,32 @@ hand_out-requires-clause-made g c =
     let inv = c.loop-alloc.invariant in
     let opening = c.args.origin.now in
     let home = c.requires.home in
-    let turned = turn_turned g.D.Disk.sight g.D.Disk.follows opening c.loop-alloc.state c.apply_group.new.self c.loop-alloc.desk.jobs.items c.apply_group.new.jobs.items c.loop-alloc.desk.settled.items
-    c.apply_group.new.settled.items c.apply_group.result c.args.state.now.book.shard c.apply_group.ensures.turn inv.state inv.ready inv.open_calls inv.settled in
+    let turn : Turn g.row.D.Denot = record {
+      old = c.loop-alloc.state;
+      new = c.apply_group.new.self;
+      jobs = c.loop-alloc.desk.jobs.items;
+      rest = c.apply_group.new.jobs.items;
+      was = c.loop-alloc.desk.settled.items;
+      now = c.apply_group.new.settled.items;
+      ended = c.apply_group.result;
+    } in
+    let turned = turn_turned g.D.Disk.sight g.D.Disk.follows opening turn c.args.state.now.book.shard c.apply_group.ensures.turn inv.state inv.ready inv.open_calls inv.settled in
     let made = turned_made opening c.apply_group.new.settled.items turned in
     let there = subst (λ v. AreMade (home_of opening) v.items) (sym c.replace-settled.ensures.value) made in
     subst (λ (h : Homed). AreMade h c.replace-settled.result.items) (sym home) there
 
 pub loop-alloc-smaller : goal.loop-alloc-smaller
 loop-alloc-smaller g c =
-    let fewer : length c.apply_group.new.jobs.items < length c.loop-alloc.desk.jobs.items = turn_fewer g.D.Disk.sight g.D.Disk.follows c.args.origin.now c.loop-alloc.state c.apply_group.new.self
-    c.loop-alloc.desk.jobs.items c.apply_group.new.jobs.items c.loop-alloc.desk.settled.items c.apply_group.new.settled.items c.apply_group.result c.apply_group.ensures.turn in
+    let turn : Turn g.row.D.Denot = record {
+      old = c.loop-alloc.state;
+      new = c.apply_group.new.self;
+      jobs = c.loop-alloc.desk.jobs.items;
+      rest = c.apply_group.new.jobs.items;
+      was = c.loop-alloc.desk.settled.items;
+      now = c.apply_group.new.settled.items;
+      ended = c.apply_group.result;
+    } in
+    let fewer : length c.apply_group.new.jobs.items < length c.loop-alloc.desk.jobs.items = turn_fewer g.D.Disk.sight g.D.Disk.follows c.args.origin.now turn c.apply_group.ensures.turn in
     search (rules, fewer)
 
 pub loop-alloc-preserved : goal.loop-alloc-preserved
@@ -61,12 +78,19 @@ loop-alloc-preserved g c =
     let caps = made.capacities in
     let out = c.hand_out.ensures in
     let same : vec_capacity c.hand_out.result ≡ vec_capacity c.apply_group.new.settled = out.capacity ∙ ap vec_capacity c.replace-settled.ensures.value in
+    let turn : Turn g.row.D.Denot = record {
+      old = c.loop-alloc.state;
+      new = c.apply_group.new.self;
+      jobs = c.loop-alloc.desk.jobs.items;
+      rest = c.apply_group.new.jobs.items;
+      was = c.loop-alloc.desk.settled.items;
+      now = c.apply_group.new.settled.items;
+      ended = c.apply_group.result;
+    } in
     record {
-      state = turn_of g.D.Disk.sight g.D.Disk.follows opening c.loop-alloc.state c.apply_group.new.self c.loop-alloc.desk.jobs.items c.apply_group.new.jobs.items c.loop-alloc.desk.settled.items c.apply_group.new.settled.items
-          c.apply_group.result c.args.state.now.book.shard made.turn inv.state;
+      state = turn_of g.D.Disk.sight g.D.Disk.follows opening turn c.args.state.now.book.shard made.turn inv.state;
       ready = made.ready;
-      open_calls = turn_open g.D.Disk.sight g.D.Disk.follows opening c.loop-alloc.state c.apply_group.new.self c.loop-alloc.desk.jobs.items c.apply_group.new.jobs.items c.loop-alloc.desk.settled.items
-          c.apply_group.new.settled.items c.apply_group.result made.turn inv.open_calls;
+      open_calls = turn_open g.D.Disk.sight g.D.Disk.follows opening turn made.turn inv.open_calls;
       settled = out.none;
       places = out.places;
       fits = omega arith;

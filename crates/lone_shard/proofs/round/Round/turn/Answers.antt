@@ -11,5 +11,5 @@ invariant_of-self g c =
     let nothing : length r.settled.items ≡ 0 = search rules in
     let begun = subst (λ (l : List Settled). IsOpenRound r.history r.shard.book r.pass r.jobs.items l)
     (no_settled r.settled.items nothing ∙ sym c.in_ok-settled.ensures.items) c.self.invariant in
-    let turned = open_turn _ _ r.history r.pass r.shard made.new.self r.jobs.items made.new.jobs.items c.in_ok-settled.settled.items made.new.settled.items made.result begun made.ensures.turn made.ensures.ready in
+    let turned = open_turn _ _ r.history r.pass _ begun made.ensures.turn made.ensures.ready in
     subst (λ (l : List Settled). IsOpenRound r.history made.new.self.book r.pass made.new.jobs.items l) (sym c.from.ensures.0) turned
