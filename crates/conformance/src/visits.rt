@@ -2,6 +2,7 @@
 ghost use Rattle.std.specs.Prelude.{◌≡◌};
 
 use crate::plan::Visit;
+use accept::END_OF_TIME;
 use anyhow::Result;
 use front::{Clock, ServeFault, Served};
 use std::alloc::Global;
@@ -29,7 +30,7 @@ impl Clock for Ticking {
     ghost ticks = { λ old time new. new.tick ≡ old.tick };
 
     fn now(&mut self) -> u64 {
-        let now = self.time.min(i64::MAX as u64);
+        let now = self.time.min(END_OF_TIME - 1);
         self.time = self.time.saturating_add(self.tick);
         now
     }

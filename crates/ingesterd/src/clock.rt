@@ -4,11 +4,9 @@ ghost use Rattle.std.specs.Time.{system_time_nanos};
 ghost use Rattle.ingesterd.specs.Readings.{time_by};
 
 use crate::reading::{NotedClock, nanos_of};
+use accept::END_OF_TIME;
 use std::rt;
 use std::time::SystemTime;
-
-/// The first time that is too late.
-const END_OF_TIME: u128 = 1 << 63;
 
 /// The system's nanoseconds since 1970. Where the system gives no such number below 2^63, its last value, at first 0.
 #[derive(Drop)]
@@ -54,7 +52,7 @@ fn time_by(reading: Option<SystemTime>, last: u64) -> u64
         return last;
     };
     let nanos = nanos_of(time);
-    if nanos < END_OF_TIME {
+    if nanos < u128::from(END_OF_TIME) {
         nanos as u64
     } else {
         last

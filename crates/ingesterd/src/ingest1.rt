@@ -10,7 +10,7 @@ ghost use Rattle.ingesterd.specs.Endings.{PushEnds, answer_lines, stop_status};
 use crate::body::{read_body, write_answer, write_bytes};
 use crate::program_shards::{close_for_one, open_for_one};
 use crate::stopped::Stopped;
-use accept::Call;
+use accept::{Call, END_OF_TIME};
 use disk::{Disk, MemDisk};
 use front::{Route, Status, answer, answer_of_read};
 use history::Pass;
@@ -25,9 +25,6 @@ use words::{CAPACITY, clock_in};
 
 /// The tenant of the streams.
 const TENANT: &str = "t";
-
-/// Greater than each time that an entry may have.
-const END_OF_TIME: u64 = 1 << 63;
 
 /// The bytes that a disk has room for: more than the log of any body needs.
 const ROOM: u64 = 8_388_608;
