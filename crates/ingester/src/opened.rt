@@ -17,7 +17,7 @@ use accept::Limits;
 use disk::Disk;
 use history::{History, Pass};
 use keyed::Waiters;
-use openings::{give_back, open_logs};
+use openings::{Observer, Unobserved, give_back, open_logs};
 use owners::{Backs, Ends, Home, Origin, Plan, Rows, Team, hand_all, make_plan};
 use shard::Shard;
 use std::alloc::Global;
@@ -102,12 +102,59 @@ impl<D: Disk + Drop> Ingester<D> {
         ensures unmade { IfErr result
             (λ e. IsUnmade D.sight D.follows (vec_len slots) slots.items e.1.items e.0) }
     {
+        Ingester::open_observed(
+            rt,
+            handle,
+            alloc,
+            slots,
+            passes,
+            limits,
+            capacity,
+            &Unobserved,
+        )
+    }
+
+    /// Opens as `open` does, and tells `observer` of each shard as it has been replayed, by the thread that did it: in no
+    /// order, of several at once, and also where another shard is refused.
+    ///
+    /// # Errors
+    ///
+    /// Those of `open`.
+    pub fn open_observed<R, H, O>(
+        rt: &R,
+        handle: H,
+        alloc: Global,
+        slots: Vec<[D; 2]>,
+        passes: u32,
+        limits: Limits,
+        capacity: u64,
+        observer: &O,
+    ) -> Result<(Ingester<D>, Vec<Pass>), (OpenFault, Vec<[D; 2]>)>
+    where
+        D: Send + 'static,
+        R: Threads + Wait + Sync,
+        H: Wait + Copy + Send + 'static,
+        O: Observer + Sync,
+        requires slots { (0 < vec_len slots) × (vec_len slots ≤ 64) }
+        requires passes { (0 < passes) × (passes ≤ 64) }
+        requires limits { AreLimits limits }
+        requires capacity { capacity ≤ 2 ^ 30 }
+        ensures found { IfOk result (λ it.
+            AreOpenedFrom D.sight D.follows
+            (vec_len slots) capacity 0 slots.items it.0.logs it.0.about.bases) }
+        ensures about { IfOk result (λ it. it.0.about
+            ≡ about_of it.0.about.bases passes limits capacity) }
+        ensures shards { IfOk result (λ it. it.0.about.shards ≡ vec_len slots) }
+        ensures passes { IfOk result (λ it. AreFresh it.0 passes it.1.items) }
+        ensures unmade { IfErr result
+            (λ e. IsUnmade D.sight D.follows (vec_len slots) slots.items e.1.items e.0) }
+    {
         let team = match Team::start(rt, handle, alloc, slots.len()) {
             Ok(team) => team,
             Err(fault) => return Err((OpenFault::from(fault), slots)),
         };
         let mut slots = VecDeque::from_vec(slots);
-        match open_all(rt, alloc, &mut slots, passes, limits, capacity) {
+        match open_all(rt, alloc, &mut slots, passes, limits, capacity, observer) {
             Ok(opened) => Ok(begin(rt, alloc, opened, team)),
             Err(fault) => {
                 team.end(rt);
@@ -141,13 +188,14 @@ fn begin<D: Disk + Drop, R: Wait>(
 }
 
 // Opens all slots. Where that is refused, they are put back.
-fn open_all<D: Disk + Drop + Send, R: Threads + Sync>(
+fn open_all<D: Disk + Drop + Send, R: Threads + Sync, O: Observer + Sync>(
     rt: &R,
     alloc: Global,
     slots: &mut VecDeque<[D; 2]>,
     passes: u32,
     limits: Limits,
     capacity: u64,
+    observer: &O,
 ) -> Result<Opened<D>, OpenFault>
     requires slots { (0 < deque_len slots.old) × (deque_len slots.old ≤ 64)
         × (deque_len slots.old ≤ deque_capacity slots.old) }
@@ -171,7 +219,7 @@ fn open_all<D: Disk + Drop + Send, R: Threads + Sync>(
     let room = reserve_room(alloc, count)?;
     let shards = VecDeque::with_capacity(alloc, count)?;
     let sizes = Vec::with_capacity(alloc, count)?;
-    let (mut logs, images) = open_logs(rt, alloc, slots, capacity)?;
+    let (mut logs, images) = open_logs(rt, alloc, slots, capacity, observer)?;
     let Ok((history, books, dealt)) = History::new(alloc, &images, passes, limits, capacity) else {
         give_back(slots, &mut logs);
         return Err(OpenFault::Memory);

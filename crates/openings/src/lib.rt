@@ -2,10 +2,12 @@
 #![tactic(auto)]
 
 mod fault;
+mod observer;
 mod place;
 mod returning;
 mod side_by_side;
 
 pub use fault::LogsFault;
+pub use observer::{Observer, Unobserved};
 pub use returning::give_back;
 pub use side_by_side::open_logs;

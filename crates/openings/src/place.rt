@@ -4,6 +4,7 @@ ghost use Rattle.std.specs.Mem.{type_size};
 ghost use Rattle.segment.specs.Segments.{owner_of};
 ghost use Rattle.openings.specs.Places.{IsNotLookedAt, AreSlotsThere, IsTried, slots_in, refusal_in};
 
+use crate::observer::Observer;
 use accept::Image;
 use disk::Disk;
 use std::alloc::Global;
@@ -59,13 +60,29 @@ fn open_slots<D: Disk + Drop>(
     }
 }
 
-// Opens the log over the slots in this place.
-pub(crate) fn open_place<D: Disk + Drop>(
+// How many bytes the segment in use has: 0 where there is none.
+fn segment_size<D: Disk>(log: &Wal<D>) -> u64 {
+    match log.generation() {
+        0 => 0,
+        _ => log.end().saturating_add(1),
+    }
+}
+
+// Tells of the log in a place, where it was opened.
+fn tell_opened<D: Disk + Drop, O: Observer>(observer: &O, shard: u32, place: &Place<D>) {
+    if let Place::Opened(log, image) = place {
+        observer.opened(shard, image.iter().count(), segment_size(log));
+    }
+}
+
+// Opens the log over the slots in this place, and tells the observer of it.
+pub(crate) fn open_place<D: Disk + Drop, O: Observer>(
     alloc: Global,
     place: &mut Place<D>,
     shard: u32,
     count: u32,
     capacity: u64,
+    observer: &O,
 )
     requires fits { 2 * type_size D.row < 2 ^ 63 }
     requires given { IsNotLookedAt place.old }
@@ -77,7 +94,9 @@ pub(crate) fn open_place<D: Disk + Drop>(
     let Place::Given(first, second) = mem::replace(place, Place::Out) else {
         unreachable!();
     };
-    *place = open_slots(alloc, [first, second], shard, count, capacity);
+    let tried = open_slots(alloc, [first, second], shard, count, capacity);
+    tell_opened(observer, shard, &tried);
+    *place = tried;
 }
 
 // Why the slots are refused, where they are.

@@ -9,6 +9,7 @@ ghost use Rattle.openings.specs.Places.{IsNotLookedAt, IsOpened, AreSlotsThere, 
 ghost use Rattle.openings.specs.Places.{slots_in, logs_in, images_in, first_refused};
 
 use crate::fault::LogsFault;
+use crate::observer::Observer;
 use crate::place::{Place, given_place, open_place, refusal_of, take_slots};
 use accept::Image;
 use disk::Disk;
@@ -19,17 +20,19 @@ use wal::{OpenFault, Wal};
 
 /// Opens the logs of all shards, up to 64, and gives them with the streams that stood in them. `capacity` is how many
 /// bytes a segment may have, at most 2^30. They are opened side by side, by as many threads as there are processors at
-/// most; where no thread can be made, the caller's own does its work. Nothing is written.
+/// most; where no thread can be made, the caller's own does its work. `observer` is told of each log as it is opened,
+/// also where another shard is refused. Nothing is written.
 ///
 /// # Errors
 ///
 /// The first shard by number that is refused, and why, whichever ended first; or want of memory before any slot was
 /// read. All slots come back in their order.
-pub fn open_logs<D: Disk + Drop + Send, R: Threads + Sync>(
+pub fn open_logs<D: Disk + Drop + Send, R: Threads + Sync, O: Observer + Sync>(
     rt: &R,
     alloc: Global,
     slots: &mut VecDeque<[D; 2]>,
     capacity: u64,
+    observer: &O,
 ) -> Result<(Vec<Wal<D>>, Vec<Image>), LogsFault>
     requires few { deque_len slots.old ≤ 64 }
     requires room { deque_len slots.old ≤ deque_capacity slots.old }
@@ -49,7 +52,7 @@ pub fn open_logs<D: Disk + Drop + Send, R: Threads + Sync>(
     let mut images = Vec::with_capacity(alloc, count)?;
     let mut places = Vec::with_capacity(alloc, count)?;
     fill_places(slots, &mut places);
-    try_each(rt, alloc, &mut places, capacity);
+    try_each(rt, alloc, &mut places, capacity, observer);
     match find_refused(&places) {
         Some((shard, fault)) => {
             put_back(slots, places);
@@ -88,11 +91,12 @@ fn processors<R: Threads>(rt: &R) -> usize
 }
 
 // Opens the log in each place, or finds why it is refused.
-fn try_each<D: Disk + Drop + Send, R: Threads + Sync>(
+fn try_each<D: Disk + Drop + Send, R: Threads + Sync, O: Observer + Sync>(
     rt: &R,
     alloc: Global,
     places: &mut Vec<Place<D>>,
     capacity: u64,
+    observer: &O,
 )
     requires fits { 2 * type_size D.row < 2 ^ 63 }
     requires given { All IsNotLookedAt places.old.items }
@@ -111,7 +115,7 @@ fn try_each<D: Disk + Drop + Send, R: Threads + Sync>(
             × (capacity ≤ 2 ^ 30) }
         ensures { IsTried D.sight D.follows (owner_of shard count) capacity
             (slots_in place.old) place.new }
-    { open_place(alloc, place, shard as u32, count, capacity) };
+    { open_place(alloc, place, shard as u32, count, capacity, observer) };
     for_each_mut(rt, places.as_mut_slice(), threads, &try_one);
 }
 
