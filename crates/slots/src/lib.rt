@@ -7,5 +7,5 @@ mod terminal;
 mod watched;
 
 pub use slots::{SlotsFault, open_slots};
-pub use terminal::terminal_in;
+pub use terminal::{say_line, terminal_in};
 pub use watched::Watched;

@@ -1,16 +1,16 @@
 //! Slots that write a line where their shard stops answering, and before a long read.
 
-use crate::terminal::terminal_in;
+use crate::terminal::{say_line, terminal_in};
 use disk::{DeviceFault, Disk};
 use std::io::{Stderr, Write};
 
-/// A slot that is longer than this, in bytes, writes a line before it is read.
+/// A read of more bytes than this has a line before it.
 const LONG: usize = 100_000_000;
 
 /// A slot that writes a line where a device call on it fails after it was written to. From then on its shard answers
 /// nothing and makes no call on its slots, so there is one such line for each shard. Where a terminal is given, the
-/// slot also writes a line there before a read of more than 100,000,000 bytes: the log reads a slot by one call, when
-/// it is opened.
+/// slot also writes a line there before a read of more than 100,000,000 bytes: a slot is replayed in pieces, and has one
+/// that long where a block is.
 #[derive(Drop)]
 pub struct Watched<D: Disk> {
     inner: D,
@@ -28,16 +28,6 @@ impl<D: Disk> Watched<D> {
             errors,
             is_written: false,
         }
-    }
-}
-
-// Says that a shard is being read, in one write, since several shards are read at once.
-fn say_reading(mut terminal: Stderr, shard: u32, bytes: usize) {
-    let mut line = [0; 64];
-    let mut rest = line.as_mut_slice();
-    if writeln!(rest, "shard {shard:02}: reading {bytes} bytes").is_ok() {
-        let length = 64usize.saturating_sub(rest.len());
-        let _ = terminal.write_all(&line[..length]);
     }
 }
 
@@ -69,7 +59,11 @@ impl<D: Disk> Disk for Watched<D> {
         if buf.len() > LONG
             && let Some(terminal) = terminal_in(self.errors)
         {
-            say_reading(terminal, self.shard, buf.len());
+            let (shard, bytes) = (self.shard, buf.len());
+            say_line(
+                terminal,
+                format_args!("shard {shard:02}: reading {bytes} bytes"),
+            );
         }
         self.inner.read(at, buf)
     }
