@@ -12,22 +12,26 @@ use accept::Limits;
 use disk::Disk;
 use history::Pass;
 use ingester::Ingester;
+use openings::{Observer, Unobserved};
 use std::alloc::Global;
 use std::sync::Wait;
 use std::thread::Threads;
 
 /// Opens shards over these slots under the profile's limits, with 1 to 64 passes, and starts a thread for each shard
-/// that owns it. `capacity` is how many bytes a segment may have, at most 2^30.
-pub fn open_shards<D, R>(
+/// that owns it. `capacity` is how many bytes a segment may have, at most 2^30. `observer` is told of each shard as it
+/// has been replayed.
+pub fn open_shards<D, R, O>(
     rt: &R,
     alloc: Global,
     slots: Vec<[D; 2]>,
     passes: u32,
     capacity: u64,
+    observer: &O,
 ) -> Result<(Ingester<D>, Vec<Pass>), Stopped>
 where
     D: Disk + Drop + Send + 'static,
     R: Threads + Wait + Copy + Send + Sync + 'static,
+    O: Observer + Sync,
     requires slots { (0 < vec_len slots) × (vec_len slots ≤ 64) }
     requires passes { (0 < passes) × (passes ≤ 64) }
     requires capacity { capacity ≤ 2 ^ 30 }
@@ -42,7 +46,8 @@ where
     ensures passes { IfOk result (λ it. (p : ℕ) (pass : Passed) → slice_get it.1.items p ≡ Some pass
         → IsPassOf it.0 pass) }
 {
-    match Ingester::open(rt, *rt, alloc, slots, passes, Limits::PROFILE, capacity) {
+    let limits = Limits::PROFILE;
+    match Ingester::open_observed(rt, *rt, alloc, slots, passes, limits, capacity, observer) {
         Ok(opened) => Ok(opened),
         Err(refusal) => Err(Stopped::Opening(refusal.0)),
     }
@@ -66,7 +71,7 @@ where
         × IsUnmade D.sight D.follows (vec_len slots) slots.items backs fault) }
     ensures pass { IfOk result (λ it. IsPassOf it.0 it.1) }
 {
-    let (ingester, mut passes) = open_shards(rt, alloc, slots, 1, capacity)?;
+    let (ingester, mut passes) = open_shards(rt, alloc, slots, 1, capacity, &Unobserved)?;
     let Some(pass) = passes.pop() else {
         unreachable!();
     };

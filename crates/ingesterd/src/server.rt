@@ -10,7 +10,7 @@ ghost use Rattle.ingesterd.specs.Endings.{ServerEnds, ready_line, stop_status};
 use crate::clock::SystemClock;
 use crate::connections::Connections;
 use crate::program_shards::{close_shards, open_shards};
-use crate::replayed::say_replayed;
+use crate::replayed::{Replaying, say_replayed};
 use crate::setting::capacity_by;
 use crate::stopped::Stopped;
 use disk::Disk;
@@ -38,8 +38,8 @@ use workers::serve_listener;
 ///
 /// Status 1: a fault while running. 2: wrong words, or a wrong setting. 3: the opening was refused, or the thread of a
 /// shard could not be started. A fault is one line of `errors`. A shard that stops answering writes one line to
-/// `marks`, where they are given. Where `marks` are a terminal, lines there say what was replayed, before `ready` is
-/// written: one for each shard, and one for all.
+/// `marks`, where they are given. Where `marks` are a terminal, lines there say what is replayed, before `ready` is
+/// written: one for each shard as it ends, and one for all.
 pub fn run_server<R, W: Write, E: Write>(
     rt: &R,
     alloc: Global,
@@ -102,8 +102,17 @@ where
     let words = asked.words;
     let slots = open_slots(rt, alloc, words.folder, words.shards, marks)?;
     let start = Instant::now(rt).ok();
-    let (ingester, passes) = open_shards(rt, alloc, slots, words.workers, asked.capacity)?;
-    if let Some(terminal) = terminal_in(marks) {
+    let terminal = terminal_in(marks);
+    let observer = Replaying::new(terminal);
+    let (ingester, passes) = open_shards(
+        rt,
+        alloc,
+        slots,
+        words.workers,
+        asked.capacity,
+        &observer,
+    )?;
+    if let Some(terminal) = terminal {
         say_replayed(rt, &ingester, start, terminal);
     }
     let (passes, served) = serve_port(rt, alloc, asked, &ingester, passes, output);
