@@ -10,12 +10,12 @@ pub returns-in-Ok-clause-read : goal.returns-in-Ok-clause-read
 returns-in-Ok-clause-read g c =
     opened_back g.D.Disk.sight g.D.Disk.follows c.in-Ok.log c.args.given c.into_slots-back.result (owner_of c.args.shard c.args.count) c.args.cap c.in-Ok.image c.into_slots-back.ensures c.in-Ok.ensures.opened
 
-pub returns-clause-rests : goal.returns-clause-rests
-returns-clause-rests g c =
+pub returns-in-Err-clause-rests : goal.returns-in-Err-clause-rests
+returns-in-Err-clause-rests g c =
     let returned = c.in-Err.ensures.returned in
     record { before = returned.before; rests = returned.rests }
 
-pub returns-clause-refused : goal.returns-clause-refused
-returns-clause-refused g c =
+pub returns-in-Err-clause-refused : goal.returns-in-Err-clause-refused
+returns-in-Err-clause-refused g c =
     let refusal = c.in-Err.ensures.refused in
     record { why = refusal.why; counted = refusal.counted }
