@@ -114,8 +114,8 @@ impl<D: Disk + Drop> Ingester<D> {
         )
     }
 
-    /// Opens as `open` does, and tells `observer` of each shard as it has been replayed, by the thread that did it: in no
-    /// order, of several at once, and also where another shard is refused.
+    /// Opens as `open` does, and tells `observer` of each shard as soon as it is replayed. The thread that replayed it
+    /// does so: in no order, of several at once, and also where another shard is refused.
     ///
     /// # Errors
     ///

@@ -18,8 +18,8 @@ use std::sync::Wait;
 use std::thread::Threads;
 
 /// Opens shards over these slots under the profile's limits, with 1 to 64 passes, and starts a thread for each shard
-/// that owns it. `capacity` is how many bytes a segment may have, at most 2^30. `observer` is told of each shard as it
-/// has been replayed.
+/// that owns it. `capacity` is how many bytes a segment may have, at most 2^30. `observer` is told of each shard as
+/// soon as it is replayed.
 pub fn open_shards<D, R, O>(
     rt: &R,
     alloc: Global,

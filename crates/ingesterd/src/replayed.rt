@@ -33,7 +33,7 @@ impl Observer for Replaying {
     }
 }
 
-/// Says how many shards were replayed and how long the start took, 0 where the system has no clock that never goes back;
+/// Says how many shards were replayed, how long the start took, 0 where the system has no clock that never goes back,
 /// and what all shards have together.
 pub fn say_replayed<D: Disk + Drop, R: Clock>(
     rt: &R,

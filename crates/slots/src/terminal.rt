@@ -14,8 +14,8 @@ pub fn terminal_in(errors: Option<Stderr>) -> Option<Stderr> {
     }
 }
 
-/// Writes a line of up to 159 bytes in one write, so that lines of several threads do not mix. A longer one is left out,
-/// and so is one that cannot be written.
+/// Writes a line of up to 159 bytes in one write, so that lines of several threads do not mix. A longer one is left
+/// out, and so is one that cannot be written.
 pub fn say_line<L: Display + Drop>(mut terminal: Stderr, text: L) {
     let mut line = [0; LINE];
     let mut rest = line.as_mut_slice();

@@ -9,7 +9,7 @@ const LONG: usize = 100_000_000;
 
 /// A slot that writes a line where a device call on it fails after it was written to. From then on its shard answers
 /// nothing and makes no call on its slots, so there is one such line for each shard. Where a terminal is given, the
-/// slot also writes a line there before a read of more than 100,000,000 bytes: a slot is replayed in pieces, and has one
+/// slot also writes a line there before a read of more than 100,000,000 bytes: a slot is replayed in pieces, and one is
 /// that long where a block is.
 #[derive(Drop)]
 pub struct Watched<D: Disk> {
