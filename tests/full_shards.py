@@ -86,7 +86,7 @@ def push_each(fillings):
 # ---- slots ---------------------------------------------------------------------------------------------------------
 
 def fill_slots(folder, count, settings):
-    """Makes the slots of so many shards, at their full length."""
+    """Makes the slots of `count` shards, at their full length."""
     words = [f"{servers.TOP}/deploy/fill-slots", folder, str(count)]
     subprocess.run(words, env={**os.environ, **settings}, check=True)
 
