@@ -1,4 +1,5 @@
-ghost use Rattle.std.specs.Prelude.{◌↔◌, ◌<◌, ◌^◌, IsTrue};
+ghost use Rattle.std.specs.Prelude.{◌↔◌, ◌<◌, IsTrue};
+ghost use Rattle.accept.specs.OneStream.{end_of_time};
 
 use crate::outcome::OutcomeList;
 use entries::EntryList;
@@ -107,7 +108,7 @@ impl Call {
 }
 
 fn is_time(time: u64) -> bool
-    ensures { IsTrue result ↔ (time < 2 ^ 63) }
+    ensures { IsTrue result ↔ (time < end_of_time) }
 {
     time < END_OF_TIME
 }

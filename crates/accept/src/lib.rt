@@ -24,4 +24,4 @@ pub use laws::{
 pub use limits::Limits;
 pub use outcome::{Outcome, OutcomeList};
 pub use refusal::TrimRefusal;
-pub use stream::{Reserved, StreamState};
+pub use stream::StreamState;

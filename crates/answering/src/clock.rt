@@ -1,4 +1,5 @@
-ghost use Rattle.std.specs.Prelude.{◌<◌, ◌^◌, ℕ};
+ghost use Rattle.std.specs.Prelude.{◌<◌, ℕ};
+ghost use Rattle.accept.specs.OneStream.{end_of_time};
 
 /// What tells the time of each request.
 pub trait Clock {
@@ -8,5 +9,5 @@ pub trait Clock {
     /// The time in nanoseconds: below 2^63.
     fn now(&mut self) -> u64
         ensures ticks { ticks self.old result self.new }
-        ensures range { result < 2 ^ 63 };
+        ensures range { result < end_of_time };
 }

@@ -1,6 +1,7 @@
 //! The answer to a request after its head: its body, its calls in body order, status and body of its answer.
-ghost use Rattle.std.specs.Prelude.{◌≡◌, ◌<◌, ◌≤◌, ◌^◌, [], ℕ, List, All, IfOk, min, length, vec_capacity};
+ghost use Rattle.std.specs.Prelude.{◌≡◌, ◌<◌, ◌≤◌, [], ℕ, List, All, IfOk, min, length, vec_capacity};
 ghost use Rattle.std.specs.VecDeque.{deque_len};
+ghost use Rattle.accept.specs.OneStream.{end_of_time};
 ghost use Rattle.accept.specs.Calls.{AreNumbers};
 ghost use Rattle.requests.specs.Answers.{failure_body};
 ghost use Rattle.answering.specs.Asking.{Asked};
@@ -133,7 +134,7 @@ fn push<S: Calls, R: Wait>(
     request: &RequestBody<'_>,
 ) -> Result<Answer, Halt>
     requires pass { S.is_ready service.now pass.old }
-    requires clock { request.now.time < 2 ^ 63 }
+    requires clock { request.now.time < end_of_time }
     ensures pass { S.is_ready service.now pass.new }
     ensures responds { RequestEnds
         (S.gives service.now) Route.Push request.now.time request.now.tenant.now
@@ -188,7 +189,7 @@ pub(crate) fn respond<S: Calls, R: Wait>(
     request: &RequestBody<'_>,
 ) -> Result<Answer, Halt>
     requires pass { S.is_ready service.now pass.old }
-    requires clock { request.now.time < 2 ^ 63 }
+    requires clock { request.now.time < end_of_time }
     ensures pass { S.is_ready service.now pass.new }
     ensures responds { RequestEnds
         (S.gives service.now) request.now.route request.now.time request.now.tenant.now
@@ -251,7 +252,7 @@ pub fn answer<S: Calls, R: Wait>(
     request: &RequestBody<'_>,
 ) -> Result<Answer, ServeFault>
     requires pass { S.is_ready service.now pass.old }
-    requires clock { request.now.time < 2 ^ 63 }
+    requires clock { request.now.time < end_of_time }
     ensures pass { S.is_ready service.now pass.new }
     ensures answers { RequestIsAnswered (S.gives service.now) request.now.route request.now.time
         request.now.tenant.now request.now.body.now pass.old result pass.new }

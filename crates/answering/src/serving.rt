@@ -1,5 +1,6 @@
 //! A connection: its requests read, their calls made, and the answers written.
-ghost use Rattle.std.specs.Prelude.{◌≡◌, ◌<◌, ◌≤◌, ◌^◌, length, drop, slice_range, Ok, [], IfErr};
+ghost use Rattle.std.specs.Prelude.{◌≡◌, ◌<◌, ◌≤◌, length, drop, slice_range, Ok, [], IfErr};
+ghost use Rattle.accept.specs.OneStream.{end_of_time};
 ghost use Rattle.answering.specs.Ends.{AreSameEnds, IsOfItsEnd};
 ghost use Rattle.answering.specs.Responses.{content_for};
 ghost use Rattle.answering.specs.Serving.{ConnectionIsServed, world, io};
@@ -62,7 +63,7 @@ impl<'a, 'b, S: Calls<Pass = P>, P, C: Clock, I: Read, O: Write> Connection<'a, 
         message: &Message,
     ) -> Result<bool, ServeFault>
         requires ready { S.is_ready self.old.service.now self.old.pass.now }
-        requires clock { now < 2 ^ 63 }
+        requires clock { now < end_of_time }
         requires ordered { message.now.start ≤ message.now.end }
         requires within { message.now.end ≤ length self.old.incoming.now }
         ensures same { IsSameConnection self.old self.new }
@@ -106,7 +107,7 @@ impl<'a, 'b, S: Calls<Pass = P>, P, C: Clock, I: Read, O: Write> Connection<'a, 
         message: &Message,
     ) -> Result<bool, ServeFault>
         requires ready { S.is_ready self.old.service.now self.old.pass.now }
-        requires clock { now < 2 ^ 63 }
+        requires clock { now < end_of_time }
         requires ordered { message.now.start ≤ message.now.end }
         requires within { message.now.end ≤ length self.old.incoming.now }
         ensures same { IsSameConnection self.old self.new }

@@ -2,6 +2,7 @@
 ghost use Rattle.std.specs.Prelude.{◌≡◌, ◌≤◌, ◌<◌, ◌+◌, ◌^◌, ◌++◌, [], ℕ, List, Option, None, Err, All, IfOk, IfErr, map, min, length};
 ghost use Rattle.std.specs.VecDeque.{deque_len, deque_capacity};
 ghost use Rattle.labels.specs.declared.fault.LabelFault.{LabelFault};
+ghost use Rattle.accept.specs.OneStream.{end_of_time};
 ghost use Rattle.accept.specs.Calls.{AreNumbers};
 ghost use Rattle.requests.specs.declared.route.Route.TheVariants.{Push};
 ghost use Rattle.answering.specs.Asking.{Asked, AsksFor, HasNumbers, asked_push};
@@ -53,7 +54,7 @@ pub(crate) fn streams_of<O: Drop>(
     alloc: Global,
     request: &RequestBody<'_>,
 ) -> Result<Streams<O>, PushFault>
-    requires clock { request.now.time < 2 ^ 63 }
+    requires clock { request.now.time < end_of_time }
     ensures ok { IfOk result (λ streams. AsksForStreams request.now.time request.now.tenant.now
         request.now.body.now streams.places.items streams.windows.left.items) }
     ensures cause { IfErr result (λ fault.

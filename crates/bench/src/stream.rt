@@ -1,7 +1,7 @@
 //! Calls on one stream, and how long they take.
 
-ghost use Rattle.std.specs.Prelude.{◌<◌, ◌^◌, IfSome};
-ghost use Rattle.accept.specs.OneStream.{AreTimes};
+ghost use Rattle.std.specs.Prelude.{◌<◌, IfSome};
+ghost use Rattle.accept.specs.OneStream.{AreTimes, end_of_time};
 ghost use Rattle.accept.specs.Calls.{AreNumbers};
 
 use crate::START;
@@ -160,7 +160,7 @@ fn store(alloc: Global, stream: &mut StreamState, call: Call) -> Result<usize> {
 /// What the clock says at a push, and its entries.
 fn entries_of(call: Call) -> Option<(u64, EntryList)>
     requires { AreNumbers call }
-    ensures { IfSome result (λ it. (it.0 < 2 ^ 63) × AreTimes it.1) }
+    ensures { IfSome result (λ it. (it.0 < end_of_time) × AreTimes it.1) }
 {
     match call {
         Call::Push {
@@ -186,7 +186,7 @@ fn store_entries(
     now: u64,
     entries: EntryList,
 ) -> Result<usize>
-    requires { (now < 2 ^ 63) × AreTimes entries }
+    requires { (now < end_of_time) × AreTimes entries }
 {
     let outcomes = stream.judge(alloc, now, entries.as_slice(), &LIMITS)?;
     let Ok(reserved) = stream.reserve_own(alloc, entries, outcomes.as_slice()) else {

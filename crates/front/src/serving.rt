@@ -1,5 +1,6 @@
 //! An ingester as what makes the calls of requests.
-ghost use Rattle.std.specs.Prelude.{◌≡◌, ◌<◌, ◌^◌};
+ghost use Rattle.std.specs.Prelude.{◌≡◌, ◌<◌};
+ghost use Rattle.accept.specs.OneStream.{end_of_time};
 ghost use Rattle.ingester.specs.Calls.{IsPassOf};
 ghost use Rattle.answering.specs.Responses.{RequestIsAnswered};
 ghost use Rattle.answering.specs.Serving.{ConnectionIsServed, world, io};
@@ -97,7 +98,7 @@ pub fn answer<D: Disk + Drop, R: Wait>(
     body: &[u8],
 ) -> Result<Answer, ServeFault>
     requires pass { IsPassOf ingester.now pass.old }
-    requires clock { now < 2 ^ 63 }
+    requires clock { now < end_of_time }
     ensures pass { IsPassOf ingester.now pass.new }
     ensures answers { RequestIsAnswered
         (CallGives ingester.now) route now tenant.now body.now pass.old result

@@ -1,6 +1,7 @@
 //! The programs' clock.
-ghost use Rattle.std.specs.Prelude.{◌≡◌, ◌<◌, ◌^◌, option_map};
+ghost use Rattle.std.specs.Prelude.{◌≡◌, ◌<◌, option_map};
 ghost use Rattle.std.specs.Time.{system_time_nanos};
+ghost use Rattle.accept.specs.OneStream.{end_of_time};
 ghost use Rattle.ingesterd.specs.Readings.{time_by};
 
 use crate::reading::{NotedClock, nanos_of};
@@ -13,7 +14,7 @@ use std::time::SystemTime;
 pub struct SystemClock<'a, R: rt::Clock> {
     system: NotedClock<'a, R>,
     last: u64,
-    ghost small: { last < 2 ^ 63 },
+    ghost small: { last < end_of_time },
 }
 
 impl<'a, R: rt::Clock> SystemClock<'a, R> {
@@ -44,9 +45,9 @@ impl<'a, R: rt::Clock> front::Clock for SystemClock<'a, R> {
 
 // The time by a reading of the system's clock, where this was told last.
 fn time_by(reading: Option<SystemTime>, last: u64) -> u64
-    requires { last < 2 ^ 63 }
+    requires { last < end_of_time }
     ensures told { result ≡ time_by (option_map system_time_nanos reading) last }
-    ensures range { result < 2 ^ 63 }
+    ensures range { result < end_of_time }
 {
     let Some(time) = reading else {
         return last;

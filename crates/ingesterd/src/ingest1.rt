@@ -1,6 +1,7 @@
 //! The program `ingest1`: a push body, judged on an empty shard in memory and read back.
-ghost use Rattle.std.specs.Prelude.{◌≡◌, ◌↔◌, ◌<◌, ◌≤◌, ◌^◌, ◌++◌, ◌∷◌, [], ℕ, List, IfOk, IfErr, OnOk, vec_len};
+ghost use Rattle.std.specs.Prelude.{◌≡◌, ◌↔◌, ◌<◌, ◌≤◌, ◌++◌, ◌∷◌, [], ℕ, List, IfOk, IfErr, OnOk, vec_len};
 ghost use Rattle.std.specs.Io.KnownBytes.{Appends};
+ghost use Rattle.accept.specs.OneStream.{end_of_time};
 ghost use Rattle.requests.specs.declared.answer.Answer.{Answer};
 ghost use Rattle.ingester.specs.Calls.{IsPassOf};
 ghost use Rattle.words.specs.Words.{GiveClock};
@@ -74,7 +75,7 @@ fn push_and_read<R, I: Read, W: Write>(
 ) -> Result<(), Stopped>
 where
     R: Threads + Wait + Copy + Send + Sync + 'static,
-    requires { now < 2 ^ 63 }
+    requires { now < end_of_time }
     ensures pushed { OnOk result ((answer : Answer) × (back : List ℕ)
         × Appends (W.contents output.old) (W.contents output.new) (answer_lines answer ++ back)) }
     ensures refused { IfErr result (λ stop. stop_status stop ≡ 3
@@ -99,7 +100,7 @@ fn push_body<D: Disk + Drop, R: Wait, W: Write>(
 ) -> Result<(), Stopped>
     requires profiled { IsProfiled 1 1 67108864 ingester.now (pass.old ∷ []) }
     requires pass { IsPassOf ingester.now pass.old }
-    requires clock { now < 2 ^ 63 }
+    requires clock { now < end_of_time }
     ensures pass { IsPassOf ingester.now pass.new }
     ensures pushed { OnOk result ((answer : Answer) × (back : List ℕ)
         × Appends (W.contents output.old) (W.contents output.new) (answer_lines answer ++ back)) }

@@ -23,8 +23,8 @@ fn hash_bytes(hash: u64, bytes: &[u8]) -> u64
     bytes.iter().fold(hash, |hash, byte| hash_byte(hash, *byte))
 }
 
-/// The shard of a key among `count` shards, 1 to `MAX_SHARDS`: the FNV-1a hash of 64 bits over the tenant, one zero byte
-/// and the canonical text, modulo the count.
+/// The shard of a key among `count` shards, 1 to `MAX_SHARDS`: the FNV-1a hash of 64 bits over the tenant, one zero
+/// byte and the canonical text, modulo the count.
 pub fn shard_of(key: &StreamKey, count: u32) -> u32
     requires some { 1 ≤ count }
     requires few { count ≤ max_shards }

@@ -1,9 +1,10 @@
 -- An opening without its disks, and a log that is spent.
-use Rattle.std.specs.Prelude.{◌≡◌, ℕ, ◌+◌, ◌-◌, ◌*◌, ◌^◌, ◌<◌, ◌≤◌, List, length, Some, slice_get}
+use Rattle.std.specs.Prelude.{◌≡◌, ℕ, ◌+◌, ◌*◌, ◌<◌, ◌≤◌, List, length, Some, slice_get}
 use Rattle.atomic_table.specs.Seated.{TableId}
 use Rattle.accept.specs.declared.call.Call.{Call}
 use Rattle.segment.specs.declared.version.Version.{Version}
 use Rattle.segment.specs.Versions.{latest}
+use Rattle.segment.specs.Segments.{max_generation}
 use Rattle.history.specs.declared.views.About.{About}
 use Rattle.history.specs.Handles.{Booked}
 use Rattle.history.specs.Histories.{IsLegalAt, IsByPasses, bound}
@@ -32,11 +33,11 @@ pub record NeedsGeneration (home : Homed) (k : ℕ) (call : Call) : Type 0 where
   pub cap : ℕ
   pub opened : ℕ
   pub opened_is : slice_get home.generations k ≡ Some opened
-  pub last : 2 ^ 63 - 1 ≤ generation
+  pub last : max_generation ≤ generation
   pub writes : NeedsWrite book call
   pub full : ¬ ((0 < generation) × (version ≡ latest)
       × (end + 1 + block_length (change_of call (answer_in book call)) ≤ cap))
   pub legal : IsLegalAt book.about book.shard book.items
   pub by_passes : IsByPasses book.about.passes book.items
   pub rolled : generation ≤ opened + length book.items
-  pub late : 2 ^ 63 - 1 ≤ opened + (book.about.passes * bound + 1)
+  pub late : max_generation ≤ opened + (book.about.passes * bound + 1)

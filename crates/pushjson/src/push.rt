@@ -1,4 +1,5 @@
-ghost use Rattle.std.specs.Prelude.{◌≡◌, ◌↔◌, ◌<◌, ◌^◌, IsTrue, IfOk, All, map, length, sum_by};
+ghost use Rattle.std.specs.Prelude.{◌≡◌, ◌↔◌, IsTrue, IfOk, All, map, length, sum_by};
+ghost use Rattle.accept.specs.OneStream.{AreTimes};
 ghost use Rattle.accept.specs.Calls.{max_entries};
 ghost use Rattle.pushjson.specs.Bodies.{HaveRisingNames};
 ghost use Rattle.pushjson.specs.Reads.{ReadsPush, GivesEntries, GivesBatches};
@@ -36,7 +37,7 @@ pub fn read_push(alloc: Global, bytes: &[u8]) -> Result<Vec<RawBatch>, PushFault
     ensures reads { ReadsPush bytes.now result }
     ensures sorted { IfOk result (λ batches. All (λ b. HaveRisingNames b.pairs) batches.items) }
     ensures range { IfOk result
-        (λ batches. All (λ b. All (λ e. e.time < 2 ^ 63) b.entries) batches.items) }
+        (λ batches. All (λ b. AreTimes b.entries) batches.items) }
 {
     let streams = body_texts(alloc, read_tree(alloc, bytes)?)?;
     let batches = batches_of(alloc, streams)?;

@@ -1,4 +1,5 @@
-ghost use Rattle.std.specs.Prelude.{◌<◌, ◌^◌, IfOk};
+ghost use Rattle.std.specs.Prelude.{◌<◌, IfOk};
+ghost use Rattle.accept.specs.OneStream.{end_of_time};
 ghost use Rattle.pushjson.specs.Bodies.{HaveRisingNames};
 ghost use Rattle.pushjson.specs.Queries.{ReadsQuery, ReadsTrim};
 
@@ -42,7 +43,7 @@ const BAD_TIME: PushFault = PushFault::BadTime {
 pub fn read_query(alloc: Global, bytes: &[u8]) -> Result<RawRead, PushFault>
     ensures reads { ReadsQuery bytes.now result }
     ensures sorted { IfOk result (λ r. HaveRisingNames r.pairs) }
-    ensures range { IfOk result (λ r. (r.from < 2 ^ 63) × (r.to < 2 ^ 63)) }
+    ensures range { IfOk result (λ r. (r.from < end_of_time) × (r.to < end_of_time)) }
 {
     let texts = query_texts(alloc, read_tree(alloc, bytes)?)?;
     let Some(from) = time_of(texts.from.as_str()) else {
@@ -64,7 +65,7 @@ pub fn read_query(alloc: Global, bytes: &[u8]) -> Result<RawRead, PushFault>
 pub fn read_trim(alloc: Global, bytes: &[u8]) -> Result<RawTrim, PushFault>
     ensures reads { ReadsTrim bytes.now result }
     ensures sorted { IfOk result (λ r. HaveRisingNames r.pairs) }
-    ensures range { IfOk result (λ r. r.bound < 2 ^ 63) }
+    ensures range { IfOk result (λ r. r.bound < end_of_time) }
 {
     let texts = trim_texts(alloc, read_tree(alloc, bytes)?)?;
     let Some(bound) = time_of(texts.bound.as_str()) else {

@@ -1,5 +1,6 @@
-ghost use Rattle.std.specs.Prelude.{◌≡◌, ◌<◌, ◌^◌, MatchOption};
+ghost use Rattle.std.specs.Prelude.{◌≡◌, ◌<◌, MatchOption};
 ghost use Rattle.std.specs.Str.Parse.{digits_value};
+ghost use Rattle.accept.specs.OneStream.{end_of_time};
 ghost use Rattle.pushjson.specs.Times.{IsTime};
 
 use accept::END_OF_TIME;
@@ -13,7 +14,7 @@ const MAX_DIGITS: usize = 19;
 pub fn time_of(text: &str) -> Option<u64>
     ensures { MatchOption result
         (¬ IsTime text.now) (λ time. IsTime text.now × (time ≡ digits_value 10 text.now)
-        × (time < 2 ^ 63)) }
+        × (time < end_of_time)) }
 {
     if text.len() > MAX_DIGITS {
         return None;

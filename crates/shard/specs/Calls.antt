@@ -1,5 +1,5 @@
 -- What a call is to a book, and what becomes of both.
-use Rattle.std.specs.Prelude.{◌≡◌, ◌⊎◌, ◌≤◌, ◌+◌, ◌-◌, ◌*◌, ◌^◌, ℕ, nat_lt, List, [], ◌∷◌, length, true, false, Option, Some, None, if◌then◌else◌}
+use Rattle.std.specs.Prelude.{◌≡◌, ◌⊎◌, ◌≤◌, ◌+◌, ◌*◌, ℕ, nat_lt, List, [], ◌∷◌, length, true, false, Option, Some, None, if◌then◌else◌}
 use Rattle.accept.specs.declared.call.Call.{Call}
 use Rattle.accept.specs.declared.call.Reply.{Reply}
 use Rattle.accept.specs.declared.call.Reply.TheVariants.{NoRoom, Unavailable}
@@ -9,6 +9,7 @@ use Rattle.accept.specs.Histories.{answer, after, meaning, changes, is_marked}
 use Rattle.segment.specs.declared.record.Record.{Record}
 use Rattle.segment.specs.Versions.{latest}
 use Rattle.segment.specs.Spelling.{frame}
+use Rattle.segment.specs.Segments.{max_generation}
 use Rattle.wal.specs.declared.log.Wal.{Wal}
 use Rattle.wal.specs.Recovery.{Recovers}
 use Rattle.wal.specs.Moments.{Pair, HasFailed, HasNoFailure}
@@ -52,16 +53,16 @@ FitsBehind log book call = FitsInUse log (block_length (change_of call (answer_i
 
 -- why a roll of a log of this generation is refused: behind the last one there is none, else there was no memory
 abbrev pub roll_fault : ℕ → ApplyFault
-roll_fault generation = if nat_lt generation (2 ^ 63 - 1) then Memory else GenerationSpent
+roll_fault generation = if nat_lt generation max_generation then Memory else GenerationSpent
 
 -- The log was opened so late that a history of its opening may have rolled it to the last generation.
 abbrev pub IsLate : {D : Type 0} → Wal D → Booked → Type 0
-IsLate opened book = 2 ^ 63 - 1 ≤ opened.generation + (book.about.passes * bound + 1)
+IsLate opened book = max_generation ≤ opened.generation + (book.about.passes * bound + 1)
 
 -- The call writes, and its block would have to go into a generation behind the last. Each roll since the log was opened
 -- took a call of the history, which is legal, so the log was opened late.
 pub record IsSpent {D : Type 0} (log opened : Wal D) (book : Booked) (call : Call) : Type 0 where
-  pub last : 2 ^ 63 - 1 ≤ log.generation
+  pub last : max_generation ≤ log.generation
   pub writes : NeedsWrite book call
   pub full : ¬ FitsBehind log book call
   pub legal : IsLegalAt book.about book.shard book.items

@@ -1,5 +1,5 @@
 -- What streams answer to a call, and what is ready for it before any device call.
-use Rattle.std.specs.Prelude.{◌≡◌, ◌⊎◌, ◌≤◌, ◌<◌, ◌+◌, ◌-◌, ◌^◌, ℕ, List, length, true, false, None}
+use Rattle.std.specs.Prelude.{◌≡◌, ◌⊎◌, ◌≤◌, ◌<◌, ◌+◌, ℕ, List, length, true, false, None}
 use Rattle.std.specs.FinMap as finite
 use Rattle.accept.specs.declared.limits.Limits.{Limits}
 use Rattle.accept.specs.declared.call.Call.{Call}
@@ -9,6 +9,7 @@ use Rattle.accept.specs.Rooms.{Streams, room}
 use Rattle.accept.specs.Histories.{changes, key_of, set_stream}
 use Rattle.accept.specs.Calls.{answer_from, stream_after}
 use Rattle.segment.specs.Versions.{latest_header}
+use Rattle.segment.specs.Segments.{max_generation}
 use Rattle.wal.specs.declared.log.Wal.{Wal}
 use Rattle.wal.specs.Recovery.{IsSegmentBehind}
 use Rattle.wal.specs.Logs.{owner}
@@ -38,7 +39,7 @@ pub record IsNextSegment {D : Type 0} (limits : Limits) (log : Wal D) (old : Map
   pub no_change : new.change ≡ None
   pub replied : r ≡ answer_of limits old.streams call
   pub next : new.streams ≡ after_of limits old.streams call
-  pub early : log.generation < 2 ^ 63 - 1
+  pub early : log.generation < max_generation
   pub has_place : 1 + length written ≤ log.cap
   pub segment : IsSegmentBehind (owner log) written (latest_header (log.generation + 1))
       (length written) new.streams

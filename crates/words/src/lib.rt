@@ -5,6 +5,7 @@ mod said;
 
 ghost use Rattle.std.specs.Prelude.{◌≡◌, ◌<◌, ◌≤◌, ◌^◌, None, Some, IsTrue, IfOk, IfSome, MatchOption, option_map};
 ghost use Rattle.labels.specs.Tenants.{is_tenant};
+ghost use Rattle.accept.specs.OneStream.{end_of_time};
 ghost use Rattle.words.specs.Words.{value, IsNumberIn, NameShard, GiveShard, SaysPlace, GiveClock, SaysClock, NameServer, SaysOfServer, GiveServer, SaysServer, verb_of, IsVerb, NameCall, SaysOfCall, GiveCall, SaysCall, GivesCapacity, capacity_of};
 
 use labels::{LabelFault, Tenant};
@@ -88,7 +89,7 @@ fn place_of(shard: &str, count: &str) -> Option<ShardPlace>
 /// The clock that the word `NOW` gives: `None` where the words are not one such word.
 pub fn clock_in(words: &[String]) -> Option<u64>
     ensures given { MatchOption result
-        (¬ GiveClock words.now) (λ now. (now < 2 ^ 63) × GiveClock words.now) }
+        (¬ GiveClock words.now) (λ now. (now < end_of_time) × GiveClock words.now) }
     ensures says { IfSome result (SaysClock words.now) }
 {
     match words {

@@ -1,6 +1,7 @@
 //! What the words of programs say.
-ghost use Rattle.std.specs.Prelude.{◌<◌, ◌≤◌, ◌^◌};
+ghost use Rattle.std.specs.Prelude.{◌<◌, ◌≤◌};
 ghost use Rattle.labels.specs.Shards.{max_shards};
+ghost use Rattle.accept.specs.OneStream.{end_of_time};
 
 use labels::Tenant;
 use requests::Route;
@@ -52,5 +53,5 @@ pub struct CallWords<'a> {
     pub now: u64,
     ghost some_shard: { 1 ≤ shards },
     ghost few_shards: { shards ≤ max_shards },
-    ghost small: { now < 2 ^ 63 },
+    ghost small: { now < end_of_time },
 }
