@@ -10,7 +10,9 @@ use std::net::TcpStream;
 use std::sync::Wait;
 use workers::Serve;
 
-/// Serves connections as `front` does, by a clock.
+/// Serves connections as `front` does, by a clock. A connection that fails, or does nothing for 60 seconds, is closed,
+/// and its worker takes the next; what it was answered stands. A pass is closed when its numbers are used up or a call
+/// of it is in doubt, and its worker then takes no other connection and ends.
 #[derive(Drop)]
 pub struct Connections<C: Clock> {
     clock: C,
@@ -23,7 +25,9 @@ impl<C: Clock> Connections<C> {
     }
 }
 
-impl<D: Disk + Drop, C: Clock> Serve<D> for Connections<C> {
+impl<D: Disk + Drop, C: Clock> Serve<Ingester<D>, Pass> for Connections<C> {
+    ghost is_pass_of = { IsPassOf };
+
     fn serve<R: Wait>(
         &mut self,
         rt: &R,
@@ -31,9 +35,10 @@ impl<D: Disk + Drop, C: Clock> Serve<D> for Connections<C> {
         ingester: &Ingester<D>,
         pass: &mut Pass,
         stream: &TcpStream,
-    ) {
+    ) -> bool {
         let (mut reader, mut writer) = (stream, stream);
         let clock = &mut self.clock;
         let _ = serve(rt, alloc, ingester, pass, clock, &mut reader, &mut writer);
+        !pass.is_closed()
     }
 }

@@ -34,7 +34,7 @@ use workers::serve_listener;
 /// Opens and replays the slots of DIR, listens on the port of 127.0.0.1 (0: any that is free), and writes `ready` and
 /// the port. Each connection is served by one of WORKERS threads, and each shard is owned by another thread. The server
 /// closes its shards and ends with status 0 after CONNECTIONS connections, where that is given, or when no worker is
-/// left. A connection that fails costs no more than itself (`serve_listener`).
+/// left. A connection that fails costs no more than itself (`Connections`).
 ///
 /// Status 1: a fault while running. 2: wrong words, or a wrong setting. 3: the opening was refused, or the thread of a
 /// shard could not be started. A fault is one line of `errors`. A shard that stops answering writes one line to

@@ -1,14 +1,10 @@
 //! The server's loop: one acceptor, and workers with a pass each.
 ghost use Rattle.std.specs.Prelude.{◌≡◌, ℕ, Some, All, slice_get, IfOk};
-ghost use Rattle.history.specs.Handles.{Passed};
-ghost use Rattle.ingester.specs.Calls.{IsPassOf};
 
 use crate::fault::WorkersFault;
 use crossbeam_channel::{Receiver, Sender, bounded};
-use disk::Disk;
-use history::Pass;
-use ingester::Ingester;
 use std::alloc::Global;
+use std::marker::PhantomData;
 use std::net::{TcpListener, TcpStream};
 use std::rt;
 use std::snapshot::Snapshot;
@@ -25,19 +21,23 @@ const WAITING: usize = 64;
 /// For how many milliseconds the acceptor waits when it could not accept a connection.
 const PAUSE_MILLIS: u64 = 10;
 
-/// How a worker serves connections. A higher crate implements it: this crate needs no more of it.
-pub trait Serve<D: Disk + Drop> {
-    /// Serves a connection until it ends. Whatever goes wrong with it, the worker takes the next one.
+/// How a worker serves connections: over the service `I`, which all workers share, and by a pass `P` of its own. A
+/// higher crate implements it and says what the two are: this crate needs no more of them.
+pub trait Serve<I, P> {
+    /// The pass is one of this service's.
+    ghost is_pass_of: { I → P → Type 0 };
+
+    /// Serves a connection until it ends, whatever goes wrong with it. Tells whether the worker may take another.
     fn serve<R: Wait>(
         &mut self,
         rt: &R,
         alloc: Global,
-        ingester: &Ingester<D>,
-        pass: &mut Pass,
+        service: &I,
+        pass: &mut P,
         stream: &TcpStream,
-    )
-        requires { IsPassOf ingester.now pass.old }
-        ensures { IsPassOf ingester.now pass.new };
+    ) -> bool
+        requires { is_pass_of service.now pass.old }
+        ensures { is_pass_of service.now pass.new };
 }
 
 // Sets that a connection is closed that does nothing for long, and that what is written is sent at once.
@@ -50,50 +50,52 @@ fn limit_waits(stream: &TcpStream) {
 
 // What a worker's thread is given.
 #[derive(Drop)]
-struct Worker<'a, D: Disk + Drop, S, R> {
+struct Worker<'a, I, P, S, R> {
     rt: &'a R,
     alloc: Global,
-    ingester: &'a Ingester<D>,
-    pass: Pass,
+    service: &'a I,
+    pass: P,
     server: S,
     streams: Receiver<TcpStream>,
 }
 
-// What a worker hands back is a pass of its ingester.
+// What a worker hands back is a pass of its service.
 #[derive(Drop)]
-struct OfIngester<D: Disk + Drop>(Snapshot<Ingester<D>>);
+struct OfService<I, P, S: Serve<I, P>> {
+    service: Snapshot<I>,
+    of: PhantomData<(P, S)>,
+}
 
-impl<D: Disk + Drop> Promise<Pass> for OfIngester<D> {
-    ghost kept_by = { λ promise pass. IsPassOf promise.0.value pass };
+impl<I, P, S: Serve<I, P>> Promise<P> for OfService<I, P, S> {
+    ghost kept_by = { λ promise pass. S.is_pass_of promise.service.value pass };
 }
 
 // A worker's thread.
-type Thread<D> = PromisedHandle<Pass, OfIngester<D>>;
+type Thread<I, P, S> = PromisedHandle<P, OfService<I, P, S>>;
 
 // The passes that no worker has, and the workers' threads.
 #[derive(Drop)]
-struct Crew<D: Disk + Drop> {
-    passes: Vec<Pass>,
-    threads: Vec<Thread<D>>,
+struct Crew<I, P: Drop, S: Serve<I, P>> {
+    passes: Vec<P>,
+    threads: Vec<Thread<I, P, S>>,
 }
 
-// Serves connections until no more come, or the pass is closed. Gives the pass back.
-fn work<D: Disk + Drop, S: Serve<D> + Drop, R: Wait>(worker: Worker<D, S, R>) -> Pass
-    requires { IsPassOf worker.ingester.now worker.pass }
-    ensures { IsPassOf worker.entry.ingester.now result }
+// Serves connections until no more come, or the worker may take no other. Gives the pass back.
+fn work<I, P, S: Serve<I, P> + Drop, R: Wait>(worker: Worker<I, P, S, R>) -> P
+    requires { S.is_pass_of worker.service.now worker.pass }
+    ensures { S.is_pass_of worker.entry.service.now result }
 {
     let Worker {
         rt,
         alloc,
-        ingester,
+        service,
         mut pass,
         mut server,
         streams,
     } = worker;
     for stream in streams.iter(rt) {
         limit_waits(&stream);
-        server.serve(rt, alloc, ingester, &mut pass, &stream);
-        if pass.is_closed() {
+        if !server.serve(rt, alloc, service, &mut pass, &stream) {
             break;
         }
     }
@@ -122,21 +124,26 @@ fn accept<R: Wait + rt::Clock>(
 }
 
 // Starts a worker.
-fn start<'s, E, D, S, R>(
+fn start<'s, E, I, P, S, R>(
     scope: &'s Scope<'s, E>,
-    worker: Worker<'s, D, S, R>,
-) -> Result<Thread<D>, WorkersFault>
+    worker: Worker<'s, I, P, S, R>,
+) -> Result<Thread<I, P, S>, WorkersFault>
 where
-    D: Disk + Drop + Send + 's,
-    S: Serve<D> + Drop + Send + 's,
+    I: Sync + 's,
+    P: Drop + Send + 's,
+    S: Serve<I, P> + Drop + Send + 's,
     R: Threads + Wait + Sync,
-    requires pass { IsPassOf worker.ingester.now worker.pass }
-    ensures promise { IfOk result (λ thread. thread.promise.0.value ≡ worker.entry.ingester.now) }
+    requires pass { S.is_pass_of worker.service.now worker.pass }
+    ensures promise { IfOk result (λ thread. thread.promise.service.value
+        ≡ worker.entry.service.now) }
 {
-    let promise = OfIngester(Snapshot::of(worker.ingester));
-    let run = move || -> Pass
-        requires { IsPassOf worker.ingester.now worker.pass }
-        ensures { IsPassOf worker.entry.ingester.now result }
+    let promise = OfService {
+        service: Snapshot::of(worker.service),
+        of: PhantomData,
+    };
+    let run = move || -> P
+        requires { S.is_pass_of worker.service.now worker.pass }
+        ensures { S.is_pass_of worker.entry.service.now result }
     { work(worker) };
     match scope.spawn_with(promise, run) {
         Ok(thread) => Ok(thread),
@@ -145,26 +152,26 @@ where
 }
 
 // Starts a worker for each pass, and adds its thread to the others. Leaves the passes for which no worker was started.
-fn start_all<'s, E, D, S, R>(
+fn start_all<'s, E, I, P, S, R>(
     scope: &'s Scope<'s, E>,
     rt: &'s R,
     alloc: Global,
-    ingester: &'s Ingester<D>,
-    crew: &mut Crew<D>,
+    service: &'s I,
+    crew: &mut Crew<I, P, S>,
     mut servers: Vec<S>,
     streams: Receiver<TcpStream>,
 ) -> Result<(), WorkersFault>
 where
-    D: Disk + Drop + Send + 's,
-    S: Serve<D> + Drop + Send + 's,
+    I: Sync + 's,
+    P: Drop + Send + 's,
+    S: Serve<I, P> + Drop + Send + 's,
     R: Threads + Wait + Sync,
-    requires passes { (i : ℕ) (pass : Passed) → slice_get crew.old.passes.items i ≡ Some pass
-        → IsPassOf ingester.now pass }
-    requires threads { All (λ thread. thread.promise.0.value
-        ≡ ingester.now) crew.old.threads.items }
-    ensures passes { (i : ℕ) (pass : Passed) → slice_get crew.new.passes.items i ≡ Some pass
-        → IsPassOf ingester.now pass }
-    ensures threads { All (λ thread. thread.promise.0.value ≡ ingester.now) crew.new.threads.items }
+    requires passes { All (S.is_pass_of service.now) crew.old.passes.items }
+    requires threads { All (λ thread. thread.promise.service.value
+        ≡ service.now) crew.old.threads.items }
+    ensures passes { All (S.is_pass_of service.now) crew.new.passes.items }
+    ensures threads { All (λ thread. thread.promise.service.value
+        ≡ service.now) crew.new.threads.items }
 {
     while let Some(server) = servers.pop() {
         let streams = streams.clone()?;
@@ -174,7 +181,7 @@ where
         let worker = Worker {
             rt,
             alloc,
-            ingester,
+            service,
             pass,
             server,
             streams,
@@ -188,14 +195,16 @@ where
 }
 
 // Waits until all workers have ended. Gives all passes.
-fn join_all<D: Disk + Drop, R: Threads>(rt: &R, ingester: &Ingester<D>, crew: Crew<D>) -> Vec<Pass>
-    requires passes { (i : ℕ) (pass : Passed) → slice_get crew.passes.items i ≡ Some pass
-        → IsPassOf ingester.now pass }
-    requires threads { All (λ thread. thread.promise.0.value ≡ ingester.now) crew.threads.items }
-    ensures passes { (i : ℕ) (pass : Passed) → slice_get result.items i ≡ Some pass
-        → IsPassOf ingester.now pass }
+fn join_all<I, P: Drop, S: Serve<I, P>, R: Threads>(
+    rt: &R,
+    service: &I,
+    crew: Crew<I, P, S>,
+) -> Vec<P>
+    requires passes { All (S.is_pass_of service.now) crew.passes.items }
+    requires threads { All (λ thread. thread.promise.service.value ≡ service.now) crew.threads.items }
+    ensures passes { All (S.is_pass_of service.now) result.items }
 {
-    let _ = ingester;
+    let _ = service;
     let Crew {
         mut passes,
         mut threads,
@@ -211,28 +220,28 @@ fn join_all<D: Disk + Drop, R: Threads>(rt: &R, ingester: &Ingester<D>, crew: Cr
 /// worker serves one connection after another, with its server. Gives the passes back once all workers have ended;
 /// after an error one of them may be missing.
 ///
-/// It ends when this many connections have come and each has ended. A pass is closed when its numbers are used up or a
-/// call of it is in doubt, and its worker then ends: where no worker is left, all ends with the next connection that
-/// comes. It ends at once, with an error, where there is no memory or a thread cannot be started. A connection that
-/// fails, or does nothing for 60 seconds, is closed, and its worker takes the next; what it was answered stands. A
-/// connection that could not be accepted is not counted, and costs 10 milliseconds.
-pub fn serve_listener<D, S, R>(
+/// It ends when this many connections have come and each has ended. A worker ends once its server tells that it may
+/// take no other connection: where no worker is left, all ends with the next one that comes. It ends at once, with an
+/// error, where there is no memory or a thread cannot be started. Each read and write of a connection waits 60 seconds
+/// at most. A connection that could not be accepted is not counted, and costs 10 milliseconds.
+pub fn serve_listener<I, P, S, R>(
     rt: &R,
     alloc: Global,
-    ingester: &Ingester<D>,
-    passes: Vec<Pass>,
+    service: &I,
+    passes: Vec<P>,
     servers: Vec<S>,
     listener: &TcpListener,
     connections: u64,
-) -> (Vec<Pass>, Result<(), WorkersFault>)
+) -> (Vec<P>, Result<(), WorkersFault>)
 where
-    D: Disk + Drop + Send,
-    S: Serve<D> + Drop + Send,
+    I: Sync,
+    P: Drop + Send,
+    S: Serve<I, P> + Drop + Send,
     R: Threads + Wait + rt::Clock + Sync,
-    requires passes { (i : ℕ) (pass : Passed) → slice_get passes.items i ≡ Some pass
-        → IsPassOf ingester.now pass }
-    ensures passes { (i : ℕ) (pass : Passed) → slice_get result.0.items i ≡ Some pass
-        → IsPassOf ingester.now pass }
+    requires passes { (i : ℕ) (pass : P) → slice_get passes.items i ≡ Some pass
+        → S.is_pass_of service.now pass }
+    ensures passes { (i : ℕ) (pass : P) → slice_get result.0.items i ≡ Some pass
+        → S.is_pass_of service.now pass }
 {
     let Ok((sender, receiver)) = bounded(alloc, WAITING) else {
         return (passes, Err(WorkersFault::Memory));
@@ -240,21 +249,19 @@ where
     thread::scope(
         thread::scope_env(),
         rt,
-        |scope| -> (Vec<Pass>, Result<(), WorkersFault>)
-            requires { (i : ℕ) (pass : Passed) → slice_get passes.items i ≡ Some pass
-                → IsPassOf ingester.now pass }
-            ensures { (i : ℕ) (pass : Passed) → slice_get result.0.items i ≡ Some pass
-                → IsPassOf ingester.entry.now pass }
+        |scope| -> (Vec<P>, Result<(), WorkersFault>)
+            requires { All (S.is_pass_of service.now) passes.items }
+            ensures { All (S.is_pass_of service.entry.now) result.0.items }
         {
             let threads = Vec::new(alloc);
             let mut crew = Crew { passes, threads };
-            let started = start_all(scope, rt, alloc, ingester, &mut crew, servers, receiver);
+            let started = start_all(scope, rt, alloc, service, &mut crew, servers, receiver);
             if started.is_ok() {
                 accept(rt, listener, connections, sender);
             } else {
                 drop(sender);
             }
-            (join_all(rt, ingester, crew), started)
+            (join_all(rt, service, crew), started)
         },
     )
 }

@@ -1,2 +1,0 @@
-mod Crews
-mod Sent
