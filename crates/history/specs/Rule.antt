@@ -16,7 +16,7 @@ use Rattle.history.specs.declared.views.Role.{Role}
 use Rattle.history.specs.declared.views.Role.TheVariants.{Nobody, Opener, Keeps, Calls}
 use Rattle.history.specs.declared.views.Token.{Token}
 use Rattle.history.specs.declared.views.Token.TheVariants.{Nothing, Open, Done}
-use Rattle.history.specs.Histories.{IsBeginning, IsLegalAt, shard_in, steps_by, steps_on, asks_by, HaveNumbersBelow, IsRising, AreNumbersBelow, AreUnused, HasStep, IsAmong, IsByPasses, bound}
+use Rattle.history.specs.Histories.{IsBeginning, IsLegalAt, shard_in, steps_by, steps_on, asks_by, HaveNumbersBelow, IsRising, AreNumbersBelow, AreUnused, HasStep, IsAmong, IsByPasses, bound, max_passes, max_open}
 
 -- a seat of this role, with no guest
 abbrev pub alone : Role → Token → View
@@ -128,7 +128,7 @@ pub record AreNumbered (last : ℕ) (pending : List Ask) (made : List Step) (wit
     : Type 0 where
   pub within : last < bound
   pub queue : IsQueue last pending
-  pub few : length pending ≤ 64
+  pub few : length pending ≤ max_open
   pub rises : HaveNumbersBelow (floor_of last pending) made
   pub gone : AreNumbersBelow (floor_of last pending) withdrawn
 
@@ -180,7 +180,7 @@ pub record IsGood (about : About) (x : TableContents) : Type 0 where
 -- a shard's word is the length of its history, a pass's word is 0 or the last number that it used
 pub record AreWords (about : About) (x : TableContents) (words : List ℕ) : Type 0 where
   pub any : 0 < about.shards
-  pub few : about.passes ≤ 64
+  pub few : about.passes ≤ max_passes
   pub wide : length words ≡ about.shards + about.passes
   pub lengths : (k : ℕ) → k < about.shards → slice_index words k ≡ length (x.items k)
   pub numbers : (p : ℕ) → p < about.passes → slice_index words (about.shards + p)
