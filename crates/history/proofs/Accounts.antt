@@ -104,16 +104,16 @@ no_token about items p n (Done s upto at) h = absurd h.2
 module _ (about : About) (items : ℕ → List Item) (p : ℕ) (c : Caller) (ts : ℕ → Token) (h : AccountOk about items p c ts) where
   -- what a token says is so
   pub token_ok : (n : ℕ) (t : Token) → ts n ≡ t → TokenOk about items p c.pending n t
-  token_ok n t is = subst (λ (u : Token). TokenOk about items p c.pending n u) is (h.tokens n)
+  token_ok n t is = subst (λ (u : Token). TokenOk about items p c.pending n u) is (h.way.tokens n)
 
   -- a number above the last is of no call
   pub free_number : (n : ℕ) → c.last < n → ts n ≡ Nothing
-  free_number n above = free (ts n) (h.tokens n)
+  free_number n above = free (ts n) (h.way.tokens n)
     where
       free : (t : Token) → TokenOk about items p c.pending n t → t ≡ Nothing
       free Nothing k = refl
-      free (Open a f e) k = absurd (let low = (among_floor a c.last c.pending h.queue k.2).1 in let same = k.0 in omega arith)
-      free (Done s upto at) k = absurd (let low = (among_floor s.ask c.last c.pending h.queue k.2).1 in let same = k.0 in omega arith)
+      free (Open a f e) k = absurd (let low = (among_floor a c.last c.pending h.numbers.queue k.2).1 in let same = k.0 in omega arith)
+      free (Done s upto at) k = absurd (let low = (among_floor s.ask c.last c.pending h.numbers.queue k.2).1 in let same = k.0 in omega arith)
 
   -- an open call is one of those that are pending
   open_among : (a b : Ask) (f : Bool) (e : List Ask) → ts b.number ≡ Open a f e → IsAmong a c.pending
@@ -126,7 +126,7 @@ module _ (about : About) (items : ℕ → List Item) (p : ℕ) (c : Caller) (ts 
   waiting_from : (k n : ℕ) (ss : List Step) → n ≤ floor_of c.last c.pending → AreOfOpenCalls about k ts ss → AreFrom n ss
   waiting_from k n [] l w = tt
   waiting_from k n (s ∷ ss) l w =
-      ((let low = (among_floor s.ask c.last c.pending h.queue (token_ok s.ask.number (Done s w.0.upto w.0.at) w.0.is).2).0 in omega arith), waiting_from k n ss l w.1)
+      ((let low = (among_floor s.ask c.last c.pending h.numbers.queue (token_ok s.ask.number (Done s w.0.upto w.0.at) w.0.is).2).0 in omega arith), waiting_from k n ss l w.1)
 
   -- the call that is announced
   module _ (call : Call) (n : ℕ) (above : c.last < n) where
@@ -153,9 +153,9 @@ module _ (about : About) (items : ℕ → List Item) (p : ℕ) (c : Caller) (ts 
         announced_earlier : n ≢ b.number → IsAmong a e
         announced_earlier other =
             let old : ts b.number ≡ Open b g e = sym (put_else ts n new_token b.number other) ∙ y in
-            let most = (among_floor b c.last c.pending h.queue (open_among b b g e old)).1 in
+            let most = (among_floor b c.last c.pending h.numbers.queue (open_among b b g e old)).1 in
             let apart : n ≢ a.number = λ q. omega arith in
-            h.order a b f g d e (sym (put_else ts n new_token a.number apart) ∙ x) old here less
+            h.way.order a b f g d e (sym (put_else ts n new_token a.number apart) ∙ x) old here less
 
     announced_token : (m : ℕ) → n ≢ m → (t : Token) → TokenOk about items p c.pending m t → TokenOk about items p (c.pending ++ new ∷ []) m t
     announced_token m u Nothing k = tt
@@ -165,25 +165,29 @@ module _ (about : About) (items : ℕ → List Item) (p : ℕ) (c : Caller) (ts 
     pub announced_ok : c.about ≡ about → n < bound → length c.pending < 64 → AccountOk about items p (announce_to c n call) (put ts n new_token)
     announced_ok at small few =
         let free = free_number n above in
-        let floor = announced_floor c.pending h.queue in record {
+        let floor = announced_floor c.pending h.numbers.queue in record {
           named = h.named;
-          within = small;
-          own = λ k. record { rest = (h.own k).rest; is = (h.own k).is; waiting = waits_put about k ts n new_token (h.own k).rest (λ s w e. nothing_done s w.upto w.at (sym free ∙ ap ts e ∙ w.is)) (h.own k).waiting };
-          rising = h.rising;
-          used = λ k. below_more (c.last + 1) (n + 1) (steps_by p (items k)) (omega arith) (h.used k);
-          seen = h.seen;
-          wide = h.wide;
-          made_seen = h.made_seen;
-          rises = below_more (floor_of c.last c.pending) (floor_of n (c.pending ++ new ∷ [])) c.made floor h.rises;
-          gone = under_more (floor_of c.last c.pending) (floor_of n (c.pending ++ new ∷ [])) c.withdrawn floor h.gone;
-          unused = h.unused;
-          told = λ k. told_put c.made c.made ts n new_token (λ a m. m) (λ a o. absurd (subst (λ (t : Token). IsOnItsWay a t) free o)) (asks_by p (items k)) (h.told k);
-          queue = queue_last c.last n c.pending new h.queue above refl;
-          few = let e = length-append c.pending (new ∷ []) in omega arith;
-          tokens = put_all ts n new_token (λ m t. TokenOk about items p (c.pending ++ new ∷ []) m t)
-              (refl, h.named, among_last new new c.pending refl, below_more (c.last + 1) n (steps_by p (items (shard_in about new))) (omega arith) (h.used (shard_in about new)))
-              (λ m u. announced_token m u (ts m) (h.tokens m));
-          order = announced_order at;
+          numbers = record {
+            within = small;
+            queue = queue_last c.last n c.pending new h.numbers.queue above refl;
+            few = let e = length-append c.pending (new ∷ []) in omega arith;
+            rises = below_more (floor_of c.last c.pending) (floor_of n (c.pending ++ new ∷ [])) c.made floor h.numbers.rises;
+            gone = under_more (floor_of c.last c.pending) (floor_of n (c.pending ++ new ∷ [])) c.withdrawn floor h.numbers.gone;
+          };
+          steps = record {
+            rising = h.steps.rising;
+            used = λ k. below_more (c.last + 1) (n + 1) (steps_by p (items k)) (omega arith) (h.steps.used k);
+            unused = h.steps.unused;
+          };
+          looks = h.looks;
+          way = record {
+            own = λ k. record { rest = (h.way.own k).rest; is = (h.way.own k).is; waiting = waits_put about k ts n new_token (h.way.own k).rest (λ s w e. nothing_done s w.upto w.at (sym free ∙ ap ts e ∙ w.is)) (h.way.own k).waiting };
+            told = λ k. told_put c.made c.made ts n new_token (λ a m. m) (λ a o. absurd (subst (λ (t : Token). IsOnItsWay a t) free o)) (asks_by p (items k)) (h.way.told k);
+            tokens = put_all ts n new_token (λ m t. TokenOk about items p (c.pending ++ new ∷ []) m t)
+                (refl, h.named, among_last new new c.pending refl, below_more (c.last + 1) n (steps_by p (items (shard_in about new))) (omega arith) (h.steps.used (shard_in about new)))
+                (λ m u. announced_token m u (ts m) (h.way.tokens m));
+            order = announced_order at;
+          };
         }
       where
         announced_floor : (qs : List Ask) → IsQueue c.last qs → floor_of c.last qs ≤ floor_of n (qs ++ new ∷ [])
@@ -193,10 +197,10 @@ module _ (about : About) (items : ℕ → List Item) (p : ℕ) (c : Caller) (ts 
   -- the first open call ends
   module _ (a : Ask) (first : IsFirst a c.pending) where
     lower : floor_of c.last c.pending ≡ a.number
-    lower = (floor_first a c.last c.pending first h.queue).0
+    lower = (floor_first a c.last c.pending first h.numbers.queue).0
 
     upper : a.number < floor_of c.last (behind_first c.pending)
-    upper = (floor_first a c.last c.pending first h.queue).1
+    upper = (floor_first a c.last c.pending first h.numbers.queue).1
 
     ended_token : (m : ℕ) → a.number ≢ m → (u : Token) → TokenOk about items p c.pending m u → TokenOk about items p (behind_first c.pending) m u
     ended_token m d Nothing k = tt
@@ -204,7 +208,7 @@ module _ (about : About) (items : ℕ → List Item) (p : ℕ) (c : Caller) (ts 
     ended_token m d (Done s upto at) k = (k.0, k.1, among_behind s.ask a c.pending first k.2 (λ q. d (q ∙ k.0)), k.3, k.4)
 
     pub ended_tokens : (m : ℕ) → TokenOk about items p (behind_first c.pending) m (put ts a.number Nothing m)
-    ended_tokens = put_all ts a.number Nothing (λ m u. TokenOk about items p (behind_first c.pending) m u) tt (λ m d. ended_token m d (ts m) (h.tokens m))
+    ended_tokens = put_all ts a.number Nothing (λ m u. TokenOk about items p (behind_first c.pending) m u) tt (λ m d. ended_token m d (ts m) (h.way.tokens m))
 
   pub withdrawn_ok : (a : Ask) (e : List Ask) → IsFirst a c.pending → ts a.number ≡ Open a false e → AccountOk about items p (withdraw_to c a.number) (put ts a.number Nothing)
   withdrawn_ok a e first is =
@@ -213,24 +217,28 @@ module _ (about : About) (items : ℕ → List Item) (p : ℕ) (c : Caller) (ts 
       let high : n < floor_of c.last (behind_first c.pending) = upper a first in
       let floor : floor_of c.last c.pending ≤ floor_of c.last (behind_first c.pending) = omega arith in
       let apart : (k : ℕ) (s : Step) → IsOfOpenCall about k ts s → n ≢ s.ask.number = λ k s w q. open_done a false e s w.upto w.at (sym is ∙ ap ts q ∙ w.is) in
-      let unused : (k : ℕ) → IsUnused n (steps_by p (items k)) = λ k. subst (λ (l : List Step). IsUnused n l) (sym (h.own k).is)
-      (unused_both n (steps_on about k c.made) (h.own k).rest (unused_below n (steps_on about k c.made) (below_on about k n c.made (subst (λ (m : ℕ). HaveNumbersBelow m c.made) low h.rises))) (waits_unused about k ts n (h.own k).rest (apart k) (h.own k).waiting)) in record {
+      let unused : (k : ℕ) → IsUnused n (steps_by p (items k)) = λ k. subst (λ (l : List Step). IsUnused n l) (sym (h.way.own k).is)
+      (unused_both n (steps_on about k c.made) (h.way.own k).rest (unused_below n (steps_on about k c.made) (below_on about k n c.made (subst (λ (m : ℕ). HaveNumbersBelow m c.made) low h.numbers.rises))) (waits_unused about k ts n (h.way.own k).rest (apart k) (h.way.own k).waiting)) in record {
         named = h.named;
-        within = h.within;
-        own = λ k. record { rest = (h.own k).rest; is = (h.own k).is; waiting = waits_put about k ts n Nothing (h.own k).rest (apart k) (h.own k).waiting };
-        rising = h.rising;
-        used = h.used;
-        seen = h.seen;
-        wide = h.wide;
-        made_seen = h.made_seen;
-        rises = below_more (floor_of c.last c.pending) (floor_of c.last (behind_first c.pending)) c.made floor h.rises;
-        gone = under_last (floor_of c.last (behind_first c.pending)) n c.withdrawn (under_more (floor_of c.last c.pending) (floor_of c.last (behind_first c.pending)) c.withdrawn floor h.gone) high;
-        unused = λ k. unused_number n c.withdrawn (steps_by p (items k)) (h.unused k) (unused k);
-        told = λ k. told_put c.made c.made ts n Nothing (λ b m. m) (λ b o. let q = (subst (λ (t : Token). IsOnItsWay b t) is o).0 in absurd (cc)) (asks_by p (items k)) (h.told k);
-        queue = queue_behind c.last c.pending h.queue;
-        few = few_behind c.pending h.few;
-        tokens = ended_tokens a first;
-        order = order_put about ts n Nothing nothing_open h.order;
+        numbers = record {
+          within = h.numbers.within;
+          queue = queue_behind c.last c.pending h.numbers.queue;
+          few = few_behind c.pending h.numbers.few;
+          rises = below_more (floor_of c.last c.pending) (floor_of c.last (behind_first c.pending)) c.made floor h.numbers.rises;
+          gone = under_last (floor_of c.last (behind_first c.pending)) n c.withdrawn (under_more (floor_of c.last c.pending) (floor_of c.last (behind_first c.pending)) c.withdrawn floor h.numbers.gone) high;
+        };
+        steps = record {
+          rising = h.steps.rising;
+          used = h.steps.used;
+          unused = λ k. unused_number n c.withdrawn (steps_by p (items k)) (h.steps.unused k) (unused k);
+        };
+        looks = h.looks;
+        way = record {
+          own = λ k. record { rest = (h.way.own k).rest; is = (h.way.own k).is; waiting = waits_put about k ts n Nothing (h.way.own k).rest (apart k) (h.way.own k).waiting };
+          told = λ k. told_put c.made c.made ts n Nothing (λ b m. m) (λ b o. let q = (subst (λ (t : Token). IsOnItsWay b t) is o).0 in absurd (cc)) (asks_by p (items k)) (h.way.told k);
+          tokens = ended_tokens a first;
+          order = order_put about ts n Nothing nothing_open h.way.order;
+        };
       }
 
   -- a call that goes into doubt
@@ -239,45 +247,32 @@ module _ (about : About) (items : ℕ → List Item) (p : ℕ) (c : Caller) (ts 
       let n = a.number in
       let t' : Token = Open a true e in record {
         named = h.named;
-        within = h.within;
-        own = λ k. record { rest = (h.own k).rest; is = (h.own k).is; waiting = waits_put about k ts n t' (h.own k).rest (λ s w q. open_done a f e s w.upto w.at (sym is ∙ ap ts q ∙ w.is)) (h.own k).waiting };
-        rising = h.rising;
-        used = h.used;
-        seen = h.seen;
-        wide = h.wide;
-        made_seen = h.made_seen;
-        rises = h.rises;
-        gone = h.gone;
-        unused = h.unused;
-        told = λ k. told_put c.made c.made ts n t' (λ b m. m) (λ b o. inr (refl, (subst (λ (t : Token). IsOnItsWay b t) is o).1)) (asks_by p (items k)) (h.told k);
-        queue = h.queue;
-        few = h.few;
-        tokens = put_all ts n t' (λ m u. TokenOk about items p c.pending m u) (token_ok n (Open a f e) is) (λ m d. h.tokens m);
-        order = order_map about ts (put ts n t') (λ m b g d q. ⊎_elim
-            (λ (s : n ≡ m). let same = one_open a b true g e d (sym (put_at ts n t' m s) ∙ q) in (f, ap ts (sym s) ∙ is ∙ (λ i. Open (same.0 i) f (same.1 i))))
-            (λ (u : n ≢ m). (g, sym (put_else ts n t' m u) ∙ q))
-            (cases_eq n m)) h.order;
+        numbers = h.numbers;
+        steps = h.steps;
+        looks = h.looks;
+        way = record {
+          own = λ k. record { rest = (h.way.own k).rest; is = (h.way.own k).is; waiting = waits_put about k ts n t' (h.way.own k).rest (λ s w q. open_done a f e s w.upto w.at (sym is ∙ ap ts q ∙ w.is)) (h.way.own k).waiting };
+          told = λ k. told_put c.made c.made ts n t' (λ b m. m) (λ b o. inr (refl, (subst (λ (t : Token). IsOnItsWay b t) is o).1)) (asks_by p (items k)) (h.way.told k);
+          tokens = put_all ts n t' (λ m u. TokenOk about items p c.pending m u) (token_ok n (Open a f e) is) (λ m d. h.way.tokens m);
+          order = order_map about ts (put ts n t') (λ m b g d q. ⊎_elim
+              (λ (s : n ≡ m). let same = one_open a b true g e d (sym (put_at ts n t' m s) ∙ q) in (f, ap ts (sym s) ∙ is ∙ (λ i. Open (same.0 i) f (same.1 i))))
+              (λ (u : n ≢ m). (g, sym (put_else ts n t' m u) ∙ q))
+              (cases_eq n m)) h.way.order;
+        };
       }
 
   -- a look at shard k
   pub looked_ok : (k : ℕ) → AccountOk about items p (look_to c k (items k)) ts
   looked_ok k = record {
     named = h.named;
-    within = h.within;
-    own = h.own;
-    rising = h.rising;
-    used = h.used;
-    seen = seen_set (λ j x. IsBeginning x (items j)) c.seen k (items k) h.seen (begins_same (items k));
-    wide = length-set c.seen k (items k) ∙ h.wide;
-    made_seen = seen_set (λ j x. IsBeginning (steps_on about j c.made) (steps_by p x)) c.seen k (items k) h.made_seen (record { rest = (h.own k).rest; is = (h.own k).is });
-    rises = h.rises;
-    gone = h.gone;
-    unused = h.unused;
-    told = h.told;
-    queue = h.queue;
-    few = h.few;
-    tokens = h.tokens;
-    order = h.order;
+    numbers = h.numbers;
+    steps = h.steps;
+    looks = record {
+      parts = seen_set (λ j x. IsBeginning x (items j)) c.seen k (items k) h.looks.parts (begins_same (items k));
+      wide = length-set c.seen k (items k) ∙ h.looks.wide;
+      own = seen_set (λ j x. IsBeginning (steps_on about j c.made) (steps_by p x)) c.seen k (items k) h.looks.own (record { rest = (h.way.own k).rest; is = (h.way.own k).is });
+    };
+    way = h.way;
   }
 
   his_one : (a : Ask) (t : Token) → TokenOk about items p c.pending a.number t → IsOnItsWay a t → IsAmong a c.pending
@@ -287,16 +282,16 @@ module _ (about : About) (items : ℕ → List Item) (p : ℕ) (c : Caller) (ts 
 
   his : (asks : List Ask) → AreTold c.made ts asks → AreHis c.made c.pending asks
   his [] t = tt
-  his (a ∷ asks) t = (⊎_elim (λ (m : HasStep a c.made). inl m) (λ (o : IsOnItsWay a (ts a.number)). inr (his_one a (ts a.number) (h.tokens a.number) o)) t.0, his asks t.1)
+  his (a ∷ asks) t = (⊎_elim (λ (m : HasStep a c.made). inl m) (λ (o : IsOnItsWay a (ts a.number)). inr (his_one a (ts a.number) (h.way.tokens a.number) o)) t.0, his asks t.1)
 
 -- what a look at shard k tells of the steps of a pass
 pub steps_of : (items : ℕ → List Item) (c : Caller) (ts : ℕ → Token) (k : ℕ) → AccountOk c.about items c.pass c ts → HasStepsOf c k (items k)
 steps_of items c ts k h = record {
-  rest = (h.own k).rest;
-  is = (h.own k).is;
-  among = waiting_among c.about items c.pass c ts h k (h.own k).rest (h.own k).waiting;
-  rises = rising_back (steps_on c.about k c.made) (h.own k).rest (subst (λ (l : List Step). IsRising l) (h.own k).is (h.rising k));
-  told = his c.about items c.pass c ts h (asks_by c.pass (items k)) (h.told k);
+  rest = (h.way.own k).rest;
+  is = (h.way.own k).is;
+  among = waiting_among c.about items c.pass c ts h k (h.way.own k).rest (h.way.own k).waiting;
+  rises = rising_back (steps_on c.about k c.made) (h.way.own k).rest (subst (λ (l : List Step). IsRising l) (h.way.own k).is (h.steps.rising k));
+  told = his c.about items c.pass c ts h (asks_by c.pass (items k)) (h.way.told k);
 }
 
 -- what others' steps leave of a pass
@@ -304,21 +299,23 @@ pub grown_ok : (about : About) (items items' : ℕ → List Item) (p : ℕ) (c :
     → ((k : ℕ) → AreTold c.made ts (asks_by p (items' k))) → AccountOk about items p c ts → AccountOk about items' p c ts
 grown_ok about items items' p c ts grows same told h = record {
   named = h.named;
-  within = h.within;
-  own = λ k. record { rest = (h.own k).rest; is = same k ∙ (h.own k).is; waiting = (h.own k).waiting };
-  rising = λ k. subst (λ (l : List Step). IsRising l) (sym (same k)) (h.rising k);
-  used = λ k. subst (λ (l : List Step). HaveNumbersBelow (c.last + 1) l) (sym (same k)) (h.used k);
-  seen = λ k. begins_trans (h.seen k) (grows k);
-  wide = h.wide;
-  made_seen = h.made_seen;
-  rises = h.rises;
-  gone = h.gone;
-  unused = λ k. subst (λ (l : List Step). AreUnused c.withdrawn l) (sym (same k)) (h.unused k);
-  told = told;
-  queue = h.queue;
-  few = h.few;
-  tokens = λ n. token_grown n (ts n) (h.tokens n);
-  order = h.order;
+  numbers = h.numbers;
+  steps = record {
+    rising = λ k. subst (λ (l : List Step). IsRising l) (sym (same k)) (h.steps.rising k);
+    used = λ k. subst (λ (l : List Step). HaveNumbersBelow (c.last + 1) l) (sym (same k)) (h.steps.used k);
+    unused = λ k. subst (λ (l : List Step). AreUnused c.withdrawn l) (sym (same k)) (h.steps.unused k);
+  };
+  looks = record {
+    parts = λ k. begins_trans (h.looks.parts k) (grows k);
+    wide = h.looks.wide;
+    own = h.looks.own;
+  };
+  way = record {
+    own = λ k. record { rest = (h.way.own k).rest; is = same k ∙ (h.way.own k).is; waiting = (h.way.own k).waiting };
+    told = told;
+    tokens = λ n. token_grown n (ts n) (h.way.tokens n);
+    order = h.way.order;
+  };
 }
   where
     token_grown : (n : ℕ) (t : Token) → TokenOk about items p c.pending n t → TokenOk about items' p c.pending n t
@@ -356,7 +353,7 @@ module _ (about : About) (items : ℕ → List Item) (p : ℕ) (c : Caller) (ts 
       let its : TokenOk about items p c.pending m (Open b g d) = token_ok about items p c ts h m (Open b g d) q in
       let same : b.number ≡ m = its.0 in
       not_less (λ less.
-      let named : IsAmong b e = h.order b a g f d e (ap ts same ∙ q) is (there ∙ sym here) (omega arith) in
+      let named : IsAmong b e = h.way.order b a g f d e (ap ts same ∙ q) is (there ∙ sym here) (omega arith) in
       let stepped : HasStep b (steps_by p (items k)) = subst (λ (o : ℕ). HasStep b (steps_by o (items k))) its.1 (has_step b e (items k) named had) in
       not_made b m (steps_by p (items k)) (subst (λ (j : ℕ). HaveNumbersBelow m (steps_by p (items j))) there its.3) (omega arith) stepped)
     where
@@ -367,7 +364,7 @@ module _ (about : About) (items : ℕ → List Item) (p : ℕ) (c : Caller) (ts 
           not_greater u = omega arith
 
   still_told : (j : ℕ) → AreTold c.made (put ts a.number t') (asks_by p (items j))
-  still_told j = told_put c.made c.made ts a.number t' (λ b m. m) (λ b o. inr (subst (λ (t : Token). IsOnItsWay b t) is o).1) (asks_by p (items j)) (h.told j)
+  still_told j = told_put c.made c.made ts a.number t' (λ b m. m) (λ b o. inr (subst (λ (t : Token). IsOnItsWay b t) is o).1) (asks_by p (items j)) (h.way.told j)
 
   committed_token : (m : ℕ) → a.number ≢ m → (t : Token) → ts m ≡ t → TokenOk about items p c.pending m t → TokenOk about items' p c.pending m t
   committed_token m u Nothing q o = tt
@@ -386,43 +383,45 @@ module _ (about : About) (items : ℕ → List Item) (p : ℕ) (c : Caller) (ts 
   committed_own : (j : ℕ) → HasOwn about p c.made (put ts a.number t') j (items' j)
   committed_own = put_all items k now (λ j l. HasOwn about p c.made (put ts a.number t') j l)
       (record {
-        rest = (h.own k).rest ++ s ∷ [];
-        is = longer_steps ∙ ap (λ l. l ++ s ∷ []) (h.own k).is ∙ append_assoc (steps_on about k c.made) (h.own k).rest (s ∷ []);
-        waiting = waits_last about k (put ts a.number t') (h.own k).rest s (waits_put about k ts a.number t' (h.own k).rest (apart k) (h.own k).waiting)
+        rest = (h.way.own k).rest ++ s ∷ [];
+        is = longer_steps ∙ ap (λ l. l ++ s ∷ []) (h.way.own k).is ∙ append_assoc (steps_on about k c.made) (h.way.own k).rest (s ∷ []);
+        waiting = waits_last about k (put ts a.number t') (h.way.own k).rest s (waits_put about k ts a.number t' (h.way.own k).rest (apart k) (h.way.own k).waiting)
             (record { upto = now; at = at; here = here; is = put_at ts a.number t' a.number refl });
       })
-      (λ j n. record { rest = (h.own j).rest; is = (h.own j).is; waiting = waits_put about j ts a.number t' (h.own j).rest (apart j) (h.own j).waiting })
+      (λ j n. record { rest = (h.way.own j).rest; is = (h.way.own j).is; waiting = waits_put about j ts a.number t' (h.way.own j).rest (apart j) (h.way.own j).waiting })
     where
       apart : (j : ℕ) (w : Step) → IsOfOpenCall about j ts w → a.number ≢ w.ask.number
       apart j w o q = open_done a f e w o.upto o.at (sym is ∙ ap ts q ∙ o.is)
 
   pub committed_ok : AccountOk about items' p c (put ts a.number t')
   committed_ok =
-      let range = among_floor a c.last c.pending h.queue mine.2 in
+      let range = among_floor a c.last c.pending h.numbers.queue mine.2 in
       let low = range.0 in
       let high = range.1 in record {
         named = h.named;
-        within = h.within;
-        own = committed_own;
-        rising = put_all items k now (λ j l. IsRising (steps_by p l)) (subst (λ (l : List Step). IsRising l) (sym longer_steps) (rising_last (steps_by p (items k)) s (h.rising k) below)) (λ j n. h.rising j);
-        used = put_all items k now (λ j l. HaveNumbersBelow (c.last + 1) (steps_by p l)) (subst (λ (l : List Step). HaveNumbersBelow (c.last + 1) l) (sym longer_steps) (below_last (c.last + 1) (steps_by p (items k)) s (h.used k) (omega arith))) (λ j n. h.used j);
-        seen = put_all items k now (λ j l. IsBeginning (slice_index_or c.seen j []) l) (begins_more (slice_index_or c.seen k []) (items k) (Answered s ∷ []) (h.seen k)) (λ j n. h.seen j);
-        wide = h.wide;
-        made_seen = h.made_seen;
-        rises = h.rises;
-        gone = h.gone;
-        unused = put_all items k now (λ j l. AreUnused c.withdrawn (steps_by p l))
-            (subst (λ (l : List Step). AreUnused c.withdrawn l) (sym longer_steps) (unused_step c.withdrawn (steps_by p (items k)) s (under_more (floor_of c.last c.pending) a.number c.withdrawn low h.gone) (h.unused k)))
-            (λ j n. h.unused j);
-        told = put_all items k now (λ j l. AreTold c.made (put ts a.number t') (asks_by p l))
-            (subst (λ (l : List Ask). AreTold c.made (put ts a.number t') l) (sym (asks_step p (items k) s)) (still_told k))
-            (λ j n. still_told j);
-        queue = h.queue;
-        few = h.few;
-        tokens = put_all ts a.number t' (λ m u. TokenOk about items' p c.pending m u)
-            (refl, mine.1, mine.2, subst (λ (l : List Item). IsBeginning now l) (sym (put_at items k now (shard_in about a) (sym here))) (begins_same now), (items k, refl))
-            (λ m u. committed_token m u (ts m) refl (h.tokens m));
-        order = order_put about ts a.number t' (λ b g d q. open_done b g d s now at (sym q)) h.order;
+        numbers = h.numbers;
+        steps = record {
+          rising = put_all items k now (λ j l. IsRising (steps_by p l)) (subst (λ (l : List Step). IsRising l) (sym longer_steps) (rising_last (steps_by p (items k)) s (h.steps.rising k) below)) (λ j n. h.steps.rising j);
+          used = put_all items k now (λ j l. HaveNumbersBelow (c.last + 1) (steps_by p l)) (subst (λ (l : List Step). HaveNumbersBelow (c.last + 1) l) (sym longer_steps) (below_last (c.last + 1) (steps_by p (items k)) s (h.steps.used k) (omega arith))) (λ j n. h.steps.used j);
+          unused = put_all items k now (λ j l. AreUnused c.withdrawn (steps_by p l))
+              (subst (λ (l : List Step). AreUnused c.withdrawn l) (sym longer_steps) (unused_step c.withdrawn (steps_by p (items k)) s (under_more (floor_of c.last c.pending) a.number c.withdrawn low h.numbers.gone) (h.steps.unused k)))
+              (λ j n. h.steps.unused j);
+        };
+        looks = record {
+          parts = put_all items k now (λ j l. IsBeginning (slice_index_or c.seen j []) l) (begins_more (slice_index_or c.seen k []) (items k) (Answered s ∷ []) (h.looks.parts k)) (λ j n. h.looks.parts j);
+          wide = h.looks.wide;
+          own = h.looks.own;
+        };
+        way = record {
+          own = committed_own;
+          told = put_all items k now (λ j l. AreTold c.made (put ts a.number t') (asks_by p l))
+              (subst (λ (l : List Ask). AreTold c.made (put ts a.number t') l) (sym (asks_step p (items k) s)) (still_told k))
+              (λ j n. still_told j);
+          tokens = put_all ts a.number t' (λ m u. TokenOk about items' p c.pending m u)
+              (refl, mine.1, mine.2, subst (λ (l : List Item). IsBeginning now l) (sym (put_at items k now (shard_in about a) (sym here))) (begins_same now), (items k, refl))
+              (λ m u. committed_token m u (ts m) refl (h.way.tokens m));
+          order = order_put about ts a.number t' (λ b g d q. open_done b g d s now at (sym q)) h.way.order;
+        };
       }
 
 -- what is seen, where the part of a shard that is there is replaced
@@ -444,8 +443,8 @@ both_begin a b h k =
 -- a pass with no open call has seen all that it made, and nothing else of it
 pub rested_of : (items : ℕ → List Item) (c : Caller) (ts : ℕ → Token) → AccountOk c.about items c.pass c ts → c.pending ≡ [] → IsRested c
 rested_of items c ts h idle k =
-    let all : steps_by c.pass (items k) ≡ steps_on c.about k c.made = (h.own k).is ∙ ap (λ l. steps_on c.about k c.made ++ l) (none_wait (h.own k).rest (h.own k).waiting) ∙ append-nil (steps_on c.about k c.made) in
-    sym (both_begin (steps_on c.about k c.made) (steps_by c.pass (seen_at c k)) (h.made_seen k) (subst (λ l. IsBeginning (steps_by c.pass (seen_at c k)) l) all (steps_begin c.pass (seen_at c k) (items k) (h.seen k))))
+    let all : steps_by c.pass (items k) ≡ steps_on c.about k c.made = (h.way.own k).is ∙ ap (λ l. steps_on c.about k c.made ++ l) (none_wait (h.way.own k).rest (h.way.own k).waiting) ∙ append-nil (steps_on c.about k c.made) in
+    sym (both_begin (steps_on c.about k c.made) (steps_by c.pass (seen_at c k)) (h.looks.own k) (subst (λ l. IsBeginning (steps_by c.pass (seen_at c k)) l) all (steps_begin c.pass (seen_at c k) (items k) (h.looks.parts k))))
   where
     none_wait : (ss : List Step) → AreOfOpenCalls c.about k ts ss → ss ≡ []
     none_wait [] w = refl
@@ -453,11 +452,11 @@ rested_of items c ts h idle k =
 
 -- answers are told apart by their numbers
 pub answers_first : (items : ℕ → List Item) (c : Caller) (ts : ℕ → Token) (s : Step) (upto : List Item) (at : ℕ × ℕ) → AccountOk c.about items c.pass c ts → ts s.ask.number ≡ Done s upto at → IsFirstIfAmong s.ask c.pending → IsFirst s.ask c.pending
-answers_first items c ts s upto at h is its = let among = (token_ok c.about items c.pass c ts h s.ask.number (Done s upto at) is).2 in first_by_number s.ask c.last c.pending h.queue among (its among)
+answers_first items c ts s upto at h is its = let among = (token_ok c.about items c.pass c ts h s.ask.number (Done s upto at) is).2 in first_by_number s.ask c.last c.pending h.numbers.queue among (its among)
 
 -- and so are calls that come back without a step
 pub returns_first : (items : ℕ → List Item) (c : Caller) (ts : ℕ → Token) (a : Ask) (f : Bool) (e : List Ask) → AccountOk c.about items c.pass c ts → ts a.number ≡ Open a f e → IsFirstIfAmong a c.pending → IsFirst a c.pending
-returns_first items c ts a f e h is its = let among = (token_ok c.about items c.pass c ts h a.number (Open a f e) is).2 in first_by_number a c.last c.pending h.queue among (its among)
+returns_first items c ts a f e h is its = let among = (token_ok c.about items c.pass c ts h a.number (Open a f e) is).2 in first_by_number a c.last c.pending h.numbers.queue among (its among)
 
 module _ (items : ℕ → List Item) (c : Caller) (ts : ℕ → Token) (s : Step) (upto : List Item) (at : ℕ × ℕ) (h : AccountOk c.about items c.pass c ts) (is : ts s.ask.number ≡ Done s upto at)
     (first : IsFirst s.ask c.pending) where
@@ -477,7 +476,7 @@ module _ (items : ℕ → List Item) (c : Caller) (ts : ℕ → Token) (s : Step
   floor = lower c.about items c.pass c ts h s.ask first
 
   made_below : HaveNumbersBelow number c.made
-  made_below = subst (λ (m : ℕ). HaveNumbersBelow m c.made) floor h.rises
+  made_below = subst (λ (m : ℕ). HaveNumbersBelow m c.made) floor h.numbers.rises
 
   steps_upto : steps_by c.pass upto ≡ steps_by c.pass token.4.0 ++ s ∷ []
   steps_upto = ap (steps_by c.pass) token.4.1 ∙ steps_mine c.pass token.4.0 s (sym token.1)
@@ -489,18 +488,18 @@ module _ (items : ℕ → List Item) (c : Caller) (ts : ℕ → Token) (s : Step
   all_steps = tail.is ∙ ap (λ l. l ++ tail.rest) steps_upto ∙ append_assoc (steps_by c.pass token.4.0) (s ∷ []) tail.rest
 
   -- before the step stands what the pass made, and no more of it
-  split_there : (steps_on c.about k c.made ≡ steps_by c.pass token.4.0) × ((h.own k).rest ≡ s ∷ tail.rest)
-  split_there = parted number (steps_on c.about k c.made) (h.own k).rest (steps_by c.pass token.4.0) s tail.rest refl
+  split_there : (steps_on c.about k c.made ≡ steps_by c.pass token.4.0) × ((h.way.own k).rest ≡ s ∷ tail.rest)
+  split_there = parted number (steps_on c.about k c.made) (h.way.own k).rest (steps_by c.pass token.4.0) s tail.rest refl
       (below_on c.about k number c.made made_below)
-      (waiting_from c.about items c.pass c ts h k number (h.own k).rest (omega (arith, floor)) (h.own k).waiting)
-      (rising_front (steps_by c.pass token.4.0) s tail.rest (subst (λ (l : List Step). IsRising l) all_steps (h.rising k)))
-      (sym (h.own k).is ∙ all_steps)
+      (waiting_from c.about items c.pass c ts h k number (h.way.own k).rest (omega (arith, floor)) (h.way.own k).waiting)
+      (rising_front (steps_by c.pass token.4.0) s tail.rest (subst (λ (l : List Step). IsRising l) all_steps (h.steps.rising k)))
+      (sym (h.way.own k).is ∙ all_steps)
 
   made_upto : steps_by c.pass upto ≡ steps_on c.about k c.made ++ s ∷ []
   made_upto = steps_upto ∙ ap (λ l. l ++ s ∷ []) (sym split_there.0)
 
   abbrev rest_above : HaveNumbersAbove number tail.rest
-  rest_above = (subst (λ (l : List Step). IsRising l) split_there.1 (rising_back (steps_on c.about k c.made) (h.own k).rest (subst (λ (l : List Step). IsRising l) (h.own k).is (h.rising k)))).0
+  rest_above = (subst (λ (l : List Step). IsRising l) split_there.1 (rising_back (steps_on c.about k c.made) (h.way.own k).rest (subst (λ (l : List Step). IsRising l) (h.way.own k).is (h.steps.rising k)))).0
 
   not_back : IsRested c → IsBeginning upto old → ⊥
   not_back rested b =
@@ -510,7 +509,7 @@ module _ (items : ℕ → List Item) (c : Caller) (ts : ℕ → Token) (s : Step
       omega arith
 
   forth : IsRested c → IsBeginning old upto
-  forth rested = ⊎_elim (λ (b : IsBeginning old upto). b) (λ (b : IsBeginning upto old). absurd (not_back rested b)) (in_line old upto (items k) (h.seen k) token.3)
+  forth rested = ⊎_elim (λ (b : IsBeginning old upto). b) (λ (b : IsBeginning upto old). absurd (not_back rested b)) (in_line old upto (items k) (h.looks.parts k) token.3)
 
   between_none : IsRested c → (front : List Item) → token.4.0 ≡ old ++ front → steps_by c.pass front ≡ []
   between_none rested front e =
@@ -545,16 +544,16 @@ module _ (items : ℕ → List Item) (c : Caller) (ts : ℕ → Token) (s : Step
       own_here = record {
         rest = tail.rest;
         is = tail.is ∙ ap (λ l. l ++ tail.rest) (made_upto ∙ sym (on_here c.about k c.made s refl));
-        waiting = waits_above c.about k ts number Nothing tail.rest rest_above (subst (λ (l : List Step). AreOfOpenCalls c.about k ts l) split_there.1 (h.own k).waiting).1;
+        waiting = waits_above c.about k ts number Nothing tail.rest rest_above (subst (λ (l : List Step). AreOfOpenCalls c.about k ts l) split_there.1 (h.way.own k).waiting).1;
       }
 
       own_there : k ≢ j → HasOwn c.about c.pass (c.made ++ s ∷ []) (put ts number Nothing) j (items j)
       own_there d = record {
-        rest = (h.own j).rest;
-        is = (h.own j).is ∙ ap (λ l. l ++ (h.own j).rest) (sym (on_else c.about j c.made s (λ e. d (sym e))));
-        waiting = waits_put c.about j ts number Nothing (h.own j).rest
+        rest = (h.way.own j).rest;
+        is = (h.way.own j).is ∙ ap (λ l. l ++ (h.way.own j).rest) (sym (on_else c.about j c.made s (λ e. d (sym e))));
+        waiting = waits_put c.about j ts number Nothing (h.way.own j).rest
             (λ w o q. d (ap (λ (x : Step). shard_in c.about x.ask) (one_step s w upto o.upto at o.at (sym is ∙ ap ts q ∙ o.is)) ∙ o.here))
-            (h.own j).waiting;
+            (h.way.own j).waiting;
       }
 
   pub collected_ok : k < length c.seen → AccountOk c.about items c.pass (collect_to c s upto) (put ts number Nothing)
@@ -562,23 +561,27 @@ module _ (items : ℕ → List Item) (c : Caller) (ts : ℕ → Token) (s : Step
       let high : number < floor_of c.last (behind_first c.pending) = upper c.about items c.pass c ts h s.ask first in
       let low : floor_of c.last c.pending ≡ number = floor in record {
         named = refl;
-        within = h.within;
-        own = collected_own;
-        rising = h.rising;
-        used = h.used;
-        seen = seen_put (λ j x. IsBeginning x (items j)) c.seen k upto lt (λ j d. h.seen j) token.3;
-        wide = length-set c.seen k upto ∙ h.wide;
-        made_seen = seen_put (λ j x. IsBeginning (steps_on c.about j (c.made ++ s ∷ [])) (steps_by c.pass x)) c.seen k upto lt
-            (λ j d. subst (λ l. IsBeginning l (steps_by c.pass (seen_at c j))) (sym (on_else c.about j c.made s d)) (h.made_seen j))
-            (subst (λ l. IsBeginning l (steps_by c.pass upto)) (made_upto ∙ sym (on_here c.about k c.made s refl)) (begins_same (steps_by c.pass upto)));
-        rises = below_last (floor_of c.last (behind_first c.pending)) c.made s (below_more number (floor_of c.last (behind_first c.pending)) c.made (omega arith) made_below) high;
-        gone = under_more (floor_of c.last c.pending) (floor_of c.last (behind_first c.pending)) c.withdrawn (omega arith) h.gone;
-        unused = h.unused;
-        told = λ j. told_put c.made (c.made ++ s ∷ []) ts number Nothing (λ b m. made_left b c.made (s ∷ []) m) (λ b o. inl (made_last b c.made s (subst (λ (t : Token). IsOnItsWay b t) is o))) (asks_by c.pass (items j)) (h.told j);
-        queue = queue_behind c.last c.pending h.queue;
-        few = few_behind c.pending h.few;
-        tokens = ended_tokens c.about items c.pass c ts h s.ask first;
-        order = order_put c.about ts number Nothing nothing_open h.order;
+        numbers = record {
+          within = h.numbers.within;
+          queue = queue_behind c.last c.pending h.numbers.queue;
+          few = few_behind c.pending h.numbers.few;
+          rises = below_last (floor_of c.last (behind_first c.pending)) c.made s (below_more number (floor_of c.last (behind_first c.pending)) c.made (omega arith) made_below) high;
+          gone = under_more (floor_of c.last c.pending) (floor_of c.last (behind_first c.pending)) c.withdrawn (omega arith) h.numbers.gone;
+        };
+        steps = h.steps;
+        looks = record {
+          parts = seen_put (λ j x. IsBeginning x (items j)) c.seen k upto lt (λ j d. h.looks.parts j) token.3;
+          wide = length-set c.seen k upto ∙ h.looks.wide;
+          own = seen_put (λ j x. IsBeginning (steps_on c.about j (c.made ++ s ∷ [])) (steps_by c.pass x)) c.seen k upto lt
+              (λ j d. subst (λ l. IsBeginning l (steps_by c.pass (seen_at c j))) (sym (on_else c.about j c.made s d)) (h.looks.own j))
+              (subst (λ l. IsBeginning l (steps_by c.pass upto)) (made_upto ∙ sym (on_here c.about k c.made s refl)) (begins_same (steps_by c.pass upto)));
+        };
+        way = record {
+          own = collected_own;
+          told = λ j. told_put c.made (c.made ++ s ∷ []) ts number Nothing (λ b m. made_left b c.made (s ∷ []) m) (λ b o. inl (made_last b c.made s (subst (λ (t : Token). IsOnItsWay b t) is o))) (asks_by c.pass (items j)) (h.way.told j);
+          tokens = ended_tokens c.about items c.pass c ts h s.ask first;
+          order = order_put c.about ts number Nothing nothing_open h.way.order;
+        };
       }
 
 nothing_at : (n k : ℕ) → slice_index_or (replicate {A = List Item} n []) k [] ≡ []
@@ -594,19 +597,27 @@ length-none (suc n) = ap suc (length-none n)
 pub newcomer_ok : (about : About) (p : ℕ) → AccountOk about (λ _. []) p (newcomer about p) (λ _. Nothing)
 newcomer_ok about p = record {
   named = refl;
-  within = omega arith;
-  own = λ k. record { rest = []; is = refl; waiting = tt };
-  rising = λ k. tt;
-  used = λ k. tt;
-  seen = λ k. record { rest = []; is = sym (ap (λ l. l ++ []) (nothing_at about.shards k)) };
-  wide = length-none about.shards;
-  made_seen = λ k. record { rest = []; is = ap (steps_by p) (nothing_at about.shards k) };
-  rises = tt;
-  gone = tt;
-  unused = λ k. tt;
-  told = λ k. tt;
-  queue = tt;
-  few = omega arith;
-  tokens = λ n. tt;
-  order = λ a b f g d e x y here less. absurd (nothing_open a f d x);
+  numbers = record {
+    within = omega arith;
+    queue = tt;
+    few = omega arith;
+    rises = tt;
+    gone = tt;
+  };
+  steps = record {
+    rising = λ k. tt;
+    used = λ k. tt;
+    unused = λ k. tt;
+  };
+  looks = record {
+    parts = λ k. record { rest = []; is = sym (ap (λ l. l ++ []) (nothing_at about.shards k)) };
+    wide = length-none about.shards;
+    own = λ k. record { rest = []; is = ap (steps_by p) (nothing_at about.shards k) };
+  };
+  way = record {
+    own = λ k. record { rest = []; is = refl; waiting = tt };
+    told = λ k. tt;
+    tokens = λ n. tt;
+    order = λ a b f g d e x y here less. absurd (nothing_open a f d x);
+  };
 }

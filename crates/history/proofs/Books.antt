@@ -36,8 +36,8 @@ pub short : (about : About) (x : TableContents) (k : ℕ) → IsGood about x →
 short about x k good =
     let least : steps_in_all about.passes (x.items k) ≤ about.passes * bound = total_least about.passes (x.items k) (λ p lt.
     let ok = good.passes p lt in
-    let rises : length (steps_by p (x.items k)) ≤ (x.callers p).last + 1 = rising_count ((x.callers p).last + 1) (steps_by p (x.items k)) (ok.rising k) (ok.used k) in
-    let within = ok.within in
+    let rises : length (steps_by p (x.items k)) ≤ (x.callers p).last + 1 = rising_count ((x.callers p).last + 1) (steps_by p (x.items k)) (ok.steps.rising k) (ok.steps.used k) in
+    let within = ok.numbers.within in
     omega arith) in
     let counted = good.counted k in
     let mark = mark_least (is_marked (x.items k)) in
@@ -117,8 +117,8 @@ good_step about x k now a f b at good lt here has had is =
           (λ q n l. grown_ok about x.items (put x.items k now) q (x.callers q) (x.tokens q) (longer_begins x k now (Answered s) is)
           (put_all x.items k now (λ j l. steps_by q l ≡ steps_by q (x.items j)) (ap (steps_by q) is ∙ steps_else q (x.items k) s (λ e. n (sym e))) (λ j m. refl))
           (put_all x.items k now (λ j l. AreTold (x.callers q).made (x.tokens q) (asks_by q l))
-          (subst (λ y. AreTold (x.callers q).made (x.tokens q) y) (sym (ap (asks_by q) is ∙ asks_step q (x.items k) s)) ((good.passes q l).told k))
-          (λ j m. (good.passes q l).told j))
+          (subst (λ y. AreTold (x.callers q).made (x.tokens q) y) (sym (ap (asks_by q) is ∙ asks_step q (x.items k) s)) ((good.passes q l).way.told k))
+          (λ j m. (good.passes q l).way.told j))
           (good.passes q l));
     }
 

@@ -118,7 +118,7 @@ collects slots id word c r upto at own number due rested s h wide e fits =
     let holds : k.seating.holders c.pass n ≡ id = ap (λ (p : ℕ). k.seating.holders p n) (sym own) ∙ seat.hand.1 in
     let ok = account_at c.about x c.pass c k.good mine.1 mine.3 in
     let first = answers_first x.items c ts r upto at ok has number in
-    let there : shard_in c.about r.ask < length c.seen = let w = ok.wide in let b = shard_below c.about r.ask k.words.any in omega arith in
+    let there : shard_in c.about r.ask < length c.seen = let w = ok.looks.wide in let b = shard_below c.about r.ask k.words.any in omega arith in
     let c' : Caller = collect_to c r upto in (
       alone (Calls c') Nothing,
       keeps,

@@ -60,7 +60,7 @@ looks slots id k c lt s h wide e fits =
               (record { role = (mine.0, mine.1, mine.2, put_at x.callers c.pass c' c.pass refl); guest = tt; two = tt; hand = tt });
         },
       ),
-      ((x.items k, refl, ok.seen k, r.good.legal k, sym (r.words.lengths k lt), steps_of x.items c ts k ok, (let w = ok.wide in omega arith), r.good.by_passes k), refl),
+      ((x.items k, refl, ok.looks.parts k, r.good.legal k, sym (r.words.lengths k lt), steps_of x.items c ts k ok, (let w = ok.looks.wide in omega arith), r.good.by_passes k), refl),
     )
 
 pub looks_as : (slots id k : ℕ) (c : Caller) (m : Me Unit View) → m ≡ (alone (Calls c) Nothing, []) → k < c.about.shards → Allows KeepsRule slots id m k (λ n. n) (looked (step slots k 0 0 none) m)
@@ -117,7 +117,7 @@ meets slots id k c d lt s h wide e fits =
               });
         },
       ),
-      ((x.items k, refl, (ok.seen k, okay.seen k, r.good.legal k, steps_of x.items c ts k ok, steps_of x.items d us k okayed, its.0, r.good.by_passes k), (let o = ok.wide in omega arith), (let o = okay.wide in omega arith)), refl),
+      ((x.items k, refl, (ok.looks.parts k, okay.looks.parts k, r.good.legal k, steps_of x.items c ts k ok, steps_of x.items d us k okayed, its.0, r.good.by_passes k), (let o = ok.looks.wide in omega arith), (let o = okay.looks.wide in omega arith)), refl),
     )
 
 pub meets_as : (slots id k : ℕ) (c d : Caller) (m : Me Unit View) → m ≡ (record { role = Calls c; guest = Calls d; hand = Nothing }, []) → k < c.about.shards → Allows KeepsRule slots id m k (λ n. n) (met (step slots k 0 0 none) m)
@@ -149,7 +149,7 @@ settles slots id k shelf c s h wide e fits =
       (
         refl,
         (
-          subst (λ l. IsBeginning (seen_at c shelf.shard) l) mine.3 (ok.seen shelf.shard),
+          subst (λ l. IsBeginning (seen_at c shelf.shard) l) mine.3 (ok.looks.parts shelf.shard),
           subst (λ l. IsLegalAt shelf.about shelf.shard l) mine.3 (r.good.legal shelf.shard),
           subst (λ l. HasStepsOf c shelf.shard l) mine.3 (steps_of x.items c ts shelf.shard ok),
           its.0,

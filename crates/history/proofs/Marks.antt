@@ -137,9 +137,9 @@ good_mark about x k now asks good open_calls unmarked is =
           (put_all x.items k now (λ j y. steps_by q y ≡ steps_by q (x.items j)) (ap (steps_by q) is ∙ steps_mark q (x.items k) asks) (λ j m. refl))
           (put_all x.items k now (λ j y. AreTold (x.callers q).made (x.tokens q) (asks_by q y))
           (subst (λ y. AreTold (x.callers q).made (x.tokens q) y) (sym (ap (asks_by q) is ∙ asks_append q (x.items k) (Failed asks ∷ [])))
-          (told_append (x.callers q).made (x.tokens q) (asks_by q (x.items k)) (of_pass q asks ++ []) ((good.passes q l).told k)
+          (told_append (x.callers q).made (x.tokens q) (asks_by q (x.items k)) (of_pass q asks ++ []) ((good.passes q l).way.told k)
           (subst (λ y. AreTold (x.callers q).made (x.tokens q) y) (sym (append-nil (of_pass q asks))) (told_doubt about x k q (x.callers q).made asks open_calls))))
-          (λ j m. (good.passes q l).told j))
+          (λ j m. (good.passes q l).way.told j))
           (good.passes q l);
     }
 

@@ -97,7 +97,7 @@ names slots id known about same_shards same_passes s h wide e fits =
     let x = r.contents in
     let mine = (r.seats id (opener known 0 0) e).role in
     let none_out : (p n : ℕ) → p < known.passes → x.tokens p n ≡ Nothing = λ p n l.
-    no_token known x.items p n (x.tokens p n) (subst (λ (c : Caller). TokenOk known x.items p c.pending n (x.tokens p n)) (mine.2 p (omega arith)).1 ((r.good.passes p l).tokens n)) in (
+    no_token known x.items p n (x.tokens p n) (subst (λ (c : Caller). TokenOk known x.items p c.pending n (x.tokens p n)) (mine.2 p (omega arith)).1 ((r.good.passes p l).way.tokens n)) in (
       opener about 0 0,
       keeps,
       tt,

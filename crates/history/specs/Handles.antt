@@ -20,7 +20,7 @@ use Rattle.history.specs.declared.views.Role.{Role}
 use Rattle.history.specs.declared.views.Role.TheVariants.{Nobody, Opener, Keeps, Calls}
 use Rattle.history.specs.declared.views.Token.{Token}
 use Rattle.history.specs.declared.views.Token.TheVariants.{Nothing, Open, Done}
-use Rattle.history.specs.Histories.{history_of, shard_in, step_of, bound}
+use Rattle.history.specs.Histories.{history_of, shard_in, step_of, bound, max_open}
 use Rattle.history.specs.Rule.{alone, newcomer}
 use Rattle.history.specs.Plays.{seen_at, ask_of, before_of, announce_to, IsMeeting}
 
@@ -179,7 +179,7 @@ IsPass s shards word last calls =
     × (shards + c.about.passes ≡ s.table_id.words)
     × (c.pass < c.about.passes) × (last < bound) × (0 < shards) × (length c.seen ≡ shards)
     × (length c.pending ≡ calls)
-    × (calls ≤ 64)
+    × (calls ≤ max_open)
 
 -- the history with the next call of a pass answered `Unavailable`
 abbrev pub refused_by : List Item → Caller → Call → List Item

@@ -168,6 +168,14 @@ asks_on about k [] = []
 asks_on about k (a ∷ asks) =
     if k == shard_in about a then a ∷ asks_on about k asks else asks_on about k asks
 
+-- the most passes of an opening
+abbrev pub max_passes : ℕ
+max_passes = 64
+
+-- the most open calls of a pass
+abbrev pub max_open : ℕ
+max_open = 64
+
 -- numbers of calls are below this: 2^56
 abbrev pub bound : ℕ
 bound = 72057594037927936

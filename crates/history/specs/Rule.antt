@@ -16,7 +16,7 @@ use Rattle.history.specs.declared.views.Role.{Role}
 use Rattle.history.specs.declared.views.Role.TheVariants.{Nobody, Opener, Keeps, Calls}
 use Rattle.history.specs.declared.views.Token.{Token}
 use Rattle.history.specs.declared.views.Token.TheVariants.{Nothing, Open, Done}
-use Rattle.history.specs.Histories.{IsBeginning, IsLegalAt, shard_in, steps_by, steps_on, asks_by, HaveNumbersBelow, IsRising, AreNumbersBelow, AreUnused, HasStep, IsAmong, IsByPasses, bound}
+use Rattle.history.specs.Histories.{IsBeginning, IsLegalAt, shard_in, steps_by, steps_on, asks_by, HaveNumbersBelow, IsRising, AreNumbersBelow, AreUnused, HasStep, IsAmong, IsByPasses, bound, max_passes, max_open}
 
 -- a seat of this role, with no guest
 abbrev pub alone : Role → Token → View
@@ -123,31 +123,45 @@ pub record HasOwn (about : About) (p : ℕ) (made : List Step) (ts : ℕ → Tok
   pub is : steps_by p items ≡ steps_on about k made ++ rest
   pub waiting : AreOfOpenCalls about k ts rest
 
+-- the numbers of a pass: of its last call, of those on their way, of those that it made and of those withdrawn
+pub record AreNumbered (last : ℕ) (pending : List Ask) (made : List Step) (withdrawn : List ℕ)
+    : Type 0 where
+  pub within : last < bound
+  pub queue : IsQueue last pending
+  pub few : length pending ≤ max_open
+  pub rises : HaveNumbersBelow (floor_of last pending) made
+  pub gone : AreNumbersBelow (floor_of last pending) withdrawn
+
+-- in each history the numbers of a pass's steps rise, up to the last that it used, and none was withdrawn
+pub record AreInOrder (items : ℕ → List Item) (p last : ℕ) (withdrawn : List ℕ) : Type 0 where
+  pub rising : (k : ℕ) → IsRising (steps_by p (items k))
+  pub used : (k : ℕ) → HaveNumbersBelow (last + 1) (steps_by p (items k))
+  pub unused : (k : ℕ) → AreUnused withdrawn (steps_by p (items k))
+
+-- what a pass has seen is a beginning of each history, in which all that it made stands
+pub record HasSeen (about : About) (items : ℕ → List Item) (p : ℕ) (seen : List (List Item))
+    (made : List Step) : Type 0 where
+  pub parts : (k : ℕ) → IsBeginning (slice_index_or seen k []) (items k)
+  pub wide : length seen ≡ about.shards
+  pub own : (k : ℕ) → IsBeginning (steps_on about k made) (steps_by p (slice_index_or seen k []))
+
+-- the calls of a pass on their way, and its steps beside them
+pub record AreOnTheirWay (about : About) (items : ℕ → List Item) (p : ℕ) (pending : List Ask)
+    (made : List Step) (ts : ℕ → Token) : Type 0 where
+  pub own : (k : ℕ) → HasOwn about p made ts k (items k)
+  -- the calls of marks' lists are calls that it made, or are on their way
+  pub told : (k : ℕ) → AreTold made ts (asks_by p (items k))
+  pub tokens : (n : ℕ) → TokenOk about items p pending n (ts n)
+  pub order : IsOrdered about ts
+
 -- a pass, its calls on their way, and the histories
 pub record AccountOk (about : About) (items : ℕ → List Item) (p : ℕ) (c : Caller)
     (ts : ℕ → Token) : Type 0 where
   pub named : c.pass ≡ p
-  pub within : c.last < bound
-  pub own : (k : ℕ) → HasOwn about p c.made ts k (items k)
-  -- in each history the numbers of its steps rise, up to the last that it used
-  pub rising : (k : ℕ) → IsRising (steps_by p (items k))
-  pub used : (k : ℕ) → HaveNumbersBelow (c.last + 1) (steps_by p (items k))
-  -- what it has seen is a beginning of each history
-  pub seen : (k : ℕ) → IsBeginning (slice_index_or c.seen k []) (items k)
-  pub wide : length c.seen ≡ about.shards
-  -- in which all that it made stands
-  pub made_seen : (k : ℕ) → IsBeginning (steps_on about k c.made)
-      (steps_by p (slice_index_or c.seen k []))
-  pub rises : HaveNumbersBelow (floor_of c.last c.pending) c.made
-  pub gone : AreNumbersBelow (floor_of c.last c.pending) c.withdrawn
-  -- a withdrawn number stands in no step
-  pub unused : (k : ℕ) → AreUnused c.withdrawn (steps_by p (items k))
-  -- the calls of marks' lists are calls that it made, or are on their way
-  pub told : (k : ℕ) → AreTold c.made ts (asks_by p (items k))
-  pub queue : IsQueue c.last c.pending
-  pub few : length c.pending ≤ 64
-  pub tokens : (n : ℕ) → TokenOk about items p c.pending n (ts n)
-  pub order : IsOrdered about ts
+  pub numbers : AreNumbered c.last c.pending c.made c.withdrawn
+  pub steps : AreInOrder items p c.last c.withdrawn
+  pub looks : HasSeen about items p c.seen c.made
+  pub way : AreOnTheirWay about items p c.pending c.made ts
 
 -- how many steps the passes below n have in all
 abbrev pub steps_in_all : ℕ → List Item → ℕ
@@ -166,7 +180,7 @@ pub record IsGood (about : About) (x : TableContents) : Type 0 where
 -- a shard's word is the length of its history, a pass's word is 0 or the last number that it used
 pub record AreWords (about : About) (x : TableContents) (words : List ℕ) : Type 0 where
   pub any : 0 < about.shards
-  pub few : about.passes ≤ 64
+  pub few : about.passes ≤ max_passes
   pub wide : length words ≡ about.shards + about.passes
   pub lengths : (k : ℕ) → k < about.shards → slice_index words k ≡ length (x.items k)
   pub numbers : (p : ℕ) → p < about.passes → slice_index words (about.shards + p)

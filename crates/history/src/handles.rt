@@ -1,6 +1,6 @@
 //! What threads hold: tickets, receipts and passes.
 ghost use Rattle.std.specs.Prelude.{◌≡◌, ◌+◌, ◌<◌, ◌==◌, true, false, length};
-ghost use Rattle.history.specs.Histories.{behind_first, bound};
+ghost use Rattle.history.specs.Histories.{behind_first, bound, max_open};
 ghost use Rattle.history.specs.Rule.{number_of};
 ghost use Rattle.history.specs.Handles.{is_closed_pass};
 
@@ -93,7 +93,7 @@ impl Receipt {
     }
 }
 
-/// A caller's place at the histories of all shards. It may have up to 64 open calls at a time.
+/// A caller's place at the histories of all shards. It may have up to `MAX_OPEN` open calls at a time.
 #[derive(Drop)]
 pub struct Pass {
     pub(crate) shards: usize,
@@ -125,8 +125,11 @@ impl Pass {
     /// The last number of a call.
     pub(crate) const LAST: u64 = (1 << 56) - 1;
 
-    /// How many calls may be open at a time.
-    pub(crate) const CALLS: u64 = 64;
+    /// The most passes of an opening.
+    pub const MAX: usize = 64;
+
+    /// The most open calls of a pass.
+    pub const MAX_OPEN: usize = 64;
 
     /// Whether it announces no more calls: it was closed, or has used the last call number, 2^56 - 1.
     pub fn is_closed(&self) -> bool
@@ -135,11 +138,11 @@ impl Pass {
         self.closed || self.last == Pass::LAST
     }
 
-    /// Whether the most calls are open: 64.
+    /// Whether `MAX_OPEN` calls are open.
     pub fn is_full(&self) -> bool
-        ensures { result ≡ (length self.now.caller.pending == 64) }
+        ensures { result ≡ (length self.now.caller.pending == max_open) }
     {
-        self.calls == Pass::CALLS
+        self.calls == Pass::MAX_OPEN as u64
     }
 
     /// Its number: from 0, below the number of passes of its opening.

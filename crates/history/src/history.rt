@@ -1,5 +1,5 @@
 ghost use Rattle.std.specs.Prelude.{◌≡◌, ◌≢◌, ◌↔◌, ℕ, ◌+◌, ◌<◌, ◌≤◌, ◌==◌, [], true, false, length, IfOk, OnOk, OnErr, IsOk};
-ghost use Rattle.history.specs.Histories.{IsBeginning, IsLegalAt, IsByPasses, shard_in, IsFirst, IsFirstIfAmong, bound};
+ghost use Rattle.history.specs.Histories.{IsBeginning, IsLegalAt, IsByPasses, shard_in, IsFirst, IsFirstIfAmong, bound, max_open};
 ghost use Rattle.history.specs.Plays.{seen_at, ask_of, before_of, announce_to, withdraw_to, collect_to, look_to, IsRested, Extends, HasStepsOf};
 ghost use Rattle.history.specs.Handles.{is_closed_pass, caller_in, pair_of, with_seen, HaveMet};
 
@@ -36,7 +36,7 @@ impl History {
     /// same shard.
     pub fn announce(&self, pass: &mut Pass, call: &Call) -> Result<Ticket, PassSpent>
         requires table { pass.old.table ≡ self.now }
-        requires few { length pass.old.caller.pending < 64 }
+        requires few { length pass.old.caller.pending < max_open }
         ensures ticket { IfOk result (λ t. t
             ≡ record {
               table = self.now;
@@ -61,7 +61,7 @@ impl History {
 
     fn announce_call<J: Saying>(&self, pass: &mut Pass, call: &Call) -> Ticket
         requires table { pass.old.table ≡ self.now }
-        requires few { length pass.old.caller.pending < 64 }
+        requires few { length pass.old.caller.pending < max_open }
         requires open { is_closed_pass pass.old ≡ false }
         requires call { call.now ≡ J.call }
         ensures ticket { result ≡ record {
@@ -84,7 +84,7 @@ impl History {
     // Announces the call under a number above all that the pass has used.
     pub(crate) fn announce_under<J: Saying>(&self, pass: &mut Pass, number: u64) -> Ticket
         requires table { pass.old.table ≡ self.now }
-        requires few { length pass.old.caller.pending < 64 }
+        requires few { length pass.old.caller.pending < max_open }
         requires number { (pass.old.caller.last < number) × (number < bound) }
         ensures ticket { result ≡ record {
           table = self.now;

@@ -1,8 +1,10 @@
 //! How a table is made, with the books and the passes of its opening.
 ghost use Rattle.std.specs.Prelude.{◌≡◌, ℕ, ◌+◌, ◌<◌, ◌≤◌, [], length, IfOk};
 ghost use Rattle.std.specs.Arc.{arc_value};
+ghost use Rattle.labels.specs.Shards.{max_shards};
 ghost use Rattle.history.specs.Rule.{opener};
 ghost use Rattle.history.specs.Handles.{about_of, about_in, fresh_books, fresh_passes};
+ghost use Rattle.history.specs.Histories.{max_passes};
 
 use crate::book::Book;
 use crate::handles::Pass;
@@ -25,8 +27,8 @@ impl History {
         limits: Limits,
         capacity: u64,
     ) -> Result<(History, Vec<Book>, Vec<Pass>), AllocError>
-        requires shards { (0 < length bases.now) × (length bases.now ≤ 64) }
-        requires passes { passes ≤ 64 }
+        requires shards { (0 < length bases.now) × (length bases.now ≤ max_shards) }
+        requires passes { passes ≤ max_passes }
         ensures books { IfOk result (λ r. r.1.items
             ≡ fresh_books r.0 (about_of bases.now passes limits capacity) (length bases.now)) }
         ensures passes { IfOk result (λ r. r.2.items
@@ -43,8 +45,8 @@ fn opened<J: Naming>(
     limits: Limits,
     capacity: u64,
 ) -> Result<(History, Vec<Book>, Vec<Pass>), AllocError>
-    requires shards { (0 < length bases.now) × (length bases.now ≤ 64) }
-    requires passes { passes ≤ 64 }
+    requires shards { (0 < length bases.now) × (length bases.now ≤ max_shards) }
+    requires passes { passes ≤ max_passes }
     requires about { J.about ≡ about_of bases.now passes limits capacity }
     ensures books { IfOk result (λ r. r.1.items ≡ fresh_books r.0 J.about (length bases.now)) }
     ensures passes { IfOk result (λ r. r.2.items ≡ fresh_passes r.0 J.about passes) }
@@ -60,8 +62,8 @@ pub(crate) fn deal<J: Naming>(
     shards: usize,
     passes: u32,
 ) -> Result<(History, Vec<Book>, Vec<Pass>), AllocError>
-    requires shards { (0 < shards) × (shards ≤ 64) × (J.about.shards ≡ shards) }
-    requires passes { (passes ≤ 64) × (J.about.passes ≡ passes) }
+    requires shards { (0 < shards) × (shards ≤ max_shards) × (J.about.shards ≡ shards) }
+    requires passes { (passes ≤ max_passes) × (J.about.passes ≡ passes) }
     ensures books { IfOk result (λ r. r.1.items ≡ fresh_books r.0 J.about shards) }
     ensures passes { IfOk result (λ r. r.2.items ≡ fresh_passes r.0 J.about passes) }
 {
@@ -77,8 +79,8 @@ fn open<J: Naming>(
     shards: usize,
     passes: u32,
 ) -> Result<(Board, ViewSeat), AllocError>
-    requires shards { (0 < shards) × (shards ≤ 64) × (J.about.shards ≡ shards) }
-    requires passes { (passes ≤ 64) × (J.about.passes ≡ passes) }
+    requires shards { (0 < shards) × (shards ≤ max_shards) × (J.about.shards ≡ shards) }
+    requires passes { (passes ≤ max_passes) × (J.about.passes ≡ passes) }
     ensures { IfOk result (λ r. (r.0.shared.table_id.words ≡ shards + passes)
         × (r.1.table_id ≡ r.0.shared.table_id)
         × (r.1.me ≡ (opener J.about 0 0, []))) }
@@ -134,8 +136,8 @@ fn deal_passes(
         × (seat.old.table_id.words ≡ shards + passes) }
     requires seat { seat.old.me ≡ (opener (about_in seat.old.me.0.role) shards 0, []) }
     requires shards { (0 < shards) × ((about_in seat.old.me.0.role).shards ≡ shards)
-        × (shards ≤ 64) }
-    requires passes { ((about_in seat.old.me.0.role).passes ≡ passes) × (passes ≤ 64) }
+        × (shards ≤ max_shards) }
+    requires passes { ((about_in seat.old.me.0.role).passes ≡ passes) × (passes ≤ max_passes) }
     ensures { IfOk result (λ p. p.items ≡ fresh_passes seat.old.table_id
         (about_in seat.old.me.0.role) passes) }
 {

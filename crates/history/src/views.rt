@@ -5,9 +5,9 @@ use std::collections::LinkedList;
 
 /// What an opening is. It is the same for each book and each pass of a table.
 pub struct About {
-    /// How many shards it has: 1 to 64.
+    /// How many shards it has: 1 to `MAX_SHARDS` of `labels`.
     pub shards: u64,
-    /// How many passes it has: at most 64.
+    /// How many passes it has: at most `Pass::MAX`.
     pub passes: u64,
     /// What it accepts.
     pub limits: Limits,

@@ -1,6 +1,7 @@
 -- What an ingester is, and the passes of its opening.
 use Rattle.std.specs.Prelude.{◌≡◌, ℕ, ◌≤◌, List, Some, length, slice_get}
 use Rattle.atomic_table.specs.Seated.{TableId}
+use Rattle.labels.specs.Shards.{max_shards}
 use Rattle.history.specs.Handles.{Passed, fresh_pass}
 use Rattle.owners.specs.Openings.{Opening}
 
@@ -9,7 +10,7 @@ pub record IsOpening {D : Type 0} (table : TableId) (opening : Opening D) (count
   pub same_table : opening.table ≡ table
   pub shards : opening.about.shards ≡ count
   pub some_shard : 1 ≤ count
-  pub few : count ≤ 64
+  pub few : count ≤ max_shards
 
 -- so many passes of the opening, in the order of their numbers, which have seen and made nothing
 pub record AreFresh {D : Type 0} (opening : Opening D) (count : ℕ)

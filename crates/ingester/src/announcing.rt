@@ -2,6 +2,7 @@
 ghost use Rattle.std.specs.Prelude.{◌≡◌, ◌+◌, ◌^◌, ◌<◌, ◌≤◌, ℕ, [], None, true, All, length, IfSome, MatchOption};
 ghost use Rattle.std.specs.VecDeque.{deque_len, deque_capacity};
 ghost use Rattle.accept.specs.Calls.{AreNumbers};
+ghost use Rattle.history.specs.Histories.{max_open};
 ghost use Rattle.ingester.specs.Calls.{IsPassOf};
 ghost use Rattle.owners.specs.Openings.{home_of};
 ghost use Rattle.owners.specs.Ways.{AreReadyWays, AreIdleWays, HasSameRest};
@@ -16,9 +17,6 @@ use owners::Way;
 use shard::Job;
 use std::collections::VecDeque;
 
-/// How many calls of a pass may be open.
-const MOST: usize = 64;
-
 // Calls of a pass that are announced, and lie in the letters to their shards.
 #[derive(Drop)]
 pub(crate) struct Round {
@@ -28,14 +26,14 @@ pub(crate) struct Round {
     pub(crate) first: u64,
     pub(crate) count: usize,
     // The shard of each, in their order.
-    pub(crate) shards: [usize; MOST],
+    pub(crate) shards: [usize; Pass::MAX_OPEN],
 }
 
 impl<D: Disk + Drop> Ingester<D> {
     // Announces the first of the calls, and puts it into the letter of a way, if both can be. Says its number.
     fn join(&self, pass: &mut Pass, calls: &mut VecDeque<Call>, way: &mut Way) -> Option<u64>
         requires table { pass.old.table ≡ self.now.table }
-        requires few { length pass.old.caller.pending + deque_len calls.old ≤ 64 }
+        requires few { length pass.old.caller.pending + deque_len calls.old ≤ max_open }
         requires numbers { All AreNumbers calls.old.items }
         ensures joined { IfSome result
             (λ number. IsPutIntoLetter self.now.table pass.old pass.new calls.old.items
@@ -73,7 +71,7 @@ impl<D: Disk + Drop> Ingester<D> {
         requires table { pass.old.table ≡ self.now.table }
         requires about { pass.old.caller.about ≡ self.now.about }
         requires pass { pass.old.caller.pass < self.now.about.passes }
-        requires few { length pass.old.caller.pending + deque_len calls.old ≤ 64 }
+        requires few { length pass.old.caller.pending + deque_len calls.old ≤ max_open }
         requires numbers { All AreNumbers calls.old.items }
         requires count { length ways.old.items ≡ self.now.about.shards }
         requires batches { AreBatchesOf self.now.table self.now.about pass.old.caller
@@ -106,7 +104,7 @@ impl<D: Disk + Drop> Ingester<D> {
     ) -> Option<Round>
         requires pass { IsPassOf self.now pass.old }
         requires idle { pass.old.caller.pending ≡ [] }
-        requires few { deque_len calls.old ≤ 64 }
+        requires few { deque_len calls.old ≤ max_open }
         requires numbers { All AreNumbers calls.old.items }
         requires count { length ways.old.items ≡ self.now.about.shards }
         requires ways { AreIdleWays (home_of self.now) pass.old.caller.pass ways.old.items }
@@ -120,14 +118,14 @@ impl<D: Disk + Drop> Ingester<D> {
         ensures shards { IfSome result (λ round. AreBelow self.now.about.shards round.shards) }
         ensures fits { IfSome result (λ round. round.first + round.count ≤ 2 ^ 64) }
         ensures count { MatchOption result ((pass.new ≡ pass.old) × (calls.new ≡ calls.old))
-            (λ round. (0 < round.count) × (round.count ≤ 64)
+            (λ round. (0 < round.count) × (round.count ≤ max_open)
             × (length pass.new.caller.pending ≡ round.count)
             × (deque_len calls.new + round.count ≡ deque_len calls.old)) }
         ensures capacity { deque_capacity calls.new ≡ deque_capacity calls.old }
     {
         let own = pass.number();
         let (first, shard) = self.announce_next(pass, calls, ways)?;
-        let mut shards = [shard; MOST];
+        let mut shards = [shard; Pass::MAX_OPEN];
         let mut count = 1;
         while let Some((_, shard)) = self.announce_next(pass, calls, ways) {
             shards[count] = shard;
@@ -151,7 +149,7 @@ impl<D: Disk + Drop> Ingester<D> {
         was_refused: bool,
     ) -> Option<Round>
         requires pass { IsPassOf self.now pass.old }
-        requires few { deque_len calls.old ≤ 64 }
+        requires few { deque_len calls.old ≤ max_open }
         requires numbers { All AreNumbers calls.old.items }
         requires count { length ways.old.items ≡ self.now.about.shards }
         requires ways { AreIdleWays (home_of self.now) pass.old.caller.pass ways.old.items }
@@ -168,7 +166,7 @@ impl<D: Disk + Drop> Ingester<D> {
         ensures shards { IfSome result (λ round. AreBelow self.now.about.shards round.shards) }
         ensures fits { IfSome result (λ round. round.first + round.count ≤ 2 ^ 64) }
         ensures count { MatchOption result ((pass.new ≡ pass.old) × (calls.new ≡ calls.old))
-            (λ round. (0 < round.count) × (round.count ≤ 64)
+            (λ round. (0 < round.count) × (round.count ≤ max_open)
             × (length pass.new.caller.pending ≡ round.count)
             × (deque_len calls.new + round.count ≡ deque_len calls.old)) }
         ensures none_after { was_refused ≡ true → result ≡ None }

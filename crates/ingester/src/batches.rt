@@ -3,7 +3,7 @@ ghost use Rattle.std.specs.Prelude.{◌≡◌, ◌+◌, ◌^◌, ◌<◌, ◌≤
 ghost use Rattle.std.specs.VecDeque.{deque_len, deque_capacity};
 ghost use Rattle.accept.specs.Calls.{AreNumbers};
 ghost use Rattle.history.specs.Plays.{IsRested};
-ghost use Rattle.history.specs.Histories.{IsFirstNumber};
+ghost use Rattle.history.specs.Histories.{IsFirstNumber, max_open};
 ghost use Rattle.owners.specs.Calls.{IsDue, number_of_settled};
 ghost use Rattle.owners.specs.Openings.{home_of};
 ghost use Rattle.owners.specs.Ways.{IsWay, AreWays, AreReadyWays, AreIdleWays};
@@ -83,7 +83,7 @@ impl<D: Disk + Drop> Ingester<D> {
         requires rested { IsRested pass.old.caller }
         requires numbers { AreNumbered round.now.first pass.old.caller.pending }
         requires count { (length pass.old.caller.pending ≡ round.now.count)
-            × (round.now.count ≤ 64) }
+            × (round.now.count ≤ max_open) }
         requires fits { round.now.first + round.now.count ≤ 2 ^ 64 }
         requires room { deque_len outcomes.old + round.now.count ≤ deque_capacity outcomes.old }
         ensures received { AreReceived self.now pass.old pass.new outcomes.old.items
@@ -141,7 +141,7 @@ impl<D: Disk + Drop> Ingester<D> {
         requires about { pass.old.caller.about ≡ self.now.about }
         requires ways { AreWays (home_of self.now) pass.old.caller.pass ways.old.items }
         requires shards { AreBelow (length ways.old.items) round.now.shards }
-        requires from { (from < round.now.count) × (round.now.count ≤ 64) }
+        requires from { (from < round.now.count) × (round.now.count ≤ max_open) }
         requires numbers { AreNumbered (round.now.first + from) pass.old.caller.pending
             × (length pass.old.caller.pending + from ≡ round.now.count) }
         requires fits { round.now.first + round.now.count ≤ 2 ^ 64 }
@@ -177,7 +177,7 @@ impl<D: Disk + Drop> Ingester<D> {
         requires own { round.pass ≡ pass.old.caller.pass }
         requires rested { IsRested pass.old.caller }
         requires numbers { AreNumbered round.first pass.old.caller.pending }
-        requires count { (length pass.old.caller.pending ≡ round.count) × (round.count ≤ 64) }
+        requires count { (length pass.old.caller.pending ≡ round.count) × (round.count ≤ max_open) }
         requires fits { round.first + round.count ≤ 2 ^ 64 }
         requires batches { AreBatchesOf self.now.table self.now.about pass.old.caller
             ways.old.items }
@@ -238,7 +238,7 @@ impl<D: Disk + Drop> Ingester<D> {
         requires pass { IsPassOf self.now pass.old }
         requires ways { AreIdleWays (home_of self.now) pass.old.caller.pass ways.old.items
             × (length ways.old.items ≡ self.now.about.shards) }
-        requires few { deque_len calls.old ≤ 64 }
+        requires few { deque_len calls.old ≤ max_open }
         requires numbers { All AreNumbers calls.old.items }
         requires empty { outcomes.old.items ≡ [] }
         requires room { deque_len calls.old ≤ deque_capacity outcomes.old }
@@ -280,7 +280,7 @@ impl<D: Disk + Drop> Ingester<D> {
         outcomes: &mut VecDeque<Result<Reply, CallFault>>,
     )
         requires pass { IsPassOf self.now pass.old }
-        requires few { deque_len calls.old ≤ 64 }
+        requires few { deque_len calls.old ≤ max_open }
         requires numbers { All AreNumbers calls.old.items }
         requires empty { outcomes.old.items ≡ [] }
         requires room { deque_len calls.old ≤ deque_capacity outcomes.old }

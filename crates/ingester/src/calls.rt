@@ -1,7 +1,7 @@
 //! Calls, looks and meetings.
 ghost use Rattle.std.specs.Prelude.{◌≡◌, ◌≢◌, ◌↔◌, ◌<◌, ◌≤◌, ℕ, [], true, false, length, IfOk, IfErr};
 ghost use Rattle.std.specs.Result.{IsErrOf};
-ghost use Rattle.labels.specs.Shards.{shard};
+ghost use Rattle.labels.specs.Shards.{shard, max_shards};
 ghost use Rattle.accept.specs.Calls.{AreNumbers};
 ghost use Rattle.accept.specs.Histories.{key_of};
 ghost use Rattle.history.specs.Histories.{IsBeginning, IsLegalAt, IsByPasses, shard_in, step_of};
@@ -29,7 +29,7 @@ use std::sync::Wait;
 // The number of the shard that a call belongs to, among `shards`.
 pub(crate) fn shard_number(call: &Call, shards: u32) -> usize
     requires some { 1 ≤ shards }
-    requires few { shards ≤ 64 }
+    requires few { shards ≤ max_shards }
     ensures { result ≡ shard (key_of call.now) shards }
 {
     shard_of(call.key(), shards) as usize

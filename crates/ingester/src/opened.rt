@@ -1,9 +1,11 @@
 //! An ingester, and how it is opened.
 ghost use Rattle.std.specs.Prelude.{◌≡◌, ◌<◌, ◌≤◌, ◌^◌, vec_len, IfOk, IfErr};
 ghost use Rattle.std.specs.VecDeque.{deque_len, deque_capacity};
+ghost use Rattle.labels.specs.Shards.{max_shards};
 ghost use Rattle.accept.specs.OneStream.{AreLimits};
 ghost use Rattle.history.specs.Handles.{about_of};
 ghost use Rattle.openings.specs.Findings.{AreOpenedFrom};
+ghost use Rattle.history.specs.Histories.{max_passes};
 ghost use Rattle.owners.specs.Owners.{AreEnds};
 ghost use Rattle.owners.specs.Places.{AreShardsOf};
 ghost use Rattle.ingester.specs.Openings.{AreFresh};
@@ -88,8 +90,8 @@ impl<D: Disk + Drop> Ingester<D> {
         D: Send + 'static,
         R: Threads + Wait + Sync,
         H: Wait + Copy + Send + 'static,
-        requires slots { (0 < vec_len slots) × (vec_len slots ≤ 64) }
-        requires passes { (0 < passes) × (passes ≤ 64) }
+        requires slots { (0 < vec_len slots) × (vec_len slots ≤ max_shards) }
+        requires passes { (0 < passes) × (passes ≤ max_passes) }
         requires limits { AreLimits limits }
         requires capacity { capacity ≤ 2 ^ 30 }
         ensures found { IfOk result (λ it.
@@ -135,8 +137,8 @@ impl<D: Disk + Drop> Ingester<D> {
         R: Threads + Wait + Sync,
         H: Wait + Copy + Send + 'static,
         O: Observer + Sync,
-        requires slots { (0 < vec_len slots) × (vec_len slots ≤ 64) }
-        requires passes { (0 < passes) × (passes ≤ 64) }
+        requires slots { (0 < vec_len slots) × (vec_len slots ≤ max_shards) }
+        requires passes { (0 < passes) × (passes ≤ max_passes) }
         requires limits { AreLimits limits }
         requires capacity { capacity ≤ 2 ^ 30 }
         ensures found { IfOk result (λ it.
@@ -197,9 +199,9 @@ fn open_all<D: Disk + Drop + Send, R: Threads + Sync, O: Observer + Sync>(
     capacity: u64,
     observer: &O,
 ) -> Result<Opened<D>, OpenFault>
-    requires slots { (0 < deque_len slots.old) × (deque_len slots.old ≤ 64)
+    requires slots { (0 < deque_len slots.old) × (deque_len slots.old ≤ max_shards)
         × (deque_len slots.old ≤ deque_capacity slots.old) }
-    requires passes { (0 < passes) × (passes ≤ 64) }
+    requires passes { (0 < passes) × (passes ≤ max_passes) }
     requires limits { AreLimits limits }
     requires capacity { capacity ≤ 2 ^ 30 }
     ensures found { IfOk result (λ it.

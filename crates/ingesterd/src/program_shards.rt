@@ -1,9 +1,11 @@
 //! Shards that programs open and close.
 ghost use Rattle.std.specs.Prelude.{◌≡◌, ◌<◌, ◌≤◌, ◌^◌, ◌∷◌, [], ℕ, List, Some, slice_get, vec_len, IfOk, IfErr};
+ghost use Rattle.labels.specs.Shards.{max_shards};
 ghost use Rattle.history.specs.Handles.{Passed};
 ghost use Rattle.ingester.specs.Calls.{IsPassOf};
 ghost use Rattle.ingester.specs.declared.refusal.OpenFault.{OpenFault};
 ghost use Rattle.openings.specs.Findings.{AreOpenedFrom};
+ghost use Rattle.history.specs.Histories.{max_passes};
 ghost use Rattle.ingester.specs.Findings.{IsUnmade};
 ghost use Rattle.ingesterd.specs.Openings.{IsProfiled};
 
@@ -32,8 +34,8 @@ where
     D: Disk + Drop + Send + 'static,
     R: Threads + Wait + Copy + Send + Sync + 'static,
     O: Observer + Sync,
-    requires slots { (0 < vec_len slots) × (vec_len slots ≤ 64) }
-    requires passes { (0 < passes) × (passes ≤ 64) }
+    requires slots { (0 < vec_len slots) × (vec_len slots ≤ max_shards) }
+    requires passes { (0 < passes) × (passes ≤ max_passes) }
     requires capacity { capacity ≤ 2 ^ 30 }
     ensures profiled { IfOk result
         (λ it. IsProfiled (vec_len slots) passes capacity it.0 it.1.items) }
@@ -63,7 +65,7 @@ pub fn open_for_one<D, R>(
 where
     D: Disk + Drop + Send + 'static,
     R: Threads + Wait + Copy + Send + Sync + 'static,
-    requires slots { (0 < vec_len slots) × (vec_len slots ≤ 64) }
+    requires slots { (0 < vec_len slots) × (vec_len slots ≤ max_shards) }
     requires capacity { capacity ≤ 2 ^ 30 }
     ensures profiled { IfOk result (λ it. IsProfiled (vec_len slots) 1 capacity it.0 (it.1 ∷ [])) }
     ensures refused { IfErr result (λ stop. (fault : OpenFault) × (backs : List (List D))

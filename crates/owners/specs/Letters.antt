@@ -1,6 +1,7 @@
 -- What goes through the queues. None of it names a disk or a clock.
 use Rattle.std.specs.Prelude.{◌≡◌, ℕ, ◌≤◌, []}
 use Rattle.std.specs.VecDeque.{deque_len}
+use Rattle.history.specs.Histories.{max_open}
 use Rattle.owners.specs.declared.letters.Letter.{Letter}
 use Rattle.owners.specs.declared.letters.Order.{Order}
 use Rattle.owners.specs.declared.letters.Order.TheVariants.{Make, End}
@@ -11,7 +12,7 @@ module _ (home : Homed) where
   -- calls of a pass for shard k, in the order of their announcement
   pub record IsLetterTo (k : ℕ) (letter : Letter) : Type 0 where
     pub batch : IsBatch home.table home.about k letter.pass letter.jobs.items
-    pub few : deque_len letter.jobs ≤ 64
+    pub few : deque_len letter.jobs ≤ max_open
     pub settled : letter.settled.items ≡ []
 
   -- an order for the owner of shard k

@@ -4,6 +4,7 @@ use Rattle.std.specs.VecDeque.{deque_len}
 use Rattle.shard.specs.declared.first_jobs.Job.{Job}
 use Rattle.keyed.specs.Queues.{sends_to, receives_as}
 use Rattle.keyed.specs.declared.binding.Binding.TheVariants.{Bound}
+use Rattle.history.specs.Histories.{max_open}
 use Rattle.owners.specs.declared.letters.Letter.{Letter}
 use Rattle.owners.specs.declared.ways.Way.{Way}
 use Rattle.owners.specs.declared.ways.Came.{Came}
@@ -51,7 +52,7 @@ pub record HasSameRest (old new : Way) : Type 0 where
 pub record IsLoaded (home : Homed) (p k : ℕ) (way : Way) : Type 0 where
   pub ready : IsReadyWay home p k way
   pub batch : IsBatch home.table home.about k p way.letter.jobs.items
-  pub few : deque_len way.letter.jobs ≤ 64
+  pub few : deque_len way.letter.jobs ≤ max_open
 
 abbrev pub AreLoaded : Homed → ℕ → List Way → Type 0
 AreLoaded home p ways = (k : ℕ) (way : Way) → slice_get ways k ≡ Some way → IsLoaded home p k way

@@ -7,6 +7,7 @@ ghost use Rattle.owners.specs.Seeds.{IsSeed, AreSeeds, IsRow, AreRows};
 use crate::letters::{Answers, Orders, OrdersIn};
 use crate::places::Home;
 use crate::ways::{Way, blank};
+use history::Pass;
 use keyed::queue;
 use std::alloc::{AllocError, Global};
 use std::collections::VecDeque;
@@ -25,7 +26,7 @@ pub struct Seed {
 }
 
 /// How many letters a queue of orders has room for.
-const ORDERS: usize = 64;
+const ORDERS: usize = Pass::MAX;
 
 // The ends of a shard, for no pass so far.
 fn make_seed(alloc: Global, home: &Home, shard: usize, passes: usize) -> Result<Seed, AllocError>

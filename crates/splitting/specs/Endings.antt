@@ -2,6 +2,7 @@
 use Rattle.std.specs.Prelude.{◌≡◌, ◌⊎◌, ◌≤◌, ℕ, List, ◌++◌, codes, decimal, Option, String}
 use Rattle.std.specs.Io.KnownBytes.{Appends}
 use Rattle.std.specs.declared.alloc.Global.{Global}
+use Rattle.labels.specs.Shards.{max_shards}
 use Rattle.split.specs.declared.fault.SplitFault.TheVariants as faults
 use Rattle.splitting.specs.Words.{SaysSplit}
 use Rattle.splitting.specs.declared.said.SplitWords.{SplitWords}
@@ -28,7 +29,7 @@ pub data SplitEnds (words : List (String Global)) (before after : Option (List �
     (status : ℕ) : Type 0 where
   unasked_split : status ≡ 2 → after ≡ before → SplitEnds words before after status
   divided_split : (said : SplitWords) → SaysSplit words said → (shards : ℕ) → 1 ≤ shards
-      → shards ≤ 64
+      → shards ≤ max_shards
       → Appends before after (split_line shards said.shards) → status ≡ 0
       → SplitEnds words before after status
   stopped_split : (stop : Stopped) → (stop ≡ Output) ⊎ (after ≡ before) → status ≡ split_status stop

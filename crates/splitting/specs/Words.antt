@@ -1,6 +1,7 @@
 -- The words that `walsplit` is given.
 use Rattle.std.specs.Prelude.{ℕ, ◌≡◌, List, [], ◌∷◌, String, string_bytes}
 use Rattle.std.specs.declared.alloc.Global.{Global}
+use Rattle.labels.specs.Shards.{max_shards}
 use Rattle.words.specs.Words.{value, IsNumberIn}
 use Rattle.splitting.specs.declared.said.SplitWords.{SplitWords}
 
@@ -10,7 +11,7 @@ pub record GiveSplit (words : List (String Global)) : Type 0 where
   pub new : String Global
   pub count : String Global
   pub words_are : words ≡ old ∷ new ∷ count ∷ []
-  pub named : IsNumberIn 1 64 (string_bytes count)
+  pub named : IsNumberIn 1 max_shards (string_bytes count)
 
 -- what is split, and into how many shards
 pub record SaysOfSplit (old new count : List ℕ) (split : SplitWords) : Type 0 where

@@ -7,7 +7,7 @@ use Rattle.accept.specs.declared.history.Step.{Step}
 use Rattle.accept.specs.declared.history.Item.TheVariants.{Answered}
 use Rattle.accept.specs.Histories.{is_marked}
 use Rattle.history.specs.declared.views.About.{About}
-use Rattle.history.specs.Histories.{HaveSteps, asks_on, shard_in}
+use Rattle.history.specs.Histories.{HaveSteps, asks_on, shard_in, max_open}
 use Rattle.history.specs.Plays.{IsRested}
 use Rattle.history.specs.Handles.{Announced, Booked, Passed, Received, longer}
 
@@ -53,7 +53,7 @@ pub record IsOpeningOfTwo (table : TableId) (about : About) (zero one : Booked)
 
 -- a thread has this opening's table, at most 64 calls, and a pass with no open call
 abbrev pub IsThreadReady : TableId → About → TableId → List Call → Passed → Type 0
-IsThreadReady table about history calls pass = (history ≡ table) × (length calls ≤ 64)
+IsThreadReady table about history calls pass = (history ≡ table) × (length calls ≤ max_open)
     × IsWindow table about pass []
 
 -- the open calls of a pass have steps in the book of their shard
