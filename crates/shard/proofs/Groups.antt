@@ -195,19 +195,23 @@ one_made old new book ticket behind reply made =
       book = made.book ∙ ap (λ (r : Reply). longer book (Answered (step_of ticket.ask r))) (sym due);
     }
 
+pub one_changing : (book : Booked) (ask : Ask) → NeedsWrite book ask.call → changing_of book (ask ∷ []) ≡ ask ∷ []
+one_changing book ask writes = ap (λ (b : Bool). cond b (ask ∷ []) []) (writes_changes book ask.call writes)
+
+pub one_refused : (book : Booked) (ask : Ask) → NeedsWrite book ask.call → with_steps (marked_by book (ask ∷ [])) (ask ∷ []) ≡ longer (longer book (Failed (ask ∷ []))) (Answered (step_of ask Unavailable))
+one_refused book ask writes =
+    let marked : Booked = longer book (Failed (ask ∷ [])) in
+    ap (λ (l : List Ask). with_steps (longer book (Failed l)) (ask ∷ [])) (one_changing book ask writes)
+    ∙ ap (λ (r : Reply). longer marked (Answered (step_of ask r))) (sym (due_marked marked ask.call (marked_mark book.items (ask ∷ []))))
+
 pub one_lost : (old new : Pair) (book : Booked) (ticket : Announced) (behind : Booked) (reply : Reply) → NeedsWrite book ticket.ask.call
     → AreMarkedInDoubt old new book (ticket.ask ∷ []) behind (reply ∷ []) → IsMarkedInDoubt old new book ticket behind reply
-one_lost old new book ticket behind reply writes lost =
-    let ask = ticket.ask in
-    let alone : changing_of book (ask ∷ []) ≡ ask ∷ [] = ap (λ (b : Bool). cond b (ask ∷ []) []) (writes_changes book ask.call writes) in
-    let marked : Booked = longer book (Failed (ask ∷ [])) in
-    record {
-      failure = lost.failure;
-      unmarked = lost.unmarked;
-      replied = one_reply reply Unavailable lost.replied;
-      book = lost.book ∙ (ap (λ (l : List Ask). with_steps (longer book (Failed l)) (ask ∷ [])) alone
-          ∙ ap (λ (r : Reply). longer marked (Answered (step_of ask r))) (sym (due_marked marked ask.call (marked_mark book.items (ask ∷ [])))));
-    }
+one_lost old new book ticket behind reply writes lost = record {
+  failure = lost.failure;
+  unmarked = lost.unmarked;
+  replied = one_reply reply Unavailable lost.replied;
+  book = lost.book ∙ one_refused book ticket.ask writes;
+}
 
 -- and a crash leaves of it what it may leave of the call
 pub one_may_leave : (book : Booked) (ask : Ask) (a b : List ℕ) → IsWithin book.about.limits (history_in book) → MayLeaveAll book (ask ∷ []) a b → MayLeave book ask.call a b

@@ -1,6 +1,7 @@
 -- Judged calls on their way into the book.
-use Rattle.std.specs.Prelude.{◌≡◌, ℕ, List, [], ◌∷◌, true, false}
+use Rattle.std.specs.Prelude.{◌≡◌, ℕ, Bool, List, [], ◌∷◌, true, false, if◌then◌else◌}
 use Rattle.accept.specs.declared.call.Reply.{Reply}
+use Rattle.accept.specs.declared.call.Reply.TheVariants.{Unavailable}
 use Rattle.accept.specs.declared.history.Ask.{Ask}
 use Rattle.accept.specs.declared.history.Item.{Item}
 use Rattle.accept.specs.Histories.{changes, is_marked, IsWithin}
@@ -60,23 +61,19 @@ settled_of book (t ∷ ts) moment =
     settled.Answered r (receipt_at (with_step book t.ask).items t r moment)
     ∷ settled_of (with_step book t.ask) ts moment
 
--- The waiting calls may be added to the book: each with its reply, in its turn, and all of them are kept.
-pub record AreReadyToCommit {D : Type 0} (sight : D → Sight) (follows : D → Type 0) (log : Wal D)
-    (book : Booked)
+-- what is answered to a judged call, by whether a failure has lost it
+abbrev pub answer_to : Reply → Bool → Reply
+answer_to r is_lost = if is_lost then Unavailable else r
+
+-- The waiting calls may be added to the book, each in its turn: with its reply, where all of them are kept, or, where a
+-- failure has lost them, refused behind its mark.
+pub record AreDueOrLost {D : Type 0} (sight : D → Sight) (follows : D → Type 0) (log : Wal D)
+    (book : Booked) (is_lost : Bool)
     (waiting : List (Announced × Reply)) : Type 0 where
-  pub due : HaveDueReplies book waiting
+  pub due : is_lost ≡ false → HaveDueReplies book waiting
+  pub marked : is_lost ≡ true → is_marked book.items ≡ true
   pub here : AreOf book (tickets_in waiting)
   pub turn : AreInTurn book.items [] (tickets_in waiting)
   pub within : IsWithin book.about.limits (history_in book)
   pub kept : Follow follows log
       → KeepsHistory (slots sight log) (with_steps book (asks_in waiting)) (doubt_of book.items)
-
--- After a failure mark the waiting calls may be refused, each in its turn.
-pub record IsRefusable {D : Type 0} (sight : D → Sight) (follows : D → Type 0) (log : Wal D)
-    (book : Booked)
-    (waiting : List (Announced × Reply)) : Type 0 where
-  pub marked : is_marked book.items ≡ true
-  pub here : AreOf book (tickets_in waiting)
-  pub turn : AreInTurn book.items [] (tickets_in waiting)
-  pub within : IsWithin book.about.limits (history_in book)
-  pub kept : Follow follows log → KeepsHistory (slots sight log) book (doubt_of book.items)
