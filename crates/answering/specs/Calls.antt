@@ -1,10 +1,14 @@
 -- What came of calls that were made one after another.
-use Rattle.std.specs.Prelude.{◌≡◌, Bool, true, false, List, [], ◌∷◌, Result, Ok, Err}
+use Rattle.std.specs.Prelude.{◌≡◌, ℕ, Bool, true, false, List, [], ◌∷◌, Result, Ok, Err}
 use Rattle.labels.specs.declared.fault.LabelFault.{LabelFault}
 use Rattle.accept.specs.declared.call.Call.{Call}
 use Rattle.accept.specs.declared.call.Reply.{Reply}
 use Rattle.requests.specs.declared.failure.Failure.{Failure}
 use Rattle.requests.specs.declared.failure.Failure.TheVariants.{OutOfMemory, PassClosed, InDoubt, LogSpent}
+
+-- the most calls of a body that are on their way at once
+abbrev pub max_window : ℕ
+max_window = 64
 
 -- a relation of what a call gives: whether the call before it is in doubt, what was known, the call, what came of it,
 -- and what is known then

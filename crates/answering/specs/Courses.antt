@@ -9,7 +9,7 @@ use Rattle.requests.specs.declared.failure.Failure.TheVariants.{OutOfMemory}
 use Rattle.requests.specs.declared.route.Route.{Route}
 use Rattle.requests.specs.declared.route.Route.TheVariants.{Push, Read, Trim}
 use Rattle.answering.specs.Asking.{Asked, AsksFor, IsCallOf}
-use Rattle.answering.specs.Calls.{Giving, Came, Refused, Replied, Failed, leaves_doubt}
+use Rattle.answering.specs.Calls.{Giving, Came, Refused, Replied, Failed, leaves_doubt, max_window}
 use Rattle.answering.specs.Lines.{came_lines}
 use Rattle.answering.specs.Replies.{one_text}
 
@@ -76,7 +76,7 @@ module _ {H : Type 0} (gives : Giving H) (tenant : List ℕ) where
   abbrev pub StreamsGive : H → List Asked → List Came → H → Type 0
   StreamsGive h all cames h' = StreamsGiveAfter false h all cames h'
 
-  -- of a beginning of these streams this came: one failed, and fewer than 64 stand behind it
+  -- of a beginning of these streams this came: one failed, and fewer than a window's stand behind it
   pub record BodyFails (h : H) (all : List Asked) (cames : List Came) (failure : Failure)
       (h' : H) : Type 0 where
     pub done : List Asked
@@ -84,10 +84,10 @@ module _ {H : Type 0} (gives : Giving H) (tenant : List ℕ) where
     pub split : all ≡ done ++ more
     pub each : StreamsGive h done cames h'
     pub fails : first_failure cames ≡ Some failure
-    pub few : behind_failure cames < 64
+    pub few : behind_failure cames < max_window
 
   -- of a beginning of these streams this came: none failed up to one of which there is something to say, and fewer
-  -- than 64 stand behind that
+  -- than a window's stand behind that
   pub record BodyStops (says : ℕ → Came → List ℕ) (h : H) (all : List Asked) (h' : H) : Type 0 where
     pub done : List Asked
     pub more : List Asked
@@ -98,7 +98,7 @@ module _ {H : Type 0} (gives : Giving H) (tenant : List ℕ) where
     pub each : StreamsGive h done (cames ++ last ∷ behind) h'
     pub whole : first_failure (cames ++ last ∷ []) ≡ None
     pub said : says (length cames) last ≢ []
-    pub few : length behind < 64
+    pub few : length behind < max_window
 
   -- what was asked for went so
   abbrev pub BodyGives : H → Result (List Asked) PushFault → Course → H → Type 0

@@ -4,7 +4,7 @@ ghost use Rattle.accept.specs.Calls.{AreNumbers};
 ghost use Rattle.accept.specs.declared.call.Call.{Call};
 ghost use Rattle.accept.specs.declared.call.Reply.{Reply};
 ghost use Rattle.requests.specs.declared.failure.Failure.{Failure};
-ghost use Rattle.answering.specs.Calls.{CallsGive};
+ghost use Rattle.answering.specs.Calls.{CallsGive, max_window};
 
 use accept::{Call, Reply};
 use requests::Failure;
@@ -59,7 +59,7 @@ pub trait Calls {
         outcomes: &mut VecDeque<Self::Outcome>,
     )
         requires ready { is_ready self.now pass.old }
-        requires few { deque_len calls.old ≤ 64 }
+        requires few { deque_len calls.old ≤ max_window }
         requires numbers { All AreNumbers calls.old.items }
         requires empty { outcomes.old.items ≡ [] }
         requires room { deque_len calls.old ≤ deque_capacity outcomes.old }

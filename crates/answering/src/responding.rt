@@ -4,6 +4,7 @@ ghost use Rattle.std.specs.VecDeque.{deque_len};
 ghost use Rattle.accept.specs.OneStream.{end_of_time};
 ghost use Rattle.accept.specs.Calls.{AreNumbers};
 ghost use Rattle.requests.specs.Answers.{failure_body};
+ghost use Rattle.answering.specs.Calls.{max_window};
 ghost use Rattle.answering.specs.Asking.{Asked};
 ghost use Rattle.answering.specs.Parts.{BodyIsRefused, UncalledIsAnswered, BodyIsAnswered, AsksForCall, IsOfOne};
 ghost use Rattle.answering.specs.Responses.{RequestIsAnswered, RequestEnds, bad_time_text};
@@ -105,7 +106,7 @@ fn take_windows<S: Calls, R: Wait>(
     requires pass { S.is_ready service.now pass.old }
     requires fresh { IsEmptyWindow streams.windows.calls.items streams.windows.outcomes.items }
     requires numbers { All AreNumbers streams.windows.left.items }
-    requires size { streams.windows.size ≡ min 64 (deque_len streams.windows.left) }
+    requires size { streams.windows.size ≡ min max_window (deque_len streams.windows.left) }
     requires enough { called streams.places.items ≤ deque_len streams.windows.left }
     ensures pass { S.is_ready service.now pass.new }
     ensures goes { (tenant : List ℕ) (all : List Asked)

@@ -6,7 +6,7 @@ ghost use Rattle.accept.specs.OneStream.{end_of_time};
 ghost use Rattle.accept.specs.Calls.{AreNumbers};
 ghost use Rattle.requests.specs.declared.route.Route.TheVariants.{Push};
 ghost use Rattle.answering.specs.Asking.{Asked, AsksFor, HasNumbers, asked_push};
-ghost use Rattle.answering.specs.Calls.{Came};
+ghost use Rattle.answering.specs.Calls.{Came, max_window};
 ghost use Rattle.answering.specs.Courses.{first_failure};
 ghost use Rattle.answering.specs.Telling.{Tells, CameIsNoted};
 ghost use Rattle.answering.specs.Windows.{AreStreams, AsksForStreams, IsEmptyWindow, StreamsAreTaken, WindowIsTaken, AreNoted, called, came_of, merged};
@@ -40,7 +40,7 @@ pub(crate) struct Windows<O> {
     pub(crate) left: VecDeque<Call>,
     pub(crate) calls: VecDeque<Call>,
     pub(crate) outcomes: VecDeque<O>,
-    ghost few: { size ≤ 64 },
+    ghost few: { size ≤ max_window },
     ghost calls_fit: { size ≤ deque_capacity calls },
     ghost outcomes_fit: { size ≤ deque_capacity outcomes },
 }
@@ -63,7 +63,7 @@ pub(crate) fn streams_of<O: Drop>(
     ensures fresh { IfOk result (λ streams.
         IsEmptyWindow streams.windows.calls.items streams.windows.outcomes.items) }
     ensures size { IfOk result (λ streams.
-        streams.windows.size ≡ min 64 (deque_len streams.windows.left)) }
+        streams.windows.size ≡ min max_window (deque_len streams.windows.left)) }
 {
     let batches = read_push(alloc, request.body)?;
     let (places, left) = places_of(alloc, request.tenant, request.time, batches)?;
@@ -111,7 +111,7 @@ impl<O: Drop> Windows<O> {
         ensures left { IfOk result (λ windows. windows.left ≡ left) }
         ensures fresh { IfOk result (λ windows.
             IsEmptyWindow windows.calls.items windows.outcomes.items) }
-        ensures size { IfOk result (λ windows. windows.size ≡ min 64 (deque_len left)) }
+        ensures size { IfOk result (λ windows. windows.size ≡ min max_window (deque_len left)) }
     {
         let size = MOST.min(left.len());
         let calls = VecDeque::with_capacity(alloc, size)?;
@@ -191,7 +191,7 @@ impl<O: Drop> Windows<O> {
         requires fresh { IsEmptyWindow self.old.calls.items self.old.outcomes.items }
         requires numbers { All AreNumbers self.old.left.items }
         requires enough { called places.now ≤ deque_len self.old.left }
-        requires room { (called places.now ≤ self.old.size) × (length places.now ≤ 64) }
+        requires room { (called places.now ≤ self.old.size) × (length places.now ≤ max_window) }
         requires few { lines.old.streams + length places.now < 2 ^ 64 }
         ensures pass { S.is_ready service.now pass.new }
         ensures goes { (h : S.Pass) (tenant : List ℕ) (all : List Asked)
