@@ -99,7 +99,8 @@ impl<D: Disk + Drop> Ingester<D> {
     }
 
     /// Makes a call. It waits for the owner of its key's shard alone, which writes the calls that have come to it
-    /// together at once.
+    /// together at once. `call_all` of one call would give the same, but wants lists for calls and outcomes from its
+    /// caller: a lone call needs none.
     ///
     /// # Errors
     ///
