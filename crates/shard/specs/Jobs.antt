@@ -9,6 +9,10 @@ use Rattle.history.specs.Handles.{Announced}
 use Rattle.shard.specs.declared.first_jobs.Job.{Job}
 use Rattle.shard.specs.Groups.{HaveStepsOr}
 
+-- the most calls of a turn
+abbrev pub most_calls : ℕ
+most_calls = 64
+
 abbrev pub tickets_of : List Job → List Announced
 tickets_of [] = []
 tickets_of (j ∷ jobs) = j.ticket ∷ tickets_of jobs
