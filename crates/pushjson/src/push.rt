@@ -1,4 +1,4 @@
-ghost use Rattle.std.specs.Prelude.{◌≡◌, ◌↔◌, IsTrue, IfOk, All, map, length, sum_by};
+ghost use Rattle.std.specs.Prelude.{◌≡◌, ◌↔◌, ◌<◌, IsTrue, IfOk, All, map, length, sum_by};
 ghost use Rattle.accept.specs.OneStream.{AreTimes};
 ghost use Rattle.accept.specs.Calls.{max_entries};
 ghost use Rattle.pushjson.specs.Bodies.{HaveRisingNames};
