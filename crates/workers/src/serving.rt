@@ -201,7 +201,8 @@ fn join_all<I, P: Drop, S: Serve<I, P>, R: Threads>(
     crew: Crew<I, P, S>,
 ) -> Vec<P>
     requires passes { All (S.is_pass_of service.now) crew.passes.items }
-    requires threads { All (λ thread. thread.promise.service.value ≡ service.now) crew.threads.items }
+    requires threads { All (λ thread. thread.promise.service.value
+        ≡ service.now) crew.threads.items }
     ensures passes { All (S.is_pass_of service.now) result.items }
 {
     let _ = service;
