@@ -140,7 +140,7 @@ rest_kept now book asks within unmarked keeps a b x y =
     (length all, omega arith, subst (λ (m : Streams). Recovers (owner_in book) a b m) same k.2)
 
 -- after a mark it is kept with the mark's list
-marked_kept : (now : Pair) (book : Booked) (asks doubt : List Ask) → IsWithin book.about.limits (history_in book) → is_marked book.items ≡ true
+pub marked_kept : (now : Pair) (book : Booked) (asks doubt : List Ask) → IsWithin book.about.limits (history_in book) → is_marked book.items ≡ true
     → KeepsHistory now (with_steps book asks) doubt → KeepsHistory now book doubt
 marked_kept now book asks doubt within marked keeps a b x y =
     let k = keeps a b x y in (
