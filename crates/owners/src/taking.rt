@@ -3,21 +3,20 @@ ghost use Rattle.std.specs.Prelude.{◌≡◌, ◌≤◌, ◌++◌};
 ghost use Rattle.std.specs.VecDeque.{deque_len};
 ghost use Rattle.keyed.specs.Queues.{receives_as};
 ghost use Rattle.keyed.specs.declared.binding.Binding.TheVariants.{Bound};
+ghost use Rattle.shard.specs.Jobs.{max_turn};
 ghost use Rattle.owners.specs.Letters.{IsLetterTo, IsOrderFor};
 ghost use Rattle.owners.specs.Desks.{IsDesk};
 
 use crate::desk::{Desk, move_jobs, put_at};
 use crate::letters::{Letter, Order, OrdersIn};
 use crate::places::Home;
+use shard::MAX_TURN;
 use std::sync::Wait;
-
-/// How many calls a group has before no further letter is taken in.
-const MOST: usize = 64;
 
 // Puts the calls of a letter after those of the desk, and the letter at the place of its pass.
 fn take_letter(home: &Home, shard: usize, desk: &mut Desk, mut letter: Letter)
     requires desk { IsDesk home.now shard desk.old }
-    requires few { deque_len desk.old.jobs ≤ 64 }
+    requires few { deque_len desk.old.jobs ≤ max_turn }
     requires letter { IsLetterTo home.now shard letter }
     ensures desk { IsDesk home.now shard desk.new }
     ensures few { deque_len desk.new.jobs ≤ 128 }
@@ -35,7 +34,7 @@ fn take_letter(home: &Home, shard: usize, desk: &mut Desk, mut letter: Letter)
 // Takes in an order. It says whether that is the last.
 fn take_order(home: &Home, shard: usize, desk: &mut Desk, order: Order) -> bool
     requires desk { IsDesk home.now shard desk.old }
-    requires few { deque_len desk.old.jobs ≤ 64 }
+    requires few { deque_len desk.old.jobs ≤ max_turn }
     requires order { IsOrderFor home.now shard order }
     ensures desk { IsDesk home.now shard desk.new }
     ensures few { deque_len desk.new.jobs ≤ 128 }
@@ -49,8 +48,8 @@ fn take_order(home: &Home, shard: usize, desk: &mut Desk, order: Order) -> bool
     }
 }
 
-/// Waits for an order, and takes in those that are there, until 64 calls or more are to be made. It says whether that
-/// was the last order.
+/// Waits for an order, and takes in those that are there, until the calls of a turn or more are to be made. It says
+/// whether that was the last order.
 pub(crate) fn take_group<R: Wait>(
     rt: &R,
     home: &Home,
@@ -69,8 +68,8 @@ pub(crate) fn take_group<R: Wait>(
         return true;
     };
     let mut is_last = take_order(home, shard, desk, first);
-    for _ in 0..MOST {
-        if is_last || desk.jobs.len() >= MOST {
+    for _ in 0..MAX_TURN {
+        if is_last || desk.jobs.len() >= MAX_TURN {
             break;
         }
         let Some(next) = orders.try_receive(rt) else {

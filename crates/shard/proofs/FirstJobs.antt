@@ -12,7 +12,7 @@ use Rattle.shard.specs.declared.group.Judged.TheVariants.{Quiet, Changing}
 use Rattle.shard.specs.declared.parts.Parts.{Parts}
 use Rattle.shard.specs.Queues.{waiting_in, AreMatched, tickets_in}
 use Rattle.shard.specs.Adding.{IsGroup, IsAddedBy, waiting_of}
-use Rattle.shard.specs.Jobs.{most_calls, tickets_of, AreLawful}
+use Rattle.shard.specs.Jobs.{max_turn, tickets_of, AreLawful}
 
 -- no more calls change something than are judged
 pub matched_fewer : (js : List Judged) (ts : List Announced) → AreMatched js ts → length ts ≤ length js
@@ -74,9 +74,9 @@ abbrev pub IsGatheredFrom : {D : Type 0} → (D → Sight) → (D → Type 0) �
 IsGatheredFrom sight follows start first all p group jobs =
     IsGroup sight follows p group
     × AreLawful start.book.about start.book.shard jobs
-    × (most_calls ≤ deque_capacity group.judged)
-    × (most_calls ≤ deque_capacity group.changing)
-    × (deque_len group.judged ≤ most_calls)
+    × (max_turn ≤ deque_capacity group.judged)
+    × (max_turn ≤ deque_capacity group.changing)
+    × (deque_len group.judged ≤ max_turn)
     × (p ≡ record start { states = p.states; buffer = p.buffer })
     × (tickets_in (waiting_of group) ++ tickets_of jobs ≡ tickets_in (waiting_of first) ++ tickets_of all)
     × (deque_len group.judged + length jobs ≡ deque_len first.judged + length all)
@@ -84,7 +84,7 @@ IsGatheredFrom sight follows start first all p group jobs =
 module _ {D : Type 0} (sight : D → Sight) (follows : D → Type 0) (start : Parts D) (first : Group) (all : List Job) where
   -- the next of them joins
   pub front_next : (p new : Parts D) (group behind : Group) (j : Job) (jobs rest : List Job) → IsGatheredFrom sight follows start first all p group jobs
-      → jobs ≡ j ∷ rest → deque_len group.judged < most_calls → IsGroup sight follows new behind → IsAddedBy p group j new behind Joined
+      → jobs ≡ j ∷ rest → deque_len group.judged < max_turn → IsGroup sight follows new behind → IsAddedBy p group j new behind Joined
       → new ≡ record p { states = new.states; buffer = new.buffer }
       → (deque_capacity behind.judged ≡ deque_capacity group.judged) × (deque_capacity behind.changing ≡ deque_capacity group.changing)
       → deque_len behind.judged ≤ deque_len group.judged + 1

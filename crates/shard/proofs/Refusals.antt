@@ -22,7 +22,7 @@ use Rattle.shard.specs.Calls.{reply_in}
 use Rattle.shard.specs.Shards.{IsShard}
 use Rattle.shard.specs.Groups.{with_step, with_steps, MayLeaveAll}
 use Rattle.shard.specs.Queues.{receipt_at, settled_of}
-use Rattle.shard.specs.Jobs.{most_calls, tickets_of, jobs_by, jobs_but}
+use Rattle.shard.specs.Jobs.{max_turn, tickets_of, jobs_by, jobs_but}
 use Rattle.shard.specs.Parts.{seen_of, ArePartsOf}
 use Rattle.shard.specs.Turns.{AreApplied, AreTogether, given_back_of, AreReady}
 use Rattle.shard.proofs.Slots.{IsClocked, no_time, none_yet}
@@ -263,7 +263,7 @@ module _ {D : Type 0} (sight : D → Sight) (follows : D → Type 0) (start : Pa
       })
 
   -- 64 of them were refused
-  pub refused_most : IsClocked sight follows → ArePartsOf sight follows start → (p : Parts D) (jobs : List Job) (now : List Settled) (n : ℕ) → IsRefusing sight follows start all was p jobs now n → n ≡ most_calls
+  pub refused_most : IsClocked sight follows → ArePartsOf sight follows start → (p : Parts D) (jobs : List Job) (now : List Settled) (n : ℕ) → IsRefusing sight follows start all was p jobs now n → n ≡ max_turn
       → AreTogether sight follows (record { old = seen_of start; new = seen_of p; jobs = all; rest = jobs; was = was; now = now; ended = Most })
   refused_most clocked before p jobs now n h most = record {
     front = h.front;
@@ -276,7 +276,7 @@ module _ {D : Type 0} (sight : D → Sight) (follows : D → Type 0) (start : Pa
 
   -- none is left
   pub refused_last : IsClocked sight follows → ArePartsOf sight follows start → 0 < length all → (p : Parts D) (jobs rest : List Job) (now : List Settled) (n : ℕ) → IsRefusing sight follows start all was p jobs now n
-      → n ≤ most_calls → jobs ≡ [] → rest ≡ [] → AreTogether sight follows (record { old = seen_of start; new = seen_of p; jobs = all; rest = rest; was = was; now = now; ended = Last })
+      → n ≤ max_turn → jobs ≡ [] → rest ≡ [] → AreTogether sight follows (record { old = seen_of start; new = seen_of p; jobs = all; rest = rest; was = was; now = now; ended = Last })
   refused_last clocked before more p jobs rest now n h few none empty = record {
     front = h.front;
     some = omega (arith, more, length_tickets all, ap length h.split, length-append h.front (tickets_of jobs), ap (λ (l : List Job). length (tickets_of l)) none);

@@ -7,12 +7,12 @@ use Rattle.shard.specs.declared.first_jobs.Job.{Job}
 use Rattle.shard.specs.declared.group.Group.{Group}
 use Rattle.shard.specs.declared.parts.Parts.{Parts}
 use Rattle.shard.specs.Joinings.{IsTooLong}
-use Rattle.shard.specs.Jobs.{most_calls}
+use Rattle.shard.specs.Jobs.{max_turn}
 
 -- The group has 64 calls, or no job is left, or the record of the next does not fit, or there was no memory for the
 -- next.
 abbrev pub EndsGathering : {D : Type 0} → Parts D → Group → List Job → GroupEnd → Type 0
-EndsGathering p group jobs Most = deque_len group.judged ≡ most_calls
+EndsGathering p group jobs Most = deque_len group.judged ≡ max_turn
 EndsGathering p group jobs Last = jobs ≡ []
 EndsGathering p group [] Full = ⊥
 EndsGathering p group (j ∷ jobs) Full =

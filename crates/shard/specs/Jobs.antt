@@ -10,8 +10,8 @@ use Rattle.shard.specs.declared.first_jobs.Job.{Job}
 use Rattle.shard.specs.Groups.{HaveStepsOr}
 
 -- the most calls of a turn
-abbrev pub most_calls : ℕ
-most_calls = 64
+abbrev pub max_turn : ℕ
+max_turn = 64
 
 abbrev pub tickets_of : List Job → List Announced
 tickets_of [] = []

@@ -16,7 +16,7 @@ use Rattle.shard.specs.declared.group.Settled.TheVariants as settled
 use Rattle.shard.specs.Keeping.{moments, LeavesSince, IsAllowed}
 use Rattle.shard.specs.Calls.{NeedsWrite, FitsBehind, roll_fault, IsSpent}
 use Rattle.shard.specs.Groups.{with_steps, changing_of, marked_by, FitsAfter, MayLeaveAll}
-use Rattle.shard.specs.Jobs.{most_calls, tickets_of, jobs_by, jobs_but, AreLawful, AreInPassTurn}
+use Rattle.shard.specs.Jobs.{max_turn, tickets_of, jobs_by, jobs_but, AreLawful, AreInPassTurn}
 use Rattle.shard.specs.Parts.{IsApplied}
 use Rattle.shard.specs.Queues.{settled_of}
 use Rattle.shard.specs.Shards.{Sharded}
@@ -72,7 +72,7 @@ pub record AreApplied {D : Type 0} (sight : D → Sight) (follows : D → Type 0
 -- The group ends with these tickets, and these jobs are left: it has 64 calls; or no job is left; or
 -- the next call writes, and the block with its change does not fit; or there was no memory for it.
 abbrev pub EndsFor : {D : Type 0} → Sharded D → List Announced → List Job → GroupEnd → Type 0
-EndsFor old front rest Most = length front ≡ most_calls
+EndsFor old front rest Most = length front ≡ max_turn
 EndsFor old front rest Last = rest ≡ []
 EndsFor old front [] Full = ⊥
 EndsFor old front (j ∷ rest) Full = NeedsWrite (with_steps old.book (asks_of front)) j.call
@@ -84,7 +84,7 @@ pub record AreTogether {D : Type 0} (sight : D → Sight) (follows : D → Type 
     (t : Turn D) : Type 0 where
   pub front : List Announced
   pub some : 1 ≤ length front
-  pub few : length front ≤ most_calls
+  pub few : length front ≤ max_turn
   pub split : tickets_of t.jobs ≡ front ++ tickets_of t.rest
   pub applied : AreApplied sight follows (span_of t) front
   pub ends : EndsFor t.old front t.rest t.ended

@@ -17,6 +17,6 @@ mod shard;
 mod turn;
 
 pub use fault::ApplyFault;
-pub use first_jobs::{GroupEnd, Job};
+pub use first_jobs::{GroupEnd, Job, MAX_TURN};
 pub use group::Settled;
 pub use shard::Shard;
