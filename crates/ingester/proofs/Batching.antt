@@ -25,7 +25,7 @@ use Rattle.owners.specs.Homes.{Homed}
 use Rattle.owners.specs.Calls.{IsWaiting, AreWaiting, AreOfPass}
 use Rattle.owners.specs.Ways.{IsReadyWay, AreReadyWays, AreLoaded, AreIdleWays, HasSameRest}
 use Rattle.owners.proofs.Each.{ways_set}
-use Rattle.ingester.specs.Batches.{IsBatchOf, AreBatchesOf, AreBelow, AreNumbered, IsPutIntoLetter}
+use Rattle.ingester.specs.Batches.{IsBatchOf, AreBatchesOf, AreBelow, AreCountedFrom, IsPutIntoLetter}
 
 tickets_more : (jobs : List Job) (job : Job) → tickets_of (jobs ++ job ∷ []) ≡ tickets_of jobs ++ job.ticket ∷ []
 tickets_more [] job = refl
@@ -58,7 +58,7 @@ asks_elsewhere : (about : About) (k : ℕ) (xs : List Ask) (a : Ask) → k ≢ s
 asks_elsewhere about k xs a e = asks_on_append about k xs (a ∷ []) ∙ ap (λ (b : Bool). asks_on about k xs ++ cond b (a ∷ []) []) (ne_eqb k (shard_in about a) e) ∙ append-nil (asks_on about k xs)
 
 -- one open call more
-pub numbered_more : (n : ℕ) (asks : List Ask) (a : Ask) → AreNumbered n asks → a.number ≡ n + length asks → AreNumbered n (asks ++ a ∷ [])
+pub numbered_more : (n : ℕ) (asks : List Ask) (a : Ask) → AreCountedFrom n asks → a.number ≡ n + length asks → AreCountedFrom n (asks ++ a ∷ [])
 numbered_more n [] a h e = let is : a.number ≡ n = omega arith in (is, tt)
 numbered_more n (b ∷ asks) a h e = (h.0, numbered_more (n + 1) asks a h.1 (omega arith))
 

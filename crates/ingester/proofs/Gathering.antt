@@ -8,7 +8,7 @@ use Rattle.accept.specs.declared.history.Ask.{Ask}
 use Rattle.history.specs.Plays.{ask_of}
 use Rattle.history.specs.Handles.{Passed}
 use Rattle.ingester.specs.Calls.{with_next}
-use Rattle.ingester.specs.Batches.{AreNumbered, IsNextOpen, AreSomeOpen}
+use Rattle.ingester.specs.Batches.{AreCountedFrom, IsNextOpen, AreSomeOpen}
 use Rattle.ingester.proofs.Batching.{numbered_more}
 use Rattle.ingester.proofs.Chaining.{announced_more}
 
@@ -20,7 +20,7 @@ some_first old new calls left number idle h = record {
   counted = refl;
   announced = (h.«open», h.pass);
   rested = h.rested idle;
-  numbers = subst (AreNumbered number) (sym (ap (λ (p : Passed). p.caller.pending) h.pass ∙ ap (λ (l : List Ask). l ++ ask_of old.caller (old.caller.last + 1) h.call ∷ []) idle)) (sym h.number_is, tt);
+  numbers = subst (AreCountedFrom number) (sym (ap (λ (p : Passed). p.caller.pending) h.pass ∙ ap (λ (l : List Ask). l ++ ask_of old.caller (old.caller.last + 1) h.call ∷ []) idle)) (sym h.number_is, tt);
 }
 
 -- one call more
@@ -31,7 +31,7 @@ some_more old mid new calls left rest first count number h long next n = record 
   counted = length_push h.front n.call ∙ ap (λ (m : ℕ). m + 1) h.counted;
   announced = announced_more old mid new h.front n.call h.announced n.«open» n.pass;
   rested = h.rested;
-  numbers = subst (AreNumbered first) (sym (ap (λ (p : Passed). p.caller.pending) n.pass)) (numbered_more first mid.caller.pending (ask_of mid.caller (mid.caller.last + 1) n.call) h.numbers (omega arith));
+  numbers = subst (AreCountedFrom first) (sym (ap (λ (p : Passed). p.caller.pending) n.pass)) (numbered_more first mid.caller.pending (ask_of mid.caller (mid.caller.last + 1) n.call) h.numbers (omega arith));
 }
 
 pub first_waits : (old new : Passed) (call : Call) → old.caller.pending ≡ [] → new ≡ with_next old call → length new.caller.pending ≡ 1

@@ -14,7 +14,7 @@ use Rattle.owners.specs.Openings.{Opening}
 use Rattle.ingester.specs.declared.fault.CallFault.{CallFault}
 use Rattle.ingester.specs.declared.fault.CallFault.TheVariants.{Memory, LogSpent, PassClosed, InDoubt}
 use Rattle.ingester.specs.Calls.{IsPassOf, IsRefused, AreGiven, with_next, closed_now}
-use Rattle.ingester.specs.Batches.{doubts, IsTakenBack, AreAnnounced, AreNumbered, AreSomeOpen, IsCollected, IsWithdrawn, IsTaken, AreTaken, AreReceived, AreLost, AreEnded, IsNextRefused}
+use Rattle.ingester.specs.Batches.{doubts, IsTakenBack, AreAnnounced, AreCountedFrom, AreSomeOpen, IsCollected, IsWithdrawn, IsTaken, AreTaken, AreReceived, AreLost, AreEnded, IsNextRefused}
 use Rattle.ingester.proofs.Chaining.{AreDone, taken_more, some_given, all_lost, given_append}
 
 -- the first open call was taken in
@@ -38,11 +38,11 @@ announced_ahead old new (call ∷ calls) a =
     let h = announced_ahead (with_next old call) new calls a.1 in
     record { table = h.table; about = h.about; pass = h.pass; rested = λ (r : IsRested old.caller). h.rested r }
 
-pub numbered_first : (n : ℕ) (asks : List Ask) → 0 < length asks → AreNumbered n asks → IsFirstNumber n asks
+pub numbered_first : (n : ℕ) (asks : List Ask) → 0 < length asks → AreCountedFrom n asks → IsFirstNumber n asks
 numbered_first n [] some h = absurd (omega arith)
 numbered_first n (a ∷ asks) some h = h.0
 
-pub numbered_behind : (n : ℕ) (asks : List Ask) → AreNumbered n asks → AreNumbered (n + 1) (behind_first asks)
+pub numbered_behind : (n : ℕ) (asks : List Ask) → AreCountedFrom n asks → AreCountedFrom (n + 1) (behind_first asks)
 numbered_behind n [] h = tt
 numbered_behind n (a ∷ asks) h = h.1
 
@@ -80,17 +80,17 @@ module _ {D : Type 0} (opening : Opening D) where
 
   -- the state of a pass while so many of its open calls are taken in
   pub record IsReceiving (pass : Passed) (n i count : ℕ) : Type 0 where
-    pub numbers : AreNumbered (n + i) pass.caller.pending
+    pub numbers : AreCountedFrom (n + i) pass.caller.pending
     pub waiting : length pass.caller.pending + i ≡ count
 
-  pub receiving_more : (old new : Passed) (n i count : ℕ) → IsBehind old new → AreNumbered (n + i) old.caller.pending → length old.caller.pending + i ≡ count → i < count → IsReceiving new n (i + 1) count
+  pub receiving_more : (old new : Passed) (n i count : ℕ) → IsBehind old new → AreCountedFrom (n + i) old.caller.pending → length old.caller.pending + i ≡ count → i < count → IsReceiving new n (i + 1) count
   receiving_more old new n i count b numbers waiting lt =
       let some : 0 < length old.caller.pending = omega arith in
       let less = length_behind old.caller.pending some in
       let here : length (behind_first old.caller.pending) + (i + 1) ≡ count = omega arith in
       let same : n + i + 1 ≡ n + (i + 1) = omega arith in
       record {
-        numbers = subst (AreNumbered (n + (i + 1))) (sym b.pending) (subst (λ (m : ℕ). AreNumbered m (behind_first old.caller.pending)) same (numbered_behind (n + i) old.caller.pending numbers));
+        numbers = subst (AreCountedFrom (n + (i + 1))) (sym b.pending) (subst (λ (m : ℕ). AreCountedFrom m (behind_first old.caller.pending)) same (numbered_behind (n + i) old.caller.pending numbers));
         waiting = ap (λ (l : List Ask). length l + (i + 1)) b.pending ∙ here;
       }
 

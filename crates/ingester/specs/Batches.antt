@@ -75,9 +75,9 @@ pub record IsNextOpen (old new : Passed) (calls left : List Call) (number : ℕ)
   pub number_is : number ≡ old.caller.last + 1
 
 -- the open calls have the numbers from n on
-abbrev pub AreNumbered : ℕ → List Ask → Type 0
-AreNumbered n [] = Unit {0}
-AreNumbered n (a ∷ asks) = (a.number ≡ n) × AreNumbered (n + 1) asks
+abbrev pub AreCountedFrom : ℕ → List Ask → Type 0
+AreCountedFrom n [] = Unit {0}
+AreCountedFrom n (a ∷ asks) = (a.number ≡ n) × AreCountedFrom (n + 1) asks
 
 -- some of the calls, from the first on, were announced, and these are left
 pub record AreSomeOpen (old new : Passed) (calls left : List Call) (first count : ℕ) : Type 0 where
@@ -86,7 +86,7 @@ pub record AreSomeOpen (old new : Passed) (calls left : List Call) (first count 
   pub counted : length front ≡ count
   pub announced : AreAnnounced old front new
   pub rested : IsRested old.caller
-  pub numbers : AreNumbered first new.caller.pending
+  pub numbers : AreCountedFrom first new.caller.pending
 
 -- the answer to this open call was taken in
 pub record IsCollected (old new : Passed) (first : Ask) (reply : Reply) : Type 0 where

@@ -8,7 +8,7 @@ ghost use Rattle.owners.specs.Calls.{IsDue, number_of_settled};
 ghost use Rattle.owners.specs.Openings.{home_of};
 ghost use Rattle.owners.specs.Ways.{IsWay, AreWays, AreReadyWays, AreIdleWays};
 ghost use Rattle.ingester.specs.Calls.{IsPassOf, AreGiven};
-ghost use Rattle.ingester.specs.Batches.{AreBatchesOf, AreBelow, AreNumbered, IsTaken, IsTakenBack, AreReceived, AreLost, AreEnded, IsNextRefused};
+ghost use Rattle.ingester.specs.Batches.{AreBatchesOf, AreBelow, AreCountedFrom, IsTaken, IsTakenBack, AreReceived, AreLost, AreEnded, IsNextRefused};
 ghost use Rattle.ingester.specs.Settling.{told_of};
 
 use crate::announcing::Round;
@@ -81,7 +81,7 @@ impl<D: Disk + Drop> Ingester<D> {
         requires ways { AreWays (home_of self.now) pass.old.caller.pass ways.old.items }
         requires shards { AreBelow (length ways.old.items) round.now.shards }
         requires rested { IsRested pass.old.caller }
-        requires numbers { AreNumbered round.now.first pass.old.caller.pending }
+        requires numbers { AreCountedFrom round.now.first pass.old.caller.pending }
         requires count { (length pass.old.caller.pending ≡ round.now.count)
             × (round.now.count ≤ max_open) }
         requires fits { round.now.first + round.now.count ≤ 2 ^ 64 }
@@ -94,7 +94,7 @@ impl<D: Disk + Drop> Ingester<D> {
             × (pass.new.table ≡ pass.old.table)
             × (pass.new.caller.about ≡ pass.old.caller.about)
             × (pass.new.caller.pass ≡ pass.old.caller.pass) }
-        ensures left { AreNumbered (round.now.first + result) pass.new.caller.pending
+        ensures left { AreCountedFrom (round.now.first + result) pass.new.caller.pending
             × (length pass.new.caller.pending + result ≡ round.now.count)
             × IsRested pass.new.caller }
         ensures len { deque_len outcomes.new ≡ deque_len outcomes.old + result }
@@ -142,7 +142,7 @@ impl<D: Disk + Drop> Ingester<D> {
         requires ways { AreWays (home_of self.now) pass.old.caller.pass ways.old.items }
         requires shards { AreBelow (length ways.old.items) round.now.shards }
         requires from { (from < round.now.count) × (round.now.count ≤ max_open) }
-        requires numbers { AreNumbered (round.now.first + from) pass.old.caller.pending
+        requires numbers { AreCountedFrom (round.now.first + from) pass.old.caller.pending
             × (length pass.old.caller.pending + from ≡ round.now.count) }
         requires fits { round.now.first + round.now.count ≤ 2 ^ 64 }
         requires room { deque_len outcomes.old + round.now.count
@@ -176,7 +176,7 @@ impl<D: Disk + Drop> Ingester<D> {
         requires about { pass.old.caller.about ≡ self.now.about }
         requires own { round.pass ≡ pass.old.caller.pass }
         requires rested { IsRested pass.old.caller }
-        requires numbers { AreNumbered round.first pass.old.caller.pending }
+        requires numbers { AreCountedFrom round.first pass.old.caller.pending }
         requires count { (length pass.old.caller.pending ≡ round.count) × (round.count ≤ max_open) }
         requires fits { round.first + round.count ≤ 2 ^ 64 }
         requires batches { AreBatchesOf self.now.table self.now.about pass.old.caller

@@ -3,13 +3,13 @@ use Rattle.std.specs.VecDeque.{deque_len, deque_capacity}
 use Rattle.history.specs.Plays.{IsRested}
 use Rattle.owners.specs.Openings.{home_of}
 use Rattle.owners.specs.Ways.{AreWays}
-use Rattle.ingester.specs.Batches.{AreNumbered, AreReceived}
+use Rattle.ingester.specs.Batches.{AreCountedFrom, AreReceived}
 use Rattle.ingester.proofs.opened.Ingester.receive_all.Given as goal
 
 abbrev pub invariant-loop-i : goal.invariant-loop-i
 invariant-loop-i g l = record {
   received : AreReceived l.self l.fn.pass l.pass l.fn.outcomes.items l.outcomes.items l.i;
-  numbers : AreNumbered (l.round.first + l.i) l.pass.caller.pending;
+  numbers : AreCountedFrom (l.round.first + l.i) l.pass.caller.pending;
   waiting : length l.pass.caller.pending + l.i ≡ l.round.count;
   rested : IsRested l.pass.caller;
   table : l.pass.table ≡ l.fn.pass.table;
