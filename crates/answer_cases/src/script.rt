@@ -5,7 +5,7 @@ use anyhow::{Result, bail};
 use std::alloc::{AllocError, Global};
 
 /// What comes of a call.
-#[derive(Clone, Copy, Debug)]
+#[derive(Clone, Copy)]
 pub enum Told {
     /// Each entry of a push has this outcome. A read finds nothing, and a trim removes nothing.
     Each(Outcome),

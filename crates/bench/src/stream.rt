@@ -168,15 +168,7 @@ fn entries_of(call: Call) -> Option<(u64, EntryList)>
             now,
             entries,
         } => Some((now, entries)),
-        Call::Read {
-            key: _key,
-            from: _,
-            to: _,
-        } => None,
-        Call::Trim {
-            key: _key,
-            bound: _,
-        } => None,
+        _ => None,
     }
 }
 
@@ -231,59 +223,70 @@ fn time_pushes<R: Clock + AllocGlobal>(
     Ok((start.elapsed(rt)?, stored))
 }
 
-/// Stores pushes in a new stream that keeps entries.
-fn time_on_new<R: Clock + AllocGlobal>(
+/// Stores pushes of lines with this metadata, in order, in a new stream that keeps entries.
+fn time_in_order<R: Clock + AllocGlobal>(
     rt: &R,
-    kept: u64,
-    calls: Vec<Call>,
+    load: Load,
+    meta: &Meta,
 ) -> Result<(Duration, usize)> {
-    let mut stream = filled(rt.alloc(), kept)?;
+    let calls = pushes_of(rt.alloc(), meta, load.end(), STEP, load.pushes)?;
+    let mut stream = filled(rt.alloc(), load.kept)?;
     time_pushes(rt, &mut stream, calls)
 }
 
-/// Stores pushes of lines with metadata, in order, in a stream that keeps entries.
-fn time_paired<R: Clock + AllocGlobal>(rt: &R, load: Load) -> Result<(Duration, usize)> {
-    let pairs = three_pairs(rt.alloc())?;
-    let calls = pushes_of(rt.alloc(), &pairs, load.end(), STEP, load.pushes)?;
-    time_on_new(rt, load.kept, calls)
+/// Stores pushes of late lines in a stream.
+fn time_late<R: Clock + AllocGlobal>(
+    rt: &R,
+    load: Load,
+    stream: &mut StreamState,
+) -> Result<(Duration, usize)> {
+    let first = load.end().saturating_sub(LATE);
+    let calls = pushes_of(rt.alloc(), &Meta::none(), first, 1, load.pushes)?;
+    time_pushes(rt, stream, calls)
+}
+
+/// Reads lines of a stream.
+fn time_read<R: Clock + AllocGlobal>(
+    rt: &R,
+    stream: &StreamState,
+    from: u64,
+) -> Result<(Duration, usize)> {
+    let to = from.saturating_add(READ.saturating_mul(STEP));
+    let start = Instant::now(rt)?;
+    let found = stream.read(rt.alloc(), from, to)?;
+    Ok((start.elapsed(rt)?, found.as_slice().len()))
+}
+
+/// Trims a stream.
+fn time_trim<R: Clock>(rt: &R, stream: &mut StreamState, bound: u64) -> Result<(Duration, u64)> {
+    let start = Instant::now(rt)?;
+    let removed = stream.trim(bound, &LIMITS).unwrap_or(0);
+    Ok((start.elapsed(rt)?, removed))
 }
 
 /// Makes the calls on new streams.
 pub fn make_run<R: Clock + AllocGlobal>(rt: &R, load: Load) -> Result<Run> {
-    let alloc = rt.alloc();
-    let none = Meta::none();
+    let in_order = time_in_order(rt, load, &Meta::none())?;
+    let paired = time_in_order(rt, load, &three_pairs(rt.alloc())?)?;
+    let mut stream = filled(rt.alloc(), load.kept)?;
+    let late = time_late(rt, load, &mut stream)?;
     let middle = START.saturating_add((load.kept / 2).saturating_mul(STEP));
-    let calls = pushes_of(alloc, &none, load.end(), STEP, load.pushes)?;
-    let (in_order, stored) = time_on_new(rt, load.kept, calls)?;
-    let (paired, stored_paired) = time_paired(rt, load)?;
-    let first = load.end().saturating_sub(LATE);
-    let calls = pushes_of(alloc, &none, first, 1, load.pushes)?;
-    let mut stream = filled(alloc, load.kept)?;
-    let (late, stored_late) = time_pushes(rt, &mut stream, calls)?;
-    let start = Instant::now(rt)?;
-    let found = stream.read(
-        alloc,
-        middle,
-        middle.saturating_add(READ.saturating_mul(STEP)),
-    )?;
-    let read = start.elapsed(rt)?;
-    let start = Instant::now(rt)?;
-    let removed = stream.trim(middle, &LIMITS).unwrap_or(0);
-    let trim = start.elapsed(rt)?;
+    let read = time_read(rt, &stream, middle)?;
+    let trim = time_trim(rt, &mut stream, middle)?;
     Ok(Run {
         times: Times {
-            in_order,
-            paired,
-            late,
-            read,
-            trim,
+            in_order: in_order.0,
+            paired: paired.0,
+            late: late.0,
+            read: read.0,
+            trim: trim.0,
         },
         counts: Counts {
-            in_order: stored,
-            paired: stored_paired,
-            late: stored_late,
-            read: found.as_slice().len(),
-            removed,
+            in_order: in_order.1,
+            paired: paired.1,
+            late: late.1,
+            read: read.1,
+            removed: trim.1,
         },
     })
 }

@@ -19,7 +19,7 @@ const MOST: usize = 8_192;
 const CALLS: u64 = 20;
 
 /// What becomes of a call where one of the calls on a slot fails.
-#[derive(Clone, Copy, Debug, PartialEq, Eq)]
+#[derive(Clone, Copy, PartialEq, Eq)]
 enum Tried {
     /// The opening failed.
     Unopened,

@@ -7,7 +7,7 @@ use disk::{Disk, MemDisk};
 use std::alloc::Global;
 
 /// What a device does at a call that is to fail.
-#[derive(Clone, Copy, Debug, PartialEq, Eq)]
+#[derive(Clone, Copy)]
 pub enum Way {
     /// It fails that call, and no other.
     Fails,

@@ -3,7 +3,7 @@ use accept::Limits;
 use anyhow::{Result, bail};
 
 /// The settings with which slots are opened.
-#[derive(Clone, Copy, Debug)]
+#[derive(Clone, Copy)]
 pub struct Settings {
     /// The limits of all calls.
     pub limits: Limits,

@@ -4,9 +4,8 @@ use crate::slots::{EXAMPLE, Slots, open};
 use anyhow::Result;
 use disk::MemDisk;
 use log_words::{bytes_of, number_of};
-use rows::word_of;
+use rows::{Said, word_of};
 use std::alloc::Global;
-use std::fmt::Write;
 
 /// Contents that come one after another and are alike.
 #[derive(Drop)]
@@ -27,11 +26,10 @@ impl Alike {
         }
     }
 
-    fn say(&self, said: &mut String) -> Result<()> {
+    fn say(&self, said: &mut Said) {
         let (count, shortest, longest) = (self.count, self.shortest, self.longest);
-        write!(said, "{count} of {shortest} to {longest} bytes, ")?;
-        said.push_str(self.text.as_str())?;
-        Ok(said.push('\n')?)
+        said.tell(format_args!("{count} of {shortest} to {longest} bytes, "));
+        said.put(self.text.as_str());
     }
 }
 
@@ -51,25 +49,24 @@ struct Sight<'a> {
 impl Sight<'_> {
     /// A content, and what an opening finds in it.
     fn describe(&self, content: &[u8]) -> Result<String> {
-        let mut text = String::new(self.alloc);
-        self.compare(content, &mut text)?;
+        let mut text = Said::new(self.alloc);
+        self.compare(content, &mut text);
         let _ = open(self.alloc, self.slots_with(content)?, EXAMPLE, &mut text)?;
-        text.pop();
-        Ok(text)
+        Ok(text.end()?)
     }
 
-    fn compare(&self, content: &[u8], said: &mut String) -> Result<()> {
+    fn compare(&self, content: &[u8], said: &mut Said) {
         let place = self.place;
         match content.get(place) {
-            Some(byte) => write!(said, "{byte:02x} at {place}")?,
-            None => write!(said, "none at {place}")?,
+            Some(byte) => said.tell(format_args!("{byte:02x} at {place}")),
+            None => said.tell(format_args!("none at {place}")),
         }
         let is_seen = content.len() == self.seen.len() && are_same_but(content, self.seen, place);
-        Ok(said.push_str(if is_seen {
+        said.put(if is_seen {
             ", else as read\n"
         } else {
             ", else other\n"
-        })?)
+        });
     }
 
     fn slots_with(&self, content: &[u8]) -> Result<Slots> {
@@ -81,16 +78,16 @@ impl Sight<'_> {
     }
 
     /// Says contents. Those that come one after another and are alike are said as one.
-    fn say_all(&self, contents: &[Vec<u8>], said: &mut String) -> Result<()> {
+    fn say_all(&self, contents: &[Vec<u8>], said: &mut Said) -> Result<()> {
         let mut open: Option<Alike> = None;
         for content in contents {
             let text = self.describe(content)?;
-            open = Some(joined(open, content.len(), text, said)?);
+            open = Some(joined(open, content.len(), text, said));
         }
-        match open {
-            Some(alike) => alike.say(said),
-            None => Ok(()),
+        if let Some(alike) = open {
+            alike.say(said);
         }
+        Ok(())
     }
 }
 
@@ -99,7 +96,7 @@ impl Sight<'_> {
 /// For contents that come one after another and are alike it appends how many there are and how long they are, which
 /// byte is at the place, whether the others are as a read gives, and what an opening finds, with the other slot as a
 /// read gives it.
-pub fn say_crash(alloc: Global, slots: &mut Slots, words: &str, said: &mut String) -> Result<()> {
+pub fn say_crash(alloc: Global, slots: &mut Slots, words: &str, said: &mut Said) -> Result<()> {
     let (slot, rest) = word_of(words);
     let (values, rest) = word_of(rest);
     let (max, place) = word_of(rest);
@@ -115,7 +112,7 @@ fn say_found(
     slot: &str,
     place: usize,
     found: &[Vec<u8>],
-    said: &mut String,
+    said: &mut Said,
 ) -> Result<()> {
     let is_first = slot == "0";
     let seen = read_all(alloc, slots.at(slot)?)?;
@@ -137,19 +134,19 @@ fn images_of(alloc: Global, disk: &MemDisk, values: &str, max: &str) -> Result<V
 }
 
 /// Takes one more content in. Appends those before it where it is not like them.
-fn joined(open: Option<Alike>, length: usize, text: String, said: &mut String) -> Result<Alike> {
+fn joined(open: Option<Alike>, length: usize, text: String, said: &mut Said) -> Alike {
     match open {
         Some(mut alike) if alike.text.as_str() == text.as_str() => {
             alike.count = alike.count.saturating_add(1);
             alike.shortest = alike.shortest.min(length);
             alike.longest = alike.longest.max(length);
-            Ok(alike)
+            alike
         }
         Some(alike) => {
-            alike.say(said)?;
-            Ok(Alike::one(length, text))
+            alike.say(said);
+            Alike::one(length, text)
         }
-        None => Ok(Alike::one(length, text)),
+        None => Alike::one(length, text),
     }
 }
 

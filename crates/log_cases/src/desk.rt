@@ -4,9 +4,9 @@ use crate::slots::{Slots, open, synced};
 use anyhow::{Context, Result, bail};
 use disk::{DeviceFault, FileDisk, FileFault, ImagesFault, LockedFile, MemDisk};
 use log_words::{bytes_of, number_of};
-use rows::word_of;
+use rows::{Said, word_of};
 use std::alloc::Global;
-use std::fmt::Write;
+use std::fmt::Display;
 use std::fs::{self, File};
 use std::rt::Files;
 use wal::{OpenFault, Wal, WalFault};
@@ -33,40 +33,34 @@ impl Desk {
         &mut self,
         rt: &R,
         line: &str,
-        said: &mut String,
+        said: &mut Said,
     ) -> Result<()> {
         let (word, rest) = word_of(line);
         match word {
             "memory" => self.drive = Some(Drive::Memory(memory_of(rt.alloc(), rest)?)),
-            "file" => self.open_file(rt, rest, said)?,
+            "file" => self.open_file(rt, rest, said),
             "drop" => self.drive = None,
             "folder" => {
                 let _ = fs::remove_dir_all(rt, rest);
                 fs::create_dir(rt, rest)?;
             }
             "remove" => fs::remove_dir_all(rt, rest)?,
-            "faults" => say_faults(said)?,
+            "faults" => say_faults(said),
             _ => self.take_log_word(rt.alloc(), word, rest, said)?,
         }
         Ok(())
     }
 
     /// Keeps the disk over a file where the file can be opened, otherwise what was kept.
-    fn open_file<R: Files<File = File>>(
-        &mut self,
-        rt: &R,
-        path: &str,
-        said: &mut String,
-    ) -> Result<()> {
+    fn open_file<R: Files<File = File>>(&mut self, rt: &R, path: &str, said: &mut Said) {
         match LockedFile::open(rt, path) {
             Ok(file) => {
                 self.drive = Some(Drive::File(FileDisk::new(file)));
-                writeln!(said, "open")?;
+                said.put("open\n");
             }
-            Err(FileFault::Io(_)) => writeln!(said, "refused by the system")?,
-            Err(fault) => writeln!(said, "{fault}")?,
+            Err(FileFault::Io(_)) => said.put("refused by the system\n"),
+            Err(fault) => say_fault(fault, said),
         }
-        Ok(())
     }
 
     fn take_log_word(
@@ -74,7 +68,7 @@ impl Desk {
         alloc: Global,
         word: &str,
         rest: &str,
-        said: &mut String,
+        said: &mut Said,
     ) -> Result<()> {
         match word {
             "slot" => self.fill(alloc, rest),
@@ -111,14 +105,14 @@ impl Desk {
     }
 
     /// `SLOT WORDS`: what is done with one slot.
-    fn take_slot_word(&mut self, alloc: Global, words: &str, said: &mut String) -> Result<()> {
+    fn take_slot_word(&mut self, alloc: Global, words: &str, said: &mut Said) -> Result<()> {
         let (slot, words) = word_of(words);
         let (word, rest) = word_of(words);
         let slots = self.closed(alloc)?;
         take_memory_word(alloc, slots.at(slot)?, word, rest, said)
     }
 
-    fn open(&mut self, alloc: Global, words: &str, said: &mut String) -> Result<()> {
+    fn open(&mut self, alloc: Global, words: &str, said: &mut Said) -> Result<()> {
         self.closed(alloc)?;
         let Some(slots) = self.slots.take() else {
             bail!("no slots");
@@ -138,51 +132,54 @@ impl Desk {
         Ok(())
     }
 
-    fn crash(&mut self, alloc: Global, words: &str, said: &mut String) -> Result<()> {
+    fn crash(&mut self, alloc: Global, words: &str, said: &mut Said) -> Result<()> {
         say_crash(alloc, self.closed(alloc)?, words, said)
     }
 
-    fn append(&mut self, frame: &[u8], said: &mut String) -> Result<()> {
+    fn append(&mut self, frame: &[u8], said: &mut Said) -> Result<()> {
         let Some(log) = &mut self.log else {
             bail!("no log")
         };
-        if !log.fits(frame.len() as u64) {
-            writeln!(said, "does not fit")?;
-            return Ok(());
+        if log.fits(frame.len() as u64) {
+            say_call(log.append(frame), said);
+        } else {
+            said.put("does not fit\n");
         }
-        say_call(log.append(frame), said)
+        Ok(())
     }
 
-    fn roll(&mut self, segment: &[u8], said: &mut String) -> Result<()> {
+    fn roll(&mut self, segment: &[u8], said: &mut Said) -> Result<()> {
         let Some(log) = &mut self.log else {
             bail!("no log")
         };
         if segment.len() as u64 >= log.capacity() {
-            writeln!(said, "above the capacity")?;
-            return Ok(());
+            said.put("above the capacity\n");
+        } else {
+            say_call(log.roll(segment), said);
         }
-        say_call(log.roll(segment), said)
+        Ok(())
     }
 
     /// Answers whether this many bytes fit, or which log it is.
-    fn look(&self, word: &str, rest: &str, said: &mut String) -> Result<()> {
+    fn look(&self, word: &str, rest: &str, said: &mut Said) -> Result<()> {
         let Some(log) = &self.log else {
             bail!("no log")
         };
         if word == "fits" {
             let fits = log.fits(number_of(rest)?);
-            return Ok(said.push_str(if fits { "yes\n" } else { "no\n" })?);
+            said.put(if fits { "yes\n" } else { "no\n" });
+        } else {
+            say_log(log, said);
         }
-        say_log(log, said)
+        Ok(())
     }
 }
 
-fn say_log(log: &Wal<MemDisk>, said: &mut String) -> Result<()> {
+fn say_log(log: &Wal<MemDisk>, said: &mut Said) {
     let (generation, shard) = (log.generation(), log.shard());
-    write!(said, "generation {generation} shard {shard}")?;
+    said.tell(format_args!("generation {generation} shard {shard}"));
     let (count, capacity) = (log.count(), log.capacity());
-    writeln!(said, " of {count} capacity {capacity}")?;
-    Ok(())
+    said.tell(format_args!(" of {count} capacity {capacity}\n"));
 }
 
 /// `ROOM CALLS WRITTEN`: an empty disk with this room.
@@ -197,22 +194,25 @@ fn memory_of(alloc: Global, words: &str) -> Result<MemDisk> {
     )?)
 }
 
-fn say_call(answer: Result<(), WalFault>, said: &mut String) -> Result<()> {
+fn say_call(answer: Result<(), WalFault>, said: &mut Said) {
     match answer {
-        Ok(()) => writeln!(said, "ok")?,
-        Err(fault) => writeln!(said, "{fault}")?,
+        Ok(()) => said.put("ok\n"),
+        Err(fault) => say_fault(fault, said),
     }
-    Ok(())
+}
+
+fn say_fault<F: Display + Drop>(fault: F, said: &mut Said) {
+    said.tell(format_args!("{fault}\n"));
 }
 
 /// The text of each fault.
-fn say_faults(said: &mut String) -> Result<()> {
-    writeln!(said, "{DeviceFault}")?;
+fn say_faults(said: &mut Said) {
+    say_fault(DeviceFault, said);
     for fault in [ImagesFault::TooMany, ImagesFault::Memory] {
-        writeln!(said, "{fault}")?;
+        say_fault(fault, said);
     }
     for fault in [FileFault::InUse, FileFault::NotAFile] {
-        writeln!(said, "{fault}")?;
+        say_fault(fault, said);
     }
     for fault in [
         OpenFault::Device,
@@ -225,10 +225,9 @@ fn say_faults(said: &mut String) -> Result<()> {
         OpenFault::Memory,
         OpenFault::UnknownVersion { slot: 0 },
     ] {
-        writeln!(said, "{fault}")?;
+        say_fault(fault, said);
     }
     for fault in [WalFault::Device, WalFault::GenerationSpent] {
-        writeln!(said, "{fault}")?;
+        say_fault(fault, said);
     }
-    Ok(())
 }

@@ -2,9 +2,8 @@
 use anyhow::{Context, Result, bail};
 use disk::{DeviceFault, Disk, FileDisk, MemDisk};
 use log_words::{bytes_of, number_of, write_bytes};
-use rows::{word_of, write_hex};
+use rows::{Said, word_of};
 use std::alloc::Global;
-use std::fmt::Write;
 
 /// What the buffer of a read holds before it.
 const UNREAD: u8 = 9;
@@ -23,7 +22,7 @@ impl Drive {
         alloc: Global,
         word: &str,
         rest: &str,
-        said: &mut String,
+        said: &mut Said,
     ) -> Result<()> {
         match self {
             Drive::Memory(disk) => take_memory_word(alloc, disk, word, rest, said),
@@ -38,12 +37,12 @@ pub fn take_memory_word(
     disk: &mut MemDisk,
     word: &str,
     rest: &str,
-    said: &mut String,
+    said: &mut Said,
 ) -> Result<()> {
     match word {
         "fail" => disk.fail_at(number_of(rest)?),
         "stop" => disk.stop_at(number_of(rest)?),
-        "calls" => writeln!(said, "{}", disk.calls())?,
+        "calls" => said.tell(format_args!("{}\n", disk.calls())),
         "images" => say_images(alloc, disk, rest, said)?,
         _ => take_disk_word(alloc, disk, word, rest, said)?,
     }
@@ -55,78 +54,97 @@ fn take_disk_word<D: Disk>(
     disk: &mut D,
     word: &str,
     rest: &str,
-    said: &mut String,
+    said: &mut Said,
 ) -> Result<()> {
     match word {
         "write" => say_write(alloc, disk, rest, said),
+        "read" => say_read(alloc, disk, rest, said),
+        "is" => {
+            say_whether(&read_all(alloc, disk)?, &bytes_of(alloc, rest)?, said);
+            Ok(())
+        }
+        _ => take_lone_word(disk, word, said),
+    }
+}
+
+fn take_lone_word<D: Disk>(disk: &mut D, word: &str, said: &mut Said) -> Result<()> {
+    match word {
         "sync" => say_done(disk.sync(), said),
         "len" => match disk.len() {
-            Ok(len) => Ok(writeln!(said, "{len}")?),
-            Err(fault) => Ok(writeln!(said, "{fault}")?),
+            Ok(len) => said.tell(format_args!("{len}\n")),
+            Err(fault) => say_fault(fault, said),
         },
-        "read" => say_read(alloc, disk, rest, said),
         "six" => say_six(disk, said),
-        "is" => say_whether(&read_all(alloc, disk)?, &bytes_of(alloc, rest)?, said),
         _ => bail!("no such word"),
-    }
-}
-
-fn say_write<D: Disk>(alloc: Global, disk: &mut D, words: &str, said: &mut String) -> Result<()> {
-    let (at, bytes) = word_of(words);
-    let at = number_of(at)?;
-    let bytes = bytes_of(alloc, bytes)?;
-    say_done(disk.write_at(at, &bytes), said)
-}
-
-/// Whether the bytes are these, and if not what they are.
-fn say_whether(found: &[u8], wanted: &[u8], said: &mut String) -> Result<()> {
-    if found == wanted {
-        return Ok(writeln!(said, "the same {} bytes", found.len())?);
-    }
-    write_bytes(found, said)
-}
-
-fn say_done(answer: Result<(), DeviceFault>, said: &mut String) -> Result<()> {
-    match answer {
-        Ok(()) => writeln!(said, "ok")?,
-        Err(fault) => writeln!(said, "{fault}")?,
     }
     Ok(())
 }
 
-/// `AT LENGTH`: how many bytes were read into a buffer of this length, and what it then holds.
-fn say_read<D: Disk>(alloc: Global, disk: &mut D, words: &str, said: &mut String) -> Result<()> {
-    let (at, length) = word_of(words);
-    let length = usize::try_from(number_of(length)?)?;
-    let mut buffer = vec![in alloc; UNREAD; length]?;
-    match disk.read(number_of(at)?, &mut buffer) {
-        Ok(count) => say_buffer(count, &buffer, said),
-        Err(fault) => Ok(writeln!(said, "{fault}")?),
+fn say_write<D: Disk>(alloc: Global, disk: &mut D, words: &str, said: &mut Said) -> Result<()> {
+    let (at, bytes) = word_of(words);
+    let at = number_of(at)?;
+    let bytes = bytes_of(alloc, bytes)?;
+    say_done(disk.write_at(at, &bytes), said);
+    Ok(())
+}
+
+/// Whether the bytes are these, and if not what they are.
+fn say_whether(found: &[u8], wanted: &[u8], said: &mut Said) {
+    if found == wanted {
+        said.tell(format_args!("the same {} bytes\n", found.len()));
+    } else {
+        write_bytes(found, said);
     }
 }
 
-fn say_buffer(count: usize, buffer: &[u8], said: &mut String) -> Result<()> {
-    write!(said, "{count}: ")?;
-    write_hex(buffer, said)?;
-    Ok(said.push('\n')?)
+fn say_done(answer: Result<(), DeviceFault>, said: &mut Said) {
+    match answer {
+        Ok(()) => said.put("ok\n"),
+        Err(fault) => say_fault(fault, said),
+    }
+}
+
+fn say_fault(fault: DeviceFault, said: &mut Said) {
+    said.tell(format_args!("{fault}\n"));
+}
+
+/// `AT LENGTH`: how many bytes were read into a buffer of this length, and what it then holds.
+fn say_read<D: Disk>(alloc: Global, disk: &mut D, words: &str, said: &mut Said) -> Result<()> {
+    let (at, length) = word_of(words);
+    let length = usize::try_from(number_of(length)?)?;
+    let at = number_of(at)?;
+    let mut buffer = vec![in alloc; UNREAD; length]?;
+    match disk.read(at, &mut buffer) {
+        Ok(count) => say_buffer(count, &buffer, said),
+        Err(fault) => say_fault(fault, said),
+    }
+    Ok(())
+}
+
+fn say_buffer(count: usize, buffer: &[u8], said: &mut Said) {
+    said.tell(format_args!("{count}: "));
+    said.hex(buffer);
+    said.put("\n");
 }
 
 /// Six calls, and for each whether it failed: a write, a sync, the length, a read, a write, a sync.
-fn say_six<D: Disk>(disk: &mut D, said: &mut String) -> Result<()> {
+fn say_six<D: Disk>(disk: &mut D, said: &mut Said) {
     let mut buffer = [0];
-    for failed in [
+    for (place, failed) in [
         disk.write_at(0, &[1]).is_err(),
         disk.sync().is_err(),
         disk.len().is_err(),
         disk.read(0, &mut buffer).is_err(),
         disk.write_at(0, &[2]).is_err(),
         disk.sync().is_err(),
-    ] {
-        said.push_str(if failed { "fails " } else { "ok " })?;
+    ]
+    .iter()
+    .enumerate()
+    {
+        said.put(if place == 0 { "" } else { " " });
+        said.put(if *failed { "fails" } else { "ok" });
     }
-    said.pop();
-    said.push('\n')?;
-    Ok(())
+    said.put("\n");
 }
 
 /// All bytes of a disk.
@@ -140,15 +158,16 @@ pub fn read_all<D: Disk>(alloc: Global, disk: &mut D) -> Result<Vec<u8>> {
 
 /// `VALUES MAX` or `VALUES MAX FROM`: what a crash may leave, with unsynced bytes of these values. For each content it
 /// says the bytes from that place on, where all bytes before it are as a read gives.
-fn say_images(alloc: Global, disk: &mut MemDisk, words: &str, said: &mut String) -> Result<()> {
+fn say_images(alloc: Global, disk: &mut MemDisk, words: &str, said: &mut Said) -> Result<()> {
     let (values, rest) = word_of(words);
     let (max, from) = word_of(rest);
     let max = usize::try_from(number_of(max)?)?;
     let values = bytes_of(alloc, values)?;
     match disk.images(alloc, &values, max) {
         Ok(found) => say_contents(&found, front_of(&read_all(alloc, disk)?, from)?, said),
-        Err(fault) => Ok(writeln!(said, "{fault}")?),
+        Err(fault) => said.tell(format_args!("{fault}\n")),
     }
+    Ok(())
 }
 
 fn front_of<'a>(bytes: &'a [u8], count: &str) -> Result<&'a [u8]> {
@@ -160,26 +179,24 @@ fn front_of<'a>(bytes: &'a [u8], count: &str) -> Result<&'a [u8]> {
 }
 
 /// Says of each content what follows this front.
-fn say_contents(found: &[Vec<u8>], front: &[u8], said: &mut String) -> Result<()> {
-    writeln!(said, "{} contents", found.len())?;
+fn say_contents(found: &[Vec<u8>], front: &[u8], said: &mut Said) {
+    said.tell(format_args!("{} contents\n", found.len()));
     for content in found {
         match content.strip_prefix(front) {
-            Some(left) => write_short(left, said)?,
-            None => said.push_str("another front")?,
+            Some(left) => write_short(left, said),
+            None => said.put("another front"),
         }
-        said.push('\n')?;
+        said.put("\n");
     }
-    Ok(())
 }
 
 /// Digits of bytes: `-` where there are none, `COUNT*HEX` for a byte that is repeated.
-fn write_short(bytes: &[u8], said: &mut String) -> Result<()> {
+fn write_short(bytes: &[u8], said: &mut Said) {
     match bytes.first() {
-        None => said.push('-')?,
+        None => said.put("-"),
         Some(first) if bytes.len() > 8 && bytes.iter().all(|byte| byte == first) => {
-            write!(said, "{}*{first:02x}", bytes.len())?;
+            said.tell(format_args!("{}*{first:02x}", bytes.len()));
         }
-        Some(_) => write_hex(bytes, said)?,
+        Some(_) => said.hex(bytes),
     }
-    Ok(())
 }

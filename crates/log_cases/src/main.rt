@@ -9,7 +9,7 @@ mod slots;
 
 use anyhow::{Context, Result};
 use desk::Desk;
-use rows::{Row, Tally, rows_of};
+use rows::{Row, Said, Tally, rows_of};
 use std::env;
 use std::fs::{self, File};
 use std::rt::Files;
@@ -39,9 +39,9 @@ fn judge_row<R: Files<File = File> + Print + AllocGlobal>(
     row: &Row<'_>,
     tally: &mut Tally,
 ) -> Result<()> {
-    let mut said = String::new(rt.alloc());
+    let mut said = Said::new(rt.alloc());
     take_row(rt, row, &mut said).context(format_args!("row {}", row.name))?;
-    tally.judge(rt, row, said.as_str())
+    tally.judge(rt, row, said.end()?.as_str())
 }
 
 /// Does what the lines of a row say, and appends what is said to it.
@@ -77,7 +77,7 @@ fn judge_row<R: Files<File = File> + Print + AllocGlobal>(
 fn take_row<R: Files<File = File> + AllocGlobal>(
     rt: &R,
     row: &Row<'_>,
-    said: &mut String,
+    said: &mut Said,
 ) -> Result<()> {
     let mut desk = Desk::new();
     take_lines(rt, row, &mut desk, said)
@@ -87,7 +87,7 @@ fn take_lines<R: Files<File = File> + AllocGlobal>(
     rt: &R,
     row: &Row<'_>,
     desk: &mut Desk,
-    said: &mut String,
+    said: &mut Said,
 ) -> Result<()> {
     for line in &row.given {
         desk.take_line(rt, line, said)

@@ -3,8 +3,8 @@ use accept::Image;
 use anyhow::{Result, bail};
 use disk::{Disk, MemDisk};
 use log_words::{number_of, owner_of, write_image};
+use rows::Said;
 use std::alloc::Global;
-use std::fmt::Write;
 use wal::Wal;
 
 /// The greatest capacity of a log, in bytes.
@@ -70,7 +70,7 @@ pub fn open(
     alloc: Global,
     slots: Slots,
     words: &str,
-    said: &mut String,
+    said: &mut Said,
 ) -> Result<Result<Wal<MemDisk>, Slots>> {
     let words = if words.is_empty() { EXAMPLE } else { words };
     let Some((owner, capacity)) = words.rsplit_once(' ') else {
@@ -81,18 +81,18 @@ pub fn open(
     let Slots { first, second } = slots;
     match Wal::open(alloc, [first, second], shard, count, capacity) {
         Ok((log, image)) => {
-            say_opened(log.generation(), &image, said)?;
+            say_opened(log.generation(), &image, said);
             Ok(Ok(log))
         }
         Err(refusal) => {
-            writeln!(said, "{}", refusal.0)?;
+            said.tell(format_args!("{}\n", refusal.0));
             let left = refusal.1;
             Ok(Err(Slots::of(left)))
         }
     }
 }
 
-fn say_opened(generation: u64, image: &Image, said: &mut String) -> Result<()> {
-    writeln!(said, "generation {generation}")?;
-    write_image(image, said)
+fn say_opened(generation: u64, image: &Image, said: &mut Said) {
+    said.tell(format_args!("generation {generation}\n"));
+    write_image(image, said);
 }

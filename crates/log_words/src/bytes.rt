@@ -1,6 +1,6 @@
 use crate::numbers::number_of;
 use anyhow::{Context, Result, bail};
-use rows::{read_hex, write_hex};
+use rows::{Said, read_hex};
 use std::alloc::Global;
 
 /// The example: a segment of generation 1 of the only shard, whose one stream has the entry 10 x. Its closing gate is
@@ -49,44 +49,61 @@ const LINE: usize = 32;
 pub fn bytes_of(alloc: Global, words: &str) -> Result<Vec<u8>> {
     let mut bytes = Vec::new(alloc);
     for word in words.split(' ') {
-        bytes = take_word(alloc, bytes, word).context(format_args!("in {word}"))?;
+        take_word(alloc, &mut bytes, word).context(format_args!("in {word}"))?;
     }
     Ok(bytes)
 }
 
-fn take_word(alloc: Global, mut bytes: Vec<u8>, word: &str) -> Result<Vec<u8>> {
-    match word {
-        "" | "-" => {}
-        "segment" => bytes.extend_from_slice(&SEGMENT)?,
-        "frame" => bytes.extend_from_slice(&FRAME)?,
-        "segment_with_pair" => bytes.extend_from_slice(&SEGMENT_WITH_PAIR)?,
-        "frame_with_pair" => bytes.extend_from_slice(&FRAME_WITH_PAIR)?,
-        "segment_of_1" => bytes.extend_from_slice(&SEGMENT_OF_1)?,
-        "frame_of_1" => bytes.extend_from_slice(&FRAME_OF_1)?,
-        _ => match word.split_once(':') {
-            Some((change, rest)) => return change_bytes(alloc, bytes, change, rest),
-            None => append_often(alloc, &mut bytes, word)?,
+fn take_word(alloc: Global, bytes: &mut Vec<u8>, word: &str) -> Result<()> {
+    match example_of(word) {
+        Some(example) => Ok(bytes.extend_from_slice(example)?),
+        None => match word.split_once(':') {
+            Some((change, rest)) => change_bytes(alloc, bytes, change, rest),
+            None => append_often(alloc, bytes, word),
         },
     }
-    Ok(bytes)
 }
 
-fn change_bytes(alloc: Global, mut bytes: Vec<u8>, change: &str, rest: &str) -> Result<Vec<u8>> {
+/// The bytes of an example.
+fn example_of(word: &str) -> Option<&'static [u8]> {
+    match word {
+        "" | "-" => Some(&[]),
+        "segment" => Some(&SEGMENT),
+        "frame" => Some(&FRAME),
+        "segment_with_pair" => Some(&SEGMENT_WITH_PAIR),
+        "frame_with_pair" => Some(&FRAME_WITH_PAIR),
+        "segment_of_1" => Some(&SEGMENT_OF_1),
+        "frame_of_1" => Some(&FRAME_OF_1),
+        _ => None,
+    }
+}
+
+fn change_bytes(alloc: Global, bytes: &mut Vec<u8>, change: &str, rest: &str) -> Result<()> {
     match change {
-        "cut" => bytes.truncate(usize::try_from(number_of(rest)?)?),
-        "from" => {
-            let first = usize::try_from(number_of(rest)?)?;
-            let left = bytes.get(first..).context("past the end")?;
-            return Ok(Vec::from_slice(alloc, left)?);
-        }
+        "cut" => bytes.truncate(place_of(rest)?),
+        "from" => *bytes = bytes_from(alloc, bytes, place_of(rest)?)?,
         "at" => {
             let (place, digits) = rest.split_once('=').context("no bytes")?;
-            let mut new = Vec::new(alloc);
-            read_hex(digits, &mut new)?;
-            write_over(&mut bytes, usize::try_from(number_of(place)?)?, &new)?;
+            write_over(bytes, place_of(place)?, &pairs_of(alloc, digits)?)?;
         }
         _ => bail!("no such change"),
     }
+    Ok(())
+}
+
+fn place_of(word: &str) -> Result<usize> {
+    Ok(usize::try_from(number_of(word)?)?)
+}
+
+fn bytes_from(alloc: Global, bytes: &[u8], first: usize) -> Result<Vec<u8>> {
+    let left = bytes.get(first..).context("past the end")?;
+    Ok(Vec::from_slice(alloc, left)?)
+}
+
+/// The bytes of pairs of digits.
+fn pairs_of(alloc: Global, digits: &str) -> Result<Vec<u8>> {
+    let mut bytes = Vec::new(alloc);
+    read_hex(digits, &mut bytes)?;
     Ok(bytes)
 }
 
@@ -105,25 +122,19 @@ fn append_often(alloc: Global, bytes: &mut Vec<u8>, word: &str) -> Result<()> {
         Some((count, digits)) => (number_of(count)?, digits),
         None => (1, word),
     };
-    let mut new = Vec::new(alloc);
-    read_hex(digits, &mut new)?;
+    let new = pairs_of(alloc, digits)?;
     for _ in 0..count {
         bytes.extend_from_slice(&new)?;
     }
     Ok(())
 }
 
-/// Appends how many bytes there are, and lines of their digits.
-///
-/// # Errors
-/// Want of memory.
-pub fn write_bytes(bytes: &[u8], into: &mut String) -> Result<()> {
-    use std::fmt::Write;
-
-    writeln!(into, "{} bytes", bytes.len())?;
+/// Says how many bytes there are, and lines of their digits.
+pub fn write_bytes(bytes: &[u8], into: &mut Said) {
+    let count = bytes.len();
+    into.tell(format_args!("{count} bytes\n"));
     for line in bytes.chunks(LINE) {
-        write_hex(line, into)?;
-        into.push('\n')?;
+        into.hex(line);
+        into.put("\n");
     }
-    Ok(())
 }

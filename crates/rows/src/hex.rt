@@ -1,4 +1,5 @@
 use anyhow::{Result, bail};
+use std::alloc::AllocError;
 use std::fmt::Write;
 
 /// The value of a digit.
@@ -37,7 +38,7 @@ pub fn read_hex(text: &str, into: &mut Vec<u8>) -> Result<()> {
 ///
 /// # Errors
 /// Want of memory.
-pub fn write_hex(bytes: &[u8], into: &mut String) -> Result<()> {
+pub fn write_hex(bytes: &[u8], into: &mut String) -> Result<(), AllocError> {
     for byte in bytes {
         write!(into, "{byte:02x}")?;
     }

@@ -7,11 +7,13 @@
 mod hex;
 mod pairs;
 mod row;
+mod said;
 mod tally;
 mod text;
 
 pub use hex::{read_hex, write_hex};
 pub use pairs::{split_pairs, write_pairs};
 pub use row::{Row, rows_of, word_of};
+pub use said::Said;
 pub use tally::Tally;
 pub use text::{escape, only_character, text_of, text_times, unescape};

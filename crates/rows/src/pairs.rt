@@ -1,6 +1,6 @@
 use crate::text::{escape_character, only_character, text_of, text_times};
 use anyhow::{Result, bail};
-use std::alloc::Global;
+use std::alloc::{AllocError, Global};
 use std::fmt::Write;
 
 /// A name or value that is longer than this, in bytes, and repeats one character is written as that character and a
@@ -19,17 +19,22 @@ const ESCAPED: [u8; 6] = *b" *,={}";
 /// # Errors
 /// Braces around something else, and want of memory.
 pub fn split_pairs<'a>(alloc: Global, word: &'a str) -> Result<(&'a str, Vec<(String, String)>)> {
-    let mut pairs = Vec::new(alloc);
     let Some((front, rest)) = word.split_once('{') else {
-        return Ok((word, pairs));
+        return Ok((word, Vec::new(alloc)));
     };
-    let Some(inside) = rest.strip_suffix('}') else {
-        bail!("no brace at the end: {word}");
-    };
+    match rest.strip_suffix('}') {
+        Some(inside) => Ok((front, pairs_of(alloc, inside)?)),
+        None => bail!("no brace at the end: {word}"),
+    }
+}
+
+/// The pairs between braces.
+fn pairs_of(alloc: Global, inside: &str) -> Result<Vec<(String, String)>> {
+    let mut pairs = Vec::new(alloc);
     for pair in inside.split(',') {
         pairs.push(pair_of(alloc, pair)?)?;
     }
-    Ok((front, pairs))
+    Ok(pairs)
 }
 
 fn pair_of(alloc: Global, pair: &str) -> Result<(String, String)> {
@@ -51,38 +56,38 @@ fn counted(alloc: Global, word: &str) -> Result<String> {
 ///
 /// # Errors
 /// Want of memory.
-pub fn write_pairs(pairs: &[(String, String)], into: &mut String) -> Result<()> {
+pub fn write_pairs(pairs: &[(String, String)], into: &mut String) -> Result<(), AllocError> {
     for (index, (name, value)) in pairs.iter().enumerate() {
         into.push(if index == 0 { '{' } else { ',' })?;
         write_part(name.as_str(), into)?;
         into.push('=')?;
         write_part(value.as_str(), into)?;
     }
-    if !pairs.is_empty() {
-        into.push('}')?;
+    if pairs.is_empty() {
+        return Ok(());
     }
-    Ok(())
+    into.push('}')
 }
 
 /// Appends a name or a value.
-fn write_part(text: &str, into: &mut String) -> Result<()> {
+fn write_part(text: &str, into: &mut String) -> Result<(), AllocError> {
     match only_character(text) {
         Some(character) if text.len() > LONG => {
             write_character(character, into)?;
-            write!(into, "*{}", text.chars().count())?;
+            write!(into, "*{}", text.chars().count())
         }
         _ => {
             for character in text.chars() {
                 write_character(character, into)?;
             }
+            Ok(())
         }
     }
-    Ok(())
 }
 
-fn write_character(character: char, into: &mut String) -> Result<()> {
+fn write_character(character: char, into: &mut String) -> Result<(), AllocError> {
     match u8::try_from(character) {
-        Ok(byte) if ESCAPED.contains(&byte) => Ok(write!(into, "\\x{byte:02x}")?),
+        Ok(byte) if ESCAPED.contains(&byte) => write!(into, "\\x{byte:02x}"),
         _ => escape_character(character, into),
     }
 }

@@ -1,5 +1,5 @@
 use anyhow::{Result, anyhow, bail};
-use std::alloc::Global;
+use std::alloc::{AllocError, Global};
 
 /// One case.
 #[derive(Drop)]
@@ -21,16 +21,27 @@ impl<'a> Row<'a> {
         }
     }
 
-    fn take_line(&mut self, line: &'a str) -> Result<()> {
+    /// Whether the row is open after this line of it.
+    fn take_line(&mut self, line: &'a str) -> Result<bool> {
+        if line != "end" {
+            self.take_words(line)?;
+            return Ok(true);
+        }
+        if self.wanted.is_empty() {
+            bail!("the row wants nothing");
+        }
+        Ok(false)
+    }
+
+    fn take_words(&mut self, line: &'a str) -> Result<(), AllocError> {
         match line.strip_prefix('=') {
             Some(said) => {
                 self.wanted
                     .push_str(said.strip_prefix(' ').unwrap_or(said))?;
-                self.wanted.push('\n')?;
+                self.wanted.push('\n')
             }
-            None => self.given.push(line)?,
+            None => Ok(self.given.push(line)?),
         }
-        Ok(())
     }
 }
 
@@ -40,7 +51,7 @@ impl<'a> Row<'a> {
 /// A line outside a row, a row inside another one, a row without its end or without wanted lines, or want of memory.
 pub fn rows_of<'a>(alloc: Global, text: &'a str) -> Result<Vec<Row<'a>>> {
     let mut rows = Vec::new(alloc);
-    let mut open = None;
+    let mut open = false;
     for (index, line) in text.lines().enumerate() {
         if !line.is_empty() && !line.starts_with('#') {
             open = take_line(alloc, &mut rows, open, line).map_err(|error| anyhow!(
@@ -49,34 +60,30 @@ pub fn rows_of<'a>(alloc: Global, text: &'a str) -> Result<Vec<Row<'a>>> {
             ))?;
         }
     }
-    if open.is_some() {
+    if open {
         bail!("the last row has no end");
     }
     Ok(rows)
 }
 
-/// The row that is open after this line.
+/// Whether the last row is open after this line.
 fn take_line<'a>(
     alloc: Global,
     rows: &mut Vec<Row<'a>>,
-    open: Option<Row<'a>>,
+    open: bool,
     line: &'a str,
-) -> Result<Option<Row<'a>>> {
+) -> Result<bool> {
     match (open, line.strip_prefix("row ")) {
-        (None, Some(name)) => Ok(Some(Row::new(alloc, name))),
-        (None, None) => bail!("no row begins here"),
-        (Some(_), Some(_)) => bail!("the row before has no end"),
-        (Some(row), None) if line == "end" => {
-            if row.wanted.is_empty() {
-                bail!("the row wants nothing");
-            }
-            rows.push(row)?;
-            Ok(None)
+        (false, None) => bail!("no row begins here"),
+        (true, Some(_)) => bail!("the row before has no end"),
+        (false, Some(name)) => {
+            rows.push(Row::new(alloc, name))?;
+            Ok(true)
         }
-        (Some(mut row), None) => {
-            row.take_line(line)?;
-            Ok(Some(row))
-        }
+        (true, None) => match rows.last_mut() {
+            Some(row) => row.take_line(line),
+            None => Ok(false),
+        },
     }
 }
 

@@ -6,7 +6,7 @@ use anyhow::Result;
 use std::alloc::Global;
 
 /// How many rows were run, and how many of them said something wrong.
-#[derive(Clone, Copy, Debug, Drop)]
+#[derive(Clone, Copy, Drop)]
 pub struct Tally {
     rows: u64,
     differ: u64,
@@ -30,10 +30,9 @@ impl Tally {
             → self.new.differ ≡ one_more self.old.differ }
     {
         self.rows = self.rows.saturating_add(1);
-        let (name, wanted) = (row.name, row.wanted.as_str());
-        if said != wanted {
+        if said != row.wanted.as_str() {
             self.differ = self.differ.saturating_add(1);
-            println!(rt; "row {name}\nwanted\n{wanted}said\n{said}end")?;
+            return print(rt, row, said);
         }
         Ok(())
     }
@@ -54,4 +53,11 @@ impl Tally {
         let (rows, differ) = (self.rows, self.differ);
         Ok(format!(in alloc; "{rows} rows, {differ} differ")?)
     }
+}
+
+/// Prints a row with what was said instead of what it wants.
+fn print<R: Print>(rt: &R, row: &Row<'_>, said: &str) -> Result<()> {
+    let (name, wanted) = (row.name, row.wanted.as_str());
+    println!(rt; "row {name}\nwanted\n{wanted}said\n{said}end")?;
+    Ok(())
 }

@@ -1,6 +1,6 @@
 use crate::hex::digit_of;
 use anyhow::{Result, anyhow, bail};
-use std::alloc::Global;
+use std::alloc::{AllocError, Global};
 use std::fmt::Write;
 
 /// Where in a text the reader is.
@@ -87,7 +87,7 @@ pub fn only_character(text: &str) -> Option<char> {
 ///
 /// # Errors
 /// Want of memory.
-pub fn escape(bytes: &[u8], into: &mut String) -> Result<()> {
+pub fn escape(bytes: &[u8], into: &mut String) -> Result<(), AllocError> {
     match str::from_utf8(bytes) {
         Ok(text) => {
             for character in text.chars() {
@@ -103,21 +103,20 @@ pub fn escape(bytes: &[u8], into: &mut String) -> Result<()> {
     Ok(())
 }
 
-pub(crate) fn escape_character(character: char, into: &mut String) -> Result<()> {
+pub(crate) fn escape_character(character: char, into: &mut String) -> Result<(), AllocError> {
     match u8::try_from(character) {
         Ok(byte) if byte < 128 => escape_byte(byte, into),
-        _ => Ok(into.push(character)?),
+        _ => into.push(character),
     }
 }
 
-fn escape_byte(byte: u8, into: &mut String) -> Result<()> {
+fn escape_byte(byte: u8, into: &mut String) -> Result<(), AllocError> {
     match byte {
-        b'\r' => into.push_str("\\r")?,
-        b'\n' => into.push_str("\\n")?,
-        b'\t' => into.push_str("\\t")?,
-        b'\\' => into.push_str("\\\\")?,
-        b' '..=b'~' => into.push(char::from(byte))?,
-        _ => write!(into, "\\x{byte:02x}")?,
+        b'\r' => into.push_str("\\r"),
+        b'\n' => into.push_str("\\n"),
+        b'\t' => into.push_str("\\t"),
+        b'\\' => into.push_str("\\\\"),
+        b' '..=b'~' => into.push(char::from(byte)),
+        _ => write!(into, "\\x{byte:02x}"),
     }
-    Ok(())
 }

@@ -1,5 +1,5 @@
 use crate::given::{append_of, key_of, state_of, trim_of};
-use crate::reading::{say_header, say_records, say_segment, say_slot_records};
+use crate::reading::{say_fault, say_header, say_records, say_segment, say_slot_records};
 use crate::runs::{say_cuts, say_each};
 use crate::trimming::trimmed;
 use crate::version_one::put_block_of_1;
@@ -7,10 +7,9 @@ use crate::writing::{put_parts, put_records, put_states, put_streams};
 use anyhow::{Context, Result, bail};
 use labels::StreamKey;
 use log_words::{bytes_of, number_of, owner_of, write_bytes};
-use rows::word_of;
+use rows::{Said, word_of};
 use segment::{Record, SegFault, put_closed_gate, put_segment_head};
 use std::alloc::Global;
-use std::fmt::Write;
 use std::mem;
 
 /// What a row has so far.
@@ -37,7 +36,7 @@ impl Desk {
     }
 
     /// Does what a line says, and appends what is answered.
-    pub fn take_line(&mut self, line: &str, said: &mut String) -> Result<()> {
+    pub fn take_line(&mut self, line: &str, said: &mut Said) -> Result<()> {
         let (word, rest) = word_of(line);
         match word {
             "slot" => self.slot = bytes_of(self.alloc, rest)?,
@@ -45,23 +44,29 @@ impl Desk {
             "append" | "trim" | "state" => self.take_record(word, rest)?,
             "trimmed" => self.trim(rest, said)?,
             "write" => self.write(rest, said)?,
-            "faults" => say_faults(said)?,
+            "faults" => say_faults(said),
             _ => self.look(word, rest, said)?,
         }
         Ok(())
     }
 
     /// Answers what the slot is.
-    fn look(&mut self, word: &str, rest: &str, said: &mut String) -> Result<()> {
+    fn look(&mut self, word: &str, rest: &str, said: &mut Said) -> Result<()> {
         match word {
-            "bytes" => write_bytes(&self.slot, said),
             "is" => self.say_whether(rest, said),
             "header" => say_header(&self.slot, rest, said),
             "read" => say_segment(self.alloc, &self.slot, rest, said),
             "records" => say_records(self.alloc, &self.slot, rest, said),
             "front" => say_slot_records(self.alloc, &self.slot, rest, said),
-            "cuts" => say_cuts(self.alloc, &self.slot, said),
             "each" => say_each(self.alloc, &mut self.slot, rest, said),
+            "bytes" => {
+                write_bytes(&self.slot, said);
+                Ok(())
+            }
+            "cuts" => {
+                say_cuts(self.alloc, &self.slot, said);
+                Ok(())
+            }
             _ => bail!("no such word"),
         }
     }
@@ -78,7 +83,7 @@ impl Desk {
         Ok(self.records.push(record)?)
     }
 
-    fn trim(&mut self, rest: &str, said: &mut String) -> Result<()> {
+    fn trim(&mut self, rest: &str, said: &mut Said) -> Result<()> {
         let (bound, half_age) = word_of(rest);
         let (bound, half_age) = (number_of(bound)?, number_of(half_age)?);
         let record = self.records.pop().context("no record")?;
@@ -88,7 +93,7 @@ impl Desk {
     }
 
     /// Writes the records after what the slot has.
-    fn write(&mut self, words: &str, said: &mut String) -> Result<()> {
+    fn write(&mut self, words: &str, said: &mut Said) -> Result<()> {
         let (word, rest) = word_of(words);
         let records = mem::replace(&mut self.records, Vec::new(self.alloc));
         match word {
@@ -102,7 +107,7 @@ impl Desk {
         word: &str,
         rest: &str,
         records: &[Record],
-        said: &mut String,
+        said: &mut Said,
     ) -> Result<()> {
         match word {
             "block" => put_records(records, &mut self.slot),
@@ -116,12 +121,13 @@ impl Desk {
     }
 
     /// Answers whether the slot has exactly these bytes, and if not what it has.
-    fn say_whether(&self, words: &str, said: &mut String) -> Result<()> {
+    fn say_whether(&self, words: &str, said: &mut Said) -> Result<()> {
         if self.slot == bytes_of(self.alloc, words)? {
-            writeln!(said, "the same {} bytes", self.slot.len())?;
-            return Ok(());
+            said.tell(format_args!("the same {} bytes\n", self.slot.len()));
+        } else {
+            write_bytes(&self.slot, said);
         }
-        write_bytes(&self.slot, said)
+        Ok(())
     }
 }
 
@@ -136,7 +142,7 @@ fn put_head(words: &str, slot: &mut Vec<u8>) -> Result<()> {
 }
 
 /// The text of each fault.
-fn say_faults(said: &mut String) -> Result<()> {
+fn say_faults(said: &mut Said) {
     for fault in [
         SegFault::Damaged { offset: 79 },
         SegFault::OtherShard,
@@ -144,7 +150,6 @@ fn say_faults(said: &mut String) -> Result<()> {
         SegFault::UnknownVersion,
         SegFault::Memory,
     ] {
-        writeln!(said, "{fault}")?;
+        say_fault(fault, said);
     }
-    Ok(())
 }

@@ -17,7 +17,7 @@ mod writing;
 
 use anyhow::{Context, Result};
 use desk::Desk;
-use rows::{Row, Tally, rows_of};
+use rows::{Row, Said, Tally, rows_of};
 use std::alloc::Global;
 use std::rt::Files;
 use std::{env, fs};
@@ -39,9 +39,9 @@ fn judge_file<R: Files + Print + AllocGlobal>(rt: &R, path: &str, tally: &mut Ta
 }
 
 fn judge_row<R: Print + AllocGlobal>(rt: &R, row: &Row<'_>, tally: &mut Tally) -> Result<()> {
-    let mut said = String::new(rt.alloc());
+    let mut said = Said::new(rt.alloc());
     take_row(rt.alloc(), row, &mut said).context(format_args!("row {}", row.name))?;
-    tally.judge(rt, row, said.as_str())
+    tally.judge(rt, row, said.end()?.as_str())
 }
 
 /// Does what the lines of a row say, and appends what is said to it.
@@ -68,7 +68,7 @@ fn judge_row<R: Print + AllocGlobal>(rt: &R, row: &Row<'_>, tally: &mut Tally) -
 /// `segment_with_pair` and `frame_with_pair` (that of an entry with the metadata `k=v`), `segment_of_1` and
 /// `frame_of_1` (the example in version 1, where an entry ends with its line), and changes of what stands so far:
 /// `cut:COUNT`, `from:COUNT`, `at:PLACE=HEX`.
-fn take_row(alloc: Global, row: &Row<'_>, said: &mut String) -> Result<()> {
+fn take_row(alloc: Global, row: &Row<'_>, said: &mut Said) -> Result<()> {
     let mut desk = Desk::new(alloc);
     for line in &row.given {
         desk.take_line(line, said)

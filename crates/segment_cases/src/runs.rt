@@ -2,8 +2,8 @@
 use crate::judge::{Verdict, judge, verdict_of};
 use anyhow::Result;
 use log_words::bytes_of;
+use rows::Said;
 use std::alloc::Global;
-use std::fmt::Write;
 use std::mem;
 
 /// Places that give the same result, and how many there were.
@@ -28,7 +28,7 @@ impl Runs {
     }
 
     /// Reads and judges what a slot is at a place.
-    fn take(&mut self, alloc: Global, place: usize, slot: &[u8], said: &mut String) -> Result<()> {
+    fn take(&mut self, alloc: Global, place: usize, slot: &[u8], said: &mut Said) {
         let found = verdict_of(alloc, slot);
         let wanted = judge(alloc, slot);
         self.read = self.read.saturating_add(1);
@@ -36,56 +36,54 @@ impl Runs {
             self.alike = self.alike.saturating_add(1);
         }
         if self.open != Some(found) {
-            self.end_run(said)?;
+            self.end_run(said);
             self.first = place;
             self.open = Some(found);
         }
         self.last = place;
-        Ok(())
     }
 
     /// Appends the places that give the same result.
-    fn end_run(&mut self, said: &mut String) -> Result<()> {
+    fn end_run(&mut self, said: &mut Said) {
         let (first, last) = (self.first, self.last);
         match self.open.take() {
-            Some(found) if first == last => writeln!(said, "{first} {found}")?,
-            Some(found) => writeln!(said, "{first}-{last} {found}")?,
+            Some(found) if first == last => said.tell(format_args!("{first} {found}\n")),
+            Some(found) => said.tell(format_args!("{first}-{last} {found}\n")),
             None => {}
         }
-        Ok(())
     }
 
     /// Appends how many were read, and how many of them were judged the same.
-    fn end(&self, said: &mut String) -> Result<()> {
+    fn end(&self, said: &mut Said) {
         let (read, alike) = (self.read, self.alike);
-        writeln!(said, "{read} read, {alike} judged alike")?;
-        Ok(())
+        said.tell(format_args!("{read} read, {alike} judged alike\n"));
     }
 }
 
 /// Cuts the slot at each length.
-pub fn say_cuts(alloc: Global, slot: &[u8], said: &mut String) -> Result<()> {
+pub fn say_cuts(alloc: Global, slot: &[u8], said: &mut Said) {
     let mut runs = Runs::new();
     for length in 0..slot.len() {
-        runs.take(alloc, length, &slot[..length], said)?;
+        runs.take(alloc, length, &slot[..length], said);
     }
-    runs.end_run(said)?;
-    runs.end(said)
+    runs.end_run(said);
+    runs.end(said);
 }
 
 /// Sets each byte of the slot to each of these.
-pub fn say_each(alloc: Global, slot: &mut [u8], words: &str, said: &mut String) -> Result<()> {
+pub fn say_each(alloc: Global, slot: &mut [u8], words: &str, said: &mut Said) -> Result<()> {
     let mut runs = Runs::new();
     for byte in bytes_of(alloc, words)? {
-        writeln!(said, "byte {byte:02x}")?;
+        said.tell(format_args!("byte {byte:02x}\n"));
         for place in 0..slot.len() {
             let was = changed(slot, place, byte);
-            runs.take(alloc, place, slot, said)?;
+            runs.take(alloc, place, slot, said);
             changed(slot, place, was);
         }
-        runs.end_run(said)?;
+        runs.end_run(said);
     }
-    runs.end(said)
+    runs.end(said);
+    Ok(())
 }
 
 /// Sets a byte, and gives the one that was there.

@@ -2,7 +2,7 @@ use segment::{Header, Version};
 use std::fmt;
 
 /// A header as rows say it: its version, unless that is 1, and its generation.
-#[derive(Clone, Copy, Debug)]
+#[derive(Clone, Copy)]
 pub struct Shown(pub Header);
 
 impl fmt::Display for Shown {

@@ -8,13 +8,12 @@ use accept::{Entry, Image, StreamImage};
 use anyhow::{Result, bail};
 use labels::StreamKey;
 use log_words::{number_of, owner_of};
-use rows::word_of;
+use rows::{Said, word_of};
 use segment::{
     Record, append_size, close_block, open_block, put_append_record, put_block, put_segment,
     put_state_parts, put_trim_record, state_size, trim_size,
 };
 use std::alloc::Global;
-use std::fmt::Write;
 
 /// Writes one block of all records.
 pub fn put_records(records: &[Record], slot: &mut Vec<u8>) -> Result<()> {
@@ -26,12 +25,12 @@ pub fn put_records(records: &[Record], slot: &mut Vec<u8>) -> Result<()> {
 }
 
 /// Writes one block of all records. Each is added from its parts. Answers the sizes that were announced.
-pub fn put_parts(records: &[Record], slot: &mut Vec<u8>, said: &mut String) -> Result<()> {
+pub fn put_parts(records: &[Record], slot: &mut Vec<u8>, said: &mut Said) -> Result<()> {
     let at = slot.len();
     open_block(slot)?;
     for record in records {
         let size = put_one(record, slot)?;
-        writeln!(said, "{size} bytes announced")?;
+        said.tell(format_args!("{size} bytes announced\n"));
     }
     if slot.len() - at > MANY {
         bail!("too large");
@@ -99,20 +98,20 @@ pub fn put_streams(
     records: Vec<Record>,
     words: &str,
     slot: &mut Vec<u8>,
-    said: &mut String,
+    said: &mut Said,
 ) -> Result<()> {
     let image = image_of(alloc, records)?;
     put_image(&image, words, slot, said)
 }
 
-fn put_image(image: &Image, words: &str, slot: &mut Vec<u8>, said: &mut String) -> Result<()> {
+fn put_image(image: &Image, words: &str, slot: &mut Vec<u8>, said: &mut Said) -> Result<()> {
     let (generation, owner) = word_of(words);
     let generation = number_of(generation)?;
     let (shard, count) = owner_of(owner)?;
     if !is_small_image(image) || !is_short_image(image) {
         bail!("too large");
     }
-    writeln!(said, "room {}", state_size(image))?;
+    said.tell(format_args!("room {}\n", state_size(image)));
     Ok(put_segment(generation, shard, count, image, slot)?)
 }
 

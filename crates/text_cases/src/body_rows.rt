@@ -6,9 +6,8 @@ use labels::LabelPairs;
 use pushjson::{
     PushFault, RawBatch, RawRead, RawTrim, one_answer, read_push, read_query, read_trim,
 };
-use rows::{Row, word_of, write_pairs};
+use rows::{Row, Said, word_of};
 use std::alloc::Global;
-use std::fmt::Write;
 
 /// The most streams, or entries of a stream, that are said one by one.
 const MOST_SAID: usize = 20;
@@ -32,7 +31,7 @@ enum Kind {
 /// - `memory`: the text of the fault for want of memory
 ///
 /// In what is said of labels blanks and `=` are escapes, in what is said of metadata also `,`, `*` and braces.
-pub fn take_row(alloc: Global, row: &Row<'_>, said: &mut String) -> Result<()> {
+pub fn take_row(alloc: Global, row: &Row<'_>, said: &mut Said) -> Result<()> {
     let mut draft = Draft::new(alloc);
     for line in &row.given {
         take_line(alloc, &mut draft, line, said)?;
@@ -40,7 +39,7 @@ pub fn take_row(alloc: Global, row: &Row<'_>, said: &mut String) -> Result<()> {
     Ok(())
 }
 
-fn take_line(alloc: Global, draft: &mut Draft, line: &str, said: &mut String) -> Result<()> {
+fn take_line(alloc: Global, draft: &mut Draft, line: &str, said: &mut Said) -> Result<()> {
     let (word, rest) = word_of(line);
     match word {
         "put" => draft.put(rest),
@@ -52,9 +51,13 @@ fn take_line(alloc: Global, draft: &mut Draft, line: &str, said: &mut String) ->
         }
         "law" => {
             one_answer();
-            Ok(said.push_str("one answer\n")?)
+            said.put("one answer\n");
+            Ok(())
         }
-        "memory" => Ok(writeln!(said, "{}", PushFault::Memory)?),
+        "memory" => {
+            said.tell(format_args!("{}\n", PushFault::Memory));
+            Ok(())
+        }
         _ => {
             let kind = kind_of(word)?;
             say_body(alloc, kind, &draft.end(alloc, rest)?, said)
@@ -72,93 +75,93 @@ fn kind_of(word: &str) -> Result<Kind> {
 }
 
 /// Says what a body gives, or its fault.
-fn say_body(alloc: Global, kind: Kind, body: &[u8], said: &mut String) -> Result<()> {
+fn say_body(alloc: Global, kind: Kind, body: &[u8], said: &mut Said) -> Result<()> {
     match kind {
         Kind::Push => match read_push(alloc, body) {
-            Ok(batches) => say_batches(alloc, &batches, said),
-            Err(fault) => say_fault(fault, said),
+            Ok(batches) => say_batches(&batches, said),
+            Err(fault) => return say_fault(fault, said),
         },
         Kind::Query => match read_query(alloc, body) {
-            Ok(query) => say_query(alloc, &query, said),
-            Err(fault) => say_fault(fault, said),
+            Ok(query) => say_query(&query, said),
+            Err(fault) => return say_fault(fault, said),
         },
         Kind::Trim => match read_trim(alloc, body) {
-            Ok(trim) => say_trim(alloc, &trim, said),
-            Err(fault) => say_fault(fault, said),
+            Ok(trim) => say_trim(&trim, said),
+            Err(fault) => return say_fault(fault, said),
         },
     }
+    Ok(())
 }
 
 /// Reads each beginning of a body, each a byte longer, and the whole body.
-fn say_cut(alloc: Global, kind: Kind, body: &[u8], said: &mut String) -> Result<()> {
+fn say_cut(alloc: Global, kind: Kind, body: &[u8], said: &mut Said) -> Result<()> {
     let mut counts = Counts::new(alloc);
     for end in 0..body.len() {
         counts.add(said_of(alloc, kind, &body[..end])?)?;
     }
-    counts.say(said)?;
+    counts.say(said);
     say_body(alloc, kind, body, said)
 }
 
 fn said_of(alloc: Global, kind: Kind, body: &[u8]) -> Result<String> {
-    let mut said = String::new(alloc);
+    let mut said = Said::new(alloc);
     say_body(alloc, kind, body, &mut said)?;
-    Ok(said)
+    Ok(said.end()?)
 }
 
-fn say_fault(fault: PushFault, said: &mut String) -> Result<()> {
+fn say_fault(fault: PushFault, said: &mut Said) -> Result<()> {
     if let PushFault::Memory = fault {
         return Err(fault.into());
     }
-    Ok(writeln!(said, "{fault}")?)
-}
-
-fn say_batches(alloc: Global, batches: &[RawBatch], said: &mut String) -> Result<()> {
-    let count = batches.len();
-    writeln!(said, "streams {count}")?;
-    if count > MOST_SAID {
-        return Ok(());
-    }
-    for batch in batches {
-        say_labels(alloc, &batch.pairs, said)?;
-        say_entries(batch.entries.as_slice(), said)?;
-    }
+    said.tell(format_args!("{fault}\n"));
     Ok(())
 }
 
-fn say_labels(alloc: Global, pairs: &LabelPairs, said: &mut String) -> Result<()> {
-    said.push_str("stream")?;
-    for (name, value) in pairs.as_slice() {
-        said.push(' ')?;
-        write_word(alloc, name.as_str(), said)?;
-        said.push('=')?;
-        write_word(alloc, value.as_str(), said)?;
+fn say_batches(batches: &[RawBatch], said: &mut Said) {
+    let count = batches.len();
+    said.tell(format_args!("streams {count}\n"));
+    if count > MOST_SAID {
+        return;
     }
-    Ok(said.push('\n')?)
+    for batch in batches {
+        say_labels(&batch.pairs, said);
+        say_entries(batch.entries.as_slice(), said);
+    }
 }
 
-fn say_entries(entries: &[Entry], said: &mut String) -> Result<()> {
+fn say_labels(pairs: &LabelPairs, said: &mut Said) {
+    said.put("stream");
+    for (name, value) in pairs.as_slice() {
+        said.put(" ");
+        write_word(name.as_str(), said);
+        said.put("=");
+        write_word(value.as_str(), said);
+    }
+    said.put("\n");
+}
+
+fn say_entries(entries: &[Entry], said: &mut Said) {
     let count = entries.len();
     if count > MOST_SAID {
-        return Ok(writeln!(said, "entries {count}")?);
+        return said.tell(format_args!("entries {count}\n"));
     }
     for entry in entries {
         let time = entry.time;
-        write!(said, "entry {time}:")?;
-        write_text(entry.line.as_str(), said)?;
-        write_pairs(entry.meta.as_slice(), said)?;
-        said.push('\n')?;
+        said.tell(format_args!("entry {time}:"));
+        write_text(entry.line.as_str(), said);
+        said.pairs(entry.meta.as_slice());
+        said.put("\n");
     }
-    Ok(())
 }
 
-fn say_query(alloc: Global, query: &RawRead, said: &mut String) -> Result<()> {
-    say_labels(alloc, &query.pairs, said)?;
+fn say_query(query: &RawRead, said: &mut Said) {
+    say_labels(&query.pairs, said);
     let (from, to) = (query.from, query.to);
-    Ok(writeln!(said, "from {from} to {to}")?)
+    said.tell(format_args!("from {from} to {to}\n"));
 }
 
-fn say_trim(alloc: Global, trim: &RawTrim, said: &mut String) -> Result<()> {
-    say_labels(alloc, &trim.pairs, said)?;
+fn say_trim(trim: &RawTrim, said: &mut Said) {
+    say_labels(&trim.pairs, said);
     let bound = trim.bound;
-    Ok(writeln!(said, "bound {bound}")?)
+    said.tell(format_args!("bound {bound}\n"));
 }

@@ -1,7 +1,7 @@
 use anyhow::Result;
+use rows::Said;
 use std::alloc::Global;
 use std::collections::BTreeMap;
-use std::fmt::Write;
 
 /// How often each answer came.
 #[derive(Drop)]
@@ -23,10 +23,9 @@ impl Counts {
     }
 
     /// Says each answer, which ends with a line feed, and its count, in the order of their texts.
-    pub fn say(&self, said: &mut String) -> Result<()> {
+    pub fn say(&self, said: &mut Said) {
         for (answer, count) in &self.answers {
-            write!(said, "{count} cut: {answer}")?;
+            said.tell(format_args!("{count} cut: {answer}"));
         }
-        Ok(())
     }
 }

@@ -5,10 +5,9 @@ use crate::metas;
 use crate::texts::{Draft, say, text_of_word};
 use anyhow::{Result, bail};
 use labels::{LabelFault, LabelPairs, LabelSet, StreamKey, Tenant, order_of_keys, shard_of};
-use rows::{Row, word_of};
+use rows::{Row, Said, word_of};
 use std::alloc::{AllocError, Global};
 use std::cmp::Ordering;
-use std::fmt::Write;
 
 /// What the lines of a row have made, each in order.
 #[derive(Drop)]
@@ -39,7 +38,7 @@ struct Made {
 ///
 /// A name or value is a word: a blank in it is `\x20`, pieces of it stand between bars, and `x*5` is `xxxxx`. Of a
 /// text of more than 200 bytes its length is said, except of metadata.
-pub fn take_row(alloc: Global, row: &Row<'_>, said: &mut String) -> Result<()> {
+pub fn take_row(alloc: Global, row: &Row<'_>, said: &mut Said) -> Result<()> {
     let mut made = Made {
         alloc,
         draft: Draft::new(alloc),
@@ -54,7 +53,7 @@ pub fn take_row(alloc: Global, row: &Row<'_>, said: &mut String) -> Result<()> {
 }
 
 impl Made {
-    fn take_line(&mut self, line: &str, said: &mut String) -> Result<()> {
+    fn take_line(&mut self, line: &str, said: &mut Said) -> Result<()> {
         let (word, rest) = word_of(line);
         match word {
             "put" => self.draft.put(rest),
@@ -69,40 +68,45 @@ impl Made {
                 say_parsed(self.alloc, text.as_str(), said)
             }
             "cut" => self.say_cut(rest, said),
-            "text" => self.say_text(said),
             "back" => self.say_back(said),
-            "equal" => self.say_equal(said),
             "copies" => self.say_copies(said),
-            "order" => self.say_order(said),
             "shards" => self.say_shards(rest, said),
-            "memory" => Ok(writeln!(said, "{}", LabelFault::Memory)?),
-            _ => bail!("no such word: {word}"),
+            _ => self.look(word, said),
         }
     }
 
+    fn look(&self, word: &str, said: &mut Said) -> Result<()> {
+        match word {
+            "text" => self.say_text(said)?,
+            "equal" => self.say_equal(said),
+            "order" => self.say_order(said),
+            "memory" => said.tell(format_args!("{}\n", LabelFault::Memory)),
+            _ => bail!("no such word: {word}"),
+        }
+        Ok(())
+    }
+
     /// Makes the tenant of a text, and says it.
-    fn make_tenant(&mut self, text: &str, said: &mut String) -> Result<()> {
+    fn make_tenant(&mut self, text: &str, said: &mut Said) -> Result<()> {
         let text = self.draft.end_text(self.alloc, text)?;
         if let Some(tenant) = made_or_said(Tenant::new(self.alloc, text.as_str()), said)? {
-            say(tenant.as_str(), said)?;
+            say(tenant.as_str(), said);
             self.tenants.push(tenant)?;
         }
         Ok(())
     }
 
     /// Makes the set of labels, and says its canonical text.
-    fn make_set(&mut self, words: &str, said: &mut String) -> Result<()> {
-        match made_or_said(set_of(self.alloc, words)?, said)? {
-            Some(set) => {
-                say(set.as_str(), said)?;
-                Ok(self.sets.push(set)?)
-            }
-            None => Ok(()),
+    fn make_set(&mut self, words: &str, said: &mut Said) -> Result<()> {
+        if let Some(set) = made_or_said(set_of(self.alloc, words)?, said)? {
+            say(set.as_str(), said);
+            self.sets.push(set)?;
         }
+        Ok(())
     }
 
     /// Makes the key of a tenant and labels.
-    fn make_key(&mut self, words: &str, said: &mut String) -> Result<()> {
+    fn make_key(&mut self, words: &str, said: &mut Said) -> Result<()> {
         let (tenant, labels) = word_of(words);
         let tenant = made_or_said(Tenant::new(self.alloc, tenant), said)?;
         let labels = made_or_said(set_of(self.alloc, labels)?, said)?;
@@ -113,35 +117,37 @@ impl Made {
     }
 
     /// Parses each beginning of a text, each a character longer, and the whole text.
-    fn say_cut(&mut self, text: &str, said: &mut String) -> Result<()> {
+    fn say_cut(&mut self, text: &str, said: &mut Said) -> Result<()> {
         let text = self.draft.end_text(self.alloc, text)?;
         let text = text.as_str();
-        count_cut(self.alloc, text)?.say(said)?;
+        count_cut(self.alloc, text)?.say(said);
         say_parsed(self.alloc, text, said)
     }
 
     /// Says a copy of the last set's text.
-    fn say_text(&self, said: &mut String) -> Result<()> {
+    fn say_text(&self, said: &mut Said) -> Result<()> {
         match self.sets.last() {
             Some(set) => say(set.text(self.alloc)?.as_str(), said),
             None => say_nothing(said),
         }
+        Ok(())
     }
 
     /// Says whether the last set's text parses to that set.
-    fn say_back(&self, said: &mut String) -> Result<()> {
+    fn say_back(&self, said: &mut Said) -> Result<()> {
         let Some(set) = self.sets.last() else {
-            return say_nothing(said);
+            say_nothing(said);
+            return Ok(());
         };
         let parsed = LabelSet::parse_text(self.alloc, set.as_str());
         if let Some(parsed) = made_or_said(parsed, said)? {
-            say_whether(parsed == *set, said)?;
+            say_whether(parsed == *set, said);
         }
         Ok(())
     }
 
     /// Says whether the last two sets are equal.
-    fn say_equal(&self, said: &mut String) -> Result<()> {
+    fn say_equal(&self, said: &mut Said) {
         match self.sets.as_slice() {
             [.., one, other] => say_whether(one == other, said),
             _ => say_nothing(said),
@@ -149,50 +155,52 @@ impl Made {
     }
 
     /// Says how many copies of what was made are equal to their sources, and how many are not.
-    fn say_copies(&self, said: &mut String) -> Result<()> {
-        let mut equal = 0_u64;
-        let mut other = 0_u64;
-        count_copies(&self.tenants, &mut equal, &mut other)?;
-        count_copies(&self.sets, &mut equal, &mut other)?;
-        count_key_copies(&self.keys, &mut equal, &mut other)?;
-        writeln!(said, "{equal} equal, {other} differ")?;
+    fn say_copies(&self, said: &mut Said) -> Result<()> {
+        let equal = equal_copies(&self.tenants)?
+            .saturating_add(equal_copies(&self.sets)?)
+            .saturating_add(equal_key_copies(&self.keys)?);
+        let all = self.tenants.len().saturating_add(self.sets.len());
+        let other = all.saturating_add(self.keys.len()).saturating_sub(equal);
+        said.tell(format_args!("{equal} equal, {other} differ\n"));
         Ok(())
     }
 
     /// Says a line for each key: how it compares with each of them.
-    fn say_order(&self, said: &mut String) -> Result<()> {
+    fn say_order(&self, said: &mut Said) {
         for one in &self.keys {
             let mut gap = "";
             for other in &self.keys {
-                said.push_str(gap)?;
-                said.push_str(sign_of(one, other))?;
+                said.put(gap);
+                said.put(sign_of(one, other));
                 gap = " ";
             }
-            said.push('\n')?;
+            said.put("\n");
         }
-        Ok(())
     }
 
     /// Says the shards of the last key among these counts of shards.
-    fn say_shards(&self, counts: &str, said: &mut String) -> Result<()> {
+    fn say_shards(&self, counts: &str, said: &mut Said) -> Result<()> {
         let Some(key) = self.keys.last() else {
-            return say_nothing(said);
+            say_nothing(said);
+            return Ok(());
         };
-        said.push_str("shards")?;
+        said.put("shards");
         for count in counts.split_ascii_whitespace() {
             say_shard(key, count.parse()?, said)?;
         }
-        Ok(said.push('\n')?)
+        said.put("\n");
+        Ok(())
     }
 }
 
 /// Says the shard of a key among `count` shards.
-fn say_shard(key: &StreamKey, count: u32, said: &mut String) -> Result<()> {
+fn say_shard(key: &StreamKey, count: u32, said: &mut Said) -> Result<()> {
     if count == 0 || count > 64 {
         bail!("no count of shards: {count}");
     }
     let shard = shard_of(key, count);
-    Ok(write!(said, " {shard}")?)
+    said.tell(format_args!(" {shard}"));
+    Ok(())
 }
 
 /// The labels `NAME=VALUE` of words.
@@ -208,21 +216,21 @@ fn set_of(alloc: Global, words: &str) -> Result<Result<LabelSet, LabelFault>> {
 }
 
 /// What was made: `None` where its fault was said.
-fn made_or_said<T: Drop>(made: Result<T, LabelFault>, said: &mut String) -> Result<Option<T>> {
+fn made_or_said<T: Drop>(made: Result<T, LabelFault>, said: &mut Said) -> Result<Option<T>> {
     match made {
         Ok(made) => Ok(Some(made)),
         Err(LabelFault::Memory) => Err(LabelFault::Memory.into()),
         Err(fault) => {
-            writeln!(said, "{fault}")?;
+            said.tell(format_args!("{fault}\n"));
             Ok(None)
         }
     }
 }
 
 /// Says the set whose canonical text this is.
-fn say_parsed(alloc: Global, text: &str, said: &mut String) -> Result<()> {
+fn say_parsed(alloc: Global, text: &str, said: &mut Said) -> Result<()> {
     if let Some(set) = made_or_said(LabelSet::parse_text(alloc, text), said)? {
-        say(set.as_str(), said)?;
+        say(set.as_str(), said);
     }
     Ok(())
 }
@@ -238,44 +246,39 @@ fn count_cut(alloc: Global, text: &str) -> Result<Counts> {
 
 /// What is said of the set whose canonical text this is.
 fn parsed(alloc: Global, text: &str) -> Result<String> {
-    let mut said = String::new(alloc);
+    let mut said = Said::new(alloc);
     say_parsed(alloc, text, &mut said)?;
-    Ok(said)
+    Ok(said.end()?)
 }
 
 /// Says that what is asked about was not made.
-fn say_nothing(said: &mut String) -> Result<()> {
-    Ok(said.push_str("nothing made\n")?)
+fn say_nothing(said: &mut Said) {
+    said.put("nothing made\n");
 }
 
-fn say_whether(equal: bool, said: &mut String) -> Result<()> {
-    Ok(said.push_str(if equal { "equal\n" } else { "differ\n" })?)
+fn say_whether(equal: bool, said: &mut Said) {
+    said.put(if equal { "equal\n" } else { "differ\n" });
 }
 
-fn count_copies<T: Clone + PartialEq + Drop>(
-    values: &[T],
-    equal: &mut u64,
-    other: &mut u64,
-) -> Result<()> {
+/// How many copies are equal to their sources.
+fn equal_copies<T: Clone + PartialEq + Drop>(values: &[T]) -> Result<usize, AllocError> {
+    let mut equal = 0_usize;
     for value in values {
         if value.clone()? == *value {
-            *equal = equal.saturating_add(1);
-        } else {
-            *other = other.saturating_add(1);
+            equal = equal.saturating_add(1);
         }
     }
-    Ok(())
+    Ok(equal)
 }
 
-fn count_key_copies(keys: &[StreamKey], equal: &mut u64, other: &mut u64) -> Result<()> {
+fn equal_key_copies(keys: &[StreamKey]) -> Result<usize, AllocError> {
+    let mut equal = 0_usize;
     for key in keys {
         if copy_of(key)? == *key {
-            *equal = equal.saturating_add(1);
-        } else {
-            *other = other.saturating_add(1);
+            equal = equal.saturating_add(1);
         }
     }
-    Ok(())
+    Ok(equal)
 }
 
 /// A clone is its source.

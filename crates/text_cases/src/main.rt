@@ -13,7 +13,7 @@ mod stream_rows;
 mod texts;
 
 use anyhow::{Context, Result, bail};
-use rows::{Row, Tally, rows_of};
+use rows::{Row, Said, Tally, rows_of};
 use std::alloc::Global;
 use std::rt::Files;
 use std::{env, fs};
@@ -61,12 +61,12 @@ fn judge_row<R: Print + AllocGlobal>(
     row: &Row<'_>,
     tally: &mut Tally,
 ) -> Result<()> {
-    let mut said = String::new(rt.alloc());
+    let mut said = Said::new(rt.alloc());
     take_row(rt.alloc(), subject, row, &mut said).context(format_args!("row {}", row.name))?;
-    tally.judge(rt, row, said.as_str())
+    tally.judge(rt, row, said.end()?.as_str())
 }
 
-fn take_row(alloc: Global, subject: Subject, row: &Row<'_>, said: &mut String) -> Result<()> {
+fn take_row(alloc: Global, subject: Subject, row: &Row<'_>, said: &mut Said) -> Result<()> {
     match subject {
         Subject::Labels => label_rows::take_row(alloc, row, said),
         Subject::Bodies => body_rows::take_row(alloc, row, said),

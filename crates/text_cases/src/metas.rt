@@ -2,25 +2,26 @@
 
 use anyhow::{Result, bail};
 use labels::{Meta, MetaFault};
-use rows::{split_pairs, write_pairs};
-use std::alloc::Global;
-use std::fmt::Write;
+use rows::{Said, split_pairs};
+use std::alloc::{AllocError, Global};
 
 /// Makes metadata of `{NAME=VALUE,..}`, given in any order, and says it or its fault.
-pub fn say_new(alloc: Global, words: &str, said: &mut String) -> Result<()> {
+pub fn say_new(alloc: Global, words: &str, said: &mut Said) -> Result<()> {
     match Meta::new(alloc, pairs_of(alloc, words)?) {
-        Ok(meta) => say(&meta, said),
-        Err(MetaFault::Memory) => Err(MetaFault::Memory.into()),
-        Err(fault) => Ok(writeln!(said, "{fault}")?),
+        Ok(meta) => say(&meta, said)?,
+        Err(MetaFault::Memory) => return Err(MetaFault::Memory.into()),
+        Err(fault) => said.tell(format_args!("{fault}\n")),
     }
+    Ok(())
 }
 
 /// Makes metadata of `{NAME=VALUE,..}` as it stands, and says it.
-pub fn say_in_order(alloc: Global, words: &str, said: &mut String) -> Result<()> {
+pub fn say_in_order(alloc: Global, words: &str, said: &mut Said) -> Result<()> {
     match Meta::in_order(alloc, pairs_of(alloc, words)?)? {
-        Some(meta) => say(&meta, said),
-        None => Ok(said.push_str("no order\n")?),
+        Some(meta) => say(&meta, said)?,
+        None => said.put("no order\n"),
     }
+    Ok(())
 }
 
 fn pairs_of(alloc: Global, words: &str) -> Result<Vec<(String, String)>> {
@@ -32,16 +33,15 @@ fn pairs_of(alloc: Global, words: &str) -> Result<Vec<(String, String)>> {
 }
 
 /// Says the pairs, or that there are none; whether they are over the limits; and whether a copy differs.
-fn say(meta: &Meta, said: &mut String) -> Result<()> {
+fn say(meta: &Meta, said: &mut Said) -> Result<(), AllocError> {
     if meta.as_slice().is_empty() {
-        said.push_str("none")?;
+        said.put("none");
     }
-    write_pairs(meta.as_slice(), said)?;
+    said.pairs(meta.as_slice());
     if !meta.is_short() {
-        said.push_str(" of no line")?;
+        said.put(" of no line");
     }
-    if meta.clone()? != *meta {
-        said.push_str(" unlike its copy")?;
-    }
-    Ok(said.push('\n')?)
+    let is_like = meta.clone()? == *meta;
+    said.put(if is_like { "\n" } else { " unlike its copy\n" });
+    Ok(())
 }

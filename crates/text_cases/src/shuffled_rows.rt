@@ -3,9 +3,8 @@
 use crate::stream_rows::{MOST, are_times, write_entry};
 use accept::{Entry, Limits, Line, Meta, StreamState};
 use anyhow::{Result, bail};
-use rows::word_of;
+use rows::{Said, word_of};
 use std::alloc::Global;
-use std::fmt::Write;
 
 /// What the clock says.
 const NOW: u64 = 0;
@@ -104,7 +103,7 @@ struct Drawn {
 
 /// Does what `COUNT SEED RANGES` ask for. Says how much of the stream agrees with the plain list, or what differs
 /// first.
-pub fn take_words(alloc: Global, order: Order, words: &str, said: &mut String) -> Result<()> {
+pub fn take_words(alloc: Global, order: Order, words: &str, said: &mut Said) -> Result<()> {
     let (count, words) = word_of(words);
     let (seed, ranges) = word_of(words);
     let mut drawn = Drawn {
@@ -177,7 +176,7 @@ impl Drawn {
     }
 
     /// Compares reads and trims, and at the end the kept entries.
-    fn compare_all(&mut self, said: &mut String) -> Result<()> {
+    fn compare_all(&mut self, said: &mut Said) -> Result<()> {
         for number in 1..=self.ranges {
             if !self.compare_step(number, said)? {
                 return Ok(());
@@ -186,17 +185,16 @@ impl Drawn {
         if self.compare_kept(said)? {
             let (reads, trims) = (self.ranges, self.ranges / TRIM_EVERY);
             let kept = self.plain.len();
-            writeln!(
-                said,
-                "{reads} reads agree, {trims} trims agree, {kept} kept agree"
-            )?;
+            said.tell(format_args!(
+                "{reads} reads agree, {trims} trims agree, {kept} kept agree\n"
+            ));
         }
         Ok(())
     }
 
     /// Compares the read with this number, then a trim where one is due, then the kept entries where a reopening is
     /// due. Stores one more push after a trim and after a reopening. Answers whether all agree.
-    fn compare_step(&mut self, number: u64, said: &mut String) -> Result<bool> {
+    fn compare_step(&mut self, number: u64, said: &mut Said) -> Result<bool> {
         if !self.compare_read(number, said)? {
             return Ok(false);
         }
@@ -215,7 +213,7 @@ impl Drawn {
     }
 
     /// Compares a read of a random range. Every second range is narrow.
-    fn compare_read(&mut self, number: u64, said: &mut String) -> Result<bool> {
+    fn compare_read(&mut self, number: u64, said: &mut Said) -> Result<bool> {
         let times = self.highest.saturating_add(2);
         let from = self.draws.below(times);
         let length = self
@@ -225,15 +223,15 @@ impl Drawn {
         let found = self.stream.read(self.alloc, from, to)?;
         let found = references(self.alloc, found.as_slice())?;
         let wanted = plain_read(self.alloc, &self.plain, from, to)?;
-        let same = are_same(self.alloc, &found, &wanted, said)?;
+        let same = are_same(&found, &wanted, said);
         if !same {
-            writeln!(said, " in read {number}, from {from} to {to}")?;
+            said.tell(format_args!(" in read {number}, from {from} to {to}\n"));
         }
         Ok(same)
     }
 
     /// Compares the trim after the read with this number. Its bound is random, and mostly higher after later reads.
-    fn compare_trim(&mut self, number: u64, said: &mut String) -> Result<bool> {
+    fn compare_trim(&mut self, number: u64, said: &mut Said) -> Result<bool> {
         let oldest = self.highest.saturating_sub(TRIMMING.half_age);
         let most = oldest.saturating_mul(number) / self.ranges.max(1);
         let bound = self.draws.below(most.min(oldest).saturating_add(1));
@@ -242,23 +240,20 @@ impl Drawn {
         let wanted = before.saturating_sub(self.plain.len());
         match self.stream.trim(bound, &TRIMMING) {
             Ok(removed) if removed == wanted as u64 => return Ok(true),
-            Ok(removed) => write!(said, "removed {removed}")?,
-            Err(_) => said.push_str("refused")?,
+            Ok(removed) => said.tell(format_args!("removed {removed}")),
+            Err(_) => said.put("refused"),
         }
-        writeln!(
-            said,
-            ", wanted {wanted}, in the trim at {bound} behind read {number}"
-        )?;
+        said.tell(format_args!(", wanted {wanted}, in the trim at {bound} behind read {number}\n"));
         Ok(false)
     }
 
     /// Compares the kept entries, in the order of storing.
-    fn compare_kept(&self, said: &mut String) -> Result<bool> {
+    fn compare_kept(&self, said: &mut Said) -> Result<bool> {
         let found = self.stream.kept(self.alloc)?;
         let wanted = references(self.alloc, &self.plain)?;
-        let same = are_same(self.alloc, &found, &wanted, said)?;
+        let same = are_same(&found, &wanted, said);
         if !same {
-            said.push_str(" among the kept\n")?;
+            said.put(" among the kept\n");
         }
         Ok(same)
     }
@@ -313,19 +308,23 @@ fn plain_read<'a>(
 }
 
 /// Whether both lists are the same. If not, it says the first place where they differ, without the end of the line.
-fn are_same(alloc: Global, found: &[&Entry], wanted: &[&Entry], said: &mut String) -> Result<bool> {
+fn are_same(found: &[&Entry], wanted: &[&Entry], said: &mut Said) -> bool {
     for (place, (have, want)) in found.iter().zip(wanted).enumerate() {
         if have != want {
-            write!(said, "at {place}: found")?;
-            write_entry(alloc, have, said)?;
-            said.push_str(", wanted")?;
-            write_entry(alloc, want, said)?;
-            return Ok(false);
+            say_difference(place, have, want, said);
+            return false;
         }
     }
     let (have, want) = (found.len(), wanted.len());
     if have != want {
-        write!(said, "{have} entries, wanted {want},")?;
+        said.tell(format_args!("{have} entries, wanted {want},"));
     }
-    Ok(have == want)
+    have == want
+}
+
+fn say_difference(place: usize, have: &Entry, want: &Entry, said: &mut Said) {
+    said.tell(format_args!("at {place}: found"));
+    write_entry(have, said);
+    said.put(", wanted");
+    write_entry(want, said);
 }

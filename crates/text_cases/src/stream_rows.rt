@@ -5,9 +5,8 @@ use crate::shuffled_rows::{self, Order};
 use crate::texts::{text_of_word, write_word};
 use accept::{END_OF_TIME, Entry, Limits, Line, Meta, Outcome, StreamState, TrimRefusal};
 use anyhow::{Result, bail};
-use rows::{Row, split_pairs, word_of, write_pairs};
+use rows::{Row, Said, split_pairs, word_of};
 use std::alloc::Global;
-use std::fmt::Write;
 
 /// The greatest time, and the greatest that a clock may tell.
 pub const MOST: u64 = END_OF_TIME - 1;
@@ -41,7 +40,7 @@ struct Opened {
 ///
 /// A line is a word: a blank in it is `\x20`, pieces of it stand between bars, and `x*5` is `xxxxx`. Of a line of
 /// more than 200 bytes its length is said.
-pub fn take_row(alloc: Global, row: &Row<'_>, said: &mut String) -> Result<()> {
+pub fn take_row(alloc: Global, row: &Row<'_>, said: &mut Said) -> Result<()> {
     let mut opened = Opened {
         alloc,
         limits: Limits::PROFILE,
@@ -54,7 +53,7 @@ pub fn take_row(alloc: Global, row: &Row<'_>, said: &mut String) -> Result<()> {
 }
 
 impl Opened {
-    fn take_line(&mut self, line: &str, said: &mut String) -> Result<()> {
+    fn take_line(&mut self, line: &str, said: &mut Said) -> Result<()> {
         let (word, rest) = word_of(line);
         match word {
             "limits" => self.set_limits(rest, said),
@@ -73,73 +72,79 @@ impl Opened {
     }
 
     /// Takes these limits, and says whether they are lawful.
-    fn set_limits(&mut self, words: &str, said: &mut String) -> Result<()> {
+    fn set_limits(&mut self, words: &str, said: &mut Said) -> Result<()> {
         self.limits = limits_of(words)?;
         let lawful = self.limits.are_lawful();
-        Ok(said.push_str(if lawful { "lawful\n" } else { "not lawful\n" })?)
+        said.put(if lawful { "lawful\n" } else { "not lawful\n" });
+        Ok(())
     }
 
     /// Says what becomes of each entry, and either stores those to store or says them.
-    fn judge(&mut self, words: &str, store: bool, said: &mut String) -> Result<()> {
+    fn judge(&mut self, words: &str, store: bool, said: &mut Said) -> Result<()> {
         let (now, words) = word_of(words);
         let now = now.parse::<u64>()?;
         let entries = entries_of(self.alloc, words)?;
         if !self.limits.are_lawful() || now > MOST || !are_times(&entries) {
-            return Ok(said.push_str("a number is out of its bounds\n")?);
+            said.put("a number is out of its bounds\n");
+            return Ok(());
         }
         let outcomes = self.stream.judge(self.alloc, now, &entries, &self.limits)?;
-        say_outcomes(outcomes.as_slice(), said)?;
+        say_outcomes(outcomes.as_slice(), said);
         let reserved = self
             .stream
             .reserve(self.alloc, &entries, outcomes.as_slice())?;
         if store {
             self.stream.store(reserved);
-            return Ok(());
-        }
-        said.push_str("to store")?;
-        say_entries(self.alloc, reserved.as_slice(), said)
-    }
-
-    fn read(&self, words: &str, said: &mut String) -> Result<()> {
-        let (from, to) = word_of(words);
-        let found = self.stream.read(self.alloc, from.parse()?, to.parse()?)?;
-        said.push_str("found")?;
-        say_entries(self.alloc, found.as_slice(), said)
-    }
-
-    /// Says how many buckets a read would look into.
-    fn say_buckets(&self, words: &str, said: &mut String) -> Result<()> {
-        let (from, to) = word_of(words);
-        let met = self.stream.buckets_met(from.parse()?, to.parse()?);
-        Ok(writeln!(said, "met {met}")?)
-    }
-
-    fn trim(&mut self, bound: &str, said: &mut String) -> Result<()> {
-        match self.stream.trim(bound.parse()?, &self.limits) {
-            Ok(count) => writeln!(said, "removed {count}")?,
-            Err(TrimRefusal::AboveOldest) => said.push_str("above oldest\n")?,
-            Err(TrimRefusal::NoSuchStream) => said.push_str("no such stream\n")?,
+        } else {
+            said.put("to store");
+            say_entries(reserved.as_slice(), said);
         }
         Ok(())
     }
 
-    fn say_state(&self, said: &mut String) -> Result<()> {
+    fn read(&self, words: &str, said: &mut Said) -> Result<()> {
+        let (from, to) = word_of(words);
+        let found = self.stream.read(self.alloc, from.parse()?, to.parse()?)?;
+        said.put("found");
+        say_entries(found.as_slice(), said);
+        Ok(())
+    }
+
+    /// Says how many buckets a read would look into.
+    fn say_buckets(&self, words: &str, said: &mut Said) -> Result<()> {
+        let (from, to) = word_of(words);
+        let met = self.stream.buckets_met(from.parse()?, to.parse()?);
+        said.tell(format_args!("met {met}\n"));
+        Ok(())
+    }
+
+    fn trim(&mut self, bound: &str, said: &mut Said) -> Result<()> {
+        match self.stream.trim(bound.parse()?, &self.limits) {
+            Ok(count) => said.tell(format_args!("removed {count}\n")),
+            Err(TrimRefusal::AboveOldest) => said.put("above oldest\n"),
+            Err(TrimRefusal::NoSuchStream) => said.put("no such stream\n"),
+        }
+        Ok(())
+    }
+
+    fn say_state(&self, said: &mut Said) -> Result<()> {
         let stream = &self.stream;
         let age = if stream.is_new() { "new" } else { "not new" };
         let highest = stream.highest();
-        write!(said, "{age}, highest {highest}, last")?;
+        said.tell(format_args!("{age}, highest {highest}, last"));
         match stream.last() {
-            Some(entry) => write_entry(self.alloc, entry, said)?,
-            None => said.push_str(" nothing")?,
+            Some(entry) => write_entry(entry, said),
+            None => said.put(" nothing"),
         }
-        said.push_str(", kept")?;
+        said.put(", kept");
         say_kept(self.alloc, stream, said)
     }
 
     /// Takes the stream apart, and makes it from its parts again.
-    fn reopen(&mut self, said: &mut String) -> Result<()> {
+    fn reopen(&mut self, said: &mut Said) -> Result<()> {
         if self.stream.is_new() {
-            return Ok(said.push_str("a new stream has no parts\n")?);
+            said.put("a new stream has no parts\n");
+            return Ok(());
         }
         let image = self.stream.to_image(self.alloc)?;
         self.stream = StreamState::of(self.alloc, image)?;
@@ -151,15 +156,31 @@ impl Opened {
 fn limits_of(words: &str) -> Result<Limits> {
     let mut limits = Limits::PROFILE;
     for word in words.split_ascii_whitespace() {
-        match word.split_once('=') {
-            Some(("line", number)) => limits.line = number.parse()?,
-            Some(("half_age", number)) => limits.half_age = number.parse()?,
-            Some(("max_old", number)) => limits.max_old = number.parse()?,
-            Some(("max_ahead", number)) => limits.max_ahead = number.parse()?,
-            _ => bail!("no limit: {word}"),
-        }
+        set_limit(&mut limits, word)?;
     }
     Ok(limits)
+}
+
+fn set_limit(limits: &mut Limits, word: &str) -> Result<()> {
+    let (name, number) = word.split_once('=').unwrap_or((word, ""));
+    match limit_of(limits, name) {
+        Some(limit) => {
+            *limit = number.parse()?;
+            Ok(())
+        }
+        None => bail!("no limit: {word}"),
+    }
+}
+
+/// The limit of this name.
+fn limit_of<'a>(limits: &'a mut Limits, name: &str) -> Option<&'a mut u64> {
+    match name {
+        "line" => Some(&mut limits.line),
+        "half_age" => Some(&mut limits.half_age),
+        "max_old" => Some(&mut limits.max_old),
+        "max_ahead" => Some(&mut limits.max_ahead),
+        _ => None,
+    }
 }
 
 /// The entries of words.
@@ -191,50 +212,53 @@ pub fn are_times(entries: &[Entry]) -> bool
     entries.iter().all(|entry| entry.time <= MOST)
 }
 
-fn say_outcomes(outcomes: &[Outcome], said: &mut String) -> Result<()> {
-    let mut gap = "";
-    for outcome in outcomes {
-        said.push_str(gap)?;
-        match outcome {
-            Outcome::TooLong => said.push_str("TooLong")?,
-            Outcome::BadMetadata => said.push_str("BadMetadata")?,
-            Outcome::TooOld => said.push_str("TooOld")?,
-            Outcome::TooNew => said.push_str("TooNew")?,
-            Outcome::Repeat => said.push_str("Repeat")?,
-            Outcome::TooFarBehind { oldest } => write!(said, "TooFarBehind({oldest})")?,
-            Outcome::Stored => said.push_str("Stored")?,
-        }
-        gap = " ";
+fn say_outcomes(outcomes: &[Outcome], said: &mut Said) {
+    for (place, outcome) in outcomes.iter().enumerate() {
+        said.put(if place == 0 { "" } else { " " });
+        say_outcome(*outcome, said);
     }
-    Ok(said.push('\n')?)
+    said.put("\n");
+}
+
+fn say_outcome(outcome: Outcome, said: &mut Said) {
+    match outcome {
+        Outcome::TooLong => said.put("TooLong"),
+        Outcome::BadMetadata => said.put("BadMetadata"),
+        Outcome::TooOld => said.put("TooOld"),
+        Outcome::TooNew => said.put("TooNew"),
+        Outcome::Repeat => said.put("Repeat"),
+        Outcome::TooFarBehind { oldest } => said.tell(format_args!("TooFarBehind({oldest})")),
+        Outcome::Stored => said.put("Stored"),
+    }
 }
 
 /// Writes a blank and an entry.
-pub fn write_entry(alloc: Global, entry: &Entry, into: &mut String) -> Result<()> {
+pub fn write_entry(entry: &Entry, into: &mut Said) {
     let time = entry.time;
-    write!(into, " {time}:")?;
-    write_word(alloc, entry.line.as_str(), into)?;
-    write_pairs(entry.meta.as_slice(), into)
+    into.tell(format_args!(" {time}:"));
+    write_word(entry.line.as_str(), into);
+    into.pairs(entry.meta.as_slice());
 }
 
 /// Ends a line with these entries.
-fn say_kept(alloc: Global, stream: &StreamState, said: &mut String) -> Result<()> {
+fn say_kept(alloc: Global, stream: &StreamState, said: &mut Said) -> Result<()> {
     let kept = stream.kept(alloc)?;
     if kept.is_empty() {
-        said.push_str(" nothing")?;
+        said.put(" nothing");
     }
-    for entry in kept {
-        write_entry(alloc, entry, said)?;
+    for entry in kept.iter() {
+        write_entry(entry, said);
     }
-    Ok(said.push('\n')?)
+    said.put("\n");
+    Ok(())
 }
 
-fn say_entries(alloc: Global, entries: &[Entry], said: &mut String) -> Result<()> {
+fn say_entries(entries: &[Entry], said: &mut Said) {
     if entries.is_empty() {
-        said.push_str(" nothing")?;
+        said.put(" nothing");
     }
     for entry in entries {
-        write_entry(alloc, entry, said)?;
+        write_entry(entry, said);
     }
-    Ok(said.push('\n')?)
+    said.put("\n");
 }

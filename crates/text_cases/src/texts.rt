@@ -1,7 +1,6 @@
 use anyhow::{Result, bail};
-use rows::{escape, text_of, unescape, word_of};
+use rows::{Said, text_times, unescape, word_of};
 use std::alloc::Global;
-use std::fmt::Write;
 use std::mem;
 
 /// The longest text that is said as it is, in bytes.
@@ -60,45 +59,37 @@ pub fn text_of_word(alloc: Global, word: &str) -> Result<String> {
 
 fn put_piece(alloc: Global, piece: &str, into: &mut String) -> Result<()> {
     let (piece, count) = match piece.rsplit_once('*') {
-        Some((piece, count)) => (piece, count.parse::<usize>()?),
+        Some((piece, count)) => (piece, count.parse()?),
         None => (piece, 1),
     };
-    let piece = text_of(alloc, piece)?;
-    for _ in 0..count {
-        into.push_str(piece.as_str())?;
-    }
-    Ok(())
+    Ok(into.push_str(text_times(alloc, piece, count)?.as_str())?)
 }
 
 /// Writes a text with its escapes, or the length of a long one.
-pub fn write_text(text: &str, into: &mut String) -> Result<()> {
+pub fn write_text(text: &str, into: &mut Said) {
     let length = text.len();
     if length > LONGEST {
-        write!(into, "({length} bytes)")?;
-        return Ok(());
+        return into.tell(format_args!("({length} bytes)"));
     }
-    escape(text.as_bytes(), into)
+    into.escape(text.as_bytes());
 }
 
 /// Writes a text as one word: its blanks and each `=` are escaped too.
-pub fn write_word(alloc: Global, text: &str, into: &mut String) -> Result<()> {
+pub fn write_word(text: &str, into: &mut Said) {
     if text.len() > LONGEST {
         return write_text(text, into);
     }
-    let mut escaped = String::new(alloc);
-    escape(text.as_bytes(), &mut escaped)?;
-    for character in escaped.chars() {
+    for character in text.chars() {
         match character {
-            ' ' => into.push_str("\\x20")?,
-            '=' => into.push_str("\\x3d")?,
-            _ => into.push(character)?,
+            ' ' => into.put("\\x20"),
+            '=' => into.put("\\x3d"),
+            _ => into.escape_character(character),
         }
     }
-    Ok(())
 }
 
 /// Says a text on a line.
-pub fn say(text: &str, said: &mut String) -> Result<()> {
-    write_text(text, said)?;
-    Ok(said.push('\n')?)
+pub fn say(text: &str, said: &mut Said) {
+    write_text(text, said);
+    said.put("\n");
 }

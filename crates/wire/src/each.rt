@@ -5,7 +5,7 @@ use crate::manner::Manner;
 use anyhow::{Result, bail};
 
 /// What changes from run to run, where a connection is run again for each place.
-#[derive(Clone, Copy, Debug, PartialEq, Eq)]
+#[derive(Clone, Copy)]
 pub enum Each {
     /// The stream ends there.
     Cut,

@@ -1,5 +1,5 @@
 /// How the bytes of a connection come, and how what is written is taken.
-#[derive(Clone, Copy, Debug)]
+#[derive(Clone, Copy)]
 pub struct Manner {
     /// How many of the bytes come.
     pub length: usize,
