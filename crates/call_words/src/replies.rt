@@ -1,6 +1,7 @@
 use accept::{Entry, Outcome, Reply};
 use anyhow::Result;
 use rows::{escape, only_character, write_pairs};
+use std::alloc::AllocError;
 use std::fmt::Write;
 
 /// A line that is longer than this and repeats one character is written by its length.
@@ -11,14 +12,15 @@ const LONG: usize = 8;
 /// # Errors
 /// Want of memory.
 pub fn write_reply(reply: &Reply, into: &mut String) -> Result<()> {
-    match reply {
+    let written = match reply {
         Reply::Verdict(outcomes) => write_outcomes(outcomes.as_slice(), into),
         Reply::Entries(entries) => write_entries(entries.as_slice(), into),
-        other => Ok(write!(into, "{other:?}")?),
-    }
+        other => write!(into, "{other:?}"),
+    };
+    Ok(written?)
 }
 
-fn write_outcomes(outcomes: &[Outcome], into: &mut String) -> Result<()> {
+fn write_outcomes(outcomes: &[Outcome], into: &mut String) -> Result<(), AllocError> {
     into.push_str("verdict")?;
     for outcome in outcomes {
         write!(into, " {outcome:?}")?;
@@ -26,7 +28,7 @@ fn write_outcomes(outcomes: &[Outcome], into: &mut String) -> Result<()> {
     Ok(())
 }
 
-fn write_entries(entries: &[Entry], into: &mut String) -> Result<()> {
+fn write_entries(entries: &[Entry], into: &mut String) -> Result<(), AllocError> {
     into.push_str("entries")?;
     for entry in entries {
         write_entry(entry, into)?;
@@ -34,7 +36,7 @@ fn write_entries(entries: &[Entry], into: &mut String) -> Result<()> {
     Ok(())
 }
 
-fn write_entry(entry: &Entry, into: &mut String) -> Result<()> {
+fn write_entry(entry: &Entry, into: &mut String) -> Result<(), AllocError> {
     let (time, line) = (entry.time, entry.line.as_str());
     let count = line.len();
     match only_character(line) {
