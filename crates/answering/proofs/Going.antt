@@ -97,19 +97,6 @@ module _ {H : Type 0} (gives : Giving H) (now : ℕ) (tenant body : List ℕ) wh
     left = record { done = s.done; more = s.more; cames = s.cames; last = s.last; behind = s.behind; split = s.split; each = s.each; whole = s.whole; said = s.said; few = s.few };
   }
 
--- a failure is answered by 500 and its text
-fault_is_500 : (fault : PushFault) (failure : Failure) → fault_failure fault ≡ Some failure → (InternalServerError ≡ fault_status fault) × (failure_body failure ≡ fault_text fault)
-fault_is_500 NotJson failure e = absurd (cc)
-fault_is_500 WrongShape failure e = absurd (cc)
-fault_is_500 (BadTime i j) failure e = absurd (cc)
-fault_is_500 TooManyEntries failure e = absurd (cc)
-fault_is_500 Memory failure e = let same : OutOfMemory ≡ failure = cc in (refl, ap failure_body (sym same))
-
-pub is_500 : (route : Route) (course : Course) (failure : Failure) → failure_in course ≡ Some failure → (InternalServerError ≡ status_for route course) × (failure_body failure ≡ text_for route course)
-is_500 route (Unread fault) failure e = fault_is_500 fault failure e
-is_500 route (Whole cames) failure e = absurd (cc)
-is_500 route (Broken cames other) failure e = let same : other ≡ failure = cc in (refl, ap failure_body (sym same))
-
 counted : (streams : List Stream) → sum_by (λ b. length b.entries) (map batch_of streams) ≡ entry_count streams
 counted [] = refl
 counted (s ∷ streams) =

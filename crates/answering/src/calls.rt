@@ -23,9 +23,9 @@ pub trait Calls {
     /// By this pass calls may be made.
     ghost is_ready: { Self → Self.Pass → Type 0 };
 
-    /// From what a pass knew, a call and what came of it, to what the pass knows then. A call has a reply, or it fails,
-    /// and its request is answered by a status 500. The first word tells whether the call before it, made with it, is
-    /// in doubt.
+    /// Relates a pass before a call, the call, what came of it, and the pass after it. A call has a reply, or it fails,
+    /// and its request is answered by a status 500. The `Bool` tells whether the call just before it, of those that
+    /// are made together, is in doubt.
     ghost gives: { Self → Bool → Self.Pass → Call → Result Reply Failure → Self.Pass → Type 0 };
 
     /// What came of a call, by its outcome.

@@ -58,7 +58,7 @@ impl<'a, I: Read, O: Write> Ends<'a, I, O> {
         next
     }
 
-    /// WritesBeginning an answer.
+    /// Writes an answer.
     pub(crate) fn answer(
         &mut self,
         outgoing: &mut Outgoing,
@@ -78,7 +78,7 @@ impl<'a, I: Read, O: Write> Ends<'a, I, O> {
         written
     }
 
-    /// WritesBeginning a fixed answer.
+    /// Writes a fixed answer.
     pub(crate) fn fixed(
         &mut self,
         outgoing: &mut Outgoing,
@@ -97,7 +97,7 @@ impl<'a, I: Read, O: Write> Ends<'a, I, O> {
         written
     }
 
-    /// WritesBeginning the answer of a failure. Takes no memory.
+    /// Writes the answer of a failure. Takes no memory.
     pub(crate) fn failure(&mut self, failure: Failure) -> Result<(), ServeFault>
         ensures same { AreSameEnds self.old self.new }
         ensures reader { self.new.reader.now ≡ self.old.reader.now }

@@ -1,4 +1,4 @@
-//! The answers to reads and trims.
+//! The answers to reads and trims, and what a reply to any call is answered by.
 ghost use Rattle.std.specs.Prelude.{◌≡◌, ◌≢◌, ◌∷◌, [], IfOk, IfErr, OnErr, map};
 ghost use Rattle.serde_json.specs.Data.{object};
 ghost use Rattle.serde_json.specs.View.{view};

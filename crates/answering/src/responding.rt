@@ -243,8 +243,8 @@ fn answer_of_failure(mut text: Vec<u8>, failure: Failure) -> Answer
 ///
 /// # Errors
 ///
-/// `Memory`, where there was none before any call, and none to say so; or none for an answer of another status
-/// than 500, and calls made before stand.
+/// `Memory`: before any call there was no memory, not even for the text of a status 500; or there was none for an
+/// answer of another status. Calls that were made stand.
 pub fn answer<S: Calls, R: Wait>(
     rt: &R,
     alloc: Global,

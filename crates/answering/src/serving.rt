@@ -211,8 +211,8 @@ impl<'a, 'b, S: Calls<Pass = P>, P, C: Clock, I: Read, O: Write> Connection<'a, 
     }
 }
 
-/// Answers the requests of a connection, one after another, until its stream ends between two or an
-/// answer closes it. The clock is read once for each whole request. No call is made of a request that was
+/// Answers the requests of a connection, one after another, until its bytes end between two requests or
+/// an answer closes it. The clock is read once for each whole request. No call is made of a request that was
 /// cut. Each answer is one write, where the writer takes it whole.
 ///
 /// # Errors
@@ -220,7 +220,7 @@ impl<'a, 'b, S: Calls<Pass = P>, P, C: Clock, I: Read, O: Write> Connection<'a, 
 /// `Read`, `Memory` and `CutShort`: what is written are whole answers of a beginning of the requests.
 /// `Memory` never comes in place of an answer of status 500.
 /// `Write`: a beginning of the answers is written. Calls made before stand.
-/// `Read` and `Write` come only of an end that failed when it was asked.
+/// `Read` and `Write` come only where the reader or the writer failed.
 pub fn serve<'a, 'b, S: Calls, R: Wait, C: Clock, I: Read, O: Write>(
     rt: &R,
     alloc: Global,

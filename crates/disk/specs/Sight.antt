@@ -6,7 +6,7 @@ pub record Sight : Type 1 where
   pub seen : List ℕ
   -- what a crash now may leave
   pub may_leave : List ℕ → Type 0
-  -- the clock, which doesn't fall
+  -- a number that never falls: how far the disk's time has come
   pub moment : ℕ
   -- what a crash at some moment from that one on might have left
   pub left_since : ℕ → List ℕ → Type 0
@@ -17,7 +17,8 @@ pub record Sight : Type 1 where
 abbrev pub Holds : List ℕ → ℕ → List ℕ → List ℕ → Type 0
 Holds old at bytes new = new ≡ take at old ++ bytes ++ drop (at + length bytes) old
 
--- after a write of n bytes that a crash cuts short: any bytes in the range and past the old end, the same elsewhere
+-- after a write of n bytes that a crash cuts short: any bytes in the range, the same before and after it, and a length
+-- from the old one to that of the whole write
 pub record Torn (at n : ℕ) (old new : List ℕ) : Type 0 where
   pub before : take at new ≡ take at old
   pub after : drop (at + n) new ≡ drop (at + n) old

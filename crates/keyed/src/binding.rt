@@ -4,7 +4,7 @@ use crate::rule::Fits;
 use crossbeam_channel::protocol::{Lesson, Outcome, Protocol, Split};
 use std::marker::{Brand, PhantomData};
 
-/// What an end of a queue knows: the key and the number that its messages fit. The program makes no value of it.
+/// What an end of a queue knows: the key and the number that its messages fit. It exists in the proofs alone.
 pub enum Binding<K> {
     /// The queue was just made.
     Unbound,

@@ -39,7 +39,7 @@ impl<T, K, P: Fits<T, K>> Locks<T, K, P> {
     ghost use Rattle.std.specs.Prelude.{◌≡◌, ◌<◌, ℕ, length, vec_len, IfOk, IfErr, IfSome, ◌≢◌};
     ghost use Rattle.keyed.specs.Grips.{table_of, key_of_locks, count_of, IsGrip, AllFit};
 
-    /// A free lock for each value. It is refused only for want of memory, and the values then come back.
+    /// A free lock for each value. Fails only for want of memory, and then gives the values back.
     pub fn new(
         alloc: Global,
         values: Vec<Option<T>>,
@@ -88,8 +88,7 @@ impl<T, K, P: Fits<T, K>> Locks<T, K, P> {
         }
     }
 
-    /// Waits for the lock, and takes what it keeps for good: a thread that waits for this lock from now on waits for
-    /// ever.
+    /// Waits for the lock, takes the value, and never frees the lock: a thread that waits for it later waits for ever.
     pub fn take_out<R: Wait>(&self, rt: &R, number: usize) -> T
         requires { number < count_of self.now }
         ensures { P.fits (key_of_locks self.now) number result }

@@ -12,7 +12,7 @@ pub trait Fits<T, K> {
     ghost fits: { K → ℕ → T → Type 0 };
 }
 
-/// What a seat knows: the key, and which lock it holds. The program makes no value of it.
+/// What a seat knows: the key, and which lock it holds. It exists in the proofs alone.
 pub struct Hold<K> {
     /// The key of the locks.
     pub key: K,

@@ -29,7 +29,7 @@ impl Waiters {
         }
     }
 
-    /// Waits for a message. None comes any more once all ends that send are gone and the queue is empty.
+    /// Waits for a message. Gives `None` once all ends that send are gone and the queue is empty.
     pub fn receive<T: Drop, K, P: Fits<T, K>, R: Wait>(
         &self,
         rt: &R,

@@ -88,22 +88,10 @@ rise_of_any name value (q ∷ qs) h = h
 pub ends_here : (name : List ℕ) (most : ℕ) (text : List ℕ) → text ≡ 125 ∷ [] → EndsSet name most text
 ends_here name most text e = ([], omega arith, tt, tt, e)
 
--- neither the end nor one more label
-pub no_comma : (name : List ℕ) (most : ℕ) (text : List ℕ) → text ≢ 125 ∷ [] → ((more : List ℕ) → text ≢ 44 ∷ 32 ∷ more) → EndsSet name most text → ⊥
-no_comma name most text n m ([], few, each, rise, e) = n e
-no_comma name most text n m (q ∷ qs, few, each, rise, e) = m (label_text q ++ tail_text qs) e
-
 -- no label more may follow
 pub no_room : (name text : List ℕ) → text ≢ 125 ∷ [] → EndsSet name 0 text → ⊥
 no_room name text n ([], few, each, rise, e) = n e
 no_room name text n (q ∷ qs, few, each, rise, e) = omega (arith, few)
-
--- behind the comma stands no label
-pub no_next : (name : List ℕ) (most : ℕ) (text next : List ℕ) → text ≢ 125 ∷ [] → text ≡ 44 ∷ 32 ∷ next → ((p : Label) (rest : List ℕ) → IsLabel p → next ≢ label_text p ++ rest) → EndsSet name most text → ⊥
-no_next name most text next n c m ([], few, each, rise, e) = n e
-no_next name most text next n c m (q ∷ qs, few, each, rise, e) =
-    let both : 44 ∷ 32 ∷ next ≡ 44 ∷ 32 ∷ (label_text q ++ tail_text qs) = sym c ∙ e in
-    m q (tail_text qs) each.0 cc
 
 -- one label more, and what follows it
 pub ends_after : (last name value text next after : List ℕ) (room most : ℕ) → room ≡ most + 1 → text ≢ 125 ∷ [] → text ≡ 44 ∷ 32 ∷ next → IsLabel (name, value) → next ≡ label_text (name, value) ++ after

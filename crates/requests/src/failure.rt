@@ -34,7 +34,7 @@ impl Failure {
     }
 }
 
-/// WritesBeginning the answer of a failure. Takes no memory.
+/// Writes the answer of a failure. Takes no memory.
 ///
 /// # Errors
 ///

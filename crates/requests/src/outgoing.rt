@@ -105,7 +105,7 @@ impl Outgoing {
         }
     }
 
-    /// WritesBeginning an answer: its head and its body, or with status 204 its head alone.
+    /// Writes an answer: its head and its body, or with status 204 its head alone.
     ///
     /// # Errors
     ///
@@ -132,7 +132,7 @@ impl Outgoing {
         write_text(writer, self.text.as_slice())
     }
 
-    /// WritesBeginning a fixed answer, to a request that asks that the connection ends or to one that does not.
+    /// Writes a fixed answer, to a request that asks that the connection ends or to one that does not.
     ///
     /// # Errors
     ///

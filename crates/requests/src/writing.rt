@@ -4,7 +4,7 @@ ghost use Rattle.requests.specs.Writing.{WritesBeginning};
 use crate::fault::ServeFault;
 use std::io::{ErrorKind, Write};
 
-/// WritesBeginning all the bytes, in one write where the writer takes them all.
+/// Writes all the bytes, in one write where the writer takes them all.
 pub(crate) fn write_text<W: Write>(writer: &mut W, text: &[u8]) -> Result<(), ServeFault>
     ensures writes { WritesBeginning (W.contents writer.old)
         (W.contents writer.new) text.now result }
