@@ -185,6 +185,11 @@ pub none_is : {A : Type 0} (P : Type 0) (Q : A → Type 0) (found : Option A) �
 none_is P Q None e h = h
 none_is P Q (Some x) e h = absurd (none-some x (sym e))
 
+-- one of two, by whether something was found
+pub either_ways : {A : Type 0} (P Q : Type 0) (found : Option A) → (found ≡ None → P) → Q → MatchOption found P (λ _. Q)
+either_ways P Q None none q = none refl
+either_ways P Q (Some x) none q = q
+
 -- a number of a list
 pub below_at : (n : ℕ) (numbers : List ℕ) (k : ℕ) → AreBelow n numbers → k < length numbers → slice_index_or numbers k 0 < n
 below_at n numbers k all lt = all k (slice_index_or numbers k 0) (slice_get-get_or numbers k 0 lt)

@@ -26,7 +26,8 @@ use Rattle.owners.specs.Places.{AreShardsOf, IsShardAt}
 use Rattle.owners.proofs.Each.{each_of}
 use Rattle.ingester.specs.Openings.{AreFresh}
 use Rattle.ingester.specs.Calls.{IsPassOf}
-use Rattle.ingester.specs.Makings.{IsGround, AreGround, AreShardsOfLogs, AreThere, logs_of_shards}
+use Rattle.shard.specs.Shards.{IsGround}
+use Rattle.ingester.specs.Makings.{AreGround, AreShardsOfLogs, AreThere, logs_of_shards}
 use Rattle.ingester.proofs.Lasting.{get_front}
 
 -- values that are dealt one after another

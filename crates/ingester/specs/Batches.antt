@@ -1,5 +1,5 @@
 -- Calls of a pass that are announced one after another, and whose answers are taken in together.
-use Rattle.std.specs.Prelude.{◌≡◌, ◌≢◌, ◌⊎◌, ℕ, zero, suc, ◌+◌, ◌-◌, ◌<◌, List, [], ◌∷◌, ◌++◌, Some, false, length, Result, Ok, Err, slice_get}
+use Rattle.std.specs.Prelude.{◌≡◌, ◌≢◌, ◌⊎◌, ℕ, zero, suc, ◌+◌, ◌-◌, ◌^◌, ◌<◌, ◌≤◌, List, [], ◌∷◌, ◌++◌, Some, false, length, Result, Ok, Err, slice_get}
 use Rattle.atomic_table.specs.Seated.{TableId}
 use Rattle.accept.specs.Calls.{AreNumbers}
 use Rattle.accept.specs.declared.call.Call.{Call}
@@ -8,7 +8,7 @@ use Rattle.accept.specs.declared.history.Ask.{Ask}
 use Rattle.accept.specs.declared.history.Item.{Item}
 use Rattle.history.specs.declared.views.About.{About}
 use Rattle.history.specs.declared.views.Caller.{Caller}
-use Rattle.history.specs.Histories.{IsLegalAt, IsByPasses, IsFirst, asks_on, shard_in, step_of}
+use Rattle.history.specs.Histories.{IsLegalAt, IsByPasses, IsFirst, asks_on, shard_in, step_of, max_open}
 use Rattle.history.specs.Plays.{seen_at, ask_of, before_of, withdraw_to, collect_to, Extends, IsRested}
 use Rattle.history.specs.Handles.{Passed, is_closed_pass, asks_of}
 use Rattle.shard.specs.declared.fault.ApplyFault.{ApplyFault}
@@ -17,7 +17,9 @@ use Rattle.shard.specs.declared.first_jobs.Job.{Job}
 use Rattle.shard.specs.Jobs.{tickets_of}
 use Rattle.owners.specs.declared.ways.Way.{Way}
 use Rattle.owners.specs.Calls.{IsBatch}
-use Rattle.owners.specs.Openings.{Opening, HasSpentLog}
+use Rattle.owners.specs.Openings.{Opening, HasSpentLog, home_of}
+use Rattle.owners.specs.Ways.{AreReadyWays, AreIdleWays}
+use Rattle.ingester.specs.declared.announcing.Round.{Round}
 use Rattle.ingester.specs.declared.fault.CallFault.{CallFault}
 use Rattle.ingester.specs.declared.fault.CallFault.TheVariants.{InDoubt}
 use Rattle.ingester.specs.Faults.{fault_of}
@@ -39,6 +41,18 @@ pub record IsBatchOf (table : TableId) (about : About) (k : ℕ) (c : Caller)
 abbrev pub AreBatchesOf : TableId → About → Caller → List Way → Type 0
 AreBatchesOf table about c ways = (k : ℕ) (way : Way) → slice_get ways k ≡ Some way
     → IsBatchOf table about k c way.letter.jobs.items
+
+-- Of pass p there is a way to each shard, and in the letters are the jobs of these open calls.
+pub record HasLetters {D : Type 0} (opening : Opening D) (p : ℕ) (c : Caller)
+    (ways : List Way) : Type 0 where
+  pub batches : AreBatchesOf opening.table opening.about c ways
+  pub ready : AreReadyWays (home_of opening) p ways
+  pub count : length ways ≡ opening.about.shards
+
+-- of pass p there is a way to each shard, on which no call is
+pub record HasIdleWays {D : Type 0} (opening : Opening D) (p : ℕ) (ways : List Way) : Type 0 where
+  pub idle : AreIdleWays (home_of opening) p ways
+  pub count : length ways ≡ opening.about.shards
 
 -- each number is below n
 abbrev pub AreBelow : ℕ → List ℕ → Type 0
@@ -87,6 +101,27 @@ pub record AreSomeOpen (old new : Passed) (calls left : List Call) (first count 
   pub announced : AreAnnounced old front new
   pub rested : IsRested old.caller
   pub numbers : AreCountedFrom first new.caller.pending
+
+-- Of a round of announced calls n have been taken in, from the first on. The open calls of the pass are the others.
+pub record IsUnderWay {D : Type 0} (opening : Opening D) (pass : Passed) (round : Round)
+    (n : ℕ) : Type 0 where
+  pub table : pass.table ≡ opening.table
+  pub about : pass.caller.about ≡ opening.about
+  pub rested : IsRested pass.caller
+  pub own : round.pass ≡ pass.caller.pass
+  pub numbers : AreCountedFrom (round.first + n) pass.caller.pending
+  pub long : length pass.caller.pending + n ≡ round.count
+  pub few : round.count ≤ max_open
+  pub fits : round.first + round.count ≤ 2 ^ 64
+  pub below : AreBelow opening.about.shards round.shards
+
+-- some of the calls, from the first on, are announced as a round, which is not empty, and these are left
+pub record HasBegunRound {D : Type 0} (opening : Opening D) (old new : Passed) (calls left : List Call)
+    (round : Round) : Type 0 where
+  pub some : AreSomeOpen old new calls left round.first round.count
+  pub idle : old.caller.pending ≡ []
+  pub positive : 0 < round.count
+  pub under_way : IsUnderWay opening new round 0
 
 -- the answer to this open call was taken in
 pub record IsCollected (old new : Passed) (first : Ask) (reply : Reply) : Type 0 where

@@ -1,34 +1,13 @@
 -- Shards that are made of opened logs.
-use Rattle.std.specs.Prelude.{◌≡◌, ℕ, ◌+◌, ◌≤◌, ◌^◌, false, List, [], ◌∷◌, Option, Some, None, slice_get}
+use Rattle.std.specs.Prelude.{◌≡◌, ℕ, List, [], ◌∷◌, Option, Some, None, slice_get}
 use Rattle.accept.specs.declared.limits.Limits.{Limits}
-use Rattle.accept.specs.Rooms.{Streams, room}
-use Rattle.accept.specs.OneStream.{AreLimits}
+use Rattle.accept.specs.Rooms.{Streams}
 use Rattle.disk.specs.Sight.{Sight}
-use Rattle.segment.specs.Fitting.{FitStreams}
 use Rattle.wal.specs.declared.log.Wal.{Wal}
-use Rattle.wal.specs.Logs.{Follow, owner, IsOnDisk}
-use Rattle.history.specs.Histories.{base_at}
 use Rattle.history.specs.Handles.{Booked}
-use Rattle.shard.specs.Keeping.{owner_in}
-use Rattle.shard.specs.Shards.{Sharded}
+use Rattle.shard.specs.Shards.{Sharded, IsGround}
 
--- what a shard is made of: its log with the streams that stood in it, and a book over them without a step
-pub record IsGround {D : Type 0} (sight : D → Sight) (follows : D → Type 0) (limits : Limits)
-    (log : Wal D)
-    (m : Streams) (book : Booked) : Type 0 where
-  pub fresh : book.items ≡ []
-  pub base : base_at book.about book.shard ≡ m
-  pub same_limits : limits ≡ book.about.limits
-  pub small_limits : AreLimits limits
-  pub same_capacity : log.cap ≡ book.about.capacity
-  pub small_capacity : log.cap ≤ 2 ^ 30
-  pub same_owner : owner log ≡ owner_in book
-  pub usable : log.failed ≡ false
-  pub settled : Follow follows log → IsOnDisk sight log m
-  pub fit : FitStreams (owner log) m
-  pub small : room m ≤ 2 ^ 31 + 27
-
--- so is each
+-- each log, with its streams and its book, is what a shard is made of
 abbrev pub AreGround : {D : Type 0} → (D → Sight) → (D → Type 0) → Limits → List (Wal D)
     → List Streams → List Booked
     → Type 0

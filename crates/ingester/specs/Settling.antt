@@ -15,8 +15,9 @@ use Rattle.ingester.specs.declared.fault.CallFault.TheVariants.{InDoubt}
 use Rattle.ingester.specs.Faults.{fault_of}
 use Rattle.ingester.specs.Calls.{with_next}
 
--- a pass that waited for no answer has announced this call
+-- a pass that was not closed, and waited for no answer, has announced this call
 pub record IsOpenWith (before : Passed) (call : Call) (pass : Passed) : Type 0 where
+  pub asking : before.closed ≡ false
   pub idle : before.caller.pending ≡ []
   pub rested : IsRested before.caller
   pub is : pass ≡ with_next before call

@@ -1,12 +1,11 @@
 //! How calls of a pass are announced together, as far as can be.
-ghost use Rattle.std.specs.Prelude.{◌≡◌, ◌+◌, ◌^◌, ◌<◌, ◌≤◌, ℕ, [], None, true, All, length, IfSome, MatchOption};
+ghost use Rattle.std.specs.Prelude.{◌≡◌, ◌+◌, ◌^◌, ◌<◌, ◌≤◌, [], None, true, All, length, IfSome, MatchOption};
 ghost use Rattle.std.specs.VecDeque.{deque_len, deque_capacity};
 ghost use Rattle.accept.specs.Calls.{AreNumbers};
 ghost use Rattle.history.specs.Histories.{max_open};
 ghost use Rattle.ingester.specs.Calls.{IsPassOf};
-ghost use Rattle.owners.specs.Openings.{home_of};
-ghost use Rattle.owners.specs.Ways.{AreReadyWays, AreIdleWays, HasSameRest};
-ghost use Rattle.ingester.specs.Batches.{AreBatchesOf, AreSomeOpen, AreBelow, IsPutIntoLetter, IsNextOpen};
+ghost use Rattle.owners.specs.Ways.{HasSameRest};
+ghost use Rattle.ingester.specs.Batches.{HasLetters, HasIdleWays, IsPutIntoLetter, IsNextOpen, HasBegunRound};
 
 use crate::calls::shard_number;
 use crate::opened::Ingester;
@@ -68,26 +67,21 @@ impl<D: Disk + Drop> Ingester<D> {
         calls: &mut VecDeque<Call>,
         ways: &mut Vec<Way>,
     ) -> Option<(u64, usize)>
-        requires table { pass.old.table ≡ self.now.table }
-        requires about { pass.old.caller.about ≡ self.now.about }
-        requires pass { pass.old.caller.pass < self.now.about.passes }
+        requires pass { (pass.old.table ≡ self.now.table)
+            × (pass.old.caller.about ≡ self.now.about)
+            × (pass.old.caller.pass < self.now.about.passes) }
         requires few { length pass.old.caller.pending + deque_len calls.old ≤ max_open }
         requires numbers { All AreNumbers calls.old.items }
-        requires count { length ways.old.items ≡ self.now.about.shards }
-        requires batches { AreBatchesOf self.now.table self.now.about pass.old.caller
+        requires letters { HasLetters self.now pass.old.caller.pass pass.old.caller
             ways.old.items }
-        requires ready { AreReadyWays (home_of self.now) pass.old.caller.pass ways.old.items }
-        ensures next { IfSome result (λ they. IsNextOpen
-            pass.old pass.new calls.old.items calls.new.items they.0) }
-        ensures fits { IfSome result (λ they. they.0 < 2 ^ 64) }
-        ensures shard { IfSome result (λ they. they.1 < self.now.about.shards) }
+        ensures next { IfSome result (λ they.
+            IsNextOpen pass.old pass.new calls.old.items calls.new.items they.0
+            × (they.0 < 2 ^ 64) × (they.1 < self.now.about.shards)) }
         ensures not { MatchOption result ((pass.new ≡ pass.old) × (calls.new ≡ calls.old))
             (λ _. deque_len calls.new + 1 ≡ deque_len calls.old) }
         ensures capacity { deque_capacity calls.new ≡ deque_capacity calls.old }
-        ensures batches { AreBatchesOf self.now.table self.now.about pass.new.caller
+        ensures letters { HasLetters self.now pass.old.caller.pass pass.new.caller
             ways.new.items }
-        ensures ready { AreReadyWays (home_of self.now) pass.old.caller.pass ways.new.items }
-        ensures count { length ways.new.items ≡ length ways.old.items }
     {
         let shard = shard_number(calls.front()?, self.count);
         let number = self.join(pass, calls, &mut ways[shard])?;
@@ -106,21 +100,13 @@ impl<D: Disk + Drop> Ingester<D> {
         requires idle { pass.old.caller.pending ≡ [] }
         requires few { deque_len calls.old ≤ max_open }
         requires numbers { All AreNumbers calls.old.items }
-        requires count { length ways.old.items ≡ self.now.about.shards }
-        requires ways { AreIdleWays (home_of self.now) pass.old.caller.pass ways.old.items }
-        ensures some { IfSome result (λ round. AreSomeOpen
-            pass.old pass.new calls.old.items calls.new.items round.first round.count) }
-        ensures batches { AreBatchesOf self.now.table self.now.about pass.new.caller
+        requires ways { HasIdleWays self.now pass.old.caller.pass ways.old.items }
+        ensures round { IfSome result (λ round.
+            HasBegunRound self.now pass.old pass.new calls.old.items calls.new.items round) }
+        ensures letters { HasLetters self.now pass.old.caller.pass pass.new.caller
             ways.new.items }
-        ensures ready { AreReadyWays (home_of self.now) pass.old.caller.pass ways.new.items }
-        ensures ways { length ways.new.items ≡ length ways.old.items }
-        ensures own { IfSome result (λ round. round.pass ≡ pass.old.caller.pass) }
-        ensures shards { IfSome result (λ round. AreBelow self.now.about.shards round.shards) }
-        ensures fits { IfSome result (λ round. round.first + round.count ≤ 2 ^ 64) }
         ensures count { MatchOption result ((pass.new ≡ pass.old) × (calls.new ≡ calls.old))
-            (λ round. (0 < round.count) × (round.count ≤ max_open)
-            × (length pass.new.caller.pending ≡ round.count)
-            × (deque_len calls.new + round.count ≡ deque_len calls.old)) }
+            (λ round. deque_len calls.new + round.count ≡ deque_len calls.old) }
         ensures capacity { deque_capacity calls.new ≡ deque_capacity calls.old }
     {
         let own = pass.number();
@@ -151,24 +137,14 @@ impl<D: Disk + Drop> Ingester<D> {
         requires pass { IsPassOf self.now pass.old }
         requires few { deque_len calls.old ≤ max_open }
         requires numbers { All AreNumbers calls.old.items }
-        requires count { length ways.old.items ≡ self.now.about.shards }
-        requires ways { AreIdleWays (home_of self.now) pass.old.caller.pass ways.old.items }
-        ensures some { IfSome result (λ round. AreSomeOpen
-            pass.old pass.new calls.old.items calls.new.items round.first round.count) }
-        ensures idle { IfSome result (λ _. pass.old.caller.pending ≡ []) }
-        ensures batches { IfSome result
-            (λ _. AreBatchesOf self.now.table self.now.about pass.new.caller ways.new.items) }
-        ensures ready { AreReadyWays (home_of self.now) pass.old.caller.pass ways.new.items }
-        ensures same { result ≡ None
-            → AreIdleWays (home_of self.now) pass.old.caller.pass ways.new.items }
-        ensures ways { length ways.new.items ≡ length ways.old.items }
-        ensures own { IfSome result (λ round. round.pass ≡ pass.old.caller.pass) }
-        ensures shards { IfSome result (λ round. AreBelow self.now.about.shards round.shards) }
-        ensures fits { IfSome result (λ round. round.first + round.count ≤ 2 ^ 64) }
+        requires ways { HasIdleWays self.now pass.old.caller.pass ways.old.items }
+        ensures round { IfSome result (λ round.
+            HasBegunRound self.now pass.old pass.new calls.old.items calls.new.items round) }
+        ensures ways { MatchOption result
+            (HasIdleWays self.now pass.old.caller.pass ways.new.items)
+            (λ _. HasLetters self.now pass.old.caller.pass pass.new.caller ways.new.items) }
         ensures count { MatchOption result ((pass.new ≡ pass.old) × (calls.new ≡ calls.old))
-            (λ round. (0 < round.count) × (round.count ≤ max_open)
-            × (length pass.new.caller.pending ≡ round.count)
-            × (deque_len calls.new + round.count ≡ deque_len calls.old)) }
+            (λ round. deque_len calls.new + round.count ≡ deque_len calls.old) }
         ensures none_after { was_refused ≡ true → result ≡ None }
         ensures capacity { deque_capacity calls.new ≡ deque_capacity calls.old }
     {

@@ -1,14 +1,14 @@
 //! Many calls of a pass at once.
-ghost use Rattle.std.specs.Prelude.{◌≡◌, ◌+◌, ◌^◌, ◌<◌, ◌≤◌, [], None, All, length, IfSome};
+ghost use Rattle.std.specs.Prelude.{◌≡◌, ◌+◌, ◌<◌, ◌≤◌, [], None, All, length, IfSome};
 ghost use Rattle.std.specs.VecDeque.{deque_len, deque_capacity};
 ghost use Rattle.accept.specs.Calls.{AreNumbers};
 ghost use Rattle.history.specs.Plays.{IsRested};
 ghost use Rattle.history.specs.Histories.{IsFirstNumber, max_open};
 ghost use Rattle.owners.specs.Calls.{IsDue, number_of_settled};
 ghost use Rattle.owners.specs.Openings.{home_of};
-ghost use Rattle.owners.specs.Ways.{IsWay, AreWays, AreReadyWays, AreIdleWays};
+ghost use Rattle.owners.specs.Ways.{IsWay, AreWays};
 ghost use Rattle.ingester.specs.Calls.{IsPassOf, AreGiven};
-ghost use Rattle.ingester.specs.Batches.{AreBatchesOf, AreBelow, AreCountedFrom, IsTaken, IsTakenBack, AreReceived, AreLost, AreEnded, IsNextRefused};
+ghost use Rattle.ingester.specs.Batches.{HasLetters, HasIdleWays, IsUnderWay, IsTaken, IsTakenBack, AreReceived, AreLost, AreEnded, IsNextRefused};
 ghost use Rattle.ingester.specs.Settling.{told_of};
 
 use crate::announcing::Round;
@@ -76,27 +76,15 @@ impl<D: Disk + Drop> Ingester<D> {
         round: &Round,
         outcomes: &mut VecDeque<Result<Reply, CallFault>>,
     ) -> usize
-        requires table { pass.old.table ≡ self.now.table }
-        requires about { pass.old.caller.about ≡ self.now.about }
-        requires ways { AreWays (home_of self.now) pass.old.caller.pass ways.old.items }
-        requires shards { AreBelow (length ways.old.items) round.now.shards }
-        requires rested { IsRested pass.old.caller }
-        requires numbers { AreCountedFrom round.now.first pass.old.caller.pending }
-        requires count { (length pass.old.caller.pending ≡ round.now.count)
-            × (round.now.count ≤ max_open) }
-        requires fits { round.now.first + round.now.count ≤ 2 ^ 64 }
+        requires round { IsUnderWay self.now pass.old round.now 0 }
+        requires ways { AreWays (home_of self.now) round.now.pass ways.old.items
+            × (length ways.old.items ≡ self.now.about.shards) }
         requires room { deque_len outcomes.old + round.now.count ≤ deque_capacity outcomes.old }
         ensures received { AreReceived self.now pass.old pass.new outcomes.old.items
             outcomes.new.items result }
-        ensures some { result ≤ round.now.count }
-        ensures ways { AreWays (home_of self.now) pass.old.caller.pass ways.new.items }
-        ensures same { (length ways.new.items ≡ length ways.old.items)
-            × (pass.new.table ≡ pass.old.table)
-            × (pass.new.caller.about ≡ pass.old.caller.about)
-            × (pass.new.caller.pass ≡ pass.old.caller.pass) }
-        ensures left { AreCountedFrom (round.now.first + result) pass.new.caller.pending
-            × (length pass.new.caller.pending + result ≡ round.now.count)
-            × IsRested pass.new.caller }
+        ensures round { IsUnderWay self.now pass.new round.now result }
+        ensures ways { AreWays (home_of self.now) round.now.pass ways.new.items
+            × (length ways.new.items ≡ self.now.about.shards) }
         ensures len { deque_len outcomes.new ≡ deque_len outcomes.old + result }
         ensures capacity { deque_capacity outcomes.new ≡ deque_capacity outcomes.old }
     {
@@ -137,20 +125,16 @@ impl<D: Disk + Drop> Ingester<D> {
         from: usize,
         outcomes: &mut VecDeque<Result<Reply, CallFault>>,
     )
-        requires table { pass.old.table ≡ self.now.table }
-        requires about { pass.old.caller.about ≡ self.now.about }
-        requires ways { AreWays (home_of self.now) pass.old.caller.pass ways.old.items }
-        requires shards { AreBelow (length ways.old.items) round.now.shards }
-        requires from { (from < round.now.count) × (round.now.count ≤ max_open) }
-        requires numbers { AreCountedFrom (round.now.first + from) pass.old.caller.pending
-            × (length pass.old.caller.pending + from ≡ round.now.count) }
-        requires fits { round.now.first + round.now.count ≤ 2 ^ 64 }
+        requires round { IsUnderWay self.now pass.old round.now from }
+        requires some { from < round.now.count }
+        requires ways { AreWays (home_of self.now) round.now.pass ways.old.items
+            × (length ways.old.items ≡ self.now.about.shards) }
         requires room { deque_len outcomes.old + round.now.count
             ≤ deque_capacity outcomes.old + from }
         ensures lost { AreLost pass.old pass.new outcomes.old.items outcomes.new.items from
             round.now.count }
-        ensures ways { AreWays (home_of self.now) pass.old.caller.pass ways.new.items }
-        ensures same { length ways.new.items ≡ length ways.old.items }
+        ensures ways { AreWays (home_of self.now) round.now.pass ways.new.items
+            × (length ways.new.items ≡ self.now.about.shards) }
         ensures len { deque_len outcomes.new + from ≡ deque_len outcomes.old + round.now.count }
         ensures capacity { deque_capacity outcomes.new ≡ deque_capacity outcomes.old }
     {
@@ -172,23 +156,12 @@ impl<D: Disk + Drop> Ingester<D> {
         round: Round,
         outcomes: &mut VecDeque<Result<Reply, CallFault>>,
     )
-        requires table { pass.old.table ≡ self.now.table }
-        requires about { pass.old.caller.about ≡ self.now.about }
-        requires own { round.pass ≡ pass.old.caller.pass }
-        requires rested { IsRested pass.old.caller }
-        requires numbers { AreCountedFrom round.first pass.old.caller.pending }
-        requires count { (length pass.old.caller.pending ≡ round.count) × (round.count ≤ max_open) }
-        requires fits { round.first + round.count ≤ 2 ^ 64 }
-        requires batches { AreBatchesOf self.now.table self.now.about pass.old.caller
-            ways.old.items }
-        requires ready { AreReadyWays (home_of self.now) pass.old.caller.pass ways.old.items }
-        requires shards { (length ways.old.items ≡ self.now.about.shards)
-            × AreBelow self.now.about.shards round.shards }
+        requires round { IsUnderWay self.now pass.old round 0 }
+        requires letters { HasLetters self.now round.pass pass.old.caller ways.old.items }
         requires room { deque_len outcomes.old + round.count ≤ deque_capacity outcomes.old }
         ensures ended { AreEnded self.now pass.old pass.new outcomes.old.items outcomes.new.items
             round.count }
-        ensures ways { AreIdleWays (home_of self.now) pass.old.caller.pass ways.new.items
-            × (length ways.new.items ≡ length ways.old.items) }
+        ensures ways { HasIdleWays self.now round.pass ways.new.items }
         ensures len { deque_len outcomes.new ≡ deque_len outcomes.old + round.count }
         ensures capacity { deque_capacity outcomes.new ≡ deque_capacity outcomes.old }
     {
@@ -236,19 +209,16 @@ impl<D: Disk + Drop> Ingester<D> {
         outcomes: &mut VecDeque<Result<Reply, CallFault>>,
     )
         requires pass { IsPassOf self.now pass.old }
-        requires ways { AreIdleWays (home_of self.now) pass.old.caller.pass ways.old.items
-            × (length ways.old.items ≡ self.now.about.shards) }
-        requires few { deque_len calls.old ≤ max_open }
-        requires numbers { All AreNumbers calls.old.items }
-        requires empty { outcomes.old.items ≡ [] }
-        requires room { deque_len calls.old ≤ deque_capacity outcomes.old }
+        requires ways { HasIdleWays self.now pass.old.caller.pass ways.old.items }
+        requires calls { (deque_len calls.old ≤ max_open) × All AreNumbers calls.old.items }
+        requires outcomes { (outcomes.old.items ≡ [])
+            × (deque_len calls.old ≤ deque_capacity outcomes.old) }
         ensures pass { IsPassOf self.now pass.new }
-        ensures ways { AreIdleWays (home_of self.now) pass.old.caller.pass ways.new.items
-            × (length ways.new.items ≡ self.now.about.shards) }
+        ensures ways { HasIdleWays self.now pass.old.caller.pass ways.new.items }
         ensures given { AreGiven self.now pass.old calls.old.items outcomes.new.items pass.new }
-        ensures taken { calls.new.items ≡ [] }
-        ensures lens { (deque_len calls.new ≡ 0) × (deque_len outcomes.new ≡ deque_len calls.old) }
-        ensures capacities { (deque_capacity calls.new ≡ deque_capacity calls.old)
+        ensures taken { (calls.new.items ≡ []) × (deque_len calls.new ≡ 0)
+            × (deque_capacity calls.new ≡ deque_capacity calls.old) }
+        ensures outcomes { (deque_len outcomes.new ≡ deque_len calls.old)
             × (deque_capacity outcomes.new ≡ deque_capacity outcomes.old) }
     {
         let mut was_refused = false;

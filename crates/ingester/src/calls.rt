@@ -61,7 +61,6 @@ impl<D: Disk + Drop> Ingester<D> {
         requires pass { (pass.old.table ≡ self.now.table)
             × (pass.old.caller.about ≡ self.now.about) }
         requires opened { IsOpenWith before.now.value call.now.value pass.old }
-        requires asking { before.now.value.closed ≡ false }
         requires came { IsCameOf (home_of self.now) pass.old came }
         ensures pass { IsPassOf self.now pass.new }
         ensures answered { IfOk result

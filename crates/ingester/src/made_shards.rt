@@ -2,7 +2,8 @@
 ghost use Rattle.std.specs.Prelude.{◌≡◌, ◌+◌, ◌<◌, ◌≤◌, ◌∷◌, ◌++◌, map, vec_len, IfErr, OnOk, Some};
 ghost use Rattle.std.specs.VecDeque.{deque_len, deque_capacity};
 ghost use Rattle.wal.specs.Opening.{disks};
-ghost use Rattle.ingester.specs.Makings.{IsGround, AreThere, logs_of_shards};
+ghost use Rattle.shard.specs.Shards.{IsGround};
+ghost use Rattle.ingester.specs.Makings.{AreThere, logs_of_shards};
 
 use accept::{Image, Limits};
 use disk::Disk;

@@ -1,17 +1,25 @@
 -- What a job more makes of the group that is gathered.
-use Rattle.std.proofs.Common.{◌≡◌, suc, ◌+◌, ◌<◌, ◌≤◌, List, [], ◌∷◌, ◌++◌, length, length-append, refl, sym, ap, ◌∙◌, subst, arith, append_assoc}
+use Rattle.std.proofs.Common.{◌≡◌, ℕ, suc, ◌+◌, ◌<◌, ◌≤◌, List, [], ◌∷◌, ◌++◌, Some, None, length, length-append, refl, sym, ap, ◌∙◌, subst, arith, append_assoc}
 use Rattle.std.specs.VecDeque.{deque_len, deque_capacity}
+use Rattle.accept.specs.declared.call.Call.{Call}
 use Rattle.accept.specs.declared.call.Reply.{Reply}
 use Rattle.disk.specs.Sight.{Sight}
 use Rattle.history.specs.Handles.{Announced}
-use Rattle.shard.specs.declared.adding.Added.TheVariants.{Joined}
+use Rattle.shard.specs.declared.first_jobs.GroupEnd.{GroupEnd}
+use Rattle.shard.specs.declared.first_jobs.GroupEnd.TheVariants.{Full}
 use Rattle.shard.specs.declared.first_jobs.Job.{Job}
 use Rattle.shard.specs.declared.group.Group.{Group}
 use Rattle.shard.specs.declared.group.Judged.{Judged}
 use Rattle.shard.specs.declared.group.Judged.TheVariants.{Quiet, Changing}
 use Rattle.shard.specs.declared.parts.Parts.{Parts}
 use Rattle.shard.specs.Queues.{waiting_in, AreMatched, tickets_in}
-use Rattle.shard.specs.Adding.{IsGroup, IsAddedBy, waiting_of}
+use Rattle.streams.specs.declared.change.Rest.{Rest}
+use Rattle.streams.specs.Changes.{call_given}
+use Rattle.streams.specs.Mapped.{Mapped}
+use Rattle.shard.specs.Gathering.{IsGathering}
+use Rattle.shard.specs.Adding.{IsGroup, waiting_of, HasPlaces, HasJoinedGroup, IsFullFor}
+use Rattle.shard.specs.FirstJobs.{EndsGathering, HasGathered}
+use Rattle.shard.specs.Joinings.{IsTooLong}
 use Rattle.shard.specs.Jobs.{max_turn, tickets_of, AreLawful}
 
 -- no more calls change something than are judged
@@ -56,6 +64,9 @@ matched_none [] [] m none = refl
 matched_none [] (t ∷ ts) m none = absurd m
 matched_none (j ∷ js) ts m none = absurd (cc)
 
+same_some : (a b : Call) → Some a ≡ Some b → a ≡ b
+same_some a b e = cc
+
 joined_one : (group behind : Group) (t : Announced) (r : Reply) → AreMatched group.judged.items group.changing.items → AreMatched behind.judged.items behind.changing.items
     → waiting_of behind ≡ waiting_of group ++ (t, r) ∷ [] → deque_len behind.judged ≡ deque_len group.judged + 1
 joined_one group behind t r m n joined =
@@ -70,34 +81,82 @@ joined_one group behind t r m n joined =
     )
 
 -- Of all jobs the first have joined the group, and these are left.
-abbrev pub IsGatheredFrom : {D : Type 0} → (D → Sight) → (D → Type 0) → Parts D → Group → List Job → Parts D → Group → List Job → Type 0
-IsGatheredFrom sight follows start first all p group jobs =
-    IsGroup sight follows p group
-    × AreLawful start.book.about start.book.shard jobs
-    × (max_turn ≤ deque_capacity group.judged)
-    × (max_turn ≤ deque_capacity group.changing)
-    × (deque_len group.judged ≤ max_turn)
-    × (p ≡ record start { states = p.states; buffer = p.buffer })
-    × (tickets_in (waiting_of group) ++ tickets_of jobs ≡ tickets_in (waiting_of first) ++ tickets_of all)
-    × (deque_len group.judged + length jobs ≡ deque_len first.judged + length all)
+pub record IsGatheredFrom {D : Type 0} (sight : D → Sight) (follows : D → Type 0) (start : Parts D) (first : Group) (all : List Job) (p : Parts D) (group : Group) (jobs : List Job) : Type 0 where
+  pub group_is : IsGroup sight follows p group
+  pub frame : p ≡ record start { states = p.states; buffer = p.buffer }
+  pub places : HasPlaces group
+  pub no_fewer : deque_len first.judged ≤ deque_len group.judged
+  pub split : tickets_in (waiting_of group) ++ tickets_of jobs ≡ tickets_in (waiting_of first) ++ tickets_of all
+  pub lawful : AreLawful start.book.about start.book.shard jobs
+  pub lens : deque_len group.judged + length jobs ≡ deque_len first.judged + length all
 
 module _ {D : Type 0} (sight : D → Sight) (follows : D → Type 0) (start : Parts D) (first : Group) (all : List Job) where
+  -- the next of them may join
+  pub next_lawful : (p : Parts D) (group : Group) (j : Job) (jobs rest : List Job) → IsGatheredFrom sight follows start first all p group jobs → jobs ≡ j ∷ rest
+      → AreLawful p.book.about p.book.shard (j ∷ [])
+  next_lawful p group j jobs rest is popped =
+      let these = subst (λ (l : List Job). AreLawful start.book.about start.book.shard l) popped is.lawful in
+      subst (λ (q : Parts D). AreLawful q.book.about q.book.shard (j ∷ [])) (sym is.frame) (these.0, these.1, these.2, tt)
+
   -- the next of them joins
   pub front_next : (p new : Parts D) (group behind : Group) (j : Job) (jobs rest : List Job) → IsGatheredFrom sight follows start first all p group jobs
-      → jobs ≡ j ∷ rest → deque_len group.judged < max_turn → IsGroup sight follows new behind → IsAddedBy p group j new behind Joined
+      → jobs ≡ j ∷ rest → deque_len group.judged < max_turn → HasJoinedGroup sight follows p group j new behind
       → new ≡ record p { states = new.states; buffer = new.buffer }
       → (deque_capacity behind.judged ≡ deque_capacity group.judged) × (deque_capacity behind.changing ≡ deque_capacity group.changing)
-      → deque_len behind.judged ≤ deque_len group.judged + 1
       → IsGatheredFrom sight follows start first all new behind rest
-  front_next p new group behind j jobs rest is popped few gathered added frame places len = (
-    gathered,
-    (subst (λ (l : List Job). AreLawful start.book.about start.book.shard l) popped is.1).3,
-    omega (arith, is.2, places.0),
-    omega (arith, is.3, places.1),
-    omega (arith, few, len),
-    frame ∙ ap (λ (q : Parts D). record q { states = new.states; buffer = new.buffer }) is.5,
-    split_next (waiting_of group) (waiting_of behind) j.ticket added.0 (tickets_of jobs) (tickets_of rest) (tickets_in (waiting_of first) ++ tickets_of all)
-        added.1 (ap tickets_of popped) is.6,
-    let more = joined_one group behind j.ticket added.0 is.0.matched gathered.matched added.1 in
-        omega (arith, is.7, more, ap length popped),
-  )
+  front_next p new group behind j jobs rest is popped few added frame places =
+      let more = joined_one group behind j.ticket added.reply is.group_is.matched added.group_is.matched added.waiting in
+      record {
+        group_is = added.group_is;
+        frame = frame ∙ ap (λ (q : Parts D). record q { states = new.states; buffer = new.buffer }) is.frame;
+        places = record { few = omega (arith, few, more); judged_room = omega (arith, is.places.judged_room, places.0); changing_room = omega (arith, is.places.changing_room, places.1) };
+        no_fewer = omega (arith, is.no_fewer, more);
+        split = split_next (waiting_of group) (waiting_of behind) j.ticket added.reply (tickets_of jobs) (tickets_of rest) (tickets_in (waiting_of first) ++ tickets_of all)
+            added.waiting (ap tickets_of popped) is.split;
+        lawful = (subst (λ (l : List Job). AreLawful start.book.about start.book.shard l) popped is.lawful).3;
+        lens = omega (arith, is.lens, more, ap length popped);
+      }
+
+  -- no more of them join
+  pub gathered : (p : Parts D) (group : Group) (jobs : List Job) (ended : GroupEnd) → IsGatheredFrom sight follows start first all p group jobs → EndsGathering p group jobs ended
+      → HasGathered sight follows first (record { old = start; new = p; group = group; jobs = all; rest = jobs; ended = ended })
+  gathered p group jobs ended is ends =
+      record { group_is = is.group_is; frame = is.frame; places = is.places; no_fewer = is.no_fewer; split = is.split; ends = ends; lawful = is.lawful }
+
+  -- a job that is taken away and put back as it was
+  pub put_back : (p new : Parts D) (group behind : Group) (jobs left : List Job) → IsGatheredFrom sight follows start first all p group jobs
+      → behind ≡ group → left ≡ jobs → new.states ≡ p.states → new.buffer.items ≡ p.buffer.items → new ≡ record p { states = new.states; buffer = new.buffer }
+      → IsGatheredFrom sight follows start first all new behind left
+  put_back p new group behind jobs left is same_group same_jobs same_states same_bytes frame =
+      subst (λ (z : Group × List Job). IsGatheredFrom sight follows start first all new z.0 z.1) (λ i. (sym same_group i, sym same_jobs i)) (record {
+        group_is = subst (λ (q : Parts D). IsGathering sight follows q.log.wal q.book q.opened.value q.limits new.states new.buffer.items group.judged.items group.changing.items) (sym frame)
+            (subst (λ (z : Mapped × List ℕ). IsGathering sight follows p.log.wal p.book p.opened.value p.limits z.0 z.1 group.judged.items group.changing.items) (λ i. (sym same_states i, sym same_bytes i)) is.group_is);
+        frame = frame ∙ ap (λ (q : Parts D). record q { states = new.states; buffer = new.buffer }) is.frame;
+        places = is.places;
+        no_fewer = is.no_fewer;
+        split = is.split;
+        lawful = is.lawful;
+        lens = is.lens;
+      })
+
+  -- a job whose change was prepared, and whose block does not fit, is taken back
+  pub full_back : (p mid new : Parts D) (group behind : Group) (j back : Job) (jobs rest left : List Job) (reply : Reply) (what : Rest) → IsGatheredFrom sight follows start first all p group jobs
+      → jobs ≡ j ∷ rest → IsFullFor p group j mid behind back.ticket reply what → mid ≡ record p { states = mid.states; buffer = mid.buffer }
+      → new ≡ record mid { states = new.states } → new.states ≡ record mid.states { change = None } → Some back.call ≡ call_given mid.states.change what → left ≡ back ∷ rest
+      → HasGathered sight follows first (record { old = start; new = new; group = behind; jobs = all; rest = left; ended = Full })
+      × (length left ≡ length jobs)
+  full_back p mid new group behind j back jobs rest left reply what is popped full frame taken forgot given put =
+      let same_states : new.states ≡ p.states = forgot ∙ (λ i. record { owner = full.prepared.owner_is i; streams = full.prepared.streams_are i; change = sym is.group_is.no_change i }) in
+      let same_call : back.call ≡ j.call = same_some back.call j.call (given ∙ full.prepared.rest_is) in
+      let same_job : back ≡ j = λ i. record { ticket = full.ticket_is i; call = same_call i } in
+      let same_jobs : left ≡ jobs = put ∙ (ap (λ (x : Job). x ∷ rest) same_job ∙ sym popped) in
+      let whole : new ≡ record p { states = new.states; buffer = new.buffer } =
+      taken ∙ (ap (λ (q : Parts D). record q { states = new.states }) frame ∙ ap (λ (q : Parts D). record p { states = new.states; buffer = q.buffer }) (sym taken)) in
+      let same_bytes : new.buffer.items ≡ p.buffer.items = ap (λ (q : Parts D). q.buffer.items) taken ∙ full.same_bytes in
+      let now = put_back p new group behind jobs left is full.same_group same_jobs same_states same_bytes whole in
+      let ends : EndsGathering new behind (j ∷ rest) Full =
+      subst (λ (q : Parts D). IsTooLong q.limits q.log.wal new.states.streams j.call new.buffer.items) (sym whole)
+      (subst (λ (z : Mapped × List ℕ). IsTooLong p.limits p.log.wal z.0.streams j.call z.1) (λ i. (sym same_states i, sym same_bytes i)) full.long) in (
+        gathered new behind left Full now (subst (λ (l : List Job). EndsGathering new behind l Full) (sym (same_jobs ∙ popped)) ends),
+        ap length same_jobs,
+      )

@@ -25,3 +25,4 @@ pub mod Turning
 pub mod Taking
 pub mod Refusals
 pub mod OneApplied
+pub mod FirstCalls

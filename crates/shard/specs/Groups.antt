@@ -16,7 +16,7 @@ use Rattle.wal.specs.Moments.{Pair, HasFailed, HasNoFailure}
 use Rattle.wal.specs.Logs.{FitsInUse}
 use Rattle.history.specs.declared.views.About.{About}
 use Rattle.history.specs.Histories.{HasStep, IsAmong, steps_by, doubt_of, reply_of, step_of}
-use Rattle.history.specs.Handles.{Booked, Announced, history_in, longer}
+use Rattle.history.specs.Handles.{Booked, Announced, AreOf, history_in, longer}
 use Rattle.streams.specs.Changes.{change_of}
 use Rattle.shard.specs.Keeping.{owner_in, IsAllowed}
 use Rattle.shard.specs.Calls.{reply_in}
@@ -74,6 +74,11 @@ abbrev pub AreInTurn : List Item → List Ask → List Announced → Type 0
 AreInTurn items front [] = Unit {0}
 AreInTurn items front (t ∷ ts) = HaveStepsOr t.before items front
     × AreInTurn items (front ++ t.ask ∷ []) ts
+
+-- the calls of these tickets may have the next steps of the book, in this order
+pub record AreNext (book : Booked) (tickets : List Announced) : Type 0 where
+  pub here : AreOf book tickets
+  pub turn : AreInTurn book.items [] tickets
 
 -- the book with the mark of a failure while the calls were written
 abbrev pub marked_by : Booked → List Ask → Booked

@@ -1,11 +1,12 @@
 -- Jobs: calls that are to be made, each with its ticket.
 use Rattle.std.specs.Prelude.{◌≡◌, ℕ, ◌==◌, List, [], ◌∷◌, ◌++◌, if◌then◌else◌}
+use Rattle.accept.specs.declared.call.Call.{Call}
 use Rattle.accept.specs.declared.history.Ask.{Ask}
 use Rattle.accept.specs.declared.history.Item.{Item}
 use Rattle.accept.specs.Calls.{AreNumbers}
 use Rattle.history.specs.declared.views.About.{About}
-use Rattle.history.specs.Histories.{shard_in, of_pass}
-use Rattle.history.specs.Handles.{Announced}
+use Rattle.history.specs.Histories.{HaveSteps, shard_in, of_pass}
+use Rattle.history.specs.Handles.{Announced, Booked}
 use Rattle.shard.specs.declared.first_jobs.Job.{Job}
 use Rattle.shard.specs.Groups.{HaveStepsOr}
 
@@ -23,6 +24,15 @@ AreLawful about k [] = Unit {0}
 AreLawful about k (j ∷ jobs) = (shard_in about j.ticket.ask ≡ k) × (j.ticket.ask.call ≡ j.call)
     × AreNumbers j.call
     × AreLawful about k jobs
+
+-- The call of this ticket may be made next: the ticket is of the book's table and shard, the calls that it names have
+-- steps, and the call is its own, with lawful numbers.
+pub record MayBeMade (book : Booked) (ticket : Announced) (call : Call) : Type 0 where
+  pub table : ticket.table ≡ book.table
+  pub here : shard_in book.about ticket.ask ≡ book.shard
+  pub order : HaveSteps ticket.before book.items
+  pub call_is : ticket.ask.call ≡ call
+  pub numbers : AreNumbers call
 
 -- the jobs of pass p
 abbrev pub jobs_by : ℕ → List Job → List Job

@@ -5,18 +5,20 @@ use Rattle.accept.specs.declared.call.Reply.TheVariants.{Unavailable}
 use Rattle.accept.specs.declared.history.Ask.{Ask}
 use Rattle.accept.specs.declared.history.Item.{Item}
 use Rattle.accept.specs.Histories.{changes, is_marked, IsWithin}
+use Rattle.std.specs.VecDeque.{deque_capacity}
 use Rattle.disk.specs.Sight.{Sight}
 use Rattle.wal.specs.declared.log.Wal.{Wal}
 use Rattle.wal.specs.Logs.{Follow, slots}
 use Rattle.history.specs.Histories.{doubt_of, step_of}
-use Rattle.history.specs.Handles.{Booked, Announced, Received, AreOf, history_in}
+use Rattle.history.specs.Handles.{Booked, Announced, Received, history_in}
+use Rattle.shard.specs.declared.group.Group.{Group}
 use Rattle.shard.specs.declared.group.Judged.{Judged}
 use Rattle.shard.specs.declared.group.Judged.TheVariants.{Quiet, Changing}
 use Rattle.shard.specs.declared.group.Settled.{Settled}
 use Rattle.shard.specs.declared.group.Settled.TheVariants as settled
 use Rattle.shard.specs.Keeping.{KeepsHistory}
 use Rattle.shard.specs.Calls.{reply_in}
-use Rattle.shard.specs.Groups.{with_step, with_steps, AreInTurn}
+use Rattle.shard.specs.Groups.{with_step, with_steps, changing_of, marked_by, AreNext}
 
 -- the judged calls in their order, each with its ticket and its reply, where these are the tickets of those that change
 -- something
@@ -72,8 +74,27 @@ pub record AreDueOrLost {D : Type 0} (sight : D → Sight) (follows : D → Type
     (waiting : List (Announced × Reply)) : Type 0 where
   pub due : is_lost ≡ false → HaveDueReplies book waiting
   pub marked : is_lost ≡ true → is_marked book.items ≡ true
-  pub here : AreOf book (tickets_in waiting)
-  pub turn : AreInTurn book.items [] (tickets_in waiting)
+  pub next : AreNext book (tickets_in waiting)
   pub within : IsWithin book.about.limits (history_in book)
   pub kept : Follow follows log
       → KeepsHistory (slots sight log) (with_steps book (asks_in waiting)) (doubt_of book.items)
+
+-- A failure may lose these waiting calls: each has the reply that is due, and the slots keep the book with the mark and
+-- those of them in doubt that change something.
+pub record MayBeLost {D : Type 0} (sight : D → Sight) (follows : D → Type 0) (log : Wal D)
+    (book : Booked)
+    (waiting : List (Announced × Reply)) : Type 0 where
+  pub unmarked : is_marked book.items ≡ false
+  pub due : HaveDueReplies book waiting
+  pub next : AreNext book (tickets_in waiting)
+  pub within : IsWithin book.about.limits (history_in book)
+  pub kept : Follow follows log
+      → KeepsHistory (slots sight log) (marked_by book (asks_in waiting))
+      (changing_of book (asks_in waiting))
+
+-- no call waits any more, and there is room for as many calls as before
+pub record IsEmptied (before behind : Group) : Type 0 where
+  pub judged : behind.judged.items ≡ []
+  pub changing : behind.changing.items ≡ []
+  pub judged_room : deque_capacity behind.judged ≡ deque_capacity before.judged
+  pub changing_room : deque_capacity behind.changing ≡ deque_capacity before.changing

@@ -13,7 +13,7 @@ use Rattle.segment.specs.Segments.{max_generation}
 use Rattle.wal.specs.declared.log.Wal.{Wal}
 use Rattle.wal.specs.Recovery.{IsSegmentBehind}
 use Rattle.wal.specs.Logs.{owner}
-use Rattle.streams.specs.Mapped.{Mapped}
+use Rattle.streams.specs.Mapped.{Mapped, next_of}
 
 -- what streams answer to a call, and what they have after it
 abbrev pub answer_of : Limits → Streams → Call → Reply
@@ -30,6 +30,15 @@ pub record IsUnchanged (limits : Limits) (cap : ℕ) (m : Streams) (call : Call)
   pub why : ((changes (answer_of limits m call) ≡ false) × (r ≡ answer_of limits m call))
       ⊎ ((changes (answer_of limits m call) ≡ true) × (cap < room (after_of limits m call))
       × (r ≡ NoRoom))
+
+-- the prepared change is stored in memory, and these bytes are to be written as the segment of the next generation
+pub record IsNextWritten {D : Type 0} (log : Wal D) (old new : Mapped)
+    (written : List ℕ) : Type 0 where
+  pub stored : new ≡ record { owner = old.owner; streams = next_of old; change = None }
+  pub early : log.generation < max_generation
+  pub has_place : 1 + length written ≤ log.cap
+  pub segment : IsSegmentBehind (owner log) written (latest_header (log.generation + 1))
+      (length written) (next_of old)
 
 -- the change is stored in memory, and these bytes are to be written as the segment of the next generation
 pub record IsNextSegment {D : Type 0} (limits : Limits) (log : Wal D) (old : Mapped) (call : Call)

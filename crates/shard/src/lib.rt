@@ -14,6 +14,7 @@ mod parts;
 mod ready;
 mod refusing;
 mod shard;
+mod starting;
 mod turn;
 
 pub use fault::ApplyFault;

@@ -1,62 +1,46 @@
-use Rattle.std.proofs.Common.{◌≡◌, ◌<◌, ap, sym, subst, ◌∙◌, length, arith}
+use Rattle.std.proofs.Common.{◌≡◌, ◌<◌, ap, sym, subst, ◌∙◌, length, length-set, arith}
+use Rattle.std.specs.Prelude.{slice_set}
 use Rattle.history.specs.Handles.{Passed}
 use Rattle.owners.specs.Openings.{home_of}
 use Rattle.ingester.specs.Batches.{AreBatchesOf}
-use Rattle.std.specs.Prelude.{slice_set}
 use Rattle.ingester.proofs.Batching.{batches_joined, batches_alike, ready_still}
 use Rattle.ingester.proofs.opened.Ingester.announce_next.Goals as goal
 
-pub returns-in_err-number-clause-batches : goal.returns-in_err-number-clause-batches
-returns-in_err-number-clause-batches g c =
+pub returns-in_err-number-clause-letters : goal.returns-in_err-number-clause-letters
+returns-in_err-number-clause-letters g c =
     let now = c.args.self.now in
     let k = c.shard_number-shard.result in
     let items = c.args.ways.now.items in
     let was = c.index_mut.result.now in
+    let letters = c.requires.letters in
     let shards : now.about.shards ≡ c.self.inside.count = ap (λ o. o.about.shards) (sym c.self.view_is) ∙ c.self.invariant.is_opening.shards in
     let some = c.self.invariant.is_opening.some_shard in
-    let long = c.requires.count in
+    let long = letters.count in
     let routes = c.shard_number-shard.ensures in
     let within : k < length items = omega arith in
     let none = c.in_err-number.ensures.not in
-    subst (λ (p : Passed). AreBatchesOf now.table now.about p.caller (slice_set items k c.join.new.way)) (sym none.0)
-    (batches_alike now.table now.about c.args.pass.now.caller items k was c.join.new.way within c.index_mut.ensures.value none.2 c.requires.batches)
+    record {
+      batches = subst (λ (p : Passed). AreBatchesOf now.table now.about p.caller (slice_set items k c.join.new.way)) (sym none.0)
+          (batches_alike now.table now.about c.args.pass.now.caller items k was c.join.new.way within c.index_mut.ensures.value none.2 letters.batches);
+      ready = ready_still (home_of now) c.args.pass.now.caller.pass items k was c.join.new.way within c.index_mut.ensures.value c.in_err-number.ensures.rest letters.ready;
+      count = length-set items k c.join.new.way ∙ long;
+    }
 
-pub returns-in_err-number-clause-ready : goal.returns-in_err-number-clause-ready
-returns-in_err-number-clause-ready g c =
+pub returns-clause-letters : goal.returns-clause-letters
+returns-clause-letters g c =
     let now = c.args.self.now in
     let k = c.shard_number-shard.result in
     let items = c.args.ways.now.items in
     let was = c.index_mut.result.now in
+    let letters = c.requires.letters in
     let shards : now.about.shards ≡ c.self.inside.count = ap (λ o. o.about.shards) (sym c.self.view_is) ∙ c.self.invariant.is_opening.shards in
     let some = c.self.invariant.is_opening.some_shard in
-    let long = c.requires.count in
+    let long = letters.count in
     let routes = c.shard_number-shard.ensures in
     let within : k < length items = omega arith in
-    ready_still (home_of now) c.args.pass.now.caller.pass items k was c.join.new.way within c.index_mut.ensures.value c.in_err-number.ensures.rest c.requires.ready
-
-pub returns-clause-batches : goal.returns-clause-batches
-returns-clause-batches g c =
-    let now = c.args.self.now in
-    let k = c.shard_number-shard.result in
-    let items = c.args.ways.now.items in
-    let was = c.index_mut.result.now in
-    let shards : now.about.shards ≡ c.self.inside.count = ap (λ o. o.about.shards) (sym c.self.view_is) ∙ c.self.invariant.is_opening.shards in
-    let some = c.self.invariant.is_opening.some_shard in
-    let long = c.requires.count in
-    let routes = c.shard_number-shard.ensures in
-    let within : k < length items = omega arith in
-    batches_joined now.table now.about c.args.pass.now c.join.new.pass c.args.calls.now.items c.join.new.calls.items items k c.self.inside.count c.in_ok-number.number was c.join.new.way c.in_ok-front.field-0.now
-    c.requires.about c.requires.pass shards c.in_ok-front.ensures.lookup routes within c.index_mut.ensures.value c.requires.batches c.in_ok-number.ensures.joined
-
-pub returns-clause-ready : goal.returns-clause-ready
-returns-clause-ready g c =
-    let now = c.args.self.now in
-    let k = c.shard_number-shard.result in
-    let items = c.args.ways.now.items in
-    let was = c.index_mut.result.now in
-    let shards : now.about.shards ≡ c.self.inside.count = ap (λ o. o.about.shards) (sym c.self.view_is) ∙ c.self.invariant.is_opening.shards in
-    let some = c.self.invariant.is_opening.some_shard in
-    let long = c.requires.count in
-    let routes = c.shard_number-shard.ensures in
-    let within : k < length items = omega arith in
-    ready_still (home_of now) c.args.pass.now.caller.pass items k was c.join.new.way within c.index_mut.ensures.value c.in_ok-number.ensures.rest c.requires.ready
+    record {
+      batches = batches_joined now.table now.about c.args.pass.now c.join.new.pass c.args.calls.now.items c.join.new.calls.items items k c.self.inside.count c.in_ok-number.number was c.join.new.way c.in_ok-front.field-0.now
+          c.requires.pass.1 c.requires.pass.2 shards c.in_ok-front.ensures.lookup routes within c.index_mut.ensures.value letters.batches c.in_ok-number.ensures.joined;
+      ready = ready_still (home_of now) c.args.pass.now.caller.pass items k was c.join.new.way within c.index_mut.ensures.value c.in_ok-number.ensures.rest letters.ready;
+      count = length-set items k c.join.new.way ∙ long;
+    }

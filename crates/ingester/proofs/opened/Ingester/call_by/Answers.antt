@@ -1,49 +1,24 @@
-use Rattle.std.proofs.Common.{◌≡◌, ◌+◌, [], ◌∷◌, refl, ap, sym, ◌∙◌, subst, arith}
+use Rattle.std.proofs.Common.{◌≡◌, ◌+◌, [], ◌∷◌, ap, sym, ◌∙◌, subst, arith}
 use Rattle.std.specs.VecDeque.{deque_len, deque_capacity}
 use Rattle.std.specs.declared.alloc.Global.{Global}
 use Rattle.std.specs.declared.collections.VecDeque.{VecDeque}
 use Rattle.accept.specs.declared.call.Call.{Call}
 use Rattle.history.specs.Handles.{Passed}
-use Rattle.owners.specs.Openings.{home_of}
-use Rattle.owners.specs.Ways.{AreReadyWays, AreIdleWays}
-use Rattle.ingester.specs.Batches.{IsNextRefused}
+use Rattle.ingester.specs.Batches.{HasLetters, HasIdleWays, IsNextRefused}
 use Rattle.ingester.proofs.Receiving.{announced_ahead, round_more, refused_more, refused_pass, ended_pass, rest_numbers}
 use Rattle.ingester.proofs.opened.Ingester.call_by.Goals as goal
 
-pub make_round-requires-clause-table : goal.make_round-requires-clause-table
-make_round-requires-clause-table g c =
-    let some = c.in-Some.ensures.some in
-    let ahead = announced_ahead c.loop-alloc.pass c.announce_some.new.pass some.front some.announced in
-    ahead.table ∙ c.loop-alloc.invariant.pass.table
-
-pub make_round-requires-clause-about : goal.make_round-requires-clause-about
-make_round-requires-clause-about g c =
-    let some = c.in-Some.ensures.some in
-    let ahead = announced_ahead c.loop-alloc.pass c.announce_some.new.pass some.front some.announced in
-    ahead.about ∙ c.loop-alloc.invariant.pass.about
-
-pub make_round-requires-clause-own : goal.make_round-requires-clause-own
-make_round-requires-clause-own g c =
-    let some = c.in-Some.ensures.some in
-    let ahead = announced_ahead c.loop-alloc.pass c.announce_some.new.pass some.front some.announced in
-    c.in-Some.ensures.own ∙ sym ahead.pass
-
-pub make_round-requires-clause-rested : goal.make_round-requires-clause-rested
-make_round-requires-clause-rested g c =
-    let some = c.in-Some.ensures.some in
-    let ahead = announced_ahead c.loop-alloc.pass c.announce_some.new.pass some.front some.announced in
-    ahead.rested some.rested
-
-pub make_round-requires-clause-ready : goal.make_round-requires-clause-ready
-make_round-requires-clause-ready g c =
-    let some = c.in-Some.ensures.some in
-    let ahead = announced_ahead c.loop-alloc.pass c.announce_some.new.pass some.front some.announced in
-    subst (λ p. AreReadyWays (home_of c.args.self.now) p c.announce_some.new.ways.items) (sym ahead.pass) c.in-Some.ensures.ready
+pub make_round-requires-clause-letters : goal.make_round-requires-clause-letters
+make_round-requires-clause-letters g c =
+    let begun = c.in-Some.ensures.round in
+    let ahead = announced_ahead c.loop-alloc.pass c.announce_some.new.pass begun.some.front begun.some.announced in
+    subst (λ p. HasLetters c.args.self.now p c.announce_some.new.pass.caller c.announce_some.new.ways.items) (sym (begun.under_way.own ∙ ahead.pass)) c.in-Some.ensures.ways
 
 pub loop-alloc-preserved-in-Some : goal.loop-alloc-preserved-in-Some
 loop-alloc-preserved-in-Some g c =
     let inv = c.loop-alloc.invariant in
-    let some = c.in-Some.ensures.some in
+    let begun = c.in-Some.ensures.round in
+    let some = begun.some in
     let ahead = announced_ahead c.loop-alloc.pass c.announce_some.new.pass some.front some.announced in
     let came = c.make_round.ensures in
     let round = c.in-Some.round in
@@ -54,9 +29,8 @@ loop-alloc-preserved-in-Some g c =
       given = more.so_far;
       pass = more.pass;
       own = ended_pass c.args.self.now c.announce_some.new.pass new c.loop-alloc.outcomes.items c.make_round.new.outcomes.items round.count came.ended ∙ (ahead.pass ∙ inv.own);
-      ways = subst (λ p. AreIdleWays (home_of c.args.self.now) p c.make_round.new.ways.items) (ahead.pass ∙ inv.own) came.ways.0;
-      long = came.ways.1 ∙ (c.in-Some.ensures.ways ∙ inv.long);
-      lens = let had = inv.lens in let fewer = c.in-Some.ensures.count in let fewer_are : deque_len left + round.count ≡ deque_len c.loop-alloc.calls = fewer.3 in let long = came.len in omega arith;
+      ways = subst (λ p. HasIdleWays c.args.self.now p c.make_round.new.ways.items) (begun.under_way.own ∙ (ahead.pass ∙ inv.own)) came.ways;
+      lens = let had = inv.lens in let fewer_are : deque_len left + round.count ≡ deque_len c.loop-alloc.calls = c.in-Some.ensures.count in let long = came.len in omega arith;
       calls = c.in-Some.ensures.capacity ∙ inv.calls;
       outcomes = came.capacity ∙ inv.outcomes;
       numbers = rest_numbers c.loop-alloc.calls.items some.front left.items some.calls_are inv.numbers;
@@ -76,8 +50,7 @@ loop-alloc-preserved g c =
       given = more.so_far;
       pass = more.pass;
       own = refused_pass c.loop-alloc.pass new refused.call fault refused.given.refused ∙ inv.own;
-      ways = subst (λ p. AreIdleWays (home_of now) p c.announce_some.new.ways.items) inv.own (c.in-None.ensures.same refl);
-      long = c.in-None.ensures.ways ∙ inv.long;
+      ways = subst (λ p. HasIdleWays now p c.announce_some.new.ways.items) inv.own c.in-None.ensures.ways;
       lens =
           let had = inv.lens in
           let same : deque_len c.announce_some.new.calls ≡ deque_len c.loop-alloc.calls = ap (λ d. deque_len d) none.1 in

@@ -1,4 +1,4 @@
-use Rattle.std.proofs.Common.{rules, ◌≡◌, ◌+◌, ◌-◌, ◌<◌, ◌++◌, ◌∷◌, [], length, sym, ap, ◌∙◌, append_assoc, arith}
+use Rattle.std.proofs.Common.{rules, ◌≡◌, ◌+◌, ◌-◌, ◌<◌, ◌++◌, ◌∷◌, [], length, length-set, sym, ap, ◌∙◌, subst, append_assoc, arith}
 use Rattle.std.specs.Prelude.{Some, Err, slice_index_or}
 use Rattle.std.proofs.lemmas.Option.{slice_get-get_or}
 use Rattle.owners.specs.Openings.{home_of}
@@ -15,8 +15,9 @@ take_back-requires-clause-way g c =
     let items = c.args.ways.now.items in
     let k = slice_index_or c.args.round.now.shards c.args.from 0 in
     let within : c.args.from < length c.args.round.now.shards = search rules in
-    let lt = below_at (length items) c.args.round.now.shards c.args.from c.requires.shards within in
-    c.requires.ways k c.index_mut.result.now (slice_get-get_or items k c.index_mut.result.now lt ∙ ap Some (sym c.index_mut.ensures.value))
+    let low = below_at c.args.self.now.about.shards c.args.round.now.shards c.args.from c.requires.round.below within in
+    let lt : k < length items = subst (λ n. k < n) (sym c.requires.ways.1) low in
+    subst (λ p. IsWay (home_of c.args.self.now) p k c.index_mut.result.now) c.requires.round.own (c.requires.ways.0 k c.index_mut.result.now (slice_get-get_or items k c.index_mut.result.now lt ∙ ap Some (sym c.index_mut.ensures.value)))
 
 pub loop-preserved : goal.loop-preserved
 loop-preserved g c =
@@ -36,5 +37,8 @@ returns-clause-ways g c =
     let items = c.args.ways.now.items in
     let k = slice_index_or c.args.round.now.shards c.args.from 0 in
     let within : c.args.from < length c.args.round.now.shards = search rules in
-    let lt = below_at (length items) c.args.round.now.shards c.args.from c.requires.shards within in
-    ways_set (IsWay (home_of c.args.self.now) c.args.pass.now.caller.pass) items k c.take_back.new.way lt c.requires.ways c.take_back.ensures.way
+    let low = below_at c.args.self.now.about.shards c.args.round.now.shards c.args.from c.requires.round.below within in
+    let lt : k < length items = subst (λ n. k < n) (sym c.requires.ways.1) low in (
+      ways_set (IsWay (home_of c.args.self.now) c.args.round.now.pass) items k c.take_back.new.way lt c.requires.ways.0 (subst (λ p. IsWay (home_of c.args.self.now) p k c.take_back.new.way) (sym c.requires.round.own) c.take_back.ensures.way),
+      length-set items k c.take_back.new.way ∙ c.requires.ways.1,
+    )

@@ -15,9 +15,9 @@ receive_next-requires-clause-way g c =
     let items = c.loop-i.ways.items in
     let k = slice_index_or c.args.round.now.shards c.loop-i.i 0 in
     let within : c.loop-i.i < length c.args.round.now.shards = search rules in
-    let low = below_at (length c.args.ways.now.items) c.args.round.now.shards c.loop-i.i c.requires.shards within in
+    let low = below_at c.args.self.now.about.shards c.args.round.now.shards c.loop-i.i inv.round.below within in
     let lt : k < length items = subst (λ n. k < n) (sym inv.long) low in
-    subst (λ p. IsWay home p k c.index_mut.result.now) (sym inv.pass) (inv.ways k c.index_mut.result.now (slice_get-get_or items k c.index_mut.result.now lt ∙ ap Some (sym c.index_mut.ensures.value)))
+    subst (λ p. IsWay home p k c.index_mut.result.now) inv.round.own (inv.ways k c.index_mut.result.now (slice_get-get_or items k c.index_mut.result.now lt ∙ ap Some (sym c.index_mut.ensures.value)))
 
 pub returns-in-None-clause-ways : goal.returns-in-None-clause-ways
 returns-in-None-clause-ways g c =
@@ -26,9 +26,11 @@ returns-in-None-clause-ways g c =
     let items = c.loop-i.ways.items in
     let k = slice_index_or c.args.round.now.shards c.loop-i.i 0 in
     let within : c.loop-i.i < length c.args.round.now.shards = search rules in
-    let low = below_at (length c.args.ways.now.items) c.args.round.now.shards c.loop-i.i c.requires.shards within in
-    let lt : k < length items = subst (λ n. k < n) (sym inv.long) low in
-    ways_set (IsWay home c.args.pass.now.caller.pass) items k c.receive_next.new.way lt inv.ways (subst (λ p. IsWay home p k c.receive_next.new.way) inv.pass c.in-None.ensures.way)
+    let low = below_at c.args.self.now.about.shards c.args.round.now.shards c.loop-i.i inv.round.below within in
+    let lt : k < length items = subst (λ n. k < n) (sym inv.long) low in (
+      ways_set (IsWay home c.args.round.now.pass) items k c.receive_next.new.way lt inv.ways (subst (λ p. IsWay home p k c.receive_next.new.way) (sym inv.round.own) c.in-None.ensures.way),
+      length-set items k c.receive_next.new.way ∙ inv.long,
+    )
 
 pub loop-i-preserved : goal.loop-i-preserved
 loop-i-preserved g c =
@@ -40,20 +42,25 @@ loop-i-preserved g c =
     let items = c.loop-i.ways.items in
     let k = slice_index_or c.args.round.now.shards c.loop-i.i 0 in
     let within : c.loop-i.i < length c.args.round.now.shards = search rules in
-    let low = below_at (length c.args.ways.now.items) c.args.round.now.shards c.loop-i.i c.requires.shards within in
+    let low = below_at c.args.self.now.about.shards c.args.round.now.shards c.loop-i.i inv.round.below within in
     let lt : k < length items = subst (λ n. k < n) (sym inv.long) low in
     let taken = c.in-Some.ensures.taken in
     let behind = taken_behind now was new c.in-Some.came taken in
-    let more = receiving_more now was new c.args.round.now.first c.loop-i.i c.args.round.now.count behind inv.numbers inv.waiting (omega arith) in
+    let more = receiving_more now was new c.args.round.now.first c.loop-i.i c.args.round.now.count behind inv.round.numbers inv.round.long (omega arith) in
     record {
       received = received_more now c.args.pass.now was new c.args.outcomes.now.items c.loop-i.outcomes.items c.push_back_reserved.new.self.items c.loop-i.i c.in-Some.came inv.received c.push_back_reserved.ensures.items taken;
-      numbers = more.numbers;
-      waiting = more.waiting;
-      rested = behind.rested inv.rested;
-      table = behind.table ∙ inv.table;
-      about = behind.about ∙ inv.about;
-      pass = behind.pass ∙ inv.pass;
-      ways = ways_set (IsWay home c.args.pass.now.caller.pass) items k c.receive_next.new.way lt inv.ways (subst (λ p. IsWay home p k c.receive_next.new.way) inv.pass c.in-Some.ensures.way);
+      round = record {
+        table = behind.table ∙ inv.round.table;
+        about = behind.about ∙ inv.round.about;
+        rested = behind.rested inv.round.rested;
+        own = inv.round.own ∙ sym behind.pass;
+        numbers = more.numbers;
+        long = more.waiting;
+        few = inv.round.few;
+        fits = inv.round.fits;
+        below = inv.round.below;
+      };
+      ways = ways_set (IsWay home c.args.round.now.pass) items k c.receive_next.new.way lt inv.ways (subst (λ p. IsWay home p k c.receive_next.new.way) (sym inv.round.own) c.in-Some.ensures.way);
       long = length-set items k c.receive_next.new.way ∙ inv.long;
       len = let had = inv.len in let long = c.push_back_reserved.ensures.len in omega arith;
       capacity = c.push_back_reserved.ensures.capacity ∙ inv.capacity;
