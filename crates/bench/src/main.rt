@@ -1,0 +1,78 @@
+//! `bench time` prints how fast the parts are: how push bodies and segments are read, how the log appends, how long calls
+//! on one stream take, how many calls a shard makes in groups and an ingester by its passes, and how fast a connection
+//! is served. Files are in a folder of their own among the temporary files. `bench check` makes a few of what needs no
+//! thread and no file, and `bench calls` a few of the rest. Several words are taken one after another.
+#![tactic(auto)]
+
+mod appends;
+mod bodies;
+mod calls;
+mod folders;
+mod frames;
+mod groups;
+mod pushes;
+mod quiet_ingester;
+mod quiet_parts;
+mod served;
+mod slots;
+mod stopwatch;
+mod stream;
+
+use crate::stopwatch::Mode;
+use anyhow::{Result, bail};
+use std::fs::File;
+use std::rt::{Clock, Files};
+use std::sync::Wait;
+use std::thread::Threads;
+use std::{env, process};
+
+fn main(rt: HostRuntime) -> Result<()> {
+    let temporary = env::temp_dir(&rt)?;
+    let (parent, number) = (temporary.as_str(), process::id(rt.process()));
+    let folder = format!(in rt.alloc(); "{parent}/needleazure-bench-{number}")?;
+    for word in env::args(&rt)?.skip(1) {
+        run(&rt, word.as_str(), folder.as_str())?;
+    }
+    Ok(())
+}
+
+fn run<R>(rt: &R, word: &str, folder: &str) -> Result<()>
+where
+    R: Clock + Print + Files<File = File> + Threads + Wait + Sync + AllocGlobal,
+    R: Copy + Send + 'static,
+{
+    match word {
+        "time" => {
+            run_parts(rt, Mode::Time)?;
+            appends::time(rt, folder)?;
+            run_calls(rt, Mode::Time, folder)
+        }
+        "check" => {
+            run_parts(rt, Mode::Check)?;
+            appends::check(rt)
+        }
+        "calls" => run_calls(rt, Mode::Check, folder),
+        "quiet" => {
+            quiet_ingester::run(rt)?;
+            quiet_parts::trim(rt)?;
+            quiet_parts::write(rt)
+        }
+        _ => bail!("usage: bench time|check|calls|quiet"),
+    }
+}
+
+fn run_parts<R: Clock + Print + AllocGlobal>(rt: &R, mode: Mode) -> Result<()> {
+    bodies::run(rt, mode)?;
+    slots::run(rt, mode)?;
+    stream::run(rt, mode)
+}
+
+fn run_calls<R>(rt: &R, mode: Mode, folder: &str) -> Result<()>
+where
+    R: Clock + Print + Files<File = File> + Threads + Wait + Sync + AllocGlobal,
+    R: Copy + Send + 'static,
+{
+    groups::run(rt, mode, folder)?;
+    calls::run(rt, mode)?;
+    served::run(rt, mode)
+}
