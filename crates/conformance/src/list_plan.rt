@@ -4,9 +4,9 @@ use rows::word_of;
 use std::alloc::Global;
 use wire::Connection;
 
-/// What a row asks for: what comes of the calls, and a connection.
+/// What a row of lists asks for: what comes of the calls, and a connection.
 #[derive(Drop)]
-pub struct Plan {
+pub struct ListPlan {
     /// What comes of the first calls. Later ones are stored.
     pub list: Vec<Told>,
     /// What comes of one call and all later ones. The connection is served again for each of its calls.
@@ -14,13 +14,13 @@ pub struct Plan {
     pub connection: Connection,
 }
 
-impl Plan {
+impl ListPlan {
     /// Reads the lines of a row.
     ///
     /// # Errors
     /// A line that no row has; want of memory.
-    pub fn read(alloc: Global, lines: &[&str]) -> Result<Plan> {
-        let mut plan = Plan {
+    pub fn read(alloc: Global, lines: &[&str]) -> Result<ListPlan> {
+        let mut plan = ListPlan {
             list: Vec::new(alloc),
             at_each: None,
             connection: Connection::new(alloc),

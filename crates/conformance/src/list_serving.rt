@@ -1,14 +1,13 @@
-//! The connection of a row, and what it comes to.
+//! The connection of a row over a list of what comes of its calls, and what it comes to.
 
+use crate::list_plan::ListPlan;
 use crate::listed::{Listed, Standing};
-use crate::plan::Plan;
 use crate::script::{Script, Told};
 use accept::Outcome;
 use answering::{Ends, ServeFault, Served, serve};
 use anyhow::Result;
-use rows::escape;
+use rows::Said;
 use std::alloc::Global;
-use std::fmt::Write;
 use std::sync::Wait;
 use wire::{Connection, Groups, Sink};
 
@@ -23,26 +22,25 @@ struct Came {
 }
 
 impl Came {
-    fn say_end(&self, into: &mut String) -> Result<()> {
+    fn say_end(&self, into: &mut Said) {
         match &self.end {
-            Ok(Served::Ended) => into.push_str("ended")?,
-            Ok(Served::Closed) => into.push_str("closed")?,
-            Err(fault) => write!(into, "{fault}")?,
+            Ok(Served::Ended) => into.put("ended"),
+            Ok(Served::Closed) => into.put("closed"),
+            Err(fault) => into.tell(format_args!("{fault}")),
         }
         let made = self.made;
-        write!(into, ", calls {made}")?;
-        Ok(())
+        into.tell(format_args!(", calls {made}"));
     }
 
     /// The last line that was written, how the connection ended, and how many calls were made.
     fn last_line(&self, alloc: Global) -> Result<String> {
-        let mut line = String::new(alloc);
+        let mut line = Said::new(alloc);
         let text = self.sink.text();
         let last = text.rsplit(|byte| *byte == b'\n').next();
-        escape(last.unwrap_or(text), &mut line)?;
-        line.push_str(", ")?;
-        self.say_end(&mut line)?;
-        Ok(line)
+        line.escape(last.unwrap_or(text));
+        line.put(", ");
+        self.say_end(&mut line);
+        Ok(line.end()?)
     }
 }
 
@@ -66,12 +64,12 @@ fn serve_connection<R: Wait>(
 ///
 /// # Errors
 /// Want of memory.
-pub fn serve_plan<R: Wait>(rt: &R, alloc: Global, plan: &Plan, said: &mut String) -> Result<()> {
+pub fn serve_list<R: Wait>(rt: &R, alloc: Global, plan: &ListPlan, said: &mut Said) -> Result<()> {
     let script = Script::new(plan.list.clone()?, Told::Each(Outcome::Stored));
     let came = serve_connection(rt, alloc, &plan.connection, script);
-    said.push_str(came.sink.said())?;
-    came.say_end(said)?;
-    said.push('\n')?;
+    came.sink.say(said);
+    came.say_end(said);
+    said.put("\n");
     match plan.at_each {
         Some(told) => serve_each(rt, alloc, plan, told, came.made, said),
         None => Ok(()),
@@ -81,10 +79,10 @@ pub fn serve_plan<R: Wait>(rt: &R, alloc: Global, plan: &Plan, said: &mut String
 fn serve_each<R: Wait>(
     rt: &R,
     alloc: Global,
-    plan: &Plan,
+    plan: &ListPlan,
     told: Told,
     calls: usize,
-    said: &mut String,
+    said: &mut Said,
 ) -> Result<()> {
     let mut groups = Groups::new(alloc);
     for place in 0..calls {
@@ -93,7 +91,8 @@ fn serve_each<R: Wait>(
             list.push(Told::Each(Outcome::Stored))?;
         }
         let came = serve_connection(rt, alloc, &plan.connection, Script::new(list, told));
-        groups.note(came.last_line(alloc)?, said)?;
+        groups.note(came.last_line(alloc)?, said);
     }
-    groups.say(said)
+    groups.say(said);
+    Ok(())
 }

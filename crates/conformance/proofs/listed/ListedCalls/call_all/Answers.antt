@@ -5,8 +5,8 @@ use Rattle.accept.specs.declared.call.Call.{Call}
 use Rattle.accept.specs.declared.call.Reply.{Reply}
 use Rattle.requests.specs.declared.failure.Failure.{Failure}
 use Rattle.answering.specs.Calls.{CallsGiveAfter, leaves_doubt}
-use Rattle.answer_cases.specs.declared.script.Script.{Script}
-use Rattle.answer_cases.proofs.listed.ListedCalls.call_all.Goals as goal
+use Rattle.conformance.specs.declared.script.Script.{Script}
+use Rattle.conformance.proofs.listed.ListedCalls.call_all.Goals as goal
 
 abbrev Given : Bool → Script → List Call → List (Result Reply Failure) → Script → Type 0
 Given = CallsGiveAfter (λ doubt old call told new. Unit {0})
