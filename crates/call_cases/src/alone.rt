@@ -7,8 +7,8 @@ use call_slots::{Left, Pair};
 use call_words::{Settings, call_of, write_reply};
 use disk::MemDisk;
 use lone_shard::LoneShard;
+use rows::Said;
 use std::alloc::Global;
-use std::fmt::Write;
 use wal::OpenFault;
 
 /// Opens the shard in these slots. A refusal says why, and gives the slots back.
@@ -28,26 +28,22 @@ pub fn open_alone(
     }
 }
 
-/// Makes a call, and appends its answer, or why it was refused.
-pub fn say_call(
-    shard: &mut LoneShard<MemDisk>,
-    alloc: Global,
-    call: &Call,
-    into: &mut String,
-) -> Result<()>
+/// Makes a call, and says its answer, or why it was refused.
+pub fn say_call(shard: &mut LoneShard<MemDisk>, alloc: Global, call: &Call, into: &mut Said)
     requires numbers { AreNumbers call.now }
 {
     match shard.call(alloc, call) {
         Ok(reply) => write_reply(&reply, into),
-        Err(fault) => Ok(write!(into, "{fault}")?),
+        Err(fault) => into.tell(format_args!("{fault}")),
     }
 }
 
 /// The answer to the call of a line, or why it was refused.
 pub fn answer_of(shard: &mut LoneShard<MemDisk>, alloc: Global, line: &str) -> Result<String> {
-    let mut answer = String::new(alloc);
-    say_call(shard, alloc, &call_of(alloc, line)?, &mut answer)?;
-    Ok(answer)
+    let call = call_of(alloc, line)?;
+    let mut answer = Said::new(alloc);
+    say_call(shard, alloc, &call, &mut answer);
+    Ok(answer.end()?)
 }
 
 /// What is left of the shard.

@@ -7,9 +7,8 @@ use call_slots::{Pair, Way};
 use call_words::{Counted, Gathered, Settings};
 use disk::{ImagesFault, MemDisk};
 use lone_shard::LoneShard;
+use rows::Said;
 use std::alloc::Global;
-use std::fmt;
-use std::fmt::Write;
 use wal::OpenFault;
 
 /// The most contents of a slot that are looked at.
@@ -42,9 +41,9 @@ enum Tried {
     Answered,
 }
 
-impl fmt::Display for Tried {
-    fn fmt<W: fmt::Write>(&self, f: &mut fmt::Formatter<W>) -> fmt::Result {
-        f.write_str(match self {
+impl Tried {
+    fn name(self) -> &'static str {
+        match self {
             Tried::Unopened => "unopened",
             Tried::Before => "before",
             Tried::After => "after",
@@ -54,7 +53,7 @@ impl fmt::Display for Tried {
             Tried::Changed => "changed",
             Tried::GoesOn => "goes on",
             Tried::Answered => "answered",
-        })
+        }
     }
 }
 
@@ -66,6 +65,16 @@ fn found_in(alloc: Global, pair: Pair, settings: Settings, reads: &Gathered) -> 
     }
 }
 
+/// The same of a copy of these slots.
+fn found_in_copy(
+    alloc: Global,
+    pair: &mut Pair,
+    settings: Settings,
+    reads: &Gathered,
+) -> Result<String> {
+    found_in(alloc, pair.copy(alloc)?, settings, reads)
+}
+
 /// Says what reads give of each pair of contents that a crash may leave, with these values for unsynced bytes.
 pub fn say_contents(
     alloc: Global,
@@ -73,17 +82,29 @@ pub fn say_contents(
     settings: Settings,
     reads: &Gathered,
     values: &[u8],
-    said: &mut String,
+    said: &mut Said,
 ) -> Result<()> {
-    let firsts = pair.first.images(alloc, values, MOST)?;
+    let mut found = Counted::new(alloc, "\n");
     let seconds = pair.second.images(alloc, values, MOST)?;
-    let mut found = Counted::new(alloc);
-    for first in firsts.iter() {
-        for second in seconds.iter() {
-            found.add(found_on(alloc, first, second, settings, reads)?)?;
-        }
+    for first in pair.first.images(alloc, values, MOST)?.iter() {
+        add_found(alloc, first, &seconds, settings, reads, &mut found)?;
     }
-    found.end(said)
+    found.say(said);
+    Ok(())
+}
+
+fn add_found(
+    alloc: Global,
+    first: &[u8],
+    seconds: &[Vec<u8>],
+    settings: Settings,
+    reads: &Gathered,
+    found: &mut Counted,
+) -> Result<()> {
+    for second in seconds {
+        found.add(found_on(alloc, first, second, settings, reads)?);
+    }
+    Ok(())
 }
 
 /// What reads give of the only shard in slots with these bytes.
@@ -116,22 +137,15 @@ fn long_contents_of(alloc: Global, disk: &MemDisk) -> Result<Vec<Vec<u8>>> {
     Ok(all)
 }
 
-/// What becomes of slots whose opening failed.
-fn unopened(alloc: Global, pair: Pair, copy: Pair) -> Result<Tried> {
-    if are_same(alloc, pair, copy)? {
-        Ok(Tried::Unopened)
-    } else {
-        Ok(Tried::Changed)
+/// What becomes of slots whose opening failed, by what they held before.
+fn unopened(alloc: Global, pair: &mut Pair, before: &mut Pair) -> Result<Tried> {
+    pair.mend();
+    for slot in 0..2 {
+        if pair.bytes(alloc, slot)? != before.bytes(alloc, slot)? {
+            return Ok(Tried::Changed);
+        }
     }
-}
-
-/// Whether two pairs of slots hold the same bytes.
-fn are_same(alloc: Global, one: Pair, other: Pair) -> Result<bool> {
-    let (mut one, mut other) = (one, other);
-    one.mend();
-    other.mend();
-    let is_first = one.bytes(alloc, 0)? == other.bytes(alloc, 0)?;
-    Ok(is_first && one.bytes(alloc, 1)? == other.bytes(alloc, 1)?)
+    Ok(Tried::Unopened)
 }
 
 fn are_unavailable(answers: &str) -> bool {
@@ -152,40 +166,53 @@ struct Trial<'a> {
 }
 
 impl Trial<'_> {
-    /// What becomes of the call in these slots, of which there is a copy.
-    fn attempt(&mut self, pair: Pair, copy: Pair) -> Result<Tried> {
-        match open_alone(self.alloc, pair, self.settings)? {
-            Ok(shard) => self.attempt_in(shard, copy),
-            Err((OpenFault::Device, pair)) => unopened(self.alloc, pair, copy),
+    /// What becomes of the call in a copy of these slots that fails as is planned.
+    fn attempt(&mut self, pair: &mut Pair, plan: Plan) -> Result<Tried> {
+        match open_alone(self.alloc, plan.copy_of(self.alloc, pair)?, self.settings)? {
+            Ok(shard) => self.attempt_in(shard, pair, plan),
+            Err((OpenFault::Device, mut left)) => unopened(self.alloc, &mut left, pair),
             Err((fault, _)) => Err(fault.into()),
         }
     }
 
-    fn attempt_in(&mut self, shard: Box<LoneShard<MemDisk>>, copy: Pair) -> Result<Tried> {
-        let mut said = String::new(self.alloc);
-        let shard = self.doing.make(self.alloc, shard, &mut said)?;
-        let said = said.as_str();
+    fn attempt_in(
+        &mut self,
+        shard: Box<LoneShard<MemDisk>>,
+        pair: &mut Pair,
+        plan: Plan,
+    ) -> Result<Tried> {
+        let mut said = Said::new(self.alloc);
+        let left = pair_of(self.doing.make(self.alloc, shard, &mut said)?);
+        self.judge(said.end()?.as_str(), &left, pair, plan)
+    }
+
+    /// What becomes of the call by what was said of it and the slots that it left.
+    fn judge(&mut self, said: &str, left: &Pair, pair: &mut Pair, plan: Plan) -> Result<Tried> {
         if !said.contains("Unavailable") {
             return Ok(Tried::Answered);
         }
         let is_kept = said.contains("Stored") || said.contains("Trimmed");
-        let pair = pair_of(shard);
-        if is_kept || !self.is_over(copy, pair.calls())? {
+        if is_kept || !self.is_over(pair, plan, left.calls())? {
             return Ok(Tried::GoesOn);
         }
-        self.left_in(&pair)
+        self.left_in(left)
     }
 
-    /// Whether all calls after the failed one in these slots are unavailable, the history has a mark, and the slots see
+    /// Whether all calls after the failed one in such slots are unavailable, the history has a mark, and the slots see
     /// no more than the calls that they have seen without them.
-    fn is_over(&self, pair: Pair, calls: (u64, u64)) -> Result<bool> {
-        let alloc = self.alloc;
-        let Ok(shard) = open_alone(alloc, pair, self.settings)? else {
-            bail!("the same slots are opened once, and not again");
-        };
-        let mut shard = self.doing.make(alloc, shard, &mut String::new(alloc))?;
+    fn is_over(&self, pair: &mut Pair, plan: Plan, calls: (u64, u64)) -> Result<bool> {
+        let mut shard = self.made_again(pair, plan)?;
         let is_over = shard.is_marked() && self.are_over(&mut shard)?;
         Ok(is_over && pair_of(shard).calls() == calls)
+    }
+
+    fn made_again(&self, pair: &mut Pair, plan: Plan) -> Result<Box<LoneShard<MemDisk>>> {
+        match open_alone(self.alloc, plan.copy_of(self.alloc, pair)?, self.settings)? {
+            Ok(shard) => self
+                .doing
+                .make(self.alloc, shard, &mut Said::new(self.alloc)),
+            Err(_) => bail!("the same slots are opened once, and not again"),
+        }
     }
 
     /// Whether all calls are unavailable now.
@@ -232,11 +259,10 @@ impl Trial<'_> {
     /// What becomes of the call where the first call on a slot fails, where the second does, and so on, until it is
     /// answered.
     fn attempt_each(&mut self, pair: &mut Pair, slot: u64, way: Way) -> Result<Counted> {
-        let mut all = Counted::new(self.alloc);
+        let mut all = Counted::new(self.alloc, ", ");
         for call in 1..CALLS {
-            let copy = planned(self.alloc, pair, slot, way, call)?;
-            let tried = self.attempt(planned(self.alloc, pair, slot, way, call)?, copy)?;
-            all.add(format!(in self.alloc; "{tried}")?)?;
+            let tried = self.attempt(pair, Plan { slot, way, call })?;
+            all.add(tried.name().to_string(self.alloc)?);
             if tried == Tried::Answered {
                 return Ok(all);
             }
@@ -245,51 +271,70 @@ impl Trial<'_> {
     }
 
     /// Says for each slot what becomes of the call where the slot fails.
-    fn say_slots(&mut self, pair: &mut Pair, way: Way, said: &mut String) -> Result<()> {
+    fn say_slots(&mut self, pair: &mut Pair, way: Way, said: &mut Said) -> Result<()> {
         for slot in 0..2 {
-            write!(said, "slot {slot}: ")?;
-            self.attempt_each(pair, slot, way)?.write(", ", said)?;
-            said.push('\n')?;
+            said.tell(format_args!("slot {slot}: "));
+            self.attempt_each(pair, slot, way)?.say(said);
         }
         Ok(())
     }
 }
 
-/// Copies of slots, of which one fails at its call with this number.
-fn planned(alloc: Global, pair: &mut Pair, slot: u64, way: Way, call: u64) -> Result<Pair> {
-    let mut copy = pair.copy(alloc)?;
-    copy.plan(slot, way, call)?;
-    Ok(copy)
+/// Which call on which slot fails, and how.
+#[derive(Clone, Copy)]
+struct Plan {
+    slot: u64,
+    way: Way,
+    call: u64,
 }
 
-/// Makes the calls, and says their answers. Gives the slots after them.
-fn say_made(
+impl Plan {
+    /// Copies of slots that fail so.
+    fn copy_of(self, alloc: Global, pair: &mut Pair) -> Result<Pair> {
+        let mut copy = pair.copy(alloc)?;
+        copy.plan(self.slot, self.way, self.call)?;
+        Ok(copy)
+    }
+}
+
+/// Makes the calls on a copy of these slots, and says their answers. Gives the slots after them.
+pub fn say_made(
     alloc: Global,
-    pair: Pair,
+    pair: &mut Pair,
     settings: Settings,
     doing: &Doing,
-    said: &mut String,
+    said: &mut Said,
 ) -> Result<Pair> {
-    match open_alone(alloc, pair, settings)? {
+    match open_alone(alloc, pair.copy(alloc)?, settings)? {
         Ok(shard) => Ok(pair_of(doing.make(alloc, shard, said)?)),
         Err(refusal) => Err(refusal.0.into()),
     }
 }
 
-/// Makes calls on copies of these slots, and says their answers. Then tries them on other copies, of which one slot
-/// fails, and says for each slot what becomes of them. Gives the slots after the calls, and how many contents were
-/// opened.
+/// Calls that are tried, and how a slot fails.
+#[derive(Clone, Copy)]
+pub struct Tries<'a> {
+    pub settings: Settings,
+    pub way: Way,
+    pub doing: &'a Doing,
+}
+
+/// Tries calls on copies of these slots, of which one fails, and says for each slot what becomes of them, by the slots
+/// after the calls. Gives how many contents were opened.
 pub fn say_trials(
     alloc: Global,
     pair: &mut Pair,
-    settings: Settings,
-    way: Way,
-    doing: &Doing,
-    said: &mut String,
-) -> Result<(Pair, u64)> {
-    let before = found_in(alloc, pair.copy(alloc)?, settings, &doing.reads)?;
-    let mut next = say_made(alloc, pair.copy(alloc)?, settings, doing, said)?;
-    let after = found_in(alloc, next.copy(alloc)?, settings, &doing.reads)?;
+    next: &mut Pair,
+    tries: Tries<'_>,
+    said: &mut Said,
+) -> Result<u64> {
+    let Tries {
+        settings,
+        way,
+        doing,
+    } = tries;
+    let before = found_in_copy(alloc, pair, settings, &doing.reads)?;
+    let after = found_in_copy(alloc, next, settings, &doing.reads)?;
     let mut trial = Trial {
         alloc,
         settings,
@@ -299,5 +344,5 @@ pub fn say_trials(
         contents: 0,
     };
     trial.say_slots(pair, way, said)?;
-    Ok((next, trial.contents))
+    Ok(trial.contents)
 }

@@ -1,15 +1,15 @@
 //! Calls that a shard alone makes as a group, and what is said of them.
 
-use crate::alone::answer_of;
+use crate::alone::say_call;
 use accept::Reply;
 use anyhow::Result;
 use call_slots::Pair;
-use call_words::{Counted, Gathered, Settings, write_reply};
+use call_words::{Counted, Gathered, Settings, call_of, write_reply};
 use disk::MemDisk;
 use lone_shard::{Grouped, LoneShard, Turn};
+use rows::Said;
 use shard::{ApplyFault, GroupEnd};
 use std::alloc::Global;
-use std::fmt::Write;
 use wal::OpenFault;
 
 /// Calls that are made one after another, or as a group, and a read of the stream of each.
@@ -23,23 +23,12 @@ pub struct Doing {
 }
 
 impl Doing {
-    /// Calls as a group.
-    pub fn group(alloc: Global, calls: Gathered) -> Result<Doing> {
+    /// These calls, one after another or as a group.
+    pub fn of(alloc: Global, calls: Gathered, is_group: bool) -> Result<Doing> {
         let reads = calls.reads(alloc)?;
         Ok(Doing {
             calls,
-            is_group: true,
-            reads,
-        })
-    }
-
-    /// The call of a line.
-    pub fn one(alloc: Global, line: &str) -> Result<Doing> {
-        let calls = Gathered::one(alloc, line)?;
-        let reads = calls.reads(alloc)?;
-        Ok(Doing {
-            calls,
-            is_group: false,
+            is_group,
             reads,
         })
     }
@@ -49,14 +38,14 @@ impl Doing {
         &self,
         alloc: Global,
         shard: Box<LoneShard<MemDisk>>,
-        said: &mut String,
+        said: &mut Said,
     ) -> Result<Box<LoneShard<MemDisk>>> {
         if self.is_group {
             return say_group(alloc, shard, &self.calls, said);
         }
         let mut shard = shard;
         let answers = answers_of(&mut shard, alloc, &self.calls)?;
-        writeln!(said, "{answers}")?;
+        said.tell(format_args!("{answers}\n"));
         Ok(shard)
     }
 }
@@ -67,14 +56,14 @@ pub fn answers_of(
     alloc: Global,
     calls: &Gathered,
 ) -> Result<String> {
-    let mut answers = String::new(alloc);
+    let mut answers = Said::new(alloc);
     for (index, line) in calls.lines.iter().enumerate() {
         if index > 0 {
-            answers.push('\n')?;
+            answers.put("\n");
         }
-        answers.push_str(answer_of(shard, alloc, line.as_str())?.as_str())?;
+        say_call(shard, alloc, &call_of(alloc, line.as_str())?, &mut answers);
     }
-    Ok(answers)
+    Ok(answers.end()?)
 }
 
 /// Makes the calls as a group, and says their answers and the turns, a line each. Gives the shard back.
@@ -82,7 +71,7 @@ pub fn say_group(
     alloc: Global,
     shard: Box<LoneShard<MemDisk>>,
     calls: &Gathered,
-    said: &mut String,
+    said: &mut Said,
 ) -> Result<Box<LoneShard<MemDisk>>> {
     let mut jobs = calls.calls(alloc)?;
     let (shard, grouped) = Box::into_inner(shard).group(alloc, &mut jobs)?;
@@ -97,7 +86,7 @@ pub fn open_apart(
     pair: Pair,
     settings: Settings,
     calls: &Gathered,
-    said: &mut String,
+    said: &mut Said,
 ) -> Result<Result<Box<LoneShard<MemDisk>>, (OpenFault, Pair)>> {
     let Settings {
         limits,
@@ -114,24 +103,25 @@ pub fn open_apart(
     }
 }
 
-fn say_grouped(alloc: Global, grouped: &Grouped, said: &mut String) -> Result<()> {
-    let mut lines = Counted::new(alloc);
+fn say_grouped(alloc: Global, grouped: &Grouped, said: &mut Said) -> Result<()> {
+    let mut lines = Counted::new(alloc, "\n");
     for answer in grouped.answers.iter() {
-        lines.add(text_of_answer(alloc, answer)?)?;
+        lines.add(text_of_answer(alloc, answer)?);
     }
     for turn in grouped.turns.iter() {
-        lines.add(text_of_turn(alloc, turn)?)?;
+        lines.add(text_of_turn(alloc, turn)?);
     }
-    lines.end(said)
+    lines.say(said);
+    Ok(())
 }
 
 fn text_of_answer(alloc: Global, answer: &Result<Reply, ApplyFault>) -> Result<String> {
-    let mut text = String::new(alloc);
+    let mut text = Said::new(alloc);
     match answer {
-        Ok(reply) => write_reply(reply, &mut text)?,
-        Err(fault) => write!(text, "{fault}")?,
+        Ok(reply) => write_reply(reply, &mut text),
+        Err(fault) => text.tell(format_args!("{fault}")),
     }
-    Ok(text)
+    Ok(text.end()?)
 }
 
 fn text_of_turn(alloc: Global, turn: &Turn) -> Result<String> {

@@ -11,7 +11,7 @@ mod together;
 
 use crate::stage::Stage;
 use anyhow::{Context, Result};
-use rows::{Row, Tally, rows_of};
+use rows::{Row, Said, Tally, rows_of};
 use std::env;
 use std::fs::{self, Files};
 use std::sync::Wait;
@@ -29,9 +29,8 @@ fn judge_file<R>(rt: &R, name: &str, tally: &mut Tally) -> Result<()>
 where
     R: Files + Print + Threads + Wait + AllocGlobal + Copy + Send + Sync + 'static,
 {
-    let alloc = rt.alloc();
     let text = fs::read_to_string(rt, name)?;
-    for row in rows_of(alloc, text.as_str())?.iter() {
+    for row in rows_of(rt.alloc(), text.as_str())?.iter() {
         judge_row(rt, row, tally)?;
     }
     Ok(())
@@ -41,13 +40,13 @@ fn judge_row<R>(rt: &R, row: &Row<'_>, tally: &mut Tally) -> Result<()>
 where
     R: Print + Threads + Wait + AllocGlobal + Copy + Send + Sync + 'static,
 {
-    let mut said = String::new(rt.alloc());
+    let mut said = Said::new(rt.alloc());
     take_row(rt, row, &mut said).context(format_args!("row {}", row.name))?;
-    tally.judge(rt, row, said.as_str())
+    tally.judge(rt, row, said.end()?.as_str())
 }
 
-/// Does what the lines of a row say, and appends what is said to it. At first there is one shard over empty slots in
-/// memory, with the limits of the profile, a capacity of 4,096, one pass, and the tenant `t`; stream S is `{a="S"}`.
+/// Does what the lines of a row say. At first there is one shard over empty slots in memory, with the limits of the
+/// profile, a capacity of 4,096, one pass, and the tenant `t`; stream S is `{a="S"}`.
 ///
 /// - `shards N`, `passes N`, `capacity N`, `line N`, `half_age N`, `max_old N`, `max_ahead N`: settings of the next
 ///   opening; `shards` makes all slots empty
@@ -87,18 +86,11 @@ where
 /// - `contents`: how many contents the row's `fails` and `stops` opened
 /// - `store CALL`, `forget CALL`: on a `StreamMap` of its own: the reply, and `room R block B segment S then R`. Then
 ///   `block` and `segment` say those bytes
-fn take_row<R>(rt: &R, row: &Row<'_>, said: &mut String) -> Result<()>
+fn take_row<R>(rt: &R, row: &Row<'_>, said: &mut Said) -> Result<()>
 where
     R: Threads + Wait + AllocGlobal + Copy + Send + Sync + 'static,
 {
     let mut stage = Stage::new(rt.alloc())?;
-    take_lines(rt, row, &mut stage, said)
-}
-
-fn take_lines<R>(rt: &R, row: &Row<'_>, stage: &mut Stage, said: &mut String) -> Result<()>
-where
-    R: Threads + Wait + Copy + Send + Sync + 'static,
-{
     for line in row.given.iter() {
         stage.take_line(rt, line, said)?;
     }

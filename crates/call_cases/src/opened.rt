@@ -3,11 +3,11 @@ use crate::grouped::{open_apart, say_group};
 use crate::together::Together;
 use anyhow::{Result, bail};
 use call_slots::{Left, Pair};
-use call_words::{Counted, Gathered, Settings, call_of};
+use call_words::{Counted, Gathered, Settings, call_of, number_of};
 use disk::MemDisk;
 use lone_shard::LoneShard;
+use rows::Said;
 use std::alloc::Global;
-use std::fmt::Write;
 use std::sync::Wait;
 use std::thread::Threads;
 use wal::OpenFault;
@@ -19,83 +19,85 @@ pub enum Opened {
     Together(Box<Together>),
 }
 
-/// Slots that were not opened.
-#[derive(Drop)]
-pub struct Refused {
-    /// A line that says why.
-    pub why: String,
-    pub pairs: Vec<Pair>,
-}
+/// What an opening gives: what makes the calls, or the slots if it is refused.
+pub type Opening = Result<Opened, Vec<Pair>>;
 
 impl Opened {
-    /// Opens an ingester over these slots, or their only shard without an ingester.
+    /// Opens an ingester over these slots. Says why where that is refused.
     pub fn open<R>(
         rt: &R,
         alloc: Global,
         pairs: Vec<Pair>,
         settings: Settings,
-        is_alone: bool,
-    ) -> Result<Result<Opened, Refused>>
+        said: &mut Said,
+    ) -> Result<Opening>
     where
         R: Threads + Wait + Copy + Send + Sync + 'static,
     {
-        if is_alone {
-            return Opened::alone(alloc, only_of(pairs)?, settings);
-        }
         match Together::open(rt, alloc, pairs, settings)? {
             Ok(together) => Ok(Ok(Opened::Together(Box::new(alloc, together)?))),
             Err((fault, pairs)) => {
-                let why = format!(in alloc; "refused: {fault}\n")?;
-                Ok(Err(Refused { why, pairs }))
+                said.tell(format_args!("refused: {fault}\n"));
+                Ok(Err(pairs))
             }
         }
     }
 
-    fn alone(alloc: Global, pair: Pair, settings: Settings) -> Result<Result<Opened, Refused>> {
-        Opened::of_alone(alloc, open_alone(alloc, pair, settings)?)
+    /// Opens the only shard without an ingester. Says why where that is refused.
+    pub fn alone(
+        alloc: Global,
+        pairs: Vec<Pair>,
+        settings: Settings,
+        said: &mut Said,
+    ) -> Result<Opening> {
+        let opened = open_alone(alloc, only_of(pairs)?, settings)?;
+        Opened::of_alone(alloc, opened, said)
     }
 
     /// Opens the only shard without an ingester, and makes the calls as a group, each by a pass of its own. Says what
-    /// became of them.
+    /// became of them, or why the opening is refused.
     pub fn apart(
         alloc: Global,
         pairs: Vec<Pair>,
         settings: Settings,
         calls: &Gathered,
-        said: &mut String,
-    ) -> Result<Result<Opened, Refused>> {
+        said: &mut Said,
+    ) -> Result<Opening> {
         let opened = open_apart(alloc, only_of(pairs)?, settings, calls, said)?;
-        Opened::of_alone(alloc, opened)
+        Opened::of_alone(alloc, opened, said)
     }
 
     fn of_alone(
         alloc: Global,
         opened: Result<Box<LoneShard<MemDisk>>, (OpenFault, Pair)>,
-    ) -> Result<Result<Opened, Refused>> {
+        said: &mut Said,
+    ) -> Result<Opening> {
         match opened {
             Ok(shard) => Ok(Ok(Opened::Alone(shard))),
             Err((fault, pair)) => {
-                let pairs = vec![in alloc; pair]?;
-                let why = format!(in alloc; "refused: {fault}\n")?;
-                Ok(Err(Refused { why, pairs }))
+                said.tell(format_args!("refused: {fault}\n"));
+                Ok(Err(vec![in alloc; pair]?))
             }
         }
     }
 
-    /// Makes the call of a line with each pass in turn: their answers.
-    pub fn call_each<R: Wait>(&mut self, rt: &R, alloc: Global, line: &str) -> Result<Counted> {
-        let mut answers = Counted::new(alloc);
+    /// Makes the call of a line with each pass in turn, and says their answers.
+    pub fn call_each<R: Wait>(
+        &mut self,
+        rt: &R,
+        alloc: Global,
+        line: &str,
+        said: &mut Said,
+    ) -> Result<()> {
+        let mut answers = Counted::new(alloc, "\n");
         for _ in 0..self.passes() {
-            answers.add(self.answer(rt, alloc, line)?)?;
+            let mut answer = Said::new(alloc);
+            self.call(rt, alloc, line, &mut answer)?;
+            answers.add(answer.end()?);
             self.turn()?;
         }
-        Ok(answers)
-    }
-
-    fn answer<R: Wait>(&mut self, rt: &R, alloc: Global, line: &str) -> Result<String> {
-        let mut answer = String::new(alloc);
-        self.call(rt, alloc, line, &mut answer)?;
-        Ok(answer)
+        answers.say(said);
+        Ok(())
     }
 
     /// Makes the call of a line, and appends its answer, or why it was refused.
@@ -104,13 +106,14 @@ impl Opened {
         rt: &R,
         alloc: Global,
         line: &str,
-        into: &mut String,
+        into: &mut Said,
     ) -> Result<()> {
         let call = call_of(alloc, line)?;
         match self {
             Opened::Alone(shard) => say_call(shard, alloc, &call, into),
             Opened::Together(together) => together.call(rt, alloc, call, into),
         }
+        Ok(())
     }
 
     /// Makes the calls together, for a shard alone as a group, and says what became of them. Gives back what makes
@@ -120,28 +123,29 @@ impl Opened {
         rt: &R,
         alloc: Global,
         calls: &Gathered,
-        said: &mut String,
+        said: &mut Said,
     ) -> Result<Opened> {
         match self {
             Opened::Alone(shard) => Ok(Opened::Alone(say_group(alloc, shard, calls, said)?)),
             Opened::Together(mut together) => {
-                together.call_all(rt, alloc, calls)?.end(said)?;
+                together.call_all(rt, alloc, calls)?.say(said);
                 Ok(Opened::Together(together))
             }
         }
     }
 
-    /// Says how long a history is, and for a shard alone also whether it has a failure mark.
-    pub fn look(&mut self, shard: u32, into: &mut String) -> Result<()> {
+    /// `[SHARD]`: says how long its history is, and for a shard alone also whether it has a failure mark.
+    pub fn look(&mut self, text: &str, into: &mut Said) -> Result<()> {
+        let (shard, _) = number_of(if text.is_empty() { "0" } else { text })?;
         match self {
             Opened::Alone(shard) => {
                 let steps = shard.steps();
                 let mark = if shard.is_marked() { " marked" } else { "" };
-                write!(into, "steps {steps}{mark}")?;
+                into.tell(format_args!("steps {steps}{mark}\n"));
             }
             Opened::Together(together) => {
-                let steps = together.steps(shard)?;
-                write!(into, "steps {steps}")?;
+                let steps = together.steps(u32::try_from(shard)?)?;
+                into.tell(format_args!("steps {steps}\n"));
             }
         }
         Ok(())

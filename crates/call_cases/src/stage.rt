@@ -1,15 +1,14 @@
 //! What the lines of a row do.
 
-use crate::crashes::{say_contents, say_trials};
+use crate::crashes::{Tries, say_contents, say_made, say_trials};
 use crate::grouped::Doing;
-use crate::opened::{Opened, Refused};
+use crate::opened::{Opened, Opening};
 use crate::prepared::{End, Prepared};
 use anyhow::{Result, bail};
 use call_slots::{Left, Pair, Way};
 use call_words::{Counted, Gathered, Settings, number_of};
-use rows::{escape, unescape, word_of};
+use rows::{Said, unescape, word_of};
 use std::alloc::Global;
-use std::fmt::Write;
 use std::mem;
 use std::sync::Wait;
 use std::thread::Threads;
@@ -47,7 +46,7 @@ impl Stage {
     }
 
     /// Does what a line asks for, and appends what is to be said to it.
-    pub fn take_line<R>(&mut self, rt: &R, line: &str, said: &mut String) -> Result<()>
+    pub fn take_line<R>(&mut self, rt: &R, line: &str, said: &mut Said) -> Result<()>
     where
         R: Threads + Wait + Copy + Send + Sync + 'static,
     {
@@ -56,35 +55,36 @@ impl Stage {
             "open" => self.open(rt, rest, said),
             "close" => self.close(rt, said),
             "opens" => self.open_and_close(rt, rest, said),
-            "push" | "read" | "trim" | "each" => self.take_call(rt, line, said),
             "with" => self.gathered.add(self.alloc, rest),
             "with*" => self.gathered.add_each(self.alloc, rest),
             "group" => self.group(rt, said),
-            "look" => self.look(rest, said),
-            "turn" => self.turn(),
-            "end_owners" => self.end_owners(rt),
-            "store" => self.make_change(End::Store, rest, said),
-            "forget" => self.make_change(End::Forget, rest, said),
-            "block" | "segment" => self.say_change(word, said),
+            "push" | "read" | "trim" | "each" | "look" | "turn" | "end_owners" => {
+                self.take_opened(rt, line, said)
+            }
+            "store" => self
+                .prepared
+                .make(self.alloc, self.settings.limits, rest, End::Store, said),
+            "forget" => self
+                .prepared
+                .make(self.alloc, self.settings.limits, rest, End::Forget, said),
             "crash" => self.crash(rest, said),
             "fails" => self.try_each(Way::Fails, rest, said),
             "stops" => self.try_each(Way::Stops, rest, said),
-            "contents" => self.say_contents(said),
-            "shards" => self.set_shards(rest),
+            "block" | "segment" | "contents" => {
+                self.say_made(word, said);
+                Ok(())
+            }
+            "shards" => {
+                self.pairs = empty_pairs(self.alloc, number_of(rest)?.0)?;
+                Ok(())
+            }
             "slot" | "write" | "fail" | "stop" | "bytes" => self.take_slot(word, rest, said),
             _ => self.settings.set(word, rest),
         }
     }
 
-    /// `shards COUNT`: this many shards with empty slots.
-    fn set_shards(&mut self, text: &str) -> Result<()> {
-        let (count, _) = number_of(text)?;
-        self.pairs = empty_pairs(self.alloc, count)?;
-        Ok(())
-    }
-
     /// A word on the slot of a shard.
-    fn take_slot(&mut self, word: &str, text: &str, said: &mut String) -> Result<()> {
+    fn take_slot(&mut self, word: &str, text: &str, said: &mut Said) -> Result<()> {
         let alloc = self.alloc;
         let (shard, text) = number_of(text)?;
         let (slot, text) = number_of(text)?;
@@ -99,35 +99,44 @@ impl Stage {
             }
             "fail" => pair.plan(slot, Way::Fails, number_of(text)?.0),
             "stop" => pair.plan(slot, Way::Stops, number_of(text)?.0),
-            _ => say_from(number_of(text)?.0, &pair.bytes(alloc, slot)?, said),
+            _ => {
+                say_from(number_of(text)?.0, &pair.bytes(alloc, slot)?, said);
+                Ok(())
+            }
         }
     }
 
     /// `open`: an ingester over all slots; `open alone`: the only shard without one; `open apart`: the same, and the
     /// calls that were gathered are made as a group, each by a pass of its own.
-    fn open<R>(&mut self, rt: &R, text: &str, said: &mut String) -> Result<()>
+    fn open<R>(&mut self, rt: &R, text: &str, said: &mut Said) -> Result<()>
     where
         R: Threads + Wait + Copy + Send + Sync + 'static,
     {
-        let alloc = self.alloc;
-        self.before = calls_of(alloc, &self.pairs)?;
-        let pairs = mem::replace(&mut self.pairs, Vec::new(alloc));
-        let opened = if text == "apart" {
-            Opened::apart(alloc, pairs, self.settings, &self.take_gathered(), said)?
-        } else {
-            Opened::open(rt, alloc, pairs, self.settings, text == "alone")?
-        };
-        match opened {
+        self.before = calls_of(self.alloc, &self.pairs)?;
+        match self.opening(rt, text, said)? {
             Ok(opened) => {
                 self.opened = Some(opened);
                 Ok(())
             }
-            Err(refused) => self.refuse(refused, said),
+            Err(pairs) => self.put_back(pairs, said),
+        }
+    }
+
+    fn opening<R>(&mut self, rt: &R, text: &str, said: &mut Said) -> Result<Opening>
+    where
+        R: Threads + Wait + Copy + Send + Sync + 'static,
+    {
+        let (alloc, settings) = (self.alloc, self.settings);
+        let pairs = mem::replace(&mut self.pairs, Vec::new(alloc));
+        match text {
+            "apart" => Opened::apart(alloc, pairs, settings, &self.take_gathered(), said),
+            "alone" => Opened::alone(alloc, pairs, settings, said),
+            _ => Opened::open(rt, alloc, pairs, settings, said),
         }
     }
 
     /// `opens`: opens all slots as `open` does, and closes them where that was not refused.
-    fn open_and_close<R>(&mut self, rt: &R, text: &str, said: &mut String) -> Result<()>
+    fn open_and_close<R>(&mut self, rt: &R, text: &str, said: &mut Said) -> Result<()>
     where
         R: Threads + Wait + Copy + Send + Sync + 'static,
     {
@@ -138,15 +147,8 @@ impl Stage {
         }
     }
 
-    /// Says why slots could not be opened, and takes them back.
-    fn refuse(&mut self, refused: Refused, said: &mut String) -> Result<()> {
-        let Refused { why, pairs } = refused;
-        said.push_str(why.as_str())?;
-        self.put_back(pairs, said)
-    }
-
     /// Takes back slots that could not be opened.
-    fn put_back(&mut self, pairs: Vec<Pair>, said: &mut String) -> Result<()> {
+    fn put_back(&mut self, pairs: Vec<Pair>, said: &mut Said) -> Result<()> {
         let mut all = Vec::new(self.alloc);
         for pair in pairs {
             all.push(Left {
@@ -159,7 +161,7 @@ impl Stage {
     }
 
     /// `close`: says what is left of each shard.
-    fn close<R: Wait>(&mut self, rt: &R, said: &mut String) -> Result<()> {
+    fn close<R: Wait>(&mut self, rt: &R, said: &mut Said) -> Result<()> {
         let Some(opened) = self.opened.take() else {
             bail!("nothing is open");
         };
@@ -168,13 +170,14 @@ impl Stage {
     }
 
     /// Says the state of each shard, and keeps its slots, which all work.
-    fn say_left(&mut self, all: Vec<Left>, said: &mut String) -> Result<()> {
+    fn say_left(&mut self, all: Vec<Left>, said: &mut Said) -> Result<()> {
         let count = u32::try_from(all.len())?;
-        let mut states = Counted::new(self.alloc);
+        let mut states = Counted::new(self.alloc, "\n");
         for left in all {
             self.take_left(left, count, &mut states)?;
         }
-        states.end(said)
+        states.say(said);
+        Ok(())
     }
 
     /// Adds the state of the next shard, and keeps its slots.
@@ -188,25 +191,33 @@ impl Stage {
     fn add_state(&self, left: &mut Left, count: u32, states: &mut Counted) -> Result<()> {
         let shard = self.pairs.len();
         let before = self.before.get(shard).copied().unwrap_or((0, 0));
-        states.add(left.state(self.alloc, u32::try_from(shard)?, count, before)?)
+        states.add(left.state(self.alloc, u32::try_from(shard)?, count, before)?);
+        Ok(())
     }
 
-    /// A call, or `each` and a call, which each pass makes in its turn.
-    fn take_call<R: Wait>(&mut self, rt: &R, line: &str, said: &mut String) -> Result<()> {
+    /// What is done with what is open: a call; `each` and a call, which each pass makes in its turn; `look [SHARD]`;
+    /// `turn`, so that the next pass makes the calls; `end_owners`.
+    fn take_opened<R: Wait>(&mut self, rt: &R, line: &str, said: &mut Said) -> Result<()> {
         let alloc = self.alloc;
+        let (word, rest) = word_of(line);
         let Some(opened) = &mut self.opened else {
             bail!("nothing is open");
         };
-        let Some(call) = line.strip_prefix("each ") else {
-            opened.call(rt, alloc, line, said)?;
-            said.push('\n')?;
-            return Ok(());
-        };
-        opened.call_each(rt, alloc, call)?.end(said)
+        match word {
+            "each" => opened.call_each(rt, alloc, rest, said),
+            "look" => opened.look(rest, said),
+            "turn" => opened.turn(),
+            "end_owners" => opened.end_owners(rt),
+            _ => {
+                opened.call(rt, alloc, line, said)?;
+                said.put("\n");
+                Ok(())
+            }
+        }
     }
 
     /// `group`: the calls that were gathered, together.
-    fn group<R: Wait>(&mut self, rt: &R, said: &mut String) -> Result<()> {
+    fn group<R: Wait>(&mut self, rt: &R, said: &mut Said) -> Result<()> {
         let calls = self.take_gathered();
         let Some(opened) = self.opened.take() else {
             bail!("nothing is open");
@@ -220,53 +231,18 @@ impl Stage {
         mem::replace(&mut self.gathered, none)
     }
 
-    /// `look [SHARD]`
-    fn look(&mut self, text: &str, said: &mut String) -> Result<()> {
-        let shard = if text.is_empty() {
-            0
-        } else {
-            number_of(text)?.0
-        };
-        let Some(opened) = &mut self.opened else {
-            bail!("nothing is open");
-        };
-        opened.look(u32::try_from(shard)?, said)?;
-        said.push('\n')?;
-        Ok(())
-    }
-
-    /// `turn`: the next pass makes the calls.
-    fn turn(&mut self) -> Result<()> {
-        match &mut self.opened {
-            Some(opened) => opened.turn(),
-            None => bail!("nothing is open"),
-        }
-    }
-
-    /// `end_owners`: the owner of each shard ends.
-    fn end_owners<R: Wait>(&self, rt: &R) -> Result<()> {
-        match &self.opened {
-            Some(opened) => opened.end_owners(rt),
-            None => bail!("nothing is open"),
-        }
-    }
-
-    /// `store CALL` and `forget CALL`.
-    fn make_change(&mut self, end: End, call: &str, said: &mut String) -> Result<()> {
-        let limits = self.settings.limits;
-        self.prepared.make(self.alloc, limits, call, end, said)
-    }
-
-    /// `block` and `segment`: the bytes of the last change.
-    fn say_change(&self, word: &str, said: &mut String) -> Result<()> {
+    /// `block` and `segment`: the bytes of the last change. `contents`: how many contents the row's trials opened.
+    fn say_made(&self, word: &str, said: &mut Said) {
+        let contents = self.contents;
         match word {
             "block" => say_from(0, &self.prepared.block, said),
-            _ => say_from(0, &self.prepared.segment, said),
+            "segment" => say_from(0, &self.prepared.segment, said),
+            _ => said.tell(format_args!("{contents} contents\n")),
         }
     }
 
     /// `crash STREAM VALUE..`: what a read of the stream gives of each content that a crash may leave.
-    fn crash(&mut self, text: &str, said: &mut String) -> Result<()> {
+    fn crash(&mut self, text: &str, said: &mut Said) -> Result<()> {
         let Some(pair) = self.pairs.first() else {
             bail!("the shard is open");
         };
@@ -279,38 +255,30 @@ impl Stage {
 
     /// `fails CALL` and `stops CALL`: a call where each of its device calls in turn fails, or all from there on; then
     /// the call itself. `fails group` and `stops group`: the same for the calls that were gathered.
-    fn try_each(&mut self, way: Way, call: &str, said: &mut String) -> Result<()> {
-        let doing = if call == "group" {
-            Doing::group(self.alloc, self.take_gathered())?
+    fn try_each(&mut self, way: Way, call: &str, said: &mut Said) -> Result<()> {
+        let is_group = call == "group";
+        let calls = if is_group {
+            self.take_gathered()
         } else {
-            Doing::one(self.alloc, call)?
+            Gathered::one(self.alloc, call)?
         };
-        self.try_doing(way, &doing, said)
+        self.try_doing(way, &Doing::of(self.alloc, calls, is_group)?, said)
     }
 
-    fn try_doing(&mut self, way: Way, doing: &Doing, said: &mut String) -> Result<()> {
-        match self.pairs.first_mut() {
-            Some(pair) => {
-                let (next, contents) = say_trials(
-                    self.alloc,
-                    pair,
-                    self.settings,
-                    way,
-                    doing,
-                    said,
-                )?;
-                *pair = next;
-                self.contents = self.contents.saturating_add(contents);
-                Ok(())
-            }
-            None => bail!("the shard is open"),
-        }
-    }
-
-    /// `contents`: how many contents the row's trials opened.
-    fn say_contents(&self, said: &mut String) -> Result<()> {
-        let contents = self.contents;
-        writeln!(said, "{contents} contents")?;
+    fn try_doing(&mut self, way: Way, doing: &Doing, said: &mut Said) -> Result<()> {
+        let (alloc, settings) = (self.alloc, self.settings);
+        let Some(pair) = self.pairs.first_mut() else {
+            bail!("the shard is open");
+        };
+        let mut next = say_made(alloc, pair, settings, doing, said)?;
+        let tries = Tries {
+            settings,
+            way,
+            doing,
+        };
+        let contents = say_trials(alloc, pair, &mut next, tries, said)?;
+        *pair = next;
+        self.contents = self.contents.saturating_add(contents);
         Ok(())
     }
 }
@@ -360,11 +328,10 @@ fn values_of(alloc: Global, text: &str) -> Result<Vec<u8>> {
 }
 
 /// Says the bytes from a place on.
-fn say_from(at: u64, bytes: &[u8], said: &mut String) -> Result<()> {
+fn say_from(at: u64, bytes: &[u8], said: &mut Said) {
     match bytes.get(at as usize..) {
-        Some(bytes) => escape(bytes, said)?,
-        None => said.push_str("none")?,
+        Some(bytes) => said.escape(bytes),
+        None => said.put("none"),
     }
-    said.push('\n')?;
-    Ok(())
+    said.put("\n");
 }

@@ -13,9 +13,9 @@ use call_words::{Counted, Gathered, Settings, write_reply};
 use disk::MemDisk;
 use history::Pass;
 use ingester::{CallFault, Closed, Ingester, OpenFault};
+use rows::Said;
 use std::alloc::Global;
 use std::collections::VecDeque;
-use std::fmt::Write;
 use std::mem;
 use std::sync::Wait;
 use std::thread::Threads;
@@ -33,21 +33,21 @@ pub struct Together {
     ghost shards: { ingester.about.shards ≡ count },
 }
 
-/// Appends the answer to a call, or why it was refused.
-fn write_outcome(outcome: &Result<Reply, CallFault>, into: &mut String) -> Result<()> {
+/// Says the answer to a call, or why it was refused.
+fn write_outcome(outcome: &Result<Reply, CallFault>, into: &mut Said) {
     match outcome {
         Ok(reply) => write_reply(reply, into),
-        Err(fault) => Ok(write!(into, "{fault}")?),
+        Err(fault) => into.tell(format_args!("{fault}")),
     }
 }
 
 /// What came of calls, in their order.
 fn answers_of(alloc: Global, outcomes: VecDeque<Result<Reply, CallFault>>) -> Result<Counted> {
-    let mut answers = Counted::new(alloc);
+    let mut answers = Counted::new(alloc, "\n");
     for outcome in outcomes.iter() {
-        let mut answer = String::new(alloc);
-        write_outcome(outcome, &mut answer)?;
-        answers.add(answer)?;
+        let mut answer = Said::new(alloc);
+        write_outcome(outcome, &mut answer);
+        answers.add(answer.end()?);
     }
     Ok(answers)
 }
@@ -108,14 +108,8 @@ impl Together {
         }
     }
 
-    /// Makes a call, and appends its answer, or why it was refused.
-    pub fn call<R: Wait>(
-        &mut self,
-        rt: &R,
-        alloc: Global,
-        call: Call,
-        into: &mut String,
-    ) -> Result<()>
+    /// Makes a call, and says its answer, or why it was refused.
+    pub fn call<R: Wait>(&mut self, rt: &R, alloc: Global, call: Call, into: &mut Said)
         requires numbers { AreNumbers call }
     {
         write_outcome(&self.ingester.call(rt, alloc, &mut self.pass, call), into)

@@ -1,8 +1,8 @@
 use crate::slots::Pair;
 use anyhow::{Result, bail};
 use disk::{Disk, MemDisk};
+use rows::Said;
 use std::alloc::Global;
-use std::fmt::Write;
 use wal::{OpenFault, Wal};
 
 /// The capacity of a segment, in bytes, where slots are opened only to be looked at.
@@ -41,26 +41,24 @@ impl Left {
         count: u32,
         before: (u64, u64),
     ) -> Result<String> {
-        let mut state = String::new(alloc);
+        let mut state = Said::new(alloc);
         match self.steps {
-            Some(steps) => write!(state, "steps {steps}")?,
-            None => state.push_str("unopened")?,
+            Some(steps) => state.tell(format_args!("steps {steps}")),
+            None => state.put("unopened"),
         }
         write_segment(alloc, &mut self.pair, shard, count, &mut state)?;
         self.say_slots(before, &mut state)?;
-        Ok(state)
+        Ok(state.end()?)
     }
 
-    fn say_slots(&mut self, before: (u64, u64), into: &mut String) -> Result<()> {
+    fn say_slots(&mut self, before: (u64, u64), into: &mut Said) -> Result<()> {
         let after = self.pair.calls();
         let first = after.0.saturating_sub(before.0);
         let second = after.1.saturating_sub(before.1);
-        write!(into, " calls {first} {second}")?;
+        into.tell(format_args!(" calls {first} {second}"));
         let (first, second) = (self.pair.first.len()?, self.pair.second.len()?);
-        write!(into, " slots {first} {second}")?;
-        if self.is_marked {
-            into.push_str(" marked")?;
-        }
+        into.tell(format_args!(" slots {first} {second}"));
+        into.put(if self.is_marked { " marked" } else { "" });
         Ok(())
     }
 }
@@ -72,23 +70,24 @@ fn write_segment(
     pair: &mut Pair,
     shard: u32,
     count: u32,
-    into: &mut String,
+    into: &mut Said,
 ) -> Result<()> {
     match segment_in(alloc, pair, shard, count)? {
-        Ok((0, _)) => Ok(into.push_str(" no segment")?),
+        Ok((0, _)) => into.put(" no segment"),
         Ok((generation, length)) => {
-            write!(into, " segment {generation} {length}")?;
-            write_version(alloc, pair, generation, into)
+            into.tell(format_args!(" segment {generation} {length}"));
+            write_version(alloc, pair, generation, into)?;
         }
-        Err(fault) => Ok(write!(into, " {fault}")?),
+        Err(fault) => into.tell(format_args!(" {fault}")),
     }
+    Ok(())
 }
 
 /// Appends ` of version 1` where the segment of this generation has that version.
-fn write_version(alloc: Global, pair: &mut Pair, generation: u64, into: &mut String) -> Result<()> {
+fn write_version(alloc: Global, pair: &mut Pair, generation: u64, into: &mut Said) -> Result<()> {
     let slot = pair.bytes(alloc, generation % 2)?;
     if slot.get(4) == Some(&b'1') {
-        into.push_str(" of version 1")?;
+        into.put(" of version 1");
     }
     Ok(())
 }

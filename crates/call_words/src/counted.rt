@@ -1,65 +1,49 @@
-use anyhow::Result;
+use rows::Said;
 use std::alloc::Global;
-use std::fmt::Write;
 
-/// A text, and how often it came in a row.
+/// Texts one after another. Equal ones in a row are counted.
 #[derive(Drop)]
-struct Text {
-    text: String,
+pub struct Counted {
+    between: &'static str,
+    said: Said,
+    last: String,
     count: u64,
 }
 
-/// Texts in their order. Equal ones in a row are counted.
-#[derive(Drop)]
-pub struct Counted {
-    texts: Vec<Text>,
-}
-
 impl Counted {
-    /// No texts.
-    pub fn new(alloc: Global) -> Counted {
+    /// No texts. `between` stands between those that differ.
+    pub fn new(alloc: Global, between: &'static str) -> Counted {
         Counted {
-            texts: Vec::new(alloc),
+            between,
+            said: Said::new(alloc),
+            last: String::new(alloc),
+            count: 0,
         }
     }
 
     /// Adds a text after the others.
-    ///
-    /// # Errors
-    /// Want of memory.
-    pub fn add(&mut self, text: String) -> Result<()> {
-        match self.texts.last_mut() {
-            Some(last) if last.text.as_str() == text.as_str() => {
-                last.count = last.count.saturating_add(1);
-            }
-            _ => self.texts.push(Text { text, count: 1 })?,
+    pub fn add(&mut self, text: String) {
+        if self.count > 0 && self.last.as_str() != text.as_str() {
+            self.say_last();
+            self.said.put(self.between);
+            self.count = 0;
         }
-        Ok(())
+        self.last = text;
+        self.count = self.count.saturating_add(1);
     }
 
-    /// Appends the texts with `between` between them. One that came more than once is written as `3 times TEXT`.
-    ///
-    /// # Errors
-    /// Want of memory.
-    pub fn write(&self, between: &str, into: &mut String) -> Result<()> {
-        for (index, Text { text, count }) in self.texts.iter().enumerate() {
-            if index > 0 {
-                into.push_str(between)?;
-            }
-            if *count > 1 {
-                write!(into, "{count} times ")?;
-            }
-            into.push_str(text.as_str())?;
+    /// Says the last text. One that came more than once is said as `3 times TEXT`.
+    fn say_last(&mut self) {
+        if self.count > 1 {
+            self.said.tell(format_args!("{} times ", self.count));
         }
-        Ok(())
+        self.said.put(self.last.as_str());
     }
 
-    /// Appends the texts as lines.
-    ///
-    /// # Errors
-    /// Want of memory.
-    pub fn end(&self, into: &mut String) -> Result<()> {
-        self.write("\n", into)?;
-        Ok(into.push('\n')?)
+    /// Says all texts, and ends the line.
+    pub fn say(mut self, into: &mut Said) {
+        self.say_last();
+        into.put_all(&self.said);
+        into.put("\n");
     }
 }

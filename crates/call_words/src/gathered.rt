@@ -4,10 +4,9 @@ ghost use Rattle.accept.specs.Calls.{AreNumbers};
 use crate::calls::{call_of, number_of};
 use accept::Call;
 use anyhow::Result;
-use rows::word_of;
+use rows::{Said, word_of};
 use std::alloc::Global;
 use std::collections::VecDeque;
-use std::fmt::Write;
 
 /// Lines of calls that are made one after another, or as a group.
 #[derive(Drop)]
@@ -87,12 +86,12 @@ impl Gathered {
 
 /// The line with this number in place of each `#`.
 fn numbered(alloc: Global, line: &str, number: u64) -> Result<String> {
-    let mut text = String::new(alloc);
+    let mut text = Said::new(alloc);
     for (index, part) in line.split('#').enumerate() {
         if index > 0 {
-            write!(text, "{number}")?;
+            text.tell(format_args!("{number}"));
         }
-        text.push_str(part)?;
+        text.put(part);
     }
-    Ok(text)
+    Ok(text.end()?)
 }

@@ -1,50 +1,41 @@
 use accept::{Entry, Outcome, Reply};
-use anyhow::Result;
-use rows::{escape, only_character, write_pairs};
-use std::alloc::AllocError;
-use std::fmt::Write;
+use rows::{Said, only_character};
 
 /// A line that is longer than this and repeats one character is written by its length.
 const LONG: usize = 8;
 
-/// Appends an answer: `verdict` and the outcomes, `entries` and the entries as a push gives them, or its name.
-///
-/// # Errors
-/// Want of memory.
-pub fn write_reply(reply: &Reply, into: &mut String) -> Result<()> {
-    let written = match reply {
+/// Says an answer: `verdict` and the outcomes, `entries` and the entries as a push gives them, or its name.
+pub fn write_reply(reply: &Reply, into: &mut Said) {
+    match reply {
         Reply::Verdict(outcomes) => write_outcomes(outcomes.as_slice(), into),
         Reply::Entries(entries) => write_entries(entries.as_slice(), into),
-        other => write!(into, "{other:?}"),
-    };
-    Ok(written?)
+        other => into.tell(format_args!("{other:?}")),
+    }
 }
 
-fn write_outcomes(outcomes: &[Outcome], into: &mut String) -> Result<(), AllocError> {
-    into.push_str("verdict")?;
+fn write_outcomes(outcomes: &[Outcome], into: &mut Said) {
+    into.put("verdict");
     for outcome in outcomes {
-        write!(into, " {outcome:?}")?;
+        into.tell(format_args!(" {outcome:?}"));
     }
-    Ok(())
 }
 
-fn write_entries(entries: &[Entry], into: &mut String) -> Result<(), AllocError> {
-    into.push_str("entries")?;
+fn write_entries(entries: &[Entry], into: &mut Said) {
+    into.put("entries");
     for entry in entries {
-        write_entry(entry, into)?;
+        write_entry(entry, into);
     }
-    Ok(())
 }
 
-fn write_entry(entry: &Entry, into: &mut String) -> Result<(), AllocError> {
+fn write_entry(entry: &Entry, into: &mut Said) {
     let (time, line) = (entry.time, entry.line.as_str());
     let count = line.len();
     match only_character(line) {
-        Some(character) if count > LONG => write!(into, " {time}*{count}:{character}")?,
+        Some(character) if count > LONG => into.tell(format_args!(" {time}*{count}:{character}")),
         _ => {
-            write!(into, " {time}:")?;
-            escape(line.as_bytes(), into)?;
+            into.tell(format_args!(" {time}:"));
+            into.escape(line.as_bytes());
         }
     }
-    write_pairs(entry.meta.as_slice(), into)
+    into.pairs(entry.meta.as_slice());
 }

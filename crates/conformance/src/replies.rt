@@ -2,9 +2,8 @@
 use accept::{Entry, EntryList, Line, Meta, Reply};
 use anyhow::{Result, anyhow, bail};
 use front::answer_of_read;
-use rows::{split_pairs, text_of};
+use rows::{Said, split_pairs, text_of};
 use std::alloc::Global;
-use std::fmt::Write;
 use wire::say_lines;
 
 /// Says status and body of the answer to a read with the reply of this line. Its entries are lines `entry TIME TEXT`,
@@ -12,11 +11,12 @@ use wire::say_lines;
 ///
 /// # Errors
 /// A line that is none of these; want of memory.
-pub fn answer_reply(alloc: Global, line: &str, entries: &[&str], said: &mut String) -> Result<()> {
+pub fn answer_reply(alloc: Global, line: &str, entries: &[&str], said: &mut Said) -> Result<()> {
     let answer = answer_of_read(alloc, &reply_of(alloc, line, entries)?)?;
     let code = answer.status.code();
-    writeln!(said, "{code}")?;
-    say_lines(alloc, &answer.body, said)
+    said.tell(format_args!("{code}\n"));
+    say_lines(&answer.body, said);
+    Ok(())
 }
 
 fn reply_of(alloc: Global, line: &str, entries: &[&str]) -> Result<Reply> {
@@ -41,10 +41,9 @@ fn entry_of(alloc: Global, line: &str) -> Result<Entry> {
         .strip_prefix("entry ")
         .and_then(|entry| entry.split_once(' '))
         .ok_or(anyhow!("entry TIME TEXT"))?;
+    let time = time.parse::<u64>()?;
     let (text, pairs) = split_pairs(alloc, text)?;
-    Ok(Entry {
-        time: time.parse::<u64>()?,
-        line: Line::new(text_of(alloc, text)?),
-        meta: Meta::new(alloc, pairs)?,
-    })
+    let meta = Meta::new(alloc, pairs)?;
+    let line = Line::new(text_of(alloc, text)?);
+    Ok(Entry { time, line, meta })
 }

@@ -4,6 +4,7 @@ use crate::opened::Opened;
 use crate::plan::{Plan, Visit};
 use crate::visits::Came;
 use anyhow::Result;
+use rows::Said;
 use std::alloc::Global;
 use std::sync::Wait;
 use std::thread::Threads;
@@ -13,7 +14,7 @@ use wire::{Each, Groups};
 ///
 /// # Errors
 /// Want of memory; a thread that could not be started.
-pub fn serve_plan<R>(rt: &R, alloc: Global, plan: &Plan, said: &mut String) -> Result<()>
+pub fn serve_plan<R>(rt: &R, alloc: Global, plan: &Plan, said: &mut Said) -> Result<()>
 where
     R: Threads + Wait + Copy + Send + Sync + 'static,
 {
@@ -27,7 +28,7 @@ fn serve_visits<R: Wait>(
     alloc: Global,
     opened: &mut Opened,
     plan: &Plan,
-    said: &mut String,
+    said: &mut Said,
 ) -> Result<()> {
     for visit in &plan.visits {
         serve_visit(rt, alloc, opened, visit, said)?;
@@ -41,13 +42,13 @@ fn serve_visit<R: Wait>(
     alloc: Global,
     opened: &mut Opened,
     visit: &Visit,
-    said: &mut String,
+    said: &mut Said,
 ) -> Result<()> {
     if visit.ends_owners {
         opened.end_owners(rt);
     }
     let whole = opened.run_visit(rt, alloc, visit, visit.connection.manner);
-    whole.say(said)?;
+    whole.say(said);
     match visit.each {
         Some(each) => serve_each(rt, alloc, opened, visit, each, &whole, said),
         None => Ok(()),
@@ -61,7 +62,7 @@ fn serve_each<R: Wait>(
     visit: &Visit,
     each: Each,
     whole: &Came,
-    said: &mut String,
+    said: &mut Said,
 ) -> Result<()> {
     let mut groups = Groups::new(alloc);
     let end = each.end(visit.connection.len(), whole.sink.text().len());
@@ -69,7 +70,8 @@ fn serve_each<R: Wait>(
         let before = opened.steps();
         let manner = each.manner(visit.connection.manner, place);
         let came = opened.run_visit(rt, alloc, visit, manner);
-        groups.note(came.beside(alloc, whole, before)?, said)?;
+        groups.note(came.beside(alloc, whole, before)?, said);
     }
-    groups.say(said)
+    groups.say(said);
+    Ok(())
 }

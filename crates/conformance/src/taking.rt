@@ -2,9 +2,8 @@
 use crate::case::Case;
 use anyhow::Result;
 use requests::{FixedAnswer, Incoming, Message, Method, Next, Route, Verdict};
-use rows::escape;
+use rows::Said;
 use std::alloc::Global;
-use std::fmt::Write;
 use wire::{Connection, Each, Groups, Manner};
 
 /// How many bytes of a body are said.
@@ -22,11 +21,11 @@ struct Taken {
 ///
 /// # Errors
 /// Want of memory.
-pub fn take_case(alloc: Global, case: &Case<'_>, said: &mut String) -> Result<()> {
+pub fn take_case(alloc: Global, case: &Case<'_>, said: &mut Said) -> Result<()> {
     let whole = take_all(alloc, &case.connection, case.connection.manner)?;
-    said.push_str(whole.requests.as_str())?;
-    said.push_str(whole.end.as_str())?;
-    said.push('\n')?;
+    said.put(whole.requests.as_str());
+    said.put(whole.end.as_str());
+    said.put("\n");
     match case.each {
         Some(each) => take_each(alloc, &case.connection, each, &whole, said),
         None => Ok(()),
@@ -38,15 +37,16 @@ fn take_each(
     connection: &Connection,
     each: Each,
     whole: &Taken,
-    said: &mut String,
+    said: &mut Said,
 ) -> Result<()> {
     let mut groups = Groups::new(alloc);
     for place in each.first()..each.end(connection.len(), 0) {
         let manner = each.manner(connection.manner, place);
         let taken = take_all(alloc, connection, manner)?;
-        groups.note(taken.beside(alloc, whole)?, said)?;
+        groups.note(taken.beside(alloc, whole)?, said);
     }
-    groups.say(said)
+    groups.say(said);
+    Ok(())
 }
 
 impl Taken {
@@ -64,55 +64,50 @@ impl Taken {
 fn take_all(alloc: Global, connection: &Connection, manner: Manner) -> Result<Taken> {
     let mut incoming = Incoming::new(alloc);
     let mut source = connection.source(manner);
-    let mut taken = Taken {
-        requests: String::new(alloc),
-        count: 0,
-        end: String::new(alloc),
-    };
+    let (mut requests, mut end) = (Said::new(alloc), Said::new(alloc));
+    let mut count: u64 = 0;
     for _request in 0..u64::MAX {
         match incoming.next(alloc, &mut source) {
             Ok(Next::Whole(message)) => {
-                say_message(&message, incoming.body(&message), &mut taken.requests)?;
-                taken.count = taken.count.saturating_add(1);
+                say_message(&message, incoming.body(&message), &mut requests);
+                count = count.saturating_add(1);
                 incoming.finish(&message);
+                continue;
             }
             Ok(Next::Refused(why)) => {
-                taken.end.push_str("refused ")?;
-                say_fixed(why, &mut taken.end)?;
-                break;
+                end.put("refused ");
+                say_fixed(why, &mut end);
             }
-            Ok(Next::Ended) => {
-                taken.end.push_str("ended")?;
-                break;
-            }
-            Err(fault) => {
-                write!(taken.end, "{fault}")?;
-                break;
-            }
+            Ok(Next::Ended) => end.put("ended"),
+            Err(fault) => end.tell(format_args!("{fault}")),
         }
+        break;
     }
-    Ok(taken)
+    Ok(Taken {
+        requests: requests.end()?,
+        count,
+        end: end.end()?,
+    })
 }
 
 /// A line of what the request is, and one of its lengths and the beginning of its body.
-fn say_message(message: &Message, body: &[u8], into: &mut String) -> Result<()> {
+fn say_message(message: &Message, body: &[u8], into: &mut Said) {
     match &message.verdict {
-        Verdict::Fixed(answer) => say_fixed(*answer, into)?,
+        Verdict::Fixed(answer) => say_fixed(*answer, into),
         Verdict::Call(route, tenant) => {
             let (route, tenant) = (route_name(*route), tenant.as_str());
-            write!(into, "{route} of {tenant}")?;
+            into.tell(format_args!("{route} of {tenant}"));
         }
-        Verdict::NoMemory => into.push_str("no memory")?,
+        Verdict::NoMemory => into.put("no memory"),
     }
     let end = if message.closes { "closes" } else { "keeps" };
     let (head, length) = (message.start, message.end.saturating_sub(message.start));
-    write!(into, ", {end}\nhead {head}, body {length}")?;
+    into.tell(format_args!(", {end}\nhead {head}, body {length}"));
     if !body.is_empty() {
-        into.push_str(": ")?;
-        escape(&body[..body.len().min(SHOWN)], into)?;
+        into.put(": ");
+        into.escape(&body[..body.len().min(SHOWN)]);
     }
-    into.push('\n')?;
-    Ok(())
+    into.put("\n");
 }
 
 fn route_name(route: Route) -> &'static str {
@@ -124,17 +119,16 @@ fn route_name(route: Route) -> &'static str {
 }
 
 /// The status and body of a fixed answer, the method that it allows, and whether it always closes.
-fn say_fixed(answer: FixedAnswer, into: &mut String) -> Result<()> {
+fn say_fixed(answer: FixedAnswer, into: &mut Said) {
     let code = answer.status().code();
-    write!(into, "{code} ")?;
-    escape(answer.body(), into)?;
+    into.tell(format_args!("{code} "));
+    into.escape(answer.body());
     match answer.allow() {
-        Some(Method::Get) => into.push_str(", allow GET")?,
-        Some(Method::Post) => into.push_str(", allow POST")?,
+        Some(Method::Get) => into.put(", allow GET"),
+        Some(Method::Post) => into.put(", allow POST"),
         None => {}
     }
     if answer.always_closes() {
-        into.push_str(", always closes")?;
+        into.put(", always closes");
     }
-    Ok(())
 }

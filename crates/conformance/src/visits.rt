@@ -5,8 +5,8 @@ use crate::plan::Visit;
 use accept::END_OF_TIME;
 use anyhow::Result;
 use front::{Clock, ServeFault, Served};
+use rows::Said;
 use std::alloc::Global;
-use std::fmt::Write;
 use wire::Sink;
 
 /// A clock that goes on by the same amount each time that it is asked.
@@ -48,15 +48,11 @@ pub struct Came {
 
 impl Came {
     /// Says what was written, how the connection ended, and how many steps all shards have.
-    ///
-    /// # Errors
-    /// Want of memory.
-    pub fn say(&self, said: &mut String) -> Result<()> {
-        said.push_str(self.sink.said())?;
-        self.say_end(said)?;
+    pub fn say(&self, said: &mut Said) {
+        self.sink.say(said);
+        self.say_end(said);
         let steps = self.steps;
-        writeln!(said, ", steps {steps}")?;
-        Ok(())
+        said.tell(format_args!(", steps {steps}\n"));
     }
 
     /// How much of the whole text was written, how the connection ended, and how many steps the shards have gained
@@ -65,21 +61,20 @@ impl Came {
     /// # Errors
     /// Want of memory.
     pub fn beside(&self, alloc: Global, whole: &Came, before: u64) -> Result<String> {
-        let mut came = String::new(alloc);
-        self.sink.say_beginning_of(whole.sink.text(), &mut came)?;
-        came.push_str(", ")?;
-        self.say_end(&mut came)?;
+        let mut came = Said::new(alloc);
+        self.sink.say_beginning_of(whole.sink.text(), &mut came);
+        came.put(", ");
+        self.say_end(&mut came);
         let gained = self.steps.saturating_sub(before);
-        write!(came, ", {gained} steps more")?;
-        Ok(came)
+        came.tell(format_args!(", {gained} steps more"));
+        Ok(came.end()?)
     }
 
-    fn say_end(&self, into: &mut String) -> Result<()> {
+    fn say_end(&self, into: &mut Said) {
         match &self.end {
-            Ok(Served::Ended) => into.push_str("ended")?,
-            Ok(Served::Closed) => into.push_str("closed")?,
-            Err(fault) => write!(into, "{fault}")?,
+            Ok(Served::Ended) => into.put("ended"),
+            Ok(Served::Closed) => into.put("closed"),
+            Err(fault) => into.tell(format_args!("{fault}")),
         }
-        Ok(())
     }
 }

@@ -1,11 +1,10 @@
 //! Answers, written one after another.
 use crate::case::Case;
-use crate::named::{closes, content, failure, fixed_answer, status};
+use crate::named::{CONTENTS, ENDS, FAILURES, FIXED, STATUSES, named};
 use anyhow::Result;
 use requests::{Answer, Outgoing, ServeFault, write_failure};
-use rows::{unescape, word_of};
+use rows::{Said, unescape, word_of};
 use std::alloc::Global;
-use std::fmt::Write;
 use wire::{Each, Groups, Manner, Sink};
 
 /// What a writer took, and how the writing ended.
@@ -19,11 +18,11 @@ struct Written {
 ///
 /// # Errors
 /// A line that is no answer; want of memory.
-pub fn answer_case(alloc: Global, case: &Case<'_>, said: &mut String) -> Result<()> {
+pub fn answer_case(alloc: Global, case: &Case<'_>, said: &mut Said) -> Result<()> {
     let whole = write_all(alloc, case, case.connection.manner)?;
-    said.push_str(whole.sink.said())?;
-    say_end(&whole.end, said)?;
-    said.push('\n')?;
+    whole.sink.say(said);
+    say_end(&whole.end, said);
+    said.put("\n");
     match case.each {
         Some(each) => write_each(alloc, case, each, &whole, said),
         None => Ok(()),
@@ -35,28 +34,35 @@ fn write_each(
     case: &Case<'_>,
     each: Each,
     whole: &Written,
-    said: &mut String,
+    said: &mut Said,
 ) -> Result<()> {
     let mut groups = Groups::new(alloc);
     let text = whole.sink.text();
     for place in each.first()..each.end(case.connection.len(), text.len()) {
         let manner = each.manner(case.connection.manner, place);
         let written = write_all(alloc, case, manner)?;
-        let mut came = String::new(alloc);
-        written.sink.say_beginning_of(text, &mut came)?;
-        came.push_str(", ")?;
-        say_end(&written.end, &mut came)?;
-        groups.note(came, said)?;
+        groups.note(written.beside(alloc, text)?, said);
     }
-    groups.say(said)
+    groups.say(said);
+    Ok(())
 }
 
-fn say_end(end: &Result<(), ServeFault>, into: &mut String) -> Result<()> {
-    match end {
-        Ok(()) => into.push_str("written")?,
-        Err(fault) => write!(into, "{fault}")?,
+impl Written {
+    /// How much of this text was written, and how the writing ended.
+    fn beside(&self, alloc: Global, text: &[u8]) -> Result<String> {
+        let mut came = Said::new(alloc);
+        self.sink.say_beginning_of(text, &mut came);
+        came.put(", ");
+        say_end(&self.end, &mut came);
+        Ok(came.end()?)
     }
-    Ok(())
+}
+
+fn say_end(end: &Result<(), ServeFault>, into: &mut Said) {
+    match end {
+        Ok(()) => into.put("written"),
+        Err(fault) => into.tell(format_args!("{fault}")),
+    }
 }
 
 /// Writes the answers up to the first that fails.
@@ -83,9 +89,9 @@ fn write_line(
         "answer" => write_answer(alloc, rest, outgoing, sink),
         "fixed" => {
             let (name, end) = word_of(rest);
-            Ok(outgoing.fixed(sink, fixed_answer(name)?, closes(end)?))
+            Ok(outgoing.fixed(sink, named(&FIXED, name)?, named(&ENDS, end)?))
         }
-        _ => Ok(write_failure(sink, failure(rest)?)),
+        _ => Ok(write_failure(sink, named(&FAILURES, rest)?)),
     }
 }
 
@@ -99,11 +105,9 @@ fn write_answer(
     let (code, rest) = word_of(line);
     let (kind, rest) = word_of(rest);
     let (end, text) = word_of(rest);
+    let (status, closes) = (named(&STATUSES, code)?, named(&ENDS, end)?);
+    let content = named(&CONTENTS, kind)?;
     let mut body = Vec::new(alloc);
     unescape(text, &mut body)?;
-    let answer = Answer {
-        status: status(code)?,
-        body,
-    };
-    Ok(outgoing.answer(sink, &answer, content(kind)?, closes(end)?))
+    Ok(outgoing.answer(sink, &Answer { status, body }, content, closes))
 }

@@ -25,6 +25,12 @@ impl Said {
         self.is_whole &= is_said;
     }
 
+    /// Says what another one says. Where memory was wanting to it, it is wanting here.
+    pub fn put_all(&mut self, other: &Said) {
+        self.put(other.text.as_str());
+        self.is_whole &= other.is_whole;
+    }
+
     /// Says what words print.
     pub fn tell<T: Display + Drop>(&mut self, words: T) {
         let is_said = write!(self.text, "{words}").is_ok();

@@ -1,6 +1,6 @@
 use crate::manner::Manner;
 use crate::source::Source;
-use anyhow::{Result, anyhow, bail};
+use anyhow::Result;
 use rows::{unescape, word_of};
 use std::alloc::Global;
 use std::io::Write;
@@ -8,7 +8,6 @@ use std::io::Write;
 /// The bytes of a connection and the manner in which they come, put together from lines.
 #[derive(Drop)]
 pub struct Connection {
-    alloc: Global,
     bytes: Vec<u8>,
     /// The body of the next `post` so far.
     body: Vec<u8>,
@@ -19,7 +18,6 @@ impl Connection {
     /// No bytes.
     pub fn new(alloc: Global) -> Connection {
         Connection {
-            alloc,
             bytes: Vec::new(alloc),
             body: Vec::new(alloc),
             manner: Manner::PLAIN,
@@ -49,21 +47,14 @@ impl Connection {
     pub fn take_line(&mut self, line: &str) -> Result<()> {
         let (word, rest) = word_of(line);
         match word {
-            "in" => unescape(rest, &mut self.bytes)?,
-            "in*" => push_many(self.alloc, rest, &mut self.bytes)?,
-            "body" => unescape(rest, &mut self.body)?,
-            "body*" => push_many(self.alloc, rest, &mut self.body)?,
-            "body#" => push_numbered(rest, &mut self.body)?,
-            "post" => self.post(rest)?,
-            "step" => self.manner.step = rest.parse::<usize>()?.max(1),
-            "fails" => self.manner.fails = true,
-            "room" => self.manner.room = rest.parse::<usize>()?,
-            "takes" => self.manner.takes = rest.parse::<usize>()?.max(1),
-            "stalls" => self.manner.stalls = true,
-            "interrupts" => self.manner.interrupts = true,
-            _ => bail!("no such word"),
+            "in" => unescape(rest, &mut self.bytes),
+            "in*" => push_many(rest, &mut self.bytes),
+            "body" => unescape(rest, &mut self.body),
+            "body*" => push_many(rest, &mut self.body),
+            "body#" => push_numbered(rest, &mut self.body),
+            "post" => self.post(rest),
+            _ => self.manner.set(word, rest),
         }
-        Ok(())
     }
 
     /// Adds a lawful request to a path. Its body is the body so far, followed by this text.
@@ -82,12 +73,10 @@ impl Connection {
 }
 
 /// Appends a text a number of times.
-fn push_many(alloc: Global, line: &str, into: &mut Vec<u8>) -> Result<()> {
-    let (count, text) = line.split_once(' ').ok_or(anyhow!("a count and a text"))?;
-    let mut piece = Vec::new(alloc);
-    unescape(text, &mut piece)?;
+fn push_many(line: &str, into: &mut Vec<u8>) -> Result<()> {
+    let (count, text) = word_of(line);
     for _ in 0..count.parse::<usize>()? {
-        into.extend_from_slice(&piece)?;
+        unescape(text, into)?;
     }
     Ok(())
 }

@@ -1,6 +1,5 @@
-use anyhow::Result;
+use rows::Said;
 use std::alloc::Global;
-use std::fmt::Write;
 
 /// Runs with the same result, counted.
 #[derive(Drop)]
@@ -19,28 +18,20 @@ impl Groups {
     }
 
     /// Takes in a run with this result. Where those before had another result, they are said.
-    ///
-    /// # Errors
-    /// Want of memory.
-    pub fn note(&mut self, came: String, said: &mut String) -> Result<()> {
+    pub fn note(&mut self, came: String, said: &mut Said) {
         if self.came.as_str() != came.as_str() {
-            self.say(said)?;
+            self.say(said);
             self.came = came;
             self.count = 0;
         }
         self.count = self.count.saturating_add(1);
-        Ok(())
     }
 
     /// Says the last runs: how many there were, and their result.
-    ///
-    /// # Errors
-    /// Want of memory.
-    pub fn say(&self, said: &mut String) -> Result<()> {
+    pub fn say(&self, said: &mut Said) {
         let (count, came) = (self.count, self.came.as_str());
         if count > 0 {
-            writeln!(said, "{count} times {came}")?;
+            said.tell(format_args!("{count} times {came}\n"));
         }
-        Ok(())
     }
 }

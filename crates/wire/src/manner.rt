@@ -1,3 +1,5 @@
+use anyhow::{Result, bail};
+
 /// How the bytes of a connection come, and how what is written is taken.
 #[derive(Clone, Copy)]
 pub struct Manner {
@@ -28,4 +30,25 @@ impl Manner {
         stalls: false,
         interrupts: false,
     };
+
+    /// Takes a word, and the number after it if it has one.
+    pub(crate) fn set(&mut self, word: &str, rest: &str) -> Result<()> {
+        match word {
+            "fails" => self.fails = true,
+            "stalls" => self.stalls = true,
+            "interrupts" => self.interrupts = true,
+            _ => return self.set_number(word, rest.parse()?),
+        }
+        Ok(())
+    }
+
+    fn set_number(&mut self, word: &str, number: usize) -> Result<()> {
+        match word {
+            "step" => self.step = number.max(1),
+            "room" => self.room = number,
+            "takes" => self.takes = number.max(1),
+            _ => bail!("no such word: {word}"),
+        }
+        Ok(())
+    }
 }

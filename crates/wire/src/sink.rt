@@ -1,16 +1,13 @@
 use crate::manner::Manner;
-use anyhow::Result;
-use rows::escape;
+use rows::Said;
 use std::alloc::Global;
-use std::fmt::Write as _;
 use std::io::{self, ErrorKind, Write};
 
 /// A writer that keeps what it takes.
 #[derive(Drop)]
 pub struct Sink {
-    alloc: Global,
     text: Vec<u8>,
-    said: String,
+    said: Said,
     manner: Manner,
     /// Whether the next write was interrupted already.
     interrupted: bool,
@@ -20,9 +17,8 @@ impl Sink {
     /// Takes bytes in this manner.
     pub fn new(alloc: Global, manner: Manner) -> Sink {
         Sink {
-            alloc,
             text: Vec::new(alloc),
-            said: String::new(alloc),
+            said: Said::new(alloc),
             manner,
             interrupted: false,
         }
@@ -33,26 +29,22 @@ impl Sink {
         self.text.as_slice()
     }
 
-    /// What was taken, as [`say_lines`] says the bytes of each write.
-    pub fn said(&self) -> &str {
-        self.said.as_str()
+    /// Says what was taken, as [`say_lines`] says the bytes of each write.
+    pub fn say(&self, into: &mut Said) {
+        into.put_all(&self.said);
     }
 
     /// Says how much of the whole text was taken: `a full writer` where a beginning of it fills the room, otherwise its
     /// number of `bytes` where it is a beginning, otherwise `other bytes`.
-    ///
-    /// # Errors
-    /// Want of memory.
-    pub fn say_beginning_of(&self, whole: &[u8], into: &mut String) -> Result<()> {
+    pub fn say_beginning_of(&self, whole: &[u8], into: &mut Said) {
         let length = self.text.len();
         if !whole.starts_with(&self.text) {
-            into.push_str("other bytes")?;
+            into.put("other bytes");
         } else if length == self.manner.room {
-            into.push_str("a full writer")?;
+            into.put("a full writer");
         } else {
-            write!(into, "{length} bytes")?;
+            into.tell(format_args!("{length} bytes"));
         }
-        Ok(())
     }
 }
 
@@ -69,9 +61,7 @@ impl Write for Sink {
             return Err(io::Error::from(ErrorKind::BrokenPipe));
         }
         self.text.extend_from_slice(piece)?;
-        if say_lines(self.alloc, piece, &mut self.said).is_err() {
-            return Err(io::Error::from(ErrorKind::OutOfMemory));
-        }
+        say_lines(piece, &mut self.said);
         Ok(piece.len())
     }
 
@@ -81,26 +71,9 @@ impl Write for Sink {
 }
 
 /// Says bytes with escapes: a line for each of their lines, and one for what follows the last line feed.
-///
-/// # Errors
-/// Want of memory.
-pub fn say_lines(alloc: Global, bytes: &[u8], into: &mut String) -> Result<()> {
-    let mut line = Vec::new(alloc);
-    for byte in bytes {
-        line.push(*byte)?;
-        if *byte == b'\n' {
-            say_line(&line, into)?;
-            line.clear();
-        }
+pub fn say_lines(bytes: &[u8], into: &mut Said) {
+    for line in bytes.split_inclusive(|byte| *byte == b'\n') {
+        into.escape(line);
+        into.put("\n");
     }
-    if line.is_empty() {
-        return Ok(());
-    }
-    say_line(&line, into)
-}
-
-fn say_line(bytes: &[u8], into: &mut String) -> Result<()> {
-    escape(bytes, into)?;
-    into.push('\n')?;
-    Ok(())
 }
