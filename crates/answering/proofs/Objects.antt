@@ -28,7 +28,7 @@ put_last (q ∷ done) p more h =
     let above : slice_cmp nat_cmp p.0 q.0 ≡ Greater = nat_list_cmp_total.antisymm p.0 q.0 ∙ ap ordering_reverse (below_middle q.0 done p more (rise_above q _ h)) in
     rw above (ap (member q.0 (string q.1)) (put_last done p more (rise_tail q _ h)))
 
--- the pair at k is put in behind those before it
+-- the pair at k is put in after those before it
 one_more : (all : List Label) (k : ℕ) (p : Label) → k < length all → p ≡ get_or all k p → NamesRise all → put p.0 (string p.1) (labels_tree (take k all)) ≡ labels_tree (take (suc k) all)
 one_more all k p within here rise =
     let split : all ≡ take k all ++ p ∷ drop (suc k) all = sym (take-append-drop k all) ∙ ap (λ r. take k all ++ r) (drop-cons all k p within ∙ ap (λ x. x ∷ drop (suc k) all) (sym here)) in

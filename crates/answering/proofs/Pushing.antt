@@ -87,7 +87,7 @@ merged_length (Some fault ∷ ps) outcomes due = let same = merged_length ps out
 merged_length (None ∷ ps) [] due = absurd (omega (arith, due))
 merged_length (None ∷ ps) (r ∷ rs) due = let same = merged_length ps rs (omega (arith, due)) in omega (arith, same)
 
--- what came at the place k, and behind it
+-- what came at the place k, and after it
 module _ (places : List (Option LabelFault)) (k : ℕ) (within : k < length places) (d : Option LabelFault) where
   cut : (place : Option LabelFault) → get_or places k d ≡ place → drop k places ≡ place ∷ drop (k + 1) places
   cut place is = rw add-one (drop-cons places k d within ∙ ap (λ x. x ∷ drop (suc k) places) is)

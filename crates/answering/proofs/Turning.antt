@@ -58,7 +58,7 @@ module _ {H : Type 0} (gives : Giving H) (now : ℕ) (body : List ℕ) (verdict 
   not_out Memory (n, appends, none) said = record { text = take n (response_text verdict close course); appends = appends; replies = (ap (λ k. take k (response_text verdict close course)) none, inl (course, handles, said refl)) }
 
 module _ {H C : Type 0} (gives : Giving H) (ticks : C → ℕ → C → Type 0) where
-  -- what a turn read stands behind what had come
+  -- what a turn read stands after what had come
   pub turn : (ends ends' : Io) (old new rest : List ℕ) (w w' : World H C) (result : Result Turn ServeFault) → Grows ends.unread ends'.unread old new
       → ((text : List ℕ) × Appends ends.written ends'.written text × ConnectionTurnIsAnswered gives ticks new ends'.unread w text rest w' result) → ConnectionTurnIsServed gives ticks ends old w ends' rest w' result
   turn ends ends' old new rest w w' result (bytes, consumes, grown) (text, appends, turns) = record {
@@ -148,7 +148,7 @@ module _ {H C : Type 0} (gives : Giving H) (ticks : C → ℕ → C → Type 0) 
     serves_more mid more between es rest w' others,
   )
 
-  -- a request behind others is one more of them
+  -- a request after others is one more of them
   serves_push : (bytes : List ℕ) (w : World H C) (es : List Exchange) (mid : List ℕ) (between : World H C) (e : Exchange) (rest : List ℕ) (w' : World H C)
       → ConnectionGives gives ticks bytes w es mid between → IsExchange gives ticks mid between e rest w' → closes e ≡ false → ConnectionGives gives ticks bytes w (es ++ e ∷ []) rest w'
   serves_push bytes w [] mid between e rest w' (same, still) x stays =

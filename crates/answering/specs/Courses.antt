@@ -28,7 +28,7 @@ first_failure (Refused fault ∷ cs) = first_failure cs
 first_failure (Replied reply ∷ cs) = first_failure cs
 first_failure (Failed failure ∷ cs) = Some failure
 
--- how many stand behind it
+-- how many stand after it
 abbrev pub behind_failure : List Came → ℕ
 behind_failure [] = 0
 behind_failure (Refused fault ∷ cs) = behind_failure cs
@@ -76,7 +76,7 @@ module _ {H : Type 0} (gives : Giving H) (tenant : List ℕ) where
   abbrev pub StreamsGive : H → List Asked → List Came → H → Type 0
   StreamsGive h all cames h' = StreamsGiveAfter false h all cames h'
 
-  -- of a beginning of these streams this came: one failed, and fewer than a window's stand behind it
+  -- of a beginning of these streams this came: one failed, and fewer than a window's stand after it
   pub record BodyFails (h : H) (all : List Asked) (cames : List Came) (failure : Failure)
       (h' : H) : Type 0 where
     pub done : List Asked
@@ -87,7 +87,7 @@ module _ {H : Type 0} (gives : Giving H) (tenant : List ℕ) where
     pub few : behind_failure cames < max_window
 
   -- of a beginning of these streams this came: none failed up to one of which there is something to say, and fewer
-  -- than a window's stand behind that
+  -- than a window's stand after that
   pub record BodyStops (says : ℕ → Came → List ℕ) (h : H) (all : List Asked) (h' : H) : Type 0 where
     pub done : List Asked
     pub more : List Asked

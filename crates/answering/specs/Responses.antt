@@ -87,7 +87,7 @@ module _ {H : Type 0} (gives : Giving H) (route : Route) (now : ℕ) (tenant bod
   RequestIsUnsaid h h' = (course : Course) × RequestGives gives route now tenant body h course h'
       × (failure_in course ≡ Some OutOfMemory) × (h' ≡ h)
 
-  -- what is answered to a request behind its head: the answer of how its calls went; or nothing, where memory ran out
+  -- what is answered to a request after its head: the answer of how its calls went; or nothing, where memory ran out
   abbrev pub RequestIsAnswered : H → Result Answer ServeFault → H → Type 0
   RequestIsAnswered h (Ok answer) h' = (course : Course)
       × RequestGives gives route now tenant body h course h'

@@ -50,7 +50,7 @@ response_text (Fixed answer) close course = fixed_text answer close
 response_text (Call route tenant) close course = called_text route close course (failure_in course)
 response_text NoMemory close course = failure_text OutOfMemory
 
--- whether the connection ends behind the response, to a request that asks for it or not
+-- whether the connection ends after the response, to a request that asks for it or not
 abbrev pub ends_behind : Verdict → Bool → Course → Bool
 ends_behind (Fixed answer) close course = always_closes answer || close
 ends_behind (Call route tenant) close course = is_failed (failure_in course) || close

@@ -55,7 +55,7 @@ merged (Some fault ∷ places) outcomes = Refused fault ∷ merged places outcom
 merged (None ∷ places) [] = []
 merged (None ∷ places) (r ∷ rs) = came_of r ∷ merged places rs
 
--- behind others these came: none failed up to one of these of which there is something to say
+-- after others these came: none failed up to one of these of which there is something to say
 pub record StopsAmong (before cames : List Came) : Type 0 where
   pub first : List Came
   pub last : Came
@@ -65,7 +65,7 @@ pub record StopsAmong (before cames : List Came) : Type 0 where
   pub said : came_lines (length first) last ≢ []
   pub few : length behind < length cames
 
--- behind others these came, and they were taken into the lines up to the first that failed
+-- after others these came, and they were taken into the lines up to the first that failed
 abbrev pub AreNoted : List Came → List Came → Result (Unit {0}) Halt → PushLines → Type 0
 AreNoted before cames (Ok u) new = (first_failure (before ++ cames) ≡ None)
     × Tells (before ++ cames) new

@@ -64,7 +64,7 @@ next-same items init i d rest =
     = sym (get_or-drop i init 0 d) ∙ ap (λ (xs : List (Vec ℕ Global)). get_or xs 0 d) (sym rest) ∙ get_or-drop i items 0 d in
     rw add-zero at e
 
--- one more beginning with a byte behind it
+-- one more beginning with a byte after it
 pub pushed-more : (items init : List (Vec ℕ Global)) (i b : ℕ) (d v : Vec ℕ Global)
     → contents (take i items) ≡ each_longer (contents (take i init)) (b ∷ []) → drop i items ≡ drop i init → i < length items
     → v.items ≡ (get_or items i d).items ++ b ∷ []

@@ -4,7 +4,7 @@ use Rattle.std.specs.Option.{SomeIff}
 use Rattle.disk.specs.Beginnings.{open_bytes, each_longer, all_beginnings, of_lengths}
 use Rattle.disk.proofs.BeginningLemmas.{length-fronts-suc, length-fronts-next}
 
--- at a length from low on, its beginnings come behind the shorter ones
+-- at a length from low on, its beginnings come after the shorter ones
 pub of_lengths-suc : (options : ℕ → List ℕ) (low i : ℕ) → low ≤ i → of_lengths options low (i + 1 - low) ≡ of_lengths options low (i - low) ++ all_beginnings options i
 of_lengths-suc options low i le =
     let k : i + 1 - low ≡ suc (i - low) = omega arith in

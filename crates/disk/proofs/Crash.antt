@@ -11,7 +11,7 @@ use Rattle.disk.proofs.Acts.{state_after-push, elapses-push}
 abbrev longest : State → ℕ
 longest s = max (length s.now) (furthest s.ranges)
 
--- what a read gives, and behind it the rest of a content that is longer
+-- what a read gives, and after it the rest of a content that is longer
 abbrev padded : State → List ℕ → List ℕ
 padded s c = s.now ++ drop (length s.now) c
 

@@ -82,7 +82,7 @@ reads-on file buf buf' piece at from n fits old is_read size e = record {
       ∙ sym (take-two from n (drop at file));
 }
 
--- the beginning of a buffer after a read behind it
+-- the beginning of a buffer after a read after it
 front-read : (xs ys zs : List ℕ) (a n : ℕ) → length xs ≡ a → n ≤ length ys → take (a + n) (xs ++ (ys ++ zs)) ≡ xs ++ take n ys
 front-read xs ys zs a n long h =
     take-two a n (xs ++ (ys ++ zs)) ∙ ap (λ (vs : List ℕ). vs ++ take n (drop a (xs ++ (ys ++ zs)))) (take_at xs (ys ++ zs) a long)

@@ -5,7 +5,7 @@ use Rattle.disk.specs.State.{Act, Write, Break, Sync, State, nothing, state_afte
 pub data Call : Type 0 where
   -- these bytes were read at this place into a buffer of this length
   Read : ℕ → ℕ → List ℕ → Call
-  -- so many of these bytes were written at this place, perhaps none
+  -- this many of these bytes were written at this place, perhaps none
   Wrote : ℕ → ℕ → List ℕ → Call
   -- a write of these bytes at this place failed
   Broke : ℕ → List ℕ → Call

@@ -38,13 +38,13 @@ calls_of m = m.calls
 abbrev pub WillFail : MemDisk → ℕ → Type 0
 WillFail m k = IsAsked m.plan k
 
--- it can grow to a length, record so many more calls and so many more written bytes, and takes no memory for it
+-- it can grow to a length, record this many more calls and this many more written bytes, and takes no memory for it
 abbrev pub HasRoom : MemDisk → ℕ → ℕ → ℕ → Type 0
 HasRoom m room calls written =
     (room ≤ vec_capacity m.bytes) × (vec_len m.steps + calls ≤ vec_capacity m.steps)
     × (vec_len m.written + written ≤ vec_capacity m.written)
 
--- what is left of the room after so many recorded calls and written bytes
+-- what is left of the room after this many recorded calls and written bytes
 abbrev pub KeepsRoom : ℕ → ℕ → MemDisk → MemDisk → Type 0
 KeepsRoom calls written old new = (room more_calls more_written : ℕ)
     → HasRoom old room (calls + more_calls) (written + more_written)

@@ -20,7 +20,7 @@ bytes_written (Synced ∷ steps) = bytes_written steps
 abbrev pub replayed : List Step → List ℕ → State
 replayed steps written = state_after nothing (acts steps written)
 
--- the ranges that the steps wrote, the last first, and behind them these
+-- the ranges that the steps wrote, the last first, and after them these
 abbrev pub ranges_after : List (ℕ × ℕ) → List Step → List (ℕ × ℕ)
 ranges_after ranges [] = ranges
 ranges_after ranges ((Wrote at n) ∷ steps) = ranges_after ((at, n) ∷ ranges) steps

@@ -5,7 +5,7 @@ use Rattle.disk.specs.Sight.{Sight}
 pub data Act : Type 0 where
   -- a write of these bytes at a place
   Write : ℕ → List ℕ → Act
-  -- a write of so many bytes at a place, which failed; of these bytes as many stand there then
+  -- a write of this many bytes at a place, which failed; of these bytes as many stand there then
   Break : ℕ → ℕ → List ℕ → Act
   Sync : Act
 

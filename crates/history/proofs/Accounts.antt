@@ -323,7 +323,7 @@ grown_ok about items items' p c ts grows same told h = record {
     token_grown n (Open a f e) k = (k.0, k.1, k.2, subst (λ (l : List Step). HaveNumbersBelow n l) (sym (same (shard_in about a))) k.3)
     token_grown n (Done s upto at) k = (k.0, k.1, k.2, begins_trans k.3 (grows (shard_in about s.ask)), k.4)
 
--- a call of the pass gets its step on shard k, behind those that its ticket names
+-- a call of the pass gets its step on shard k, after those that its ticket names
 module _ (about : About) (items : ℕ → List Item) (p : ℕ) (c : Caller) (ts : ℕ → Token) (a : Ask) (f : Bool) (e : List Ask) (r : Reply) (k : ℕ) (at : ℕ × ℕ)
     (here : shard_in about a ≡ k) (is : ts a.number ≡ Open a f e) (had : HaveSteps e (items k)) (h : AccountOk about items p c ts) where
   abbrev s : Step

@@ -27,7 +27,7 @@ line_cond : (front : List Ask) (b : Bool) (t : Announced) (ts : List Announced) 
 line_cond front true t ts f h = (f refl, h)
 line_cond front false t ts f h = subst (λ (l : List Ask). AreInLine l ts) (append-nil front) h
 
--- the tickets of one shard, of calls that a pass announces one after another, stand in line behind its open calls there
+-- the tickets of one shard, of calls that a pass announces one after another, stand in line after its open calls there
 pub stand_in_line : (table : TableId) (about : About) (k : ℕ) (c : Caller) (calls : List Call) → c.about ≡ about → AreInLine (asks_on about k c.pending) (tickets_on about k (tickets_announced table c calls))
 stand_in_line table about k c [] at = tt
 stand_in_line table about k c (call ∷ calls) at =
@@ -64,7 +64,7 @@ behind_two : (qs : List Ask) (a b : Ask) → behind_first ((qs ++ a ∷ []) ++ b
 behind_two [] a b = refl
 behind_two (c ∷ qs) a b = refl
 
--- a call that is announced before an answer is taken in leaves what it would leave behind it
+-- a call that is announced before an answer is taken in leaves what it would leave after it
 pub collects_first : (c : Caller) (n m : ℕ) (one two : Call) (s : Step) (upto : List Item) → collect_to (announce_to (announce_to c n one) m two) s upto ≡ announce_to (collect_to (announce_to c n one) s upto) m two
 collects_first c n m one two s upto = λ i. record {
   about = c.about;

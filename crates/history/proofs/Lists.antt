@@ -91,7 +91,7 @@ module _ {A : Type 0} where
       (λ (t : IsBeginning b a). inr (begins_cons y x b a (sym two ∙ one) t))
       (in_line a b l (record { rest = h.rest; is = ap tail_of h.is }) (record { rest = k.rest; is = ap tail_of k.is }))
 
-  -- what stands behind a common beginning
+  -- what stands after a common beginning
   pub behind : (a b c : List A) → a ++ b ≡ a ++ c → b ≡ c
   unfolding tail_of
   behind [] b c e = e

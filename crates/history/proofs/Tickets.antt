@@ -4,7 +4,7 @@ use Rattle.std.specs.Prelude.{slice_index_or, slice_set}
 use Rattle.history.specs.Histories.{shard_in}
 use Rattle.history.specs.Handles.{Booked, Announced, asks_of, doubted, doubted_to, AreOf}
 
--- those behind are as they were
+-- those after are as they were
 pub doubted_at : (ts : List Announced) (i : ℕ) (d : Announced) → slice_index_or (doubted_to i ts) i d ≡ slice_index_or ts i d
 doubted_at [] zero d = refl
 doubted_at [] (suc i) d = refl

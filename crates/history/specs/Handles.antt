@@ -169,7 +169,7 @@ IsBook table shard s =
 abbrev pub passed : Seat Unit View → Bool → Passed
 passed s closed = record { table = s.table_id; caller = caller_in s.me.0.role; closed = closed }
 
--- the seat is a pass with this word, of so many shards, which has used numbers up to the last, and has so many open
+-- the seat is a pass with this word, of this many shards, which has used numbers up to the last, and has this many open
 -- calls
 abbrev pub IsPass : Seat Unit View → ℕ → ℕ → ℕ → ℕ → Type 0
 IsPass s shards word last calls =

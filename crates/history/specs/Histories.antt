@@ -157,7 +157,7 @@ IsFirstNumber n (a ∷ asks) = a.number ≡ n
 abbrev pub IsFirstIfAmong : Ask → List Ask → Type 0
 IsFirstIfAmong a asks = IsAmong a asks → IsFirstNumber a.number asks
 
--- those behind the first
+-- those after the first
 abbrev pub behind_first : List Ask → List Ask
 behind_first [] = []
 behind_first (a ∷ asks) = asks

@@ -87,7 +87,7 @@ commit_with moment (Keeps shelf) (Open a f e) =
     keeper shelf.about shelf.shard now [] (Done s now moment)
 commit_with moment role hand = alone role hand
 
--- the step stands behind the history, and the call in hand has it
+-- the step stands after the history, and the call in hand has it
 abbrev pub committed_at : ℕ × ℕ → TableStep Unit → Me Unit View → ℕ → Me Unit View → Type 0
 committed_at moment st m found m' = m' ≡ (commit_with moment m.0.role m.0.hand, m.1)
 
@@ -106,7 +106,7 @@ mark_with (Keeps shelf) = keeper shelf.about shelf.shard
     (shelf.items ++ Failed shelf.doubt ∷ []) [] Nothing
 mark_with role = alone role Nothing
 
--- a mark with the calls in doubt stands behind the history
+-- a mark with the calls in doubt stands after the history
 abbrev pub marked : TableStep Unit → Me Unit View → ℕ → Me Unit View → Type 0
 marked st m found m' = m' ≡ (mark_with m.0.role, m.1)
 
@@ -118,7 +118,7 @@ seen_at c k = slice_index_or c.seen k []
 abbrev pub ask_of : Caller → ℕ → Call → Ask
 ask_of c n call = record { pass = c.pass; number = n; call = call }
 
--- the pass with this call pending behind its other open calls
+-- the pass with this call pending after its other open calls
 abbrev pub announce_to : Caller → ℕ → Call → Caller
 announce_to c n call = record {
   about = c.about;
@@ -276,7 +276,7 @@ AgreesWithPass role guest = Unit {0}
 abbrev pub settled : TableStep Unit → Me Unit View → ℕ → Me Unit View → Type 0
 settled st m found m' = (m' ≡ m) × AgreesWithPass m.0.role m.0.guest
 
--- so many items have room for a step under each number of each pass, and the mark
+-- this many items have room for a step under each number of each pass, and the mark
 abbrev pub HasRoomForSteps : About → List Item → Type 0
 HasRoomForSteps about items = length items ≤ about.passes * bound + 1
 

@@ -68,7 +68,7 @@ module _ {D : Type 0} (opening : Opening D) where
   taken_more old mid new [] r a h = (new, subst (λ (p : Passed). IsTaken opening p new r) a h, refl)
   taken_more old mid new (s ∷ rs) r a h = (a.0, a.1, taken_more a.0 mid new rs r a.2 h)
 
-  -- a call that is announced before an answer is taken in might as well be announced behind it
+  -- a call that is announced before an answer is taken in might as well be announced after it
   taken_before : (old new : Passed) (call : Call) (x : Ask) (r : Result Reply CallFault) → IsFirst x old.caller.pending → IsTaken opening (with_next old call) new r → (mid : Passed) × IsTaken opening old mid r × (new ≡ with_next mid call) × (is_closed_pass mid ≡ is_closed_pass old)
   taken_before old new call x (Ok reply) is h =
       let a : Ask = ask_of old.caller (old.caller.last + 1) call in
@@ -104,7 +104,7 @@ module _ {D : Type 0} (opening : Opening D) where
         refl,
       )
 
-  -- and so may all calls behind the first
+  -- and so may all calls after the first
   taken_first : (old now new : Passed) (calls : List Call) (x : Ask) (r : Result Reply CallFault) → IsFirst x old.caller.pending → AreAnnounced old calls now → IsTaken opening now new r → (mid : Passed) × IsTaken opening old mid r × AreAnnounced mid calls new
   taken_first old now new [] x r is a h = (new, subst (λ (p : Passed). IsTaken opening p new r) a h, refl)
   taken_first old now new (call ∷ calls) x r is a h =

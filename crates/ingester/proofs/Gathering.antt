@@ -40,7 +40,7 @@ first_waits old new call idle is = ap (λ (p : Passed). length p.caller.pending)
 pub more_wait : (old new : Passed) (call : Call) (n : ℕ) → length old.caller.pending ≡ n → new ≡ with_next old call → length new.caller.pending ≡ n + 1
 more_wait old new call n long is = ap (λ (p : Passed). length p.caller.pending) is ∙ length_push old.caller.pending (ask_of old.caller (old.caller.last + 1) call) ∙ ap (λ (m : ℕ). m + 1) long
 
--- what holds of all calls holds of those behind the first
+-- what holds of all calls holds of those after the first
 pub left_numbers : (calls : List Call) (call : Call) (left : List Call) → calls ≡ call ∷ left → All AreNumbers calls → All AreNumbers left
 left_numbers calls call left is all k d lt =
     let here : All AreNumbers (call ∷ left) = subst (All AreNumbers) is all in

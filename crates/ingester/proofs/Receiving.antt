@@ -78,7 +78,7 @@ module _ {D : Type 0} (opening : Opening D) where
       let by : IsWithdrawn opening old new h.first fault = h.by in
       subst (IsBehind old) (sym by.pass) (record { table = refl; about = refl; pass = refl; pending = refl; rested = λ (r : IsRested old.caller). r })
 
-  -- the state of a pass while so many of its open calls are taken in
+  -- the state of a pass while this many of its open calls are taken in
   pub record IsReceiving (pass : Passed) (n i count : ℕ) : Type 0 where
     pub numbers : AreCountedFrom (n + i) pass.caller.pending
     pub waiting : length pass.caller.pending + i ≡ count

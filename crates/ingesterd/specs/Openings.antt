@@ -5,7 +5,7 @@ use Rattle.history.specs.Handles.{Passed}
 use Rattle.owners.specs.Openings.{Opening}
 use Rattle.ingester.specs.Openings.{AreFresh}
 
--- So many shards, under the profile's limits, whose segments may have so many bytes, and so many passes of them, which
+-- This many shards, under the profile's limits, whose segments may have this many bytes, and this many passes, which
 -- have seen and made nothing.
 pub record IsProfiled {D : Type 0} (shards workers capacity : ℕ) (opening : Opening D)
     (passes : List Passed)

@@ -40,7 +40,7 @@ module _ {T K : Type 0} (fits : K → ℕ → T → Type 0) where
   pub begins : R [] (Unbound ∷ [])
   begins = inl (refl, refl)
 
-  -- a message that stands in front or behind
+  -- a message that stands in front or after
   behind : (x : T) (items : List T) (i : ℕ) (y : T) → get_elem? (items ++ x ∷ []) i ≡ some y → (get_elem? items i ≡ some y) ⊎ (x ≡ y)
   behind x items i y e = at_snoc items x y i e
 

@@ -142,7 +142,7 @@ goes_on last name value text next after count m n c l t g = (
   λ h. (ends_after last name value text next after (15 - count) (15 - (count + 1)) (omega arith) (not_end text n) c l t h).1,
 )
 
--- the text behind `{`, from its first label on
+-- the text after `{`, from its first label on
 pub canonical_by : (text next name value after : List ℕ) (r : Bool) → text ≡ 123 ∷ next → IsLabel (name, value) → next ≡ label_text (name, value) ++ after
     → MatchBool r (EndsSet name 14 after) (¬ (EndsSet name 14 after)) → MatchBool r (IsCanonicalText text) ((ps : List Label) → ¬ (IsCanonical text ps))
 canonical_by text next name value after true b l t (qs, few, each, rise, e) =

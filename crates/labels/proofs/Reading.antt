@@ -8,7 +8,7 @@ use Rattle.std.proofs.lemmas.Bool.Decides.{nat_tests}
 use Rattle.labels.specs.Canonical.{escape}
 use Rattle.labels.proofs.Escapes.{IsPlain, escape_plain}
 
--- what stands behind a `\`
+-- what stands after a `\`
 abbrev pub read_marked : List ℕ → Option (ℕ × List ℕ)
 read_marked [] = None
 read_marked (b ∷ bs) = if b == 92 then Some (92, bs) else (if b == 34 then Some (34, bs) else (if b == 110 then Some (10, bs) else None))

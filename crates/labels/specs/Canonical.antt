@@ -9,7 +9,7 @@ use Rattle.std.specs.declared.cmp.Ordering.TheVariants.{Less}
 use Rattle.labels.specs.Labels.{Label}
 use Rattle.labels.specs.Faults.{label_fault}
 
--- a byte of a value: `\`, `"` and a newline stand behind a `\`
+-- a byte of a value: `\`, `"` and a newline stand after a `\`
 abbrev pub escape : ℕ → List ℕ
 escape b =
     if b == 92 then 92 ∷ 92 ∷ [] else (if b == 34 then 92 ∷ 34
@@ -19,7 +19,7 @@ escape b =
 abbrev pub label_text : Label → List ℕ
 label_text p = p.0 ++ 61 ∷ 34 ∷ flat_map escape p.1 ++ 34 ∷ []
 
--- what follows the first label: each further one behind a comma and a space, and `}`
+-- what follows the first label: each further one after a comma and a space, and `}`
 abbrev pub tail_text : List Label → List ℕ
 tail_text [] = 125 ∷ []
 tail_text (p ∷ ps) = 44 ∷ 32 ∷ label_text p ++ tail_text ps
@@ -59,7 +59,7 @@ IsCanonicalText text = ∥ ((ps : List Label) × IsCanonical text ps) ∥₁
 abbrev pub IsTextOf : List ℕ → List Label → Type 0
 IsTextOf text pairs = (ps : List Label) × IsPermutation pairs ps × IsCanonical text ps
 
--- the text is what follows a label of this name, with at most so many labels more
+-- the text is what follows a label of this name, with at most this many labels more
 abbrev pub EndsSet : List ℕ → ℕ → List ℕ → Type 0
 EndsSet name most text = (qs : List Label) × (length qs ≤ most) × AllByRecursion IsLabel qs
     × NamesRise ((name, []) ∷ qs) × (text ≡ tail_text qs)

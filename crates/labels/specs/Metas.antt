@@ -26,7 +26,7 @@ same_pairs-equiv =
     lists_equiv (and_equiv (on_equiv (λ (p : Label). p.0) nat_list_eq_equiv)
     (on_equiv (λ (p : Label). p.1) nat_list_eq_equiv))
 
--- the bytes of a pair in a log: its texts, each behind its length in two bytes
+-- the bytes of a pair in a log: its texts, each after its length in two bytes
 abbrev pub pair_room : Label → ℕ
 pair_room p = 4 + length p.0 + length p.1
 

@@ -3,7 +3,7 @@ use Rattle.std.proofs.Common.{◌≡◌, ℕ, length, take, drop, List, [], ◌�
 use Rattle.std.proofs.Math.Seq.{take-append_seam}
 use Rattle.std.proofs.lemmas.List.Elements.{All-push}
 
--- what stands behind the values that were moved
+-- what stands after the values that were moved
 pub moved_last : {A B : Type 0} (f : A → B) (xs ys : List A) (x : A) (bs : List B) → ys ≡ xs ++ x ∷ [] → map f ys ++ bs ≡ map f xs ++ (f x ∷ bs)
 moved_last {A} {B} f xs ys x bs e = ap (λ l. map f l ++ bs) e ∙ front xs
   where

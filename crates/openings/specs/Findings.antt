@@ -37,7 +37,7 @@ module _ {D : Type 0} (sight : D → Sight) (follows : D → Type 0) where
       × AreGood count (k + 1) all backs
   AreGood count k all backs = ⊥
 
-  -- The shard of this number is the first that is refused. Those behind it may have been opened or refused meanwhile:
+  -- The shard of this number is the first that is refused. Those after it may have been opened or refused meanwhile:
   -- their slots come back, and nothing was written.
   pub record IsFirstRefused (count : ℕ) (shard : ℕ) (fault : OpenFault)
       (all backs : List (List D)) : Type 0 where

@@ -11,7 +11,7 @@ use Rattle.wal.specs.Opened.{IsOpenedFrom, IsReturned, IsRefusal}
 use Rattle.openings.specs.declared.place.Place.{Place}
 use Rattle.openings.specs.declared.place.Place.TheVariants.{Given, Out, Opened, Refused}
 
--- this fault at place k, or else what is found behind it
+-- this fault at place k, or else what is found after it
 abbrev pub first_of : ℕ → Option OpenFault → Option (ℕ × OpenFault) → Option (ℕ × OpenFault)
 first_of k None behind = behind
 first_of k (Some fault) behind = Some (k, fault)

@@ -132,7 +132,7 @@ fn find_refused<D: Disk + Drop>(places: &Vec<Place<D>>) -> Option<(u32, OpenFaul
     None
 }
 
-// Puts the slots of a place behind others, where there is room.
+// Puts the slots of a place after others, where there is room.
 fn put_behind<D: Disk + Drop>(slots: &mut VecDeque<[D; 2]>, place: Place<D>)
     requires here { AreSlotsThere place }
     requires room { deque_len slots.old < deque_capacity slots.old }

@@ -50,7 +50,7 @@ or_last : (asks : List Ask) (a : Ask) (items : List Item) (front : List Ask) →
 or_last [] a items front h m = (inr m, tt)
 or_last (b ∷ asks) a items front h m = (h.0, or_last asks a items front h.1 m)
 
--- calls of a pass in line, behind those of its calls in front
+-- calls of a pass in line, after those of its calls in front
 line_turn : (p : ℕ) (items : List Item) (front done : List Ask) (ts : List Announced) → AreOfPass p ts → AreInLine done ts → HaveStepsOr done items (of_pass p front) → AreInPassTurn items front ts
 line_turn p items front done [] of line h = tt
 line_turn p items front done (t ∷ ts) of line h = (

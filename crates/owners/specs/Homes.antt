@@ -21,7 +21,7 @@ abbrev pub home_with : Booked → List ℕ → Homed
 home_with first generations =
     record { table = first.table; about = first.about; generations = generations }
 
--- The call writes, and its change does not fit behind a segment of the last generation, after a legal history of shard
+-- The call writes, and its change does not fit after a segment of the last generation, after a legal history of shard
 -- k. Each roll since the log of the shard was opened took a call of that history, so it was opened late.
 pub record NeedsGeneration (home : Homed) (k : ℕ) (call : Call) : Type 0 where
   pub book : Booked

@@ -1,7 +1,7 @@
 //! The threads that own an opening's shards, one for each, and the queues by which the calls of passes reach them.
 //!
-//! A pass puts its calls on a shard into a letter and sends it to the owner; the owner makes the calls of all letters
-//! that have come as one group, and sends each letter back with what became of its calls.
+//! A pass puts its calls on a shard into a letter and sends it to the owner. The owner makes the calls of the letters
+//! that have come by groups, and sends each letter back with what became of its calls.
 #![tactic(auto)]
 
 mod desk;

@@ -15,7 +15,7 @@ use std::sync::Wait;
 /// How a shard comes back from its owner.
 pub type Back<D> = QueueSender<Shard<D>, Origin<D>, OfOpening>;
 
-/// How whoever closes gets it.
+/// The end at which whoever closes receives the shard.
 pub type BackIn<D> = QueueReceiver<Shard<D>, Origin<D>, OfOpening>;
 
 /// What an owner works by: the ends of its queues, and its desk.

@@ -29,7 +29,7 @@ impl<D: Disk> Model for Origin<D> {
     ghost view = { λ o. opening_of o.first.value o.logs.value.items };
 }
 
-/// The same without its disks. It has no bytes. What goes through the queues is held to it.
+/// The same without its disks. It takes no memory: the rules of the queues speak of it.
 #[derive(Drop)]
 pub struct Home {
     /// The first shard's book, before any step.

@@ -49,7 +49,7 @@ impl<D: Disk + Drop> Fits<Vec<BackIn<D>>, Origin<D>> for OfShards {
 /// The ends by which the shards come back.
 pub type Backs<D> = Locks<Vec<BackIn<D>>, Origin<D>, OfShards>;
 
-/// What an opening's owners and passes need beside threads and shards.
+/// What an opening's owners and passes need apart from threads and shards.
 #[derive(Drop)]
 pub struct Plan<D: Disk + Drop> {
     /// What was opened.

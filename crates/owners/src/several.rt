@@ -60,7 +60,7 @@ impl Way {
         }
     }
 
-    /// Takes out what became of the call of this number, where that comes next.
+    /// Takes out what became of the call of this number, if it is the next in the letter that came back.
     pub fn take(&mut self, home: &Home, pass: usize, shard: usize, number: u64) -> Option<Settled>
         requires { IsWay home.now pass shard self.old }
         ensures way { IsWay home.now pass shard self.new }
@@ -100,7 +100,7 @@ impl Way {
         let _gone = self.orders.send(rt, Order::End);
     }
 
-    /// Takes out the ticket of the first call in a letter that was not sent, and drops the others.
+    /// Of a letter that could not be sent, takes out the ticket of the first call, and drops the other calls.
     pub fn take_back(&mut self, home: &Home, pass: usize, shard: usize) -> Option<Ticket>
         requires { IsWay home.now pass shard self.old }
         ensures way { IsWay home.now pass shard self.new }

@@ -71,7 +71,7 @@ impl<D: Disk + Drop> Team<D> {
     ///
     /// # Errors
     ///
-    /// Want of memory, or a thread that could not be started. Those that were have ended then.
+    /// Want of memory, or a thread that could not be started. The threads that were started have ended by then.
     pub fn start<R, H>(
         rt: &R,
         handle: H,

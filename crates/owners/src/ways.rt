@@ -14,8 +14,8 @@ use std::collections::VecDeque;
 use std::mem;
 use std::sync::Wait;
 
-/// The way of a pass to a shard and back. Its letter is empty while no call is on the way. While the letter is out, one
-/// without memory is in its place.
+/// The way of a pass to a shard and back. Its letter is empty while no call is on the way. While the letter is out,
+/// an empty one that takes no memory stands here.
 #[derive(Drop)]
 pub struct Way {
     /// The letter.
@@ -33,7 +33,7 @@ pub struct Way {
 pub enum Came {
     /// The owner settled it.
     Settled(Settled),
-    /// Its owner has ended: it was not made.
+    /// Its owner had ended, so it was not made.
     SentBack(Ticket),
     /// Its owner has ended, and whether it was made isn't known.
     Lost,

@@ -1,4 +1,4 @@
--- What stands behind the line of a value: an object of texts, or nothing.
+-- What stands after the line of a value: an object of texts, or nothing.
 use Rattle.std.proofs.Common.{◌≢◌, List, Option, None, Some}
 use Rattle.serde_json.specs.Data.{Data, object, Items, no_items, item}
 use Rattle.serde_json.specs.View.{items_of}

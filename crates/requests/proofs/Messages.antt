@@ -21,7 +21,7 @@ few_fields : (buffer : List ℕ) (hs : List HeaderSpan) (spans : RequestSpans) (
 few_fields buffer hs spans h are =
     let count = sym (length-map h.fields name_and_value) ∙ ap length (sym are) ∙ length-map (take spans.headers hs) (header_bytes buffer) in omega (arith, count, length-take spans.headers hs)
 
--- the head stands at the front, whatever comes behind the buffer
+-- the head stands at the front, whatever comes after the buffer
 pub reads_head : (buffer more : List ℕ) (hs : List HeaderSpan) (spans : RequestSpans) (h : RequestHead) → IsRequestAt buffer hs spans h → IsRequestWithin buffer hs spans
     → length hs ≡ 64 → length buffer ≤ 16384 → ReadsHead (buffer ++ more) h (drop spans.len (buffer ++ more))
 reads_head buffer more hs spans h at within room short = record {

@@ -51,7 +51,7 @@ keeps_request bytes more r rest reads = record {
   framing = reads.framing;
 }
 
--- the head is there already, if there are so many bytes
+-- the head is there already, if there are this many bytes
 head_here : (bytes more : List ℕ) (h : RequestHead) (rest : List ℕ) → ReadsHead (bytes ++ more) h rest → length bytes ≡ 16384 → ReadsRequest bytes h (drop (length (print_request h)) bytes)
 head_here bytes more h rest reads long =
     let n = length (print_request h) in

@@ -102,7 +102,7 @@ body_of BadTenant = codes "bad tenant"
 body_of ContentEncoding = codes "content encoding is not supported"
 body_of ContentType = codes "content type must be application/json"
 
--- whether the connection ends behind it, whatever the request asked for
+-- whether the connection ends after it, whatever the request asked for
 abbrev pub always_closes : FixedAnswer → Bool
 always_closes BadRequest = true
 always_closes HeadTooLarge = true

@@ -9,7 +9,7 @@ HaveOneRequest bytes = (r s : Request) (x y : List ℕ) → ReadsMessage bytes r
     → ReadsMessage bytes s y → (r ≡ s)
     × (x ≡ y)
 
--- bytes behind a request change nothing of it
+-- bytes after a request change nothing of it
 abbrev pub KeepsRequest : List ℕ → List ℕ → Type 0
 KeepsRequest bytes more = (r : Request) (rest : List ℕ) → ReadsMessage bytes r rest
     → ReadsMessage (bytes ++ more) r (rest ++ more)
@@ -30,7 +30,7 @@ HaveOneSplit bytes = (rs ss : List Request) (x y : List ℕ) → AreRequests byt
     → AreRequests bytes ss y
     → (rs ≡ ss) × (x ≡ y)
 
--- a request behind others is one more of them
+-- a request after others is one more of them
 abbrev pub GoOn : List ℕ → Type 0
 GoOn bytes = (rs : List Request) (mid : List ℕ) (r : Request) (rest : List ℕ)
     → ReadsRequests bytes rs mid

@@ -44,7 +44,7 @@ pub record ReadsMessage (bytes : List ℕ) (r : Request) (rest : List ℕ) : Typ
 abbrev pub IsUnfinished : List ℕ → Type 0
 IsUnfinished bytes = HasNoRequest bytes × MayBecomeRequest bytes
 
--- a head, and fewer bytes behind it than its body has
+-- a head, and fewer bytes after it than its body has
 abbrev pub IsCutInBody : List ℕ → Type 0
 IsCutInBody bytes =
     (h : RequestHead) × (rest : List ℕ) × (n : ℕ) × ReadsHead bytes h rest
@@ -68,7 +68,7 @@ BeginsRefused bytes why =
     ⊎ ((why ≡ HeadTooLarge) × (length bytes ≡ max_head) × IsUnfinished bytes)
     ⊎ IsRefusedBody bytes why
 
--- the reader gave these bytes, and the buffer has them behind what it had
+-- the reader gave these bytes, and the buffer has them after what it had
 abbrev pub Grows : Option (List ℕ) → Option (List ℕ) → List ℕ → List ℕ → Type 0
 Grows known left old new = (bytes : List ℕ) × Consumes known left bytes × (new ≡ old ++ bytes)
 
@@ -92,7 +92,7 @@ IsNext buffer left (Err Fault.Read) = (buffer ≡ []) ⊎ IsCut buffer
 IsNext buffer left (Err Fault.Memory) = (buffer ≡ []) ⊎ IsCut buffer
 IsNext buffer left (Err Fault.Write) = ⊥
 
--- a whole request lies in the buffer, and little behind it; what `body`, `finish` and the next `next` ask for
+-- a whole request lies in the buffer, and little after it; what `body`, `finish` and the next `next` ask for
 abbrev pub Fits : List ℕ → Result Next ServeFault → Type 0
 Fits buffer (Ok (Is.Whole m)) = (m.start ≤ m.end) × (m.end ≤ length buffer)
     × (length (drop m.end buffer) ≤ max_head)
@@ -114,7 +114,7 @@ StopsAt buffer left headers (Err Fault.Read) = (length buffer < max_head) × IsU
 StopsAt buffer left headers (Err Fault.Memory) = (length buffer < max_head) × IsUnfinished buffer
 StopsAt buffer left headers (Err Fault.Write) = ⊥
 
--- the bytes are these requests, one behind another, and then rest
+-- the bytes are these requests, one after another, and then rest
 abbrev pub ReadsRequests : List ℕ → List Request → List ℕ → Type 0
 ReadsRequests bytes [] rest = rest ≡ bytes
 ReadsRequests bytes (r ∷ rs) rest = (mid : List ℕ) × ReadsMessage bytes r mid

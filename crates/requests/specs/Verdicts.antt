@@ -38,7 +38,7 @@ method_text Post = codes "POST"
 abbrev pub is_json_type : List ℕ → Bool
 is_json_type value = is_same_word (trim_ows (before 59 value)) (codes "application/json")
 
--- the tests behind the tenant's
+-- the tests after the tenant's
 abbrev pub verdict_of_types : Verdict → List (List ℕ) → Verdict
 verdict_of_types call [] = Is.Fixed ContentType
 verdict_of_types call (value ∷ []) = if is_json_type value then call else Is.Fixed ContentType

@@ -12,7 +12,7 @@ IsOut text n (Err Memory) = n ≡ 0
 IsOut text n (Err Read) = ⊥
 IsOut text n (Err CutShort) = ⊥
 
--- the writer holds a beginning of the text behind what it held
+-- the writer holds a beginning of the text after what it held
 abbrev pub WritesBeginning : Option (List ℕ) → Option (List ℕ) → List ℕ
     → Result (Unit {0}) ServeFault → Type 0
 WritesBeginning old new text result = (n : ℕ) × Appends old new (take n text) × IsOut text n result

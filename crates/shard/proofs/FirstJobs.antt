@@ -34,7 +34,7 @@ tickets_more : (ws : List (Announced × Reply)) (t : Announced) (r : Reply) → 
 tickets_more [] t r = refl
 tickets_more (w ∷ ws) t r = ap (λ (l : List Announced). w.0 ∷ l) (tickets_more ws t r)
 
--- the tickets of the group and of the jobs behind it stay the same where the first job joins
+-- the tickets of the group and of the jobs after it stay the same where the first job joins
 pub split_next : (ws new : List (Announced × Reply)) (t : Announced) (r : Reply) (jobs rest all : List Announced) → new ≡ ws ++ (t, r) ∷ [] → jobs ≡ t ∷ rest → tickets_in ws ++ jobs ≡ all → tickets_in new ++ rest ≡ all
 split_next ws new t r jobs rest all joined first is =
     ap (λ (l : List (Announced × Reply)). tickets_in l ++ rest) joined
@@ -50,7 +50,7 @@ waiting_length (Quiet t r ∷ js) ts m = ap suc (waiting_length js ts m.1)
 waiting_length (Changing r ∷ js) [] m = absurd m
 waiting_length (Changing r ∷ js) (t ∷ ts) m = ap suc (waiting_length js ts m.1)
 
--- so many tickets as calls
+-- this many tickets as calls
 pub tickets_length : (ws : List (Announced × Reply)) → length (tickets_in ws) ≡ length ws
 tickets_length [] = refl
 tickets_length (w ∷ ws) = ap suc (tickets_length ws)

@@ -163,7 +163,7 @@ part_kept now book asks within keeps =
 pub failed_doubt : (book : Booked) (asks : List Ask) → is_marked book.items ≡ false → doubt_of (with_steps (marked_by book asks) asks).items ≡ changing_of book asks
 failed_doubt book asks unmarked = steps_doubt (marked_by book asks) asks ∙ doubt_mark book.items (changing_of book asks) unmarked
 
--- the old streams or the new: the history with the mark, or with all calls in doubt behind it
+-- the old streams or the new: the history with the mark, or with all calls in doubt after it
 pub failed_allows : (now : Pair) (book : Booked) (asks : List Ask) → IsWithin book.about.limits (history_in book)
     → ((a b : List ℕ) → now.first.may_leave a → now.second.may_leave b → IsEither (owner_in book) (meaning (history_in book)) (meaning (history_in (with_steps book asks))) a b)
     → KeepsHistory now (marked_by book asks) (changing_of book asks)

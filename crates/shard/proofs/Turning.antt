@@ -49,7 +49,7 @@ pass_turn items front (t ∷ ts) h = (
   pass_turn items (front ++ t.ask ∷ []) ts h.1,
 )
 
--- of tickets one behind the other
+-- of tickets one after the other
 pub pass_turn_front : (items : List Item) (front : List Ask) (ts us : List Announced) → AreInPassTurn items front (ts ++ us) → AreInPassTurn items front ts
 pass_turn_front items front [] us h = tt
 pass_turn_front items front (t ∷ ts) us h = (h.0, pass_turn_front items (front ++ t.ask ∷ []) ts us h.1)
@@ -91,7 +91,7 @@ steps_kept about k items (b ∷ asks) a h =
     let s = step_of b (reply_of about k items b.call) in
     steps_kept about k (items ++ Answered s ∷ []) asks a (have_more (a ∷ []) items (Answered s ∷ []) (h, tt)).0
 
--- each call has its step behind them all
+-- each call has its step after them all
 pub steps_made : (about : About) (k : ℕ) (items : List Item) (asks : List Ask) → HaveSteps asks (items_with about k items asks)
 steps_made about k items [] = tt
 steps_made about k items (a ∷ asks) =
@@ -185,7 +185,7 @@ of_items book items (t ∷ ts) h = (h.0, h.1, of_items book items ts h.2)
 
 -- Jobs that may be made.
 
--- those behind a group that has its steps
+-- those after a group that has its steps
 pub ready_front : (book : Booked) (front : List Announced) (jobs rest : List Job) → AreReady book jobs → tickets_of jobs ≡ front ++ tickets_of rest → AreLawful book.about book.shard rest
     → AreReady (with_steps book (asks_of front)) rest
 ready_front book front jobs rest ready split lawful =
@@ -217,7 +217,7 @@ pub ready_stepped : {D : Type 0} (sight : D → Sight) (s : Span D) (front : Lis
 ready_stepped sight s front jobs rest (inl made) ready split lawful = subst (λ (b : Booked). AreReady b rest) (sym made.1) (ready_front s.old.book front jobs rest ready split lawful)
 ready_stepped sight s front jobs rest (inr lost) ready split lawful = subst (λ (b : Booked). AreReady b rest) (sym lost.1) (ready_front_lost s.old.book front jobs rest ready split lawful)
 
--- those behind the first that has its step
+-- those after the first that has its step
 pub ready_step : (book : Booked) (j : Job) (rest : List Job) (r : Reply) → AreReady book (j ∷ rest) → AreReady (longer book (Answered (step_of j.ticket.ask r))) rest
 ready_step book j rest r ready =
     let s = step_of j.ticket.ask r in

@@ -47,11 +47,11 @@ abbrev pub block_length : Option Record → ℕ
 block_length None = 0
 block_length (Some record_of_change) = length (frame latest (record_of_change ∷ [])) + 1
 
--- the call's change, as a block, fits behind the segment in use
+-- the call's change, as a block, fits after the segment in use
 abbrev pub FitsBehind : {D : Type 0} → Wal D → Booked → Call → Type 0
 FitsBehind log book call = FitsInUse log (block_length (change_of call (answer_in book call)))
 
--- why a roll of a log of this generation is refused: behind the last one there is none, else there was no memory
+-- why a roll of a log of this generation is refused: after the last one there is none, else there was no memory
 abbrev pub roll_fault : ℕ → ApplyFault
 roll_fault generation = if nat_lt generation max_generation then Memory else GenerationSpent
 
@@ -59,7 +59,7 @@ roll_fault generation = if nat_lt generation max_generation then Memory else Gen
 abbrev pub IsLate : {D : Type 0} → Wal D → Booked → Type 0
 IsLate opened book = max_generation ≤ opened.generation + (book.about.passes * bound + 1)
 
--- The call writes, and its block would have to go into a generation behind the last. Each roll since the log was opened
+-- The call writes, and its block would have to go into a generation after the last. Each roll since the log was opened
 -- took a call of the history, which is legal, so the log was opened late.
 pub record IsSpent {D : Type 0} (log opened : Wal D) (book : Booked) (call : Call) : Type 0 where
   pub last : max_generation ≤ log.generation

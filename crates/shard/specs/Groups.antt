@@ -21,17 +21,17 @@ use Rattle.streams.specs.Changes.{change_of}
 use Rattle.shard.specs.Keeping.{owner_in, IsAllowed}
 use Rattle.shard.specs.Calls.{reply_in}
 
--- the book with the call's step behind it, which has the reply that is due
+-- the book with the call's step after it, which has the reply that is due
 abbrev pub with_step : Booked → Ask → Booked
 with_step book ask = longer book (Answered (step_of ask (reply_in book ask.call)))
 
--- these items of shard k with a step of each call behind them, which has the reply that is due there
+-- these items of shard k with a step of each call after them, which has the reply that is due there
 abbrev pub items_with : About → ℕ → List Item → List Ask → List Item
 items_with about k items [] = items
 items_with about k items (a ∷ asks) =
     items_with about k (items ++ Answered (step_of a (reply_of about k items a.call)) ∷ []) asks
 
--- the book with a step of each call behind it
+-- the book with a step of each call after it
 abbrev pub with_steps : Booked → List Ask → Booked
 with_steps book asks = record book { items = items_with book.about book.shard book.items asks }
 
@@ -57,7 +57,7 @@ records_of book [] = []
 records_of book (a ∷ asks) = listed (change_of a.call (reply_in book a.call)) ++ records_of
     (with_step book a) asks
 
--- the block of what these calls change, with what this one changes behind it, fits behind the segment in use
+-- the block of what these calls change, with what this one changes after it, fits after the segment in use
 abbrev pub FitsAfter : {D : Type 0} → Wal D → Booked → List Ask → Call → Type 0
 FitsAfter log book asks call = FitsInUse log
     (length (frame latest (records_of book asks ++ listed

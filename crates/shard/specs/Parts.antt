@@ -28,7 +28,7 @@ abbrev pub ArePartsOf : {D : Type 0} → (D → Sight) → (D → Type 0) → Pa
 ArePartsOf sight follows p =
     IsShard sight follows p.log.wal p.book p.opened.value p.states p.is_marked p.limits
 
--- The change of a call that does not fit behind the segment in use is prepared, for this reply: all else is as before.
+-- The change of a call that does not fit after the segment in use is prepared, for this reply: all else is as before.
 pub record MustRoll {D : Type 0} (sight : D → Sight) (follows : D → Type 0) (p : Parts D)
     (ask : Ask)
     (reply : Reply) : Type 0 where
@@ -40,7 +40,7 @@ pub record MustRoll {D : Type 0} (sight : D → Sight) (follows : D → Type 0) 
   pub full : ¬ FitsBehind p.log.wal p.book ask.call
   pub prepared : IsPreparedFor p.limits before ask.call p.states reply rest
 
--- The change of a call that does not fit behind the segment in use is stored in memory, and the segment of the next
+-- The change of a call that does not fit after the segment in use is stored in memory, and the segment of the next
 -- generation is ready: all else is as before.
 pub record IsReadyToRoll {D : Type 0} (sight : D → Sight) (follows : D → Type 0) (p : Parts D)
     (ask : Ask)

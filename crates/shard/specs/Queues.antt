@@ -68,7 +68,7 @@ abbrev pub answer_to : Reply → Bool → Reply
 answer_to r is_lost = if is_lost then Unavailable else r
 
 -- The waiting calls may be added to the book, each in its turn: with its reply, where all of them are kept, or, where a
--- failure has lost them, refused behind its mark.
+-- failure has lost them, refused after its mark.
 pub record AreDueOrLost {D : Type 0} (sight : D → Sight) (follows : D → Type 0) (log : Wal D)
     (book : Booked) (is_lost : Bool)
     (waiting : List (Announced × Reply)) : Type 0 where

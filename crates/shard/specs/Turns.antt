@@ -42,7 +42,7 @@ pub record Span (D : Type 0) : Type 0 where
 abbrev pub span_of : {D : Type 0} → Turn D → Span D
 span_of t = record { old = t.old; new = t.new; was = t.was; now = t.now }
 
--- Each call has its step, and no device call failed; or one failed, and each call is refused behind the mark.
+-- Each call has its step, and no device call failed; or one failed, and each call is refused after the mark.
 abbrev pub AreStepped : {D : Type 0} → (D → Sight) → Span D → List Announced → Type 0
 AreStepped sight s tickets =
     let moment : ℕ × ℕ = moments (slots sight s.new.log) in
@@ -54,7 +54,7 @@ AreStepped sight s tickets =
     × (s.new.book ≡ with_steps marked (asks_of tickets))
     × (s.now ≡ s.was ++ settled_of marked tickets moment))
 
--- The calls of these tickets have their steps, and what was settled then stands behind what was settled before.
+-- The calls of these tickets have their steps, and what was settled then stands after what was settled before.
 pub record AreApplied {D : Type 0} (sight : D → Sight) (follows : D → Type 0) (s : Span D)
     (tickets : List Announced) : Type 0 where
   pub stepped : AreStepped sight s tickets
@@ -135,7 +135,7 @@ abbrev pub given_back_of : ApplyFault → List Announced → List Settled
 given_back_of fault [] = []
 given_back_of fault (t ∷ ts) = settled.GivenBack fault t ∷ given_back_of fault ts
 
--- The first job comes back, with those of its pass behind it, and all else is as it was.
+-- The first job comes back, with those of its pass after it, and all else is as it was.
 pub record IsGivenBack {D : Type 0} (t : Turn D) : Type 0 where
   pub job : Job
   pub others : List Job

@@ -4,7 +4,7 @@ ghost use Rattle.shard.specs.declared.fault.ApplyFault.TheVariants as faults;
 use std::alloc::AllocError;
 use thiserror::Error;
 
-/// Why a call has no step. History, streams, slots and clocks are then as they were.
+/// Why a call has no step. History, streams and slots are then as they were, and no device call was made.
 #[derive(Clone, Copy, Debug, Drop, PartialEq, Eq, Error)]
 pub enum ApplyFault {
     /// The allocator gave no memory.

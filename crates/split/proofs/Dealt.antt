@@ -112,7 +112,7 @@ or_by : (b : Bool) (x y : Option StreamImage) (v : StreamImage) → cond b (Some
 or_by true x y v = refl
 or_by false x y v = refl
 
--- what was put behind others comes first
+-- what was put after others comes first
 put_over : (es : Pairs) (all base over : Streams) (k : StreamKey) → ((q : StreamKey) → finite.get all q ≡ option_or (finite.get over q) (finite.get base q)) → finite.get (put_all all es) k ≡ option_or (finite.get (put_all over es) k) (finite.get base k)
 put_over [] all base over k is = is k
 put_over (e ∷ es) all base over k is = put_over es (put all e) base (put over e) k

@@ -5,7 +5,7 @@ use Rattle.std.proofs.lemmas.Bool.{cases_eq}
 use Rattle.std.specs.List.{swap_remove, SwappedAt}
 
 module _ {A : Type 0} where
-  -- what is left, with the value behind it and then swapped to the place
+  -- what is left, with the value after it and then swapped to the place
   pub put_back : (all ys : List A) (i : ℕ) (taken v : A) → i < length all → SwappedAt (swap_remove all i taken ++ v ∷ []) ys i (length all - 1) → length ys ≡ length all → ys ≡ set all i v
   put_back all ys i taken v lt swapped len = same_lists ys (set all i v) (len ∙ sym (length-set all i v)) each
     where
@@ -41,7 +41,7 @@ module _ {A : Type 0} where
           (cases_eq k (length all - 1)))
           (cases_eq k i)
 
-  -- as a list is left whose last value was put behind it and swapped
+  -- as a list is left whose last value was put after it and swapped
   pub put_behind : (all before zs ys : List A) (i last : ℕ) (taken v : A) → i < length all → before ≡ swap_remove all i taken → zs ≡ before ++ v ∷ [] → last ≡ length before → length ys ≡ length zs → SwappedAt zs ys i last → ys ≡ set all i v
   put_behind all before zs ys i last taken v lt is behind at len swapped =
       let short : length before ≡ length all - 1 = ap length is ∙ (let a = length-take (length all - 1) (set all i (get_or all (length all - 1) taken)) in let b = length-set all i (get_or all (length all - 1) taken) in omega (arith, a, b)) in

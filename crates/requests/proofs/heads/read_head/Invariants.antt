@@ -1,4 +1,4 @@
--- The buffer has what was read behind what it had.
+-- The buffer has what was read after what it had.
 use Rattle.std.proofs.Common.{◌≡◌, ◌≤◌, ◌-◌, length, vec_len}
 use Rattle.requests.specs.Streams.{Grows}
 use Rattle.requests.proofs.heads.read_head.Given as goal

@@ -5,7 +5,7 @@ use borrow.Rule.Slice.PartMut.{put_mid, post_of}
 use lib.Seq.{take-add, take-append-le}
 use Rattle.requests.proofs.reading.fill_rest.Goals as goal
 
--- what stands up to a, and the n bytes that were read behind it
+-- what stands up to a, and the n bytes that were read after it
 take_more : (a k n : ℕ) (xs ys : List ℕ) → a ≤ length xs → n ≤ length ys → take (a + n) (put_mid a k xs ys) ≡ take a xs ++ take n ys
 take_more a k n xs ys within fits =
     let new = put_mid a k xs ys in
