@@ -1,7 +1,7 @@
 //! `bench time` prints how fast the parts are: how push bodies and segments are read, how the log appends, how long
-//! calls on one stream take, how many calls a shard makes in groups and an ingester by its passes, and how fast a connection
-//! is served. Files are in a folder of their own among the temporary files. `bench check` makes a few of what needs no
-//! thread and no file, and `bench calls` a few of the rest. Several words are taken one after another.
+//! calls on one stream take, how many calls a shard makes in groups and an ingester by its passes, and how fast a
+//! connection is served. Files are in a folder of their own among the temporary files. `bench check` makes a few of
+//! what needs no thread and no file, and `bench calls` a few of the rest. Several words are taken one after another.
 #![tactic(auto)]
 
 mod appends;
