@@ -1,8 +1,8 @@
 //! `ingest1 NOW`: judges the push body on standard input on an empty shard, and reads it back.
 #![tactic(auto)]
 
-use ingesterd::{run_ingest1, words_of};
 use std::process::ExitCode;
+use tools::{run_ingest1, words_of};
 
 fn main(rt: HostRuntime) -> ExitCode {
     let Ok(words) = words_of(&rt) else {

@@ -1,8 +1,8 @@
 //! `ingestctl push|read|trim DIR SHARDS TENANT NOW`: answers the request on standard input over the slots of a folder.
 #![tactic(auto)]
 
-use ingesterd::{run_ctl, setting_of, words_of};
 use std::process::ExitCode;
+use tools::{run_ctl, setting_of, words_of};
 
 fn main(rt: HostRuntime) -> ExitCode {
     let (Ok(words), Ok(setting)) = (words_of(&rt), setting_of(&rt)) else {

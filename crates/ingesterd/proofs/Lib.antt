@@ -1,2 +1,2 @@
-mod Bodies
-mod Outputs
+pub mod Telling
+pub mod Gaining

@@ -1,3 +1,5 @@
+pub mod Calls
+pub mod Laws
 pub mod Readings
 pub mod Clocks
 pub mod Openings

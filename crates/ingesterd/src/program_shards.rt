@@ -1,5 +1,5 @@
 //! Shards that programs open and close.
-ghost use Rattle.std.specs.Prelude.{◌≡◌, ◌<◌, ◌≤◌, ◌^◌, ◌∷◌, [], ℕ, List, Some, slice_get, vec_len, IfOk, IfErr};
+ghost use Rattle.std.specs.Prelude.{◌≡◌, ◌<◌, ◌≤◌, ◌^◌, ℕ, List, Some, slice_get, vec_len, IfOk, IfErr};
 ghost use Rattle.labels.specs.Shards.{max_shards};
 ghost use Rattle.history.specs.Handles.{Passed};
 ghost use Rattle.ingester.specs.Calls.{IsPassOf};
@@ -14,7 +14,7 @@ use accept::Limits;
 use disk::Disk;
 use history::Pass;
 use ingester::Ingester;
-use openings::{Observer, Unobserved};
+use openings::Observer;
 use std::alloc::Global;
 use std::sync::Wait;
 use std::thread::Threads;
@@ -55,31 +55,6 @@ where
     }
 }
 
-/// Opens shards over these slots, with one pass.
-pub fn open_for_one<D, R>(
-    rt: &R,
-    alloc: Global,
-    slots: Vec<[D; 2]>,
-    capacity: u64,
-) -> Result<(Ingester<D>, Pass), Stopped>
-where
-    D: Disk + Drop + Send + 'static,
-    R: Threads + Wait + Copy + Send + Sync + 'static,
-    requires slots { (0 < vec_len slots) × (vec_len slots ≤ max_shards) }
-    requires capacity { capacity ≤ 2 ^ 30 }
-    ensures profiled { IfOk result (λ it. IsProfiled (vec_len slots) 1 capacity it.0 (it.1 ∷ [])) }
-    ensures refused { IfErr result (λ stop. (fault : OpenFault) × (backs : List (List D))
-        × (stop ≡ Stopped.Opening fault)
-        × IsUnmade D.sight D.follows (vec_len slots) slots.items backs fault) }
-    ensures pass { IfOk result (λ it. IsPassOf it.0 it.1) }
-{
-    let (ingester, mut passes) = open_shards(rt, alloc, slots, 1, capacity, &Unobserved)?;
-    let Some(pass) = passes.pop() else {
-        unreachable!();
-    };
-    Ok((ingester, pass))
-}
-
 /// Closes shards and their slots by the passes that are left. Where no pass is left, the threads of the shards end by
 /// themselves, a little later.
 pub fn close_shards<D: Disk + Drop, R: Wait>(rt: &R, ingester: Ingester<D>, passes: Vec<Pass>)
@@ -88,21 +63,5 @@ pub fn close_shards<D: Disk + Drop, R: Wait>(rt: &R, ingester: Ingester<D>, pass
 {
     if !passes.is_empty() {
         drop(ingester.close(rt, passes));
-    }
-}
-
-/// Closes shards and their slots by their one pass. Where there is no memory for that, the threads of the shards end by
-/// themselves, a little later.
-pub fn close_for_one<D: Disk + Drop, R: Wait>(
-    rt: &R,
-    alloc: Global,
-    ingester: Ingester<D>,
-    pass: Pass,
-)
-    requires pass { IsPassOf ingester pass }
-{
-    let mut passes = Vec::new(alloc);
-    if passes.push(pass).is_ok() {
-        close_shards(rt, ingester, passes);
     }
 }

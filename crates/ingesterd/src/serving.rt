@@ -1,0 +1,144 @@
+//! An ingester as what makes the calls of requests.
+ghost use Rattle.std.specs.Prelude.{◌≡◌, ◌<◌};
+ghost use Rattle.accept.specs.OneStream.{end_of_time};
+ghost use Rattle.ingester.specs.Calls.{IsPassOf};
+ghost use Rattle.answering.specs.Responses.{RequestIsAnswered};
+ghost use Rattle.answering.specs.Serving.{ConnectionIsServed, world, io};
+ghost use Rattle.ingesterd.specs.Calls.{CallGives, failure_of, reply_told};
+
+use accept::{Call, Reply};
+use answering::{Answer, Calls, Clock, Ends, Failure, RequestBody, Route, ServeFault, Served};
+use disk::Disk;
+use history::Pass;
+use ingester::{CallFault, Ingester};
+use labels::Tenant;
+use std::alloc::Global;
+use std::collections::VecDeque;
+use std::io::{Read, Write};
+use std::sync::Wait;
+
+/// An ingester, by which the calls of requests are made.
+#[derive(Drop)]
+struct Service<'a, D: Disk + Drop> {
+    ingester: &'a Ingester<D>,
+}
+
+fn failure_of(fault: CallFault) -> Failure
+    ensures { result ≡ failure_of fault }
+{
+    match fault {
+        CallFault::Memory => Failure::OutOfMemory,
+        CallFault::PassClosed => Failure::PassClosed,
+        CallFault::LogSpent => Failure::LogSpent,
+        CallFault::InDoubt => Failure::InDoubt,
+    }
+}
+
+impl<'a, D: Disk + Drop> Calls for Service<'a, D> {
+    type Pass = Pass;
+
+    type Outcome = Result<Reply, CallFault>;
+
+    ghost is_ready = { λ service. IsPassOf service.ingester.now };
+
+    ghost gives = { λ service. CallGives service.ingester.now };
+
+    ghost told = { reply_told };
+
+    fn call<R: Wait>(
+        &self,
+        rt: &R,
+        alloc: Global,
+        pass: &mut Pass,
+        call: Call,
+    ) -> Result<Reply, Failure> {
+        match self.ingester.call(rt, alloc, pass, call) {
+            Ok(reply) => Ok(reply),
+            Err(fault) => Err(failure_of(fault)),
+        }
+    }
+
+    fn call_all<R: Wait>(
+        &self,
+        rt: &R,
+        alloc: Global,
+        pass: &mut Pass,
+        calls: &mut VecDeque<Call>,
+        outcomes: &mut VecDeque<Result<Reply, CallFault>>,
+    ) {
+        self.ingester.call_all(rt, alloc, pass, calls, outcomes);
+    }
+
+    fn told(outcome: Result<Reply, CallFault>) -> Result<Reply, Failure> {
+        match outcome {
+            Ok(reply) => Ok(reply),
+            Err(fault) => Err(failure_of(fault)),
+        }
+    }
+}
+
+/// Makes the calls that a request asks for, in the order of its body, and gives status and body of its
+/// answer. The labels of all streams of a push are read first, and then their calls are made in windows of up
+/// to 64 streams. A refused stream does not stop the rest of a push. `now` is the clock in nanoseconds, below
+/// 2^63. After an answer of status 500 no call is made after the window in which one failed; calls that were
+/// made stand. Where a call is in doubt, each that comes after it in its window is in doubt too or was not made.
+///
+/// # Errors
+///
+/// `Memory`, where there was none before any call, and none to say so; or none for an answer of another status
+/// than 500, and calls made before stand.
+pub fn answer<D: Disk + Drop, R: Wait>(
+    rt: &R,
+    alloc: Global,
+    ingester: &Ingester<D>,
+    pass: &mut Pass,
+    now: u64,
+    route: Route,
+    tenant: &Tenant,
+    body: &[u8],
+) -> Result<Answer, ServeFault>
+    requires pass { IsPassOf ingester.now pass.old }
+    requires clock { now < end_of_time }
+    ensures pass { IsPassOf ingester.now pass.new }
+    ensures answers { RequestIsAnswered
+        (CallGives ingester.now) route now tenant.now body.now pass.old result
+        pass.new }
+{
+    let service = Service { ingester };
+    let request = RequestBody {
+        time: now,
+        route,
+        tenant,
+        body,
+    };
+    answering::answer(rt, alloc, &service, pass, &request)
+}
+
+/// Answers the requests of a connection, one after another, until its stream ends between two or an
+/// answer closes it. The clock is read once for each whole request. No call is made of a request that was
+/// cut. Each answer is one write, where the writer takes it whole.
+///
+/// # Errors
+///
+/// `Read`, `Memory` and `CutShort`: what is written are whole answers of a beginning of the requests.
+/// `Memory` never comes in place of an answer of status 500.
+/// `Write`: a beginning of the answers is written. Calls made before stand.
+pub fn serve<D: Disk + Drop, R: Wait, C: Clock, I: Read, O: Write>(
+    rt: &R,
+    alloc: Global,
+    ingester: &Ingester<D>,
+    pass: &mut Pass,
+    clock: &mut C,
+    reader: &mut I,
+    writer: &mut O,
+) -> Result<Served, ServeFault>
+    requires pass { IsPassOf ingester.now pass.old }
+    ensures pass { IsPassOf ingester.now pass.new }
+    ensures serves { ConnectionIsServed (CallGives ingester.now) C.ticks
+        (io (I.remaining reader.old) (O.contents writer.old)) (world pass.old clock.old)
+        (io (I.remaining reader.new) (O.contents writer.new)) (world pass.new clock.new) result }
+{
+    let service = Service { ingester };
+    let mut ends = Ends::new(reader, writer);
+    answering::serve(rt, alloc, &service, pass, clock, &mut ends)
+}

@@ -1,0 +1,11 @@
+use Rattle.std.proofs.Common.{refl}
+use Rattle.tools.specs.Endings.{answered_push, stopped_push}
+use Rattle.tools.proofs.ingest1.run_ingest1.Goals as goal
+
+pub returns-in-Err-clause-ends : goal.returns-in-Err-clause-ends
+returns-in-Err-clause-ends g c = stopped_push c.in-Err.stopped c.in-Err.ensures.refused c.status.ensures.cause
+
+pub returns-clause-ends : goal.returns-clause-ends
+returns-clause-ends g c =
+    let pushed = c.in_default-push_and_read.ensures.pushed in
+    answered_push pushed.0 pushed.1 pushed.2 refl

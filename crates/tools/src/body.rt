@@ -1,0 +1,52 @@
+//! Bodies that programs read, and answers that they write.
+ghost use Rattle.std.specs.Prelude.{◌≡◌, ◌⊎◌, OnOk, IfOk, IfErr, IfSome};
+ghost use Rattle.std.specs.Io.KnownBytes.{Appends};
+ghost use Rattle.tools.specs.Endings.{answer_lines};
+
+use ingesterd::{Answer, Stopped};
+use requests::MAX_BODY;
+use std::alloc::Global;
+use std::io::{ErrorKind, Read, Write};
+
+/// The whole input, where it is no longer than a body may be.
+pub fn read_body<I: Read>(alloc: Global, input: &mut I) -> Result<Vec<u8>, Stopped>
+    ensures whole { IfOk result
+        (λ body. IfSome (I.remaining input.old) (λ bytes. body.items ≡ bytes)) }
+    ensures cause { IfErr result (λ stop. (stop ≡ Stopped.Body) ⊎ (stop ≡ Stopped.Memory)) }
+{
+    let mut body = Vec::new(alloc);
+    if let Err(error) = input.take(MAX_BODY as u64 + 1).read_to_end(&mut body) {
+        return Err(match error.kind() {
+            ErrorKind::OutOfMemory => Stopped::Memory,
+            _ => Stopped::Body,
+        });
+    }
+    if body.len() > MAX_BODY {
+        return Err(Stopped::Body);
+    }
+    Ok(body)
+}
+
+/// Writes all of these bytes.
+pub fn write_bytes<W: Write>(output: &mut W, bytes: &[u8]) -> Result<(), Stopped>
+    ensures written { OnOk result
+        (Appends (W.contents output.old) (W.contents output.new) bytes.now) }
+    ensures cause { IfErr result (λ stop. stop ≡ Stopped.Output) }
+{
+    match output.write_all(bytes) {
+        Ok(()) => Ok(()),
+        Err(_) => Err(Stopped::Output),
+    }
+}
+
+/// Writes an answer's status, a newline and its body.
+pub fn write_answer<W: Write>(alloc: Global, output: &mut W, answer: &Answer) -> Result<(), Stopped>
+    ensures written { OnOk result
+        (Appends (W.contents output.old) (W.contents output.new) (answer_lines answer.now)) }
+    ensures cause { IfErr result (λ stop. (stop ≡ Stopped.Output)
+        ⊎ ((stop ≡ Stopped.Memory) × (W.contents output.new ≡ W.contents output.old))) }
+{
+    let code = answer.status.code();
+    write_bytes(output, format!(in alloc; "{code}\n")?.as_bytes())?;
+    write_bytes(output, answer.body.as_slice())
+}

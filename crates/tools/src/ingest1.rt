@@ -1,0 +1,197 @@
+//! The program `ingest1`: a push body, judged on an empty shard in memory and read back.
+ghost use Rattle.std.specs.Prelude.{◌≡◌, ◌↔◌, ◌<◌, ◌≤◌, ◌++◌, ◌∷◌, [], ℕ, List, IfOk, IfErr, OnOk, vec_len};
+ghost use Rattle.std.specs.Io.KnownBytes.{Appends};
+ghost use Rattle.accept.specs.OneStream.{end_of_time};
+ghost use Rattle.requests.specs.declared.answer.Answer.{Answer};
+ghost use Rattle.ingester.specs.Calls.{IsPassOf};
+ghost use Rattle.words.specs.Words.{GiveClock};
+ghost use Rattle.ingesterd.specs.Openings.{IsProfiled};
+ghost use Rattle.ingesterd.specs.Endings.{stop_status};
+ghost use Rattle.tools.specs.Endings.{PushEnds, answer_lines};
+
+use crate::body::{read_body, write_answer, write_bytes};
+use crate::one_pass::{close_for_one, open_for_one};
+use accept::{Call, END_OF_TIME};
+use disk::{Disk, MemDisk};
+use history::Pass;
+use ingester::Ingester;
+use ingesterd::{Route, Status, Stopped, answer, answer_of_read};
+use labels::{LabelFault, LabelSet, StreamKey, Tenant};
+use pushjson::{PushFault, RawBatch, read_push};
+use std::alloc::Global;
+use std::io::{Read, Write};
+use std::sync::Wait;
+use std::thread::Threads;
+use words::{CAPACITY, clock_in};
+
+/// The tenant of the streams.
+const TENANT: &str = "t";
+
+/// The bytes that a disk has room for: more than the log of any body needs.
+const ROOM: u64 = 8_388_608;
+
+/// The device calls that a disk has room for: more than the log of any body needs.
+const CALLS: u64 = 65_536;
+
+/// Runs `ingest1 NOW` for the tenant `t` on an empty shard in memory, and gives its exit status.
+///
+/// NOW is the clock in nanoseconds, 1 to 19 decimal digits below 2^63. The input is a push body of at most 4,194,304
+/// bytes. The program writes the push's status, a line feed and its body. Then, for each stream with lawful labels, in
+/// the order of the body, it writes the body of a read of all its entries and a line feed. For a body that is refused
+/// for its form it writes status, line feed and text, and no more. Status 0: an answer was written, whatever its own
+/// status. 1: a fault while running. 2: wrong words. 3: the opening was refused. A fault is one line of `errors`.
+pub fn run_ingest1<R, I: Read, W: Write, E: Write>(
+    rt: &R,
+    alloc: Global,
+    words: &[String],
+    input: &mut I,
+    output: &mut W,
+    errors: &mut E,
+) -> u8
+where
+    R: Threads + Wait + Copy + Send + Sync + 'static,
+    ensures status { result ≤ 3 }
+    ensures usage { (result ≡ 2) ↔ (¬ GiveClock words.now) }
+    ensures ends { PushEnds (W.contents output.old) (W.contents output.new) result }
+{
+    let Some(now) = clock_in(words) else {
+        let _ = writeln!(errors, "usage: ingest1 NOW");
+        return 2;
+    };
+    if let Err(stopped) = push_and_read(rt, alloc, now, input, output) {
+        let _ = writeln!(errors, "{stopped}");
+        return stopped.status();
+    }
+    0
+}
+
+// Opens an empty shard, pushes the input to it, reads it back, and closes the shard.
+fn push_and_read<R, I: Read, W: Write>(
+    rt: &R,
+    alloc: Global,
+    now: u64,
+    input: &mut I,
+    output: &mut W,
+) -> Result<(), Stopped>
+where
+    R: Threads + Wait + Copy + Send + Sync + 'static,
+    requires { now < end_of_time }
+    ensures pushed { OnOk result ((answer : Answer) × (back : List ℕ)
+        × Appends (W.contents output.old) (W.contents output.new) (answer_lines answer ++ back)) }
+    ensures refused { IfErr result (λ stop. stop_status stop ≡ 3
+        → W.contents output.new ≡ W.contents output.old) }
+{
+    let body = read_body(alloc, input)?;
+    let (ingester, mut pass) = open_for_one(rt, alloc, empty_slots(alloc)?, CAPACITY)?;
+    let done = push_body(rt, alloc, &ingester, &mut pass, now, &body, output);
+    close_for_one(rt, alloc, ingester, pass);
+    done
+}
+
+// Pushes a body, and reads it back.
+fn push_body<D: Disk + Drop, R: Wait, W: Write>(
+    rt: &R,
+    alloc: Global,
+    ingester: &Ingester<D>,
+    pass: &mut Pass,
+    now: u64,
+    body: &[u8],
+    output: &mut W,
+) -> Result<(), Stopped>
+    requires profiled { IsProfiled 1 1 67108864 ingester.now (pass.old ∷ []) }
+    requires pass { IsPassOf ingester.now pass.old }
+    requires clock { now < end_of_time }
+    ensures pass { IsPassOf ingester.now pass.new }
+    ensures pushed { OnOk result ((answer : Answer) × (back : List ℕ)
+        × Appends (W.contents output.old) (W.contents output.new) (answer_lines answer ++ back)) }
+    ensures stopped { IfErr result (λ stop. stop_status stop ≡ 1) }
+{
+    let Ok(tenant) = Tenant::new(alloc, TENANT) else {
+        return Err(Stopped::Memory);
+    };
+    let Ok(pushed) = answer(rt, alloc, ingester, pass, now, Route::Push, &tenant, body) else {
+        return Err(Stopped::Memory);
+    };
+    write_answer(alloc, output, &pushed)?;
+    if pushed.status == Status::InternalServerError {
+        return Ok(());
+    }
+    read_back(rt, alloc, ingester, pass, body, output)
+}
+
+// The two empty slots of one shard.
+fn empty_slots(alloc: Global) -> Result<Vec<[MemDisk; 2]>, Stopped>
+    ensures one { IfOk result (λ slots. vec_len slots ≡ 1) }
+    ensures stopped { IfErr result (λ stop. stop ≡ Stopped.Memory) }
+{
+    let first = MemDisk::new(alloc, ROOM, CALLS, ROOM)?;
+    let second = MemDisk::new(alloc, ROOM, CALLS, ROOM)?;
+    let mut slots = Vec::with_capacity(alloc, 1)?;
+    slots.push_reserved([first, second]);
+    Ok(slots)
+}
+
+// Reads each stream of a body that was pushed, and writes the answers, a line each.
+fn read_back<D: Disk + Drop, R: Wait, W: Write>(
+    rt: &R,
+    alloc: Global,
+    ingester: &Ingester<D>,
+    pass: &mut Pass,
+    body: &[u8],
+    output: &mut W,
+) -> Result<(), Stopped>
+    requires { IsPassOf ingester.now pass.old }
+    ensures pass { IsPassOf ingester.now pass.new }
+    ensures written { OnOk result ((back : List ℕ)
+        × Appends (W.contents output.old) (W.contents output.new) back) }
+    ensures stopped { IfErr result (λ stop. stop_status stop ≡ 1) }
+{
+    let batches = match read_push(alloc, body) {
+        Ok(batches) => batches,
+        Err(PushFault::Memory) => return Err(Stopped::Memory),
+        Err(_) => return Ok(()),
+    };
+    for batch in batches {
+        read_stream(rt, alloc, ingester, pass, batch, output)?;
+    }
+    Ok(())
+}
+
+// Reads all entries of a stream, where its labels are lawful.
+fn read_stream<D: Disk + Drop, R: Wait, W: Write>(
+    rt: &R,
+    alloc: Global,
+    ingester: &Ingester<D>,
+    pass: &mut Pass,
+    batch: RawBatch,
+    output: &mut W,
+) -> Result<(), Stopped>
+    requires { IsPassOf ingester.now pass.old }
+    ensures pass { IsPassOf ingester.now pass.new }
+    ensures written { OnOk result ((back : List ℕ)
+        × Appends (W.contents output.old) (W.contents output.new) back) }
+    ensures stopped { IfErr result (λ stop. stop_status stop ≡ 1) }
+{
+    let labels = match LabelSet::new(alloc, batch.pairs) {
+        Ok(labels) => labels,
+        Err(LabelFault::Memory) => return Err(Stopped::Memory),
+        Err(_) => return Ok(()),
+    };
+    let Ok(tenant) = Tenant::new(alloc, TENANT) else {
+        return Err(Stopped::Memory);
+    };
+    let call = Call::Read {
+        key: StreamKey { tenant, labels },
+        from: 0,
+        to: END_OF_TIME,
+    };
+    let reply = match ingester.call(rt, alloc, pass, call) {
+        Ok(reply) => reply,
+        Err(fault) => return Err(Stopped::Call(fault)),
+    };
+    let Ok(read) = answer_of_read(alloc, &reply) else {
+        return Err(Stopped::Memory);
+    };
+    write_bytes(output, read.body.as_slice())?;
+    write_bytes(output, b"\n")
+}
