@@ -11,9 +11,9 @@ use crate::stopwatch::{Mode, Stopwatch};
 use accept::Call;
 use anyhow::{Result, anyhow, bail};
 use disk::MemDisk;
+use front::{Served, serve};
 use history::Pass;
 use ingester::Ingester;
-use ingesterd::{Served, serve};
 use labels::{LabelSet, StreamKey, Tenant};
 use pushjson::{RawBatch, read_push};
 use rows::Said;
@@ -42,7 +42,7 @@ struct Load {
 #[derive(Drop)]
 struct Standing;
 
-impl ingesterd::Clock for Standing {
+impl front::Clock for Standing {
     ghost ticks = { λ old time new. new ≡ old };
 
     fn now(&mut self) -> u64 {

@@ -1,7 +1,7 @@
 //! Replies to reads, as answers.
 use accept::{Entry, EntryList, Line, Meta, Reply};
 use anyhow::{Result, anyhow, bail};
-use ingesterd::answer_of_read;
+use front::answer_of_read;
 use rows::{Said, split_pairs, text_of};
 use std::alloc::Global;
 use wire::say_lines;

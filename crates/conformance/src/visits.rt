@@ -4,7 +4,7 @@ ghost use Rattle.std.specs.Prelude.{◌≡◌};
 use crate::plan::Visit;
 use accept::END_OF_TIME;
 use anyhow::Result;
-use ingesterd::{Clock, ServeFault, Served};
+use front::{Clock, ServeFault, Served};
 use rows::Said;
 use std::alloc::Global;
 use wire::Sink;

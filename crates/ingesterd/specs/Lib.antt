@@ -1,5 +1,3 @@
-pub mod Calls
-pub mod Laws
 pub mod Readings
 pub mod Clocks
 pub mod Openings

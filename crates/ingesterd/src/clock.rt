@@ -31,7 +31,7 @@ impl<'a, R: rt::Clock> SystemClock<'a, R> {
     }
 }
 
-impl<'a, R: rt::Clock> answering::Clock for SystemClock<'a, R> {
+impl<'a, R: rt::Clock> front::Clock for SystemClock<'a, R> {
     ghost use Rattle.ingesterd.specs.Clocks.{IsTick};
 
     ghost ticks = { IsTick };

@@ -1,9 +1,8 @@
 //! How the server's workers serve connections.
 ghost use Rattle.ingester.specs.Calls.{IsPassOf};
 
-use crate::serving::serve;
-use answering::Clock;
 use disk::Disk;
+use front::{Clock, serve};
 use history::Pass;
 use ingester::Ingester;
 use std::alloc::Global;
@@ -11,7 +10,7 @@ use std::net::TcpStream;
 use std::sync::Wait;
 use workers::Serve;
 
-/// Serves connections as `serve` does, by a clock. A connection that fails, or does nothing for 60 seconds, is closed,
+/// Serves connections as `front` does, by a clock. A connection that fails, or does nothing for 60 seconds, is closed,
 /// and its worker takes the next; what it was answered stands. A pass is closed when its numbers are used up or a call
 /// of it is in doubt, and its worker then takes no other connection and ends.
 #[derive(Drop)]

@@ -6,7 +6,7 @@ use accept::Limits;
 use disk::{Gate, GateDisk, MemDisk};
 use history::Pass;
 use ingester::Ingester;
-use ingesterd::{Clock, Connections, SystemClock, run_server};
+use ingesterd::{Connections, SystemClock, run_server};
 use std::alloc::Global;
 use std::fs::{self, File, Files};
 use std::io::{self, ErrorKind, Write};
@@ -53,7 +53,7 @@ const X_ALONE: &str =
 #[derive(Drop)]
 struct Standing;
 
-impl Clock for Standing {
+impl front::Clock for Standing {
     ghost ticks = { λ old time new. time ≡ 20 };
 
     fn now(&mut self) -> u64 {
@@ -421,7 +421,7 @@ fn a_server_keeps_what_it_answered(rt: HostRuntime) -> Result<(), Fail> {
     let alloc = rt.alloc();
     let _ = fs::remove_dir_all(&rt, "sockets_test");
     let port = listen(&rt)?.local_addr()?.port();
-    let now = Clock::now(&mut SystemClock::new(&rt));
+    let now = front::Clock::now(&mut SystemClock::new(&rt));
     assert!(rt; YEAR_2023 < now);
     let body = format!(in alloc;
         "{{\"streams\":[{{\"stream\":{{\"a\":\"1\"}},\"values\":[[\"{now}\",\"x\"]]}}]}}"
@@ -450,9 +450,9 @@ fn a_server_keeps_what_it_answered(rt: HostRuntime) -> Result<(), Fail> {
 #[test]
 fn each_time_is_a_new_reading(rt: HostRuntime) -> Result<(), Fail> {
     let mut clock = SystemClock::new(&rt);
-    let first = Clock::now(&mut clock);
+    let first = front::Clock::now(&mut clock);
     thread::sleep(&rt, Duration::from_millis(20));
-    let passed = Clock::now(&mut clock).saturating_sub(first);
+    let passed = front::Clock::now(&mut clock).saturating_sub(first);
     assert!(rt;
         passed >= 10_000_000 && passed < 60_000_000_000,
         "20 ms, in nanoseconds"

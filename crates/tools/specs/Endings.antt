@@ -9,7 +9,7 @@ use Rattle.requests.specs.declared.status.Status.{Status}
 use Rattle.requests.specs.declared.status.Status.TheVariants as statuses
 use Rattle.answering.specs.Responses.{RequestIsAnswered}
 use Rattle.owners.specs.Openings.{Opening}
-use Rattle.ingesterd.specs.Calls.{CallGives}
+use Rattle.front.specs.Calls.{CallGives}
 use Rattle.words.specs.declared.said.CallWords.{CallWords}
 use Rattle.words.specs.Words.{SaysCall, capacity_of}
 use Rattle.ingesterd.specs.declared.stopped.Stopped.{Stopped}

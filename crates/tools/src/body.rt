@@ -3,7 +3,8 @@ ghost use Rattle.std.specs.Prelude.{◌≡◌, ◌⊎◌, OnOk, IfOk, IfErr, IfS
 ghost use Rattle.std.specs.Io.KnownBytes.{Appends};
 ghost use Rattle.tools.specs.Endings.{answer_lines};
 
-use ingesterd::{Answer, Stopped};
+use front::Answer;
+use ingesterd::Stopped;
 use requests::MAX_BODY;
 use std::alloc::Global;
 use std::io::{ErrorKind, Read, Write};

@@ -10,7 +10,8 @@ ghost use Rattle.tools.specs.Endings.{CallEnds, IsAnswerDue, answer_lines, answe
 
 use crate::body::{read_body, write_answer};
 use crate::one_pass::{close_for_one, open_for_one};
-use ingesterd::{Answer, Status, Stopped, answer, capacity_by};
+use front::{Answer, Status, answer};
+use ingesterd::{Stopped, capacity_by};
 use slots::open_slots;
 use std::alloc::Global;
 use std::fs::{File, Files};

@@ -1,5 +1,5 @@
-use Rattle.ingesterd.proofs.Gaining.{its_calls, its_first_calls, their_calls}
-use Rattle.ingesterd.proofs.laws.one_step_a_call.Goals as goal
+use Rattle.front.proofs.Gaining.{its_calls, its_first_calls, their_calls}
+use Rattle.front.proofs.laws.one_step_a_call.Goals as goal
 
 pub returns : goal.returns
 returns g c = record {

@@ -8,7 +8,7 @@ use Rattle.ingester.specs.Calls.{AreGiven, AreGivenAfter, is_doubt}
 use Rattle.ingester.specs.declared.fault.CallFault.{CallFault}
 use Rattle.ingester.specs.declared.fault.CallFault.TheVariants.{Memory, PassClosed, LogSpent, InDoubt}
 use Rattle.answering.specs.Calls.{CallsGive, CallsGiveAfter, leaves_doubt}
-use Rattle.ingesterd.specs.Calls.{CallGives, reply_told}
+use Rattle.front.specs.Calls.{CallGives, reply_told}
 
 same_doubt : (r : Result Reply CallFault) → is_doubt r ≡ leaves_doubt (reply_told r)
 same_doubt (Ok reply) = refl

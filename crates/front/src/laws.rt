@@ -2,7 +2,7 @@ ghost use Rattle.std.specs.Prelude.{ℕ, List};
 ghost use Rattle.history.specs.Handles.{Passed};
 ghost use Rattle.owners.specs.Openings.{Opening};
 ghost use Rattle.answering.specs.Serving.{Exchange, World};
-ghost use Rattle.ingesterd.specs.Laws.{MakesItsCalls, MakesItsFirstCalls, MakesTheirCalls};
+ghost use Rattle.front.specs.Laws.{MakesItsCalls, MakesItsFirstCalls, MakesTheirCalls};
 
 use answering::Clock;
 use disk::Disk;

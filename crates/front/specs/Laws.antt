@@ -5,7 +5,7 @@ use Rattle.history.specs.Handles.{Passed}
 use Rattle.owners.specs.Openings.{Opening}
 use Rattle.answering.specs.Serving.{Exchange, World, ConnectionGives, IsExchange, IsAbandoned}
 use Rattle.answering.specs.Steps.{AreStepsBy, AreFirstStepsBy, AreTheirSteps}
-use Rattle.ingesterd.specs.Calls.{CallGives}
+use Rattle.front.specs.Calls.{CallGives}
 
 -- the pass made just these steps more
 abbrev pub Gains : Passed → List Step → Passed → Type 0

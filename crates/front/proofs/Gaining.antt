@@ -12,8 +12,8 @@ use Rattle.ingester.specs.declared.fault.CallFault.TheVariants.{Memory, PassClos
 use Rattle.requests.specs.declared.failure.Failure.{Failure}
 use Rattle.answering.specs.Serving.{Exchange, World}
 use Rattle.answering.proofs.Stepping as stepping
-use Rattle.ingesterd.specs.Calls.{CallGives, reply_told}
-use Rattle.ingesterd.specs.Laws.{Gains, MakesTheirCalls, MakesItsCalls, MakesItsFirstCalls}
+use Rattle.front.specs.Calls.{CallGives, reply_told}
+use Rattle.front.specs.Laws.{Gains, MakesTheirCalls, MakesItsCalls, MakesItsFirstCalls}
 
 none : (h h' : Passed) → h' ≡ h → Gains h [] h'
 none h h' same = ap (λ p. p.caller.made) same ∙ sym (append-nil h.caller.made)

@@ -4,7 +4,7 @@ ghost use Rattle.accept.specs.OneStream.{end_of_time};
 ghost use Rattle.ingester.specs.Calls.{IsPassOf};
 ghost use Rattle.answering.specs.Responses.{RequestIsAnswered};
 ghost use Rattle.answering.specs.Serving.{ConnectionIsServed, world, io};
-ghost use Rattle.ingesterd.specs.Calls.{CallGives, failure_of, reply_told};
+ghost use Rattle.front.specs.Calls.{CallGives, failure_of, reply_told};
 
 use accept::{Call, Reply};
 use answering::{Answer, Calls, Clock, Ends, Failure, RequestBody, Route, ServeFault, Served};

@@ -1,0 +1,9 @@
+//! HTTP/1.1 over an ingester: from the bytes of a connection to calls, and from their replies to bytes.
+#![tactic(auto)]
+
+mod laws;
+mod serving;
+
+pub use answering::{Answer, Clock, Route, ServeFault, Served, Status, answer_of_read};
+pub use laws::one_step_a_call;
+pub use serving::{answer, serve};
