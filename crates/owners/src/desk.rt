@@ -64,7 +64,7 @@ pub(crate) fn put(home: &Home, places: &mut Vec<Option<Letter>>, came: Settled)
     let Some(mut letter) = take_at(places, pass) else {
         return;
     };
-    let _ = letter.settled.push_back(came);
+    drop(letter.settled.push_back(came));
     put_at(places, pass, letter);
 }
 

@@ -74,5 +74,5 @@ pub fn own<D: Disk + Drop, R: Wait>(rt: &R, owner: Owner<D>) {
             break;
         }
     }
-    let _gone = back.send(rt, state);
+    drop(back.send(rt, state));
 }

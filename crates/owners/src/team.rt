@@ -11,7 +11,7 @@ use std::sync::Wait;
 use std::thread::{self, JoinHandle, Threads};
 
 /// Why the threads of an opening could not all be started.
-#[derive(Clone, Copy, Debug, Drop, PartialEq, Eq)]
+#[derive(Clone, Copy, Drop)]
 pub enum StartFault {
     /// The allocator gave no memory.
     Memory,
@@ -135,8 +135,9 @@ impl<D: Disk + Drop> Team<D> {
 
     /// Gives the next thread what it is to own.
     pub(crate) fn hand_over<R: Wait>(&mut self, rt: &R, owner: Owner<D>) {
-        if let Some(start) = self.starts.pop_front() {
-            let _gone = start.send(rt, owner);
+        match self.starts.pop_front() {
+            Some(start) => drop(start.send(rt, owner)),
+            None => drop(owner),
         }
     }
 }
