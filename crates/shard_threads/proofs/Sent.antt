@@ -1,7 +1,11 @@
 -- Threads share an ingester over slots in memory behind a gate.
-use denote.Param.Send.{IsSend, shr_send, sendable}
-use denote.Ref.{NamedLft, ShrRef}
+use denote.RattleType.{RattleType}
+use denote.Param.Send.{IsSend, IsSync, AllSync, recorded_sync, struct_sync, shr_sync, sendable}
+use denote.Ref.{NamedLft}
+use denote.Struct.Declared as declared
+use denote.Struct.Struct.{Struct}
 use Rattle.std.proofs.Crossing.{crosses}
+use Rattle.disk.proofs.gate.Gate.TheSendSync as opened
 use Rattle.disk.proofs.gate.GateDisk.TheSendSync as gate
 use Rattle.disk.proofs.memory.MemDisk.TheSendSync as memory_moves
 use Rattle.disk.specs.contracts.gate.GateDisk as slot
@@ -11,13 +15,30 @@ use Rattle.disk.specs.contracts.memory.MemDiskDisk.TheImpl as memory_disk
 use Rattle.disk.specs.declared.device.Disk as disk
 use Rattle.ingester.proofs.Sent.{ingester_sync}
 use Rattle.ingester.specs.contracts.opened.Ingester as ingester
+use Rattle.shard_threads.specs.contracts.tasks.Course as course
 
-abbrev pub slots : disk.Ghosts (slot.the_row memory.the_row).Denot
+abbrev slots : disk.Ghosts (slot.the_row memory.the_row).Denot
 slots = slot_disk.ghosts memory.the_row memory_disk.ghosts slot_disk.no_dict
 
 slot_send : IsSend (slot.the_row memory.the_row)
 slot_send = search (gate.the_send, gate.the_field_send, memory_moves.the_send, crosses, sendable) depth 20
 
 -- (with the ghosts left to be found, `search` compares what an ingester unfolds to)
-pub ingester_moves : (κ : NamedLft) → IsSend (ShrRef κ.mir κ.lft (ingester.the_row (slot.the_row memory.the_row) slots))
-ingester_moves κ = shr_send κ.mir κ.lft (ingester.the_row (slot.the_row memory.the_row) slots) (ingester_sync (slot.the_row memory.the_row) slots slot_send)
+course_fields : (κ : NamedLft) (R : RattleType) → IsSync R → AllSync (declared.fields (course.the_type κ R))
+course_fields κ R r = (
+  search (r, sendable),
+  (
+    search sendable,
+    (
+      shr_sync κ.mir κ.lft (ingester.the_row (slot.the_row memory.the_row) slots) (ingester_sync (slot.the_row memory.the_row) slots slot_send),
+      (
+        search (opened.the_sync, sendable) depth 20,
+        (search (crosses, sendable) depth 20, (search sendable depth 30, (search sendable, tt))),
+      ),
+    ),
+  ),
+)
+
+-- What the threads of a course share may be shared.
+pub course_sync : (κ : NamedLft) (R : RattleType) → IsSync R → IsSync (course.the_row κ R)
+course_sync κ R r = let T = course.the_type κ R in recorded_sync (Struct (declared.shape T)) T.D T.to T.to_one (struct_sync (declared.shape T) (course_fields κ R r))

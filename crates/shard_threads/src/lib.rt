@@ -2,8 +2,8 @@
 #![tactic(auto)]
 
 #[cfg(test)]
-mod groups;
+mod opening;
 #[cfg(test)]
-mod shards;
+mod plans;
 #[cfg(test)]
-mod together;
+mod tasks;

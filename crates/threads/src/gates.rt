@@ -1,91 +1,132 @@
 //! Disks with a gate for their syncs, and disks that move from thread to thread.
 use disk::{DeviceFault, Disk, FileDisk, Gate, GateDisk, LockedFile, MemDisk};
-use std::process::Abort;
-use std::test::Fail;
-use std::{fs, thread};
+use std::alloc::Global;
+use std::fs::{self, File, Files};
+use std::test::*;
+use std::thread::{self, Threads};
 
-fn empty(rt: &impl AllocGlobal) -> Result<MemDisk, Fail> {
-    Ok(MemDisk::new(rt.alloc(), 256, 16, 256)?)
+/// A call on a disk, and what it must give.
+#[derive(Clone, Copy)]
+enum Step {
+    Len(u64),
+    Write(u64, &'static [u8]),
+    Sync,
+    /// Reads from a place: how many bytes are read, and what the four bytes of the buffer then are.
+    Read(u64, usize, [u8; 4]),
+    /// Reads from a place, and must fail or read nothing.
+    ReadNothing(u64),
 }
 
-// A disk on which these bytes are synced.
-fn synced(rt: &impl AllocGlobal, bytes: &[u8]) -> Result<MemDisk, Fail> {
-    let mut disk = empty(rt)?;
-    disk.write_at(0, bytes)?;
-    disk.sync()?;
-    Ok(disk)
+/// What every disk does, from empty on.
+const STEPS: [Step; 15] = [
+    Step::Len(0),
+    Step::Read(0, 0, [9; 4]),
+    Step::Write(0, b"hello"),
+    Step::Write(5, b", disk"),
+    Step::Write(0, b"H"),
+    Step::Write(11, b""),
+    Step::Sync,
+    Step::Len(11),
+    Step::Read(0, 4, *b"Hell"),
+    Step::Read(9, 2, *b"skll"),
+    Step::Read(11, 0, *b"skll"),
+    Step::ReadNothing(u64::MAX - 8),
+    Step::Write(10, b"cs"),
+    Step::Len(12),
+    Step::Read(8, 4, *b"iscs"),
+];
+
+fn empty(alloc: Global, gate: &Gate) -> Result<GateDisk<MemDisk>, Fail> {
+    let disk = MemDisk::new(alloc, 256, 16, 256)?;
+    Ok(GateDisk::new(disk, gate.try_clone()?))
 }
 
-fn assert_contents(rt: &impl Abort, found: &[Vec<u8>], wanted: &[&[u8]]) {
-    assert_eq!(rt; found.len(), wanted.len());
-    for (content, bytes) in found.iter().zip(wanted) {
-        assert_eq!(rt; content.as_slice(), *bytes);
+// Makes a call, and says whether it gives what it must.
+fn is_given<D: Disk>(disk: &mut D, buf: &mut [u8; 4], step: Step) -> Result<bool, DeviceFault> {
+    match step {
+        Step::Len(wanted) => Ok(disk.len()? == wanted),
+        Step::Write(at, bytes) => disk.write_at(at, bytes).map(|()| true),
+        Step::Sync => disk.sync().map(|()| true),
+        Step::Read(at, count, wanted) => {
+            let found = disk.read(at, buf)?;
+            Ok(found == count && *buf == wanted)
+        }
+        Step::ReadNothing(at) => Ok(disk.read(at, buf).unwrap_or(0) == 0),
     }
 }
 
-// What every disk does, from empty on.
-fn writes_and_reads<D: Disk>(rt: &impl Abort, disk: &mut D) -> Result<(), DeviceFault> {
-    assert_eq!(rt; disk.len()?, 0);
+// Makes all calls on an empty disk, and says whether each gives what it must.
+fn are_given<D: Disk>(disk: &mut D) -> Result<bool, DeviceFault> {
     let mut buf = [9; 4];
-    assert_eq!(rt; disk.read(0, &mut buf)?, 0);
-    disk.write_at(0, b"hello")?;
-    disk.write_at(5, b", disk")?;
-    disk.write_at(0, b"H")?;
-    disk.write_at(11, b"")?;
-    disk.sync()?;
-    assert_eq!(rt; disk.len()?, 11);
-    assert_eq!(rt; disk.read(0, &mut buf)?, 4);
-    assert_eq!(rt; buf, *b"Hell");
-    assert_eq!(rt; disk.read(9, &mut buf)?, 2);
-    assert_eq!(rt; buf, *b"skll");
-    assert_eq!(rt; disk.read(11, &mut buf)?, 0);
-    assert_eq!(rt; disk.read(u64::MAX - 8, &mut buf).unwrap_or(0), 0);
-    disk.write_at(10, b"cs")?;
-    assert_eq!(rt; disk.len()?, 12);
-    assert_eq!(rt; disk.read(8, &mut buf)?, 4);
-    assert_eq!(rt; buf, *b"iscs");
-    Ok(())
+    let mut right = true;
+    for step in STEPS {
+        right &= is_given(disk, &mut buf, step)?;
+    }
+    Ok(right)
 }
 
-#[test]
-fn gate_holds_a_sync_until_it_opens(rt: HostRuntime) -> Result<(), Fail> {
-    let gate = Gate::new(rt.alloc())?;
-    let mut disk = GateDisk::new(synced(&rt, &[1])?, gate.try_clone()?);
-    writes_and_reads(&rt, &mut GateDisk::new(empty(&rt)?, gate.try_clone()?))?;
-    gate.close();
-    let opener = thread::spawn(&rt, move || gate.open())?;
-    disk.write_at(0, &[2])?;
-    disk.sync()?;
-    opener.join(&rt);
-    let found = disk.into_inner().images(rt.alloc(), &[0], 10)?;
-    assert_contents(&rt, &found, &[&[2]]);
-    Ok(())
+// What a crash may leave of the first byte.
+fn images_of(alloc: Global, disk: GateDisk<MemDisk>) -> Result<Vec<Vec<u8>>, Fail> {
+    Ok(disk.into_inner().images(alloc, &[0], 10)?)
 }
 
-#[test]
-fn gate_that_stays_closed_fails_the_sync(rt: HostRuntime) -> Result<(), Fail> {
-    let gate = Gate::new(rt.alloc())?;
-    let mut disk = GateDisk::new(empty(&rt)?, gate.try_clone()?);
+fn are(found: &[Vec<u8>], wanted: &[&[u8]]) -> bool {
+    found.len() == wanted.len()
+        && found
+            .iter()
+            .zip(wanted)
+            .all(|(bytes, it)| bytes.as_slice() == *it)
+}
+
+// A sync waits until another thread opens the gate: what a crash may then leave.
+fn images_behind_opened<R: Threads>(rt: &R, alloc: Global) -> Result<Vec<Vec<u8>>, Fail> {
+    let gate = Gate::new(alloc)?;
+    let mut disk = empty(alloc, &gate)?;
+    disk.write_at(0, &[1])?;
+    disk.sync()?;
+    gate.close();
+    let opener = thread::spawn(rt, move || gate.open())?;
+    disk.write_at(0, &[2])?;
+    disk.sync()?;
+    opener.join(rt);
+    images_of(alloc, disk)
+}
+
+// A sync fails whose gate stays closed: what a crash may then leave.
+fn images_behind_closed(alloc: Global) -> Result<Vec<Vec<u8>>, Fail> {
+    let gate = Gate::new(alloc)?;
+    let mut disk = empty(alloc, &gate)?;
     disk.write_at(0, &[2])?;
     gate.close();
-    assert_eq!(rt; disk.sync(), Err(DeviceFault));
-    let found = disk.into_inner().images(rt.alloc(), &[0], 10)?;
-    assert_contents(&rt, &found, &[&[], &[0]]);
-    Ok(())
+    match disk.sync() {
+        Err(DeviceFault) => images_of(alloc, disk),
+        Ok(()) => Err("a sync did not wait for its gate".into()),
+    }
 }
 
 fn moves_between_threads<D: Disk + Send>(_disk: &D) {}
 
-#[test]
-fn disks_move_between_threads(rt: HostRuntime) -> Result<(), Fail> {
-    let gate = Gate::new(rt.alloc())?;
-    moves_between_threads(&GateDisk::new(empty(&rt)?, gate));
+// That disks move between threads shows when this is proved.
+fn move_disks<R: Files<File = File> + AllocGlobal>(rt: &R, alloc: Global) -> Result<(), Fail> {
+    moves_between_threads(&empty(alloc, &Gate::new(alloc)?)?);
     let folder = "disk_test_moves";
-    let _ = fs::remove_dir_all(&rt, folder);
-    fs::create_dir(&rt, folder)?;
-    let disk = FileDisk::new(LockedFile::open(&rt, "disk_test_moves/slot")?);
+    let _ = fs::remove_dir_all(rt, folder);
+    fs::create_dir(rt, folder)?;
+    let disk = FileDisk::new(LockedFile::open(rt, "disk_test_moves/slot")?);
     moves_between_threads(&disk);
     drop(disk);
-    fs::remove_dir_all(&rt, folder)?;
+    fs::remove_dir_all(rt, folder)?;
     Ok(())
+}
+
+#[test]
+fn gates_hold_syncs(rt: HostRuntime) -> Result<(), Fail> {
+    let alloc = rt.alloc();
+    let gate = Gate::new(alloc)?;
+    assert!(rt; are_given(&mut empty(alloc, &gate)?)?, "an open gate");
+    let opened = images_behind_opened(&rt, alloc)?;
+    assert!(rt; are(&opened, &[&[2]]), "a gate that is opened");
+    let closed = images_behind_closed(alloc)?;
+    assert!(rt; are(&closed, &[&[], &[0]]), "a gate that stays closed");
+    move_disks(&rt, alloc)
 }

@@ -1,4 +1,4 @@
-//! Passes over the history of one shard: two threads that meet, calls in doubt, and calls that are withdrawn.
+//! Passes over the history of one shard: two threads that make calls, and meet.
 ghost use Rattle.std.specs.Prelude.{◌≡◌, ◌+◌, ◌<◌, ℕ, List, [], ◌∷◌, length, false, IfSome, IfOk};
 ghost use Rattle.accept.specs.Histories.{is_marked};
 ghost use Rattle.accept.specs.declared.call.Reply.TheVariants.{Entries};
@@ -6,12 +6,11 @@ ghost use Rattle.history.specs.Histories.{shard_in, step_of};
 ghost use Rattle.threads.specs.Reads.{ReadsNothing};
 
 use accept::{Call, EntryList, Image, Limits, Reply};
-use history::{Book, History, Kept, Pass, PassSpent, Receipt, Ticket};
+use history::{Book, History, Kept, Pass, Receipt, Ticket};
 use labels::{LabelPairs, LabelSet, StreamKey, Tenant};
 use std::alloc::Global;
 use std::marker::{Brand, Model, PhantomData};
 use std::process::Abort;
-use std::slice;
 use std::sync::{Mutex, Wait};
 use std::test::*;
 use std::thread::{Threads, join};
@@ -221,68 +220,4 @@ fn both_call<J: Room + Send + Sync, R: Threads + Wait + Abort + Sync>(
 fn two_threads_meet(rt: HostRuntime) -> Result<(), Fail> {
     let (history, book, one, two) = open(rt.alloc())?;
     both_call::<Brand, HostRuntime>(&rt, rt.alloc(), history, book, one, two)
-}
-
-// Marks a shard while a call is open, and refuses the call.
-fn mark_and_refuse(
-    history: &History,
-    book: &mut Book,
-    pass: &mut Pass,
-    call: &Call,
-) -> Result<Reply, PassSpent>
-    requires table { (book.old.table ≡ history.now) × (pass.old.table ≡ history.now) }
-    requires book { (book.old.about.shards ≡ 1) × (book.old.shard ≡ 0) × (book.old.items ≡ []) }
-    requires idle { pass.old.caller.pending ≡ [] }
-    ensures book { book.new.table ≡ history.now }
-    ensures pass { pass.new.table ≡ history.now }
-    ensures about { pass.new.caller.about ≡ pass.old.caller.about }
-{
-    let mut ticket = history.announce(pass, call)?;
-    book.mark(&Memory, slice::from_mut(&mut ticket));
-    let (reply, receipt) = book.refuse(&Memory, ticket);
-    history.collect(pass, receipt);
-    Ok(reply)
-}
-
-#[test]
-fn marked_shard_is_unavailable(rt: HostRuntime) -> Result<(), Fail> {
-    let (history, mut book, mut pass, _) = open(rt.alloc())?;
-    let read = read_call(rt.alloc(), "1").ok_or("a call")?;
-    let reply = mark_and_refuse(&history, &mut book, &mut pass, &read)?;
-    assert!(rt; matches!(reply, Reply::Unavailable));
-    book.settle(&mut pass);
-    assert_eq!(rt; history.observe(&mut pass, 0), 2);
-    pass.close();
-    assert!(rt; pass.is_closed());
-    Ok(())
-}
-
-// Announces a call, and withdraws it.
-fn announce_and_withdraw(history: &History, pass: &mut Pass, call: &Call) -> Result<(), PassSpent>
-    requires table { pass.old.table ≡ history.now }
-    requires idle { pass.old.caller.pending ≡ [] }
-    ensures table { pass.new.table ≡ history.now }
-    ensures about { pass.new.caller.about ≡ pass.old.caller.about }
-    ensures idle { pass.new.caller.pending ≡ [] }
-{
-    let ticket = history.announce(pass, call)?;
-    history.withdraw(pass, ticket);
-    Ok(())
-}
-
-#[test]
-fn announced_call_is_withdrawn(rt: HostRuntime) -> Result<(), Fail> {
-    let alloc = rt.alloc();
-    let bases = vec![in alloc; Image::new(alloc), Image::new(alloc)]?;
-    let (history, books, mut passes) = History::new(alloc, &bases, 3, Limits::PROFILE, 4_096)?;
-    assert_eq!(rt; (books.len(), passes.len()), (2, 3));
-    let mut pass = passes.pop().ok_or("a pass")?;
-    let read = read_call(alloc, "1").ok_or("a call")?;
-    announce_and_withdraw(&history, &mut pass, &read)?;
-    assert!(rt; !pass.is_closed());
-    announce_and_withdraw(&history, &mut pass, &read)?;
-    assert_eq!(rt; history.observe(&mut pass, 1), 0);
-    pass.close();
-    assert!(rt; history.announce(&mut pass, &read).is_err());
-    Ok(())
 }

@@ -25,6 +25,43 @@ type Receives = QueueReceiver<u64, u64, FromKey>;
 /// The first message.
 const FIRST: u64 = 1_001;
 
+/// How many messages one thread sends and another receives, and what comes of it.
+#[derive(Clone, Copy)]
+struct Run {
+    name: &'static str,
+    sent: u32,
+    received: u32,
+    /// How many are sent before one comes back: at least, and at most.
+    went: (u32, u32),
+    /// How many come.
+    came: u32,
+}
+
+const RUNS: [Run; 3] = [
+    Run {
+        name: "messages come in their order",
+        sent: 10_000,
+        received: 10_000,
+        went: (10_000, 10_000),
+        came: 10_000,
+    },
+    Run {
+        name: "none comes once the sender is gone",
+        sent: 10,
+        received: 1_000,
+        went: (10, 10),
+        came: 10,
+    },
+    Run {
+        // Two more had room.
+        name: "a sender waits no longer once the receiver is gone",
+        sent: 10_000,
+        received: 100,
+        went: (100, 102),
+        came: 100,
+    },
+];
+
 /// A queue with room for two messages.
 fn numbers(alloc: Global) -> Result<(Sends, Receives), Fail>
     ensures { IfOk result (λ ends. (sends_to ends.0 ≡ Bound 1000 1)
@@ -57,51 +94,27 @@ fn receive_all<R: Wait>(rt: &R, mut receiver: Receives, count: u32) -> u32
     count
 }
 
-/// One thread sends messages, and another receives them.
-fn send_and_receive<R: Wait + Threads + Sync>(
-    rt: &R,
-    alloc: Global,
-    sent: u32,
-    received: u32,
-) -> Result<(u32, u32), Fail> {
+/// One thread sends messages, and another receives them. Says whether that comes of it which has to.
+fn is_right<R: Wait + Threads + Sync>(rt: &R, alloc: Global, run: Run) -> Result<bool, Fail> {
     let (sender, receiver) = numbers(alloc)?;
-    Ok(join(
+    let (went, came) = join(
         rt,
         move || -> u32
             requires { sends_to sender ≡ Bound 1000 1 }
-        { send_all(rt, sender, sent) },
+        { send_all(rt, sender, run.sent) },
         move || -> u32
             requires { receives_as receiver ≡ Bound 1000 1 }
-        { receive_all(rt, receiver, received) },
-    ))
-}
-
-#[test]
-fn messages_come_in_their_order(rt: HostRuntime) -> Result<(), Fail> {
-    assert_eq!(rt;
-        send_and_receive(&rt, rt.alloc(), 10_000, 10_000)?,
-        (10_000, 10_000)
+        { receive_all(rt, receiver, run.received) },
     );
-    Ok(())
+    let (least, most) = run.went;
+    Ok(came == run.came && went >= least && went <= most)
 }
 
 #[test]
-fn none_comes_once_the_sender_is_gone(rt: HostRuntime) -> Result<(), Fail> {
-    assert_eq!(rt; send_and_receive(&rt, rt.alloc(), 10, 1_000)?, (10, 10));
-    Ok(())
-}
-
-#[test]
-fn sender_waits_no_longer_once_the_receiver_is_gone(rt: HostRuntime) -> Result<(), Fail> {
-    let (sent, received) = send_and_receive(&rt, rt.alloc(), 10_000, 100)?;
-    assert_eq!(rt; received, 100);
-    // Two more had room.
-    assert!(rt; sent >= 100 && sent <= 102);
-    Ok(())
-}
-
-#[test]
-fn message_comes_back_from_a_queue_without_receiver(rt: HostRuntime) -> Result<(), Fail> {
+fn messages_go_from_thread_to_thread(rt: HostRuntime) -> Result<(), Fail> {
+    for run in RUNS {
+        assert!(rt; is_right(&rt, rt.alloc(), run)?, "{}", run.name);
+    }
     let (mut sender, receiver) = numbers(rt.alloc())?;
     drop(receiver);
     assert_eq!(rt; sender.send(&rt, 5_000), Err(5_000));

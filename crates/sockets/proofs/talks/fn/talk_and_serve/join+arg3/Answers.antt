@@ -22,5 +22,5 @@ slots = slot_disk.ghosts memory.the_row memory_disk.ghosts slot_disk.no_dict
 shared : IsSync (ingester.the_row (slot.the_row memory.the_row) slots)
 shared = ingester_sync (slot.the_row memory.the_row) slots slot_send
 
-pub serve_listener-requires-sync-I : goal.serve_listener-requires-sync-I
-serve_listener-requires-sync-I g c κs within = search (shared, sendable) depth 20
+pub serve_listener-passes-requires-sync-I : goal.serve_listener-passes-requires-sync-I
+serve_listener-passes-requires-sync-I g c κs within = search (shared, sendable) depth 20

@@ -1,0 +1,205 @@
+//! The server over a folder, and `ingestctl` over the same while there is no server.
+
+use crate::client::{Client, NO_CONTENT, PUSH, READ, Step, answers_of, listen};
+use disk::Gate;
+use ingesterd::{SystemClock, run_server};
+use std::alloc::Global;
+use std::fs::{self, File, Files};
+use std::net::{IpAddr, Ipv4Addr, Net, SocketAddr, TcpListener, TcpStream};
+use std::rt::Clock;
+use std::sync::Wait;
+use std::test::*;
+use std::thread::{self, Threads, join};
+use std::time::Duration;
+use tools::run_ctl;
+
+/// A body that reads all of the stream {a="1"}.
+const READ_ALL: &str = r#"{"stream":{"a":"1"},"from":"0","to":"9223372036854775807"}"#;
+
+/// A time in the past, in nanoseconds. In microseconds it would soon be in the past as well.
+const YEAR_2023: u64 = 1_700_000_000_000_000_000;
+
+/// What a program writes and how it ends.
+#[derive(Drop)]
+struct Ended {
+    status: u8,
+    output: Vec<u8>,
+    errors: Vec<u8>,
+}
+
+impl Ended {
+    /// Whether the program ends with status 0 and writes exactly this.
+    fn is(&self, output: &str) -> bool {
+        self.status == 0 && self.output.as_slice() == output.as_bytes() && self.errors.is_empty()
+    }
+}
+
+/// The words of a line, which spaces separate.
+fn words_of(alloc: Global, line: &str) -> Result<Vec<String>, Fail> {
+    let mut words = Vec::new(alloc);
+    for word in line.split_whitespace() {
+        words.push(word.to_string(alloc)?)?;
+    }
+    Ok(words)
+}
+
+/// Runs the server with these words, and a client meanwhile: what the server writes, and what the client is told.
+fn run_and_ask<R>(
+    rt: &R,
+    alloc: Global,
+    words: &[String],
+    client: Client<R>,
+) -> (Option<String>, Ended)
+where
+    R: Files<File = File> + Net<Listener = TcpListener, Stream = TcpStream>,
+    R: Threads + Wait + Clock + Copy + Send + Sync + 'static,
+{
+    let (mut output, mut errors) = (Vec::new(alloc), Vec::new(alloc));
+    let (told, status) = join(
+        rt,
+        move || answers_of(&client).ok(),
+        || run_server(rt, alloc, words, None, &mut output, &mut errors, None),
+    );
+    let ended = Ended {
+        status,
+        output,
+        errors,
+    };
+    (told, ended)
+}
+
+/// What `ingestctl` does with the words of this line, while there is no server.
+fn run_line<R>(rt: &R, alloc: Global, line: &str, body: &str) -> Result<Ended, Fail>
+where
+    R: Files<File = File> + Threads + Wait + Copy + Send + Sync + 'static,
+{
+    let words = words_of(alloc, line)?;
+    Ok(run_words(rt, alloc, &words, body))
+}
+
+fn run_words<R>(rt: &R, alloc: Global, words: &[String], body: &str) -> Ended
+where
+    R: Files<File = File> + Threads + Wait + Copy + Send + Sync + 'static,
+{
+    let (mut output, mut errors) = (Vec::new(alloc), Vec::new(alloc));
+    let mut input = body.as_bytes();
+    let status = run_ctl(rt, alloc, words, None, &mut input, &mut output, &mut errors);
+    Ended {
+        status,
+        output,
+        errors,
+    }
+}
+
+/// Whether the server of the folder `sockets_test`, with two shards and one worker for two connections, says that it
+/// is ready, stores a line of this time, and answers a read of it with what is kept.
+fn is_served<R>(rt: &R, alloc: Global, now: u64, kept: &str) -> Result<bool, Fail>
+where
+    R: Files<File = File> + Net<Listener = TcpListener, Stream = TcpStream>,
+    R: Threads + Wait + Clock + Copy + Send + Sync + 'static,
+{
+    let port = listen(rt)?.local_addr()?.port();
+    let body = format!(in alloc;
+        "{{\"streams\":[{{\"stream\":{{\"a\":\"1\"}},\"values\":[[\"{now}\",\"x\"]]}}]}}"
+    )?;
+    let line = format!(in alloc; "sockets_test/new {port} 2 1 2")?;
+    let words = words_of(alloc, line.as_str())?;
+    let ready = format!(in alloc; "ready {port}\n")?;
+    let gate = Gate::new(alloc)?;
+    let client = Client {
+        rt,
+        alloc,
+        address: SocketAddr::new(IpAddr::V4(Ipv4Addr::LOCALHOST), port),
+        gate: &gate,
+        steps: &[
+            Step::Insist((PUSH, body.as_str())),
+            Step::MissOther,
+            Step::Ask(&[(READ, READ_ALL)]),
+        ],
+    };
+    let (told, ended) = run_and_ask(rt, alloc, &words, client);
+    let told = told.ok_or("not answered")?;
+    Ok(
+        ended.is(ready.as_str())
+            && told.as_str().starts_with(NO_CONTENT)
+            && told.as_str().ends_with(kept),
+    )
+}
+
+/// Whether the folder has the slots of the shard of the sample's stream, and `ingestctl` reads what is kept.
+fn is_kept<R>(rt: &R, alloc: Global, now: u64, kept: &str) -> Result<bool, Fail>
+where
+    R: Files<File = File> + Threads + Wait + Copy + Send + Sync + 'static,
+{
+    let line = format!(in alloc; "read sockets_test/new 2 t {now}")?;
+    let wanted = format!(in alloc; "200\n{kept}")?;
+    let read = run_line(rt, alloc, line.as_str(), READ_ALL)?;
+    Ok(
+        fs::metadata(rt, "sockets_test/new/shard-01-0.wal").is_ok()
+            && fs::metadata(rt, "sockets_test/new/shard-02-0.wal").is_err()
+            && read.is(wanted.as_str()),
+    )
+}
+
+/// Whether the clock of the programs counts nanoseconds, and each of its times is a new reading.
+fn counts_nanoseconds<R: Clock>(rt: &R) -> bool {
+    let mut clock = SystemClock::new(rt);
+    let first = front::Clock::now(&mut clock);
+    thread::sleep(rt, Duration::from_millis(20));
+    let passed = front::Clock::now(&mut clock).saturating_sub(first);
+    YEAR_2023 < first && passed >= 10_000_000 && passed < 60_000_000_000
+}
+
+#[test]
+fn a_server_keeps_what_it_answered(rt: HostRuntime) -> Result<(), Fail> {
+    let alloc = rt.alloc();
+    assert!(rt; counts_nanoseconds(&rt));
+    let _ = fs::remove_dir_all(&rt, "sockets_test");
+    let now = front::Clock::now(&mut SystemClock::new(&rt));
+    let kept = format!(in alloc; "{{\"values\":[[\"{now}\",\"x\"]]}}")?;
+    assert!(rt; is_served(&rt, alloc, now, kept.as_str())?);
+    assert!(rt; is_kept(&rt, alloc, now, kept.as_str())?);
+    fs::remove_dir_all(&rt, "sockets_test")?;
+    Ok(())
+}
+
+/// A body that pushes `lines` lines of this length to the sample's stream, all of this time.
+fn lines_of(alloc: Global, time: u64, lines: u64, length: usize) -> Result<String, Fail> {
+    let line = "x".repeat(alloc, length)?;
+    let mut body = String::new(alloc);
+    body.push_str(r#"{"streams":[{"stream":{"a":"1"},"values":["#)?;
+    for place in 0..lines {
+        let comma = if place == 0 { "" } else { "," };
+        let piece = format!(in alloc; "{comma}[\"{time}\",\"{place}{line}\"]")?;
+        body.push_str(piece.as_str())?;
+    }
+    body.push_str("]}]}")?;
+    Ok(body)
+}
+
+/// What `ingestctl` does with a push of lines of 262,140 bytes and more to the one shard of the folder `sockets_full`.
+fn push_lines<R>(rt: &R, alloc: Global, time: u64, lines: u64) -> Result<Ended, Fail>
+where
+    R: Files<File = File> + Threads + Wait + Copy + Send + Sync + 'static,
+{
+    let body = lines_of(alloc, time, lines, 262_140)?;
+    run_line(rt, alloc, "push sockets_full 1 t 100", body.as_str())
+}
+
+#[test]
+fn a_shard_holds_64_mib(rt: HostRuntime) -> Result<(), Fail> {
+    let alloc = rt.alloc();
+    let _ = fs::remove_dir_all(&rt, "sockets_full");
+    for time in 1..=18 {
+        assert!(rt; push_lines(&rt, alloc, time, 14)?.is("204\n"));
+    }
+    // (254 lines of 262,153 bytes, and the last once more)
+    assert!(rt;
+        push_lines(&rt, alloc, 19, 2)?.is("204\n"),
+        "with a quarter of a MiB to spare"
+    );
+    let refused = push_lines(&rt, alloc, 20, 1)?;
+    assert!(rt; refused.output.as_slice() == b"507\nstream 0: no room\n".as_slice());
+    fs::remove_dir_all(&rt, "sockets_full")?;
+    Ok(())
+}
