@@ -1,5 +1,5 @@
-//! `layer_cases LABELS STREAMS FILE ..`: makes calls on streams, disks and logs as the rows of the files say, and prints
-//! each row that does not say what it must, and the counts.
+//! `layer_cases LABELS STREAMS FILE ..`: makes calls on streams, disks and logs as the rows of the files say, and
+//! prints each row that does not say what it must, and the counts.
 //!
 //! The first two files have rows of labels, of metadata and of one stream, the others have rows of disks and logs.
 #![tactic(auto)]

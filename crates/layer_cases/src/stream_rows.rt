@@ -31,10 +31,10 @@ struct Opened {
 /// - `trim BOUND`: `removed N`, `above oldest` or `no such stream`
 /// - `state`: whether the stream is new, its highest time, the entry stored last, and the kept ones
 /// - `reopen`: takes the stream apart, and makes it of its parts again
-/// - `labels {NAME=VALUE,..}`: the canonical text of a set of labels, or its fault. Of a text of more than 200 bytes its
-///   length is said
-/// - `meta {NAME=VALUE,..}`: metadata of pairs in whatever order: it, or its fault; `of no line` after it if no line may
-///   have it
+/// - `labels {NAME=VALUE,..}`: the canonical text of a set of labels, or its fault. Of a text of more than 200 bytes
+///   its length is said
+/// - `meta {NAME=VALUE,..}`: metadata of pairs in whatever order: it, or its fault; `of no line` after it if no line
+///   may have it
 /// - `faults`: the texts of some faults of labels, and of one of segments
 ///
 /// An entry is `TIME:LINE`, or `TIME*COUNT:LINE` for the line COUNT times, with `{NAME=VALUE,..}` after it if it has

@@ -9,8 +9,8 @@ use std::alloc::Global;
 /// The longest canonical text that is said as it is, in bytes.
 const LONGEST: usize = 200;
 
-/// Makes labels or metadata of `{NAME=VALUE,..}`, and says their text, or the fault; or says the texts of faults that no
-/// other row has.
+/// Makes labels or metadata of `{NAME=VALUE,..}`, and says their text, or the fault; or says the texts of faults that
+/// no other row has.
 pub fn take_word(alloc: Global, word: &str, words: &str, said: &mut Said) -> Result<()> {
     let (_front, pairs) = split_pairs(alloc, words)?;
     match word {
