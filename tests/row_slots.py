@@ -33,22 +33,23 @@ def counted(data, size):
 
 
 def segment_of(keys, shard, count):
-    """A segment of generation 1 that has a state of each of these keys, a tenant and a canonical text, as they stand: the
-    one entry of each is that of the example."""
+    """A segment of generation 1 that has a state of each of these keys, a tenant and a canonical text, as they stand.
+    The one entry of each is that of the example."""
     states = (b"\3" + counted(tenant, 2) + counted(text, 4) + EXAMPLE[41:81] for tenant, text in keys)
     owner = shard.to_bytes(4, "little") + count.to_bytes(4, "little")
     return EXAMPLE[:13] + owner + b"\1" + counted(b"".join(states), 4) + b"\0"
 
 
 def verdict_of(status, output, errors):
-    """What `walcat` said of a slot, without its records: version, generation and the place of the closing gate; that it is
-    closed; or its fault."""
+    """What `walcat` said of a slot, without its records: version, generation and the place of the closing gate; that it
+    is closed; or its fault."""
     if status:
         return errors.decode().strip() if status == 3 else f"status {status}"
     if output == b"closed\n":
         return "closed"
     lines = output.decode().split("\n")
-    return f"{lines[0].removeprefix('segment ').partition(' shard ')[0]} {lines[-2]}" if len(lines) > 2 else "no segment"
+    header = lines[0].removeprefix("segment ").partition(" shard ")[0]
+    return f"{header} {lines[-2]}" if len(lines) > 2 else "no segment"
 
 
 def places_shown(found):
@@ -64,8 +65,8 @@ def places_shown(found):
 
 
 def changes_shown(word, rest, slot, verdict):
-    """What `cuts` says of a slot, cut at each length, or `sets HH ..`, with each byte set to each of these. `verdict` says
-    what a slot is."""
+    """What `cuts` says of a slot, cut at each length, or `sets HH ..`, with each byte set to each of these. `verdict`
+    says what a slot is."""
     places = range(len(slot))
     if word == "cuts":
         return places_shown([verdict(slot[:at]) for at in places])
