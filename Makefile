@@ -109,7 +109,7 @@ faults: ## hostile bytes, refused memory, bad files, slow clients, held to the d
 		tests/$$it || failed=1; done; exit $$failed
 
 program-rows: ## the programs over their words, streams, files and slots, as the rows of tests/rows/programs say
-	@RT='$(RT)' tests/build server ingestctl ingest1 walcat walsplit
+	@RT='$(RT)' tests/build server ingestctl ingest1 walcat walsplit layer_cases
 	@tests/program_rows
 
 check: ## proves every crate, lowest first, over the work of earlier checks

@@ -1,0 +1,99 @@
+//! The two slots of a log.
+use crate::entries::write_image;
+use crate::numbers::{number_of, owner_of};
+use accept::Image;
+use anyhow::{Result, bail};
+use disk::{Disk, MemDisk};
+use rows::Said;
+use std::alloc::Global;
+use wal::Wal;
+
+/// The greatest capacity of a log, in bytes.
+const MAX_CAPACITY: u64 = 1 << 30;
+
+/// The shard, the number of shards and the capacity with which rows open a log, where they say nothing else.
+pub const EXAMPLE: &str = "0 1 200";
+
+/// Slot 0 and slot 1 of a log that is not open.
+#[derive(Drop)]
+pub struct Slots {
+    pub first: MemDisk,
+    pub second: MemDisk,
+}
+
+impl Slots {
+    /// Two disks on which nothing was ever written.
+    pub fn empty(alloc: Global) -> Result<Slots> {
+        Slots::synced(alloc, &[], &[])
+    }
+
+    /// Two disks on which these bytes are synced.
+    pub fn synced(alloc: Global, first: &[u8], second: &[u8]) -> Result<Slots> {
+        let first = synced(alloc, first)?;
+        let second = synced(alloc, second)?;
+        Ok(Slots { first, second })
+    }
+
+    pub fn of(slots: [MemDisk; 2]) -> Slots {
+        let [first, second] = slots;
+        Slots { first, second }
+    }
+
+    /// The slot of this number.
+    pub fn at(&mut self, slot: &str) -> Result<&mut MemDisk> {
+        match slot {
+            "0" => Ok(&mut self.first),
+            "1" => Ok(&mut self.second),
+            _ => bail!("no slot"),
+        }
+    }
+
+    /// Another disk for this slot.
+    pub fn put(&mut self, slot: &str, disk: MemDisk) -> Result<()> {
+        *self.at(slot)? = disk;
+        Ok(())
+    }
+}
+
+/// A disk on which these bytes are synced, or nothing was ever written.
+pub fn synced(alloc: Global, bytes: &[u8]) -> Result<MemDisk> {
+    let mut disk = MemDisk::new(alloc, 1000, 100, 4000)?;
+    if !bytes.is_empty() {
+        disk.write_at(0, bytes)?;
+        disk.sync()?;
+    }
+    Ok(disk)
+}
+
+/// Opens the log in two slots, of `SHARD COUNT CAPACITY`. Appends its generation and streams, or why it cannot be
+/// opened.
+pub fn open(
+    alloc: Global,
+    slots: Slots,
+    words: &str,
+    said: &mut Said,
+) -> Result<Result<Wal<MemDisk>, Slots>> {
+    let words = if words.is_empty() { EXAMPLE } else { words };
+    let Some((owner, capacity)) = words.rsplit_once(' ') else {
+        bail!("no capacity")
+    };
+    let (shard, count) = owner_of(owner)?;
+    let capacity = number_of(capacity)?.min(MAX_CAPACITY);
+    let Slots { first, second } = slots;
+    match Wal::open(alloc, [first, second], shard, count, capacity) {
+        Ok((log, image)) => {
+            say_opened(log.generation(), &image, said);
+            Ok(Ok(log))
+        }
+        Err(refusal) => {
+            said.tell(format_args!("{}\n", refusal.0));
+            let left = refusal.1;
+            Ok(Err(Slots::of(left)))
+        }
+    }
+}
+
+fn say_opened(generation: u64, image: &Image, said: &mut Said) {
+    said.tell(format_args!("generation {generation}\n"));
+    write_image(image, said);
+}
