@@ -1,5 +1,5 @@
 -- Lines that follow one another.
-use Rattle.std.proofs.Common.{◌≡◌, ◌≢◌, ℕ, zero, suc, ◌+◌, ◌<◌, Bool, ◌||◌, List, [], ◌∷◌, ◌++◌, length, get_or, drop, Result, Ok, Err, OnOk, sym, ap, ◌∙◌, refl, subst, append_assoc, length-append, add-one, add-zero, zero-add, drop-cons, arith}
+use Rattle.std.proofs.Common.{◌≡◌, ◌≢◌, ℕ, zero, suc, ◌+◌, ◌<◌, Bool, ◌||◌, List, [], ◌∷◌, ◌++◌, length, get_or, Result, Ok, Err, OnOk, sym, ap, ◌∙◌, refl, subst, append_assoc, length-append, add-zero, zero-add, arith}
 use Rattle.std.proofs.Math.Bool.{or_assoc, or-false}
 use Rattle.std.proofs.lemmas.List.{append-nil}
 use Rattle.std.specs.List.{list_any}
@@ -8,13 +8,6 @@ use Rattle.answering.specs.Calls.{Came}
 use Rattle.answering.specs.declared.lines.PushLines.{PushLines}
 use Rattle.answering.specs.Lines.{outcome_line, outcome_lines, came_lines, lines_from, has_no_room, is_unavailable}
 use Rattle.answering.specs.Telling.{Tells}
-
--- one outcome more is written
-pub one_more : (text whole : List ℕ) (i k : ℕ) (os : List Outcome) (o : Outcome) → k < length os → o ≡ get_or os k o → text ++ outcome_lines i k (drop k os) ≡ whole
-    → (text ++ outcome_line i k o) ++ outcome_lines i (k + 1) (drop (k + 1) os) ≡ whole
-one_more text whole i k os o within is so_far =
-    let cut : drop k os ≡ o ∷ drop (k + 1) os = rw add-one (drop-cons os k o within ∙ ap (λ x. x ∷ drop (suc k) os) (sym is)) in
-    append_assoc text (outcome_line i k o) (outcome_lines i (k + 1) (drop (k + 1) os)) ∙ ap (λ l. text ++ outcome_lines i k l) (sym cut) ∙ so_far
 
 both_none : (xs ys : List ℕ) → xs ++ ys ≡ [] → (xs ≡ []) × (ys ≡ [])
 both_none [] ys none = (refl, none)

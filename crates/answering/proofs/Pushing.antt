@@ -120,9 +120,6 @@ same_behind (cames.Failed f ∷ cs) ds none = absurd (cc)
 
 -- what came of a window is taken into the lines
 module _ (before all : List Came) where
-  pub noting : (lines : PushLines) → first_failure before ≡ None → Tells before lines → AreNotedTo before all all lines
-  noting lines whole tells = record { noted = before; split = refl; whole = whole; tells = tells; few = omega arith }
-
   module _ (came : Came) (left : List Came) (lines new : PushLines) (p : AreNotedTo before all (came ∷ left) lines) where
     pub noted_more : (u : Unit {0}) → CameIsNoted came lines (Ok u) new → AreNotedTo before all left new
     noted_more u (whole, tells) = record {
@@ -144,11 +141,6 @@ module _ (before all : List Came) where
       said = subst (λ (n : ℕ). came_lines n came ≢ []) p.tells.streams said;
       few = omega (arith, p.few);
     }
-
-  pub noted_all : (lines : PushLines) → AreNotedTo before all [] lines → AreNoted before all (Ok tt) lines
-  noted_all lines p =
-      let is : before ++ all ≡ p.noted = p.split ∙ append-nil p.noted in
-      (ap first_failure is ∙ p.whole, subst (λ l. Tells l lines) (sym is) p.tells)
 
 module _ {H : Type 0} (gives : Giving H) (tenant : List ℕ) where
   came_given : (doubt : Bool) (h h' : H) (asked : Asked) (call : Call) (outcome : Result Reply Failure) → IsCallOf tenant asked call → gives doubt h call outcome h' → StreamGives gives tenant doubt h asked (came_of outcome) h'

@@ -1,5 +1,5 @@
 -- The streams of a push by their places in its body, taken window by window; for private clauses.
-use Rattle.std.specs.Prelude.{◌≡◌, ◌≢◌, ◌<◌, ◌≤◌, ℕ, ◌+◌, List, [], ◌∷◌, ◌++◌, length, Option, None, Some, Result, Ok, Err}
+use Rattle.std.specs.Prelude.{◌≡◌, ◌≢◌, ◌<◌, ◌≤◌, ℕ, ◌+◌, ◌^◌, List, [], ◌∷◌, ◌++◌, length, Option, None, Some, Result, Ok, Err}
 use Rattle.labels.specs.Faults.{first_fault}
 use Rattle.labels.specs.declared.fault.LabelFault.{LabelFault}
 use Rattle.accept.specs.declared.call.Call.{Call}
@@ -10,7 +10,7 @@ use Rattle.answering.specs.declared.lines.PushLines.{PushLines}
 use Rattle.answering.specs.declared.responding.Halt.{Halt}
 use Rattle.answering.specs.declared.responding.Halt.TheVariants as halts
 use Rattle.answering.specs.Asking.{Asked, AsksFor, IsCallOf}
-use Rattle.answering.specs.Calls.{Giving, Came, Refused, Replied, Failed}
+use Rattle.answering.specs.Calls.{max_window, Giving, Came, Refused, Replied, Failed}
 use Rattle.answering.specs.Courses.{first_failure, StreamsGive}
 use Rattle.answering.specs.Lines.{came_lines}
 use Rattle.answering.specs.Parts.{BodyIsAnswered}
@@ -38,11 +38,24 @@ pub record IsEmptyWindow {O : Type 0} (calls : List Call) (outcomes : List O) : 
   pub calls_is : calls ≡ []
   pub outcomes_is : outcomes ≡ []
 
+-- after a window no call is on its way, and this many streams more are in the lines
+pub record IsWindowOver {O : Type 0} (calls : List Call) (outcomes : List O)
+    (streams old new : ℕ) : Type 0 where
+  pub fresh : IsEmptyWindow calls outcomes
+  pub count : new ≡ old + streams
+
 -- how many places have a call
 abbrev pub called : List (Option LabelFault) → ℕ
 called [] = 0
 called (Some fault ∷ places) = called places
 called (None ∷ places) = called places + 1
+
+-- these places make a window of this size: so many calls are left, and the lines can count their streams
+pub record FitWindow (places : List (Option LabelFault)) (size left streams : ℕ) : Type 0 where
+  pub enough : called places ≤ left
+  pub room : called places ≤ size
+  pub few : length places ≤ max_window
+  pub counted : streams + length places < 2 ^ 64
 
 abbrev pub came_of : Result Reply Failure → Came
 came_of (Ok reply) = Replied reply

@@ -16,7 +16,7 @@ use crate::calling::{Uncalled, call_of_read, call_of_trim};
 use crate::calls::Calls;
 use crate::lines::{PushLines, push_number};
 use crate::replies::{answer_of_moved, answer_of_refusal, answer_of_text};
-use crate::windows::{MOST, Streams, streams_of};
+use crate::windows::{MAX_WINDOW, Streams, streams_of};
 use accept::Call;
 use labels::Tenant;
 use pushjson::PushFault;
@@ -120,7 +120,7 @@ fn take_windows<S: Calls, R: Wait>(
     let mut lines = PushLines::new(alloc);
     let mut rest = places.as_slice();
     while !rest.is_empty() {
-        let (window, more) = rest.split_at(MOST.min(rest.len()));
+        let (window, more) = rest.split_at(MAX_WINDOW.min(rest.len()));
         windows.take(rt, alloc, service, pass, window, &mut lines)?;
         rest = more;
     }

@@ -9,7 +9,7 @@ ghost use Rattle.answering.specs.Asking.{Asked, AsksFor, HasNumbers, asked_push}
 ghost use Rattle.answering.specs.Calls.{Came, max_window};
 ghost use Rattle.answering.specs.Courses.{first_failure};
 ghost use Rattle.answering.specs.Telling.{Tells, CameIsNoted};
-ghost use Rattle.answering.specs.Windows.{AreStreams, AsksForStreams, IsEmptyWindow, StreamsAreTaken, WindowIsTaken, AreNoted, called, came_of, merged};
+ghost use Rattle.answering.specs.Windows.{AreStreams, AsksForStreams, IsEmptyWindow, IsWindowOver, FitWindow, StreamsAreTaken, WindowIsTaken, AreNoted, called, came_of, merged};
 
 use crate::calling::{Uncalled, key_of};
 use crate::calls::Calls;
@@ -23,7 +23,7 @@ use std::collections::VecDeque;
 use std::sync::Wait;
 
 /// How many places a window has at most.
-pub(crate) const MOST: usize = 64;
+pub(crate) const MAX_WINDOW: usize = 64;
 
 /// The streams of a push.
 #[derive(Drop)]
@@ -113,7 +113,7 @@ impl<O: Drop> Windows<O> {
             IsEmptyWindow windows.calls.items windows.outcomes.items) }
         ensures size { IfOk result (λ windows. windows.size ≡ min max_window (deque_len left)) }
     {
-        let size = MOST.min(left.len());
+        let size = MAX_WINDOW.min(left.len());
         let calls = VecDeque::with_capacity(alloc, size)?;
         let outcomes = VecDeque::with_capacity(alloc, size)?;
         Ok(Windows {
@@ -190,9 +190,8 @@ impl<O: Drop> Windows<O> {
         requires pass { S.is_ready service.now pass.old }
         requires fresh { IsEmptyWindow self.old.calls.items self.old.outcomes.items }
         requires numbers { All AreNumbers self.old.left.items }
-        requires enough { called places.now ≤ deque_len self.old.left }
-        requires room { (called places.now ≤ self.old.size) × (length places.now ≤ max_window) }
-        requires few { lines.old.streams + length places.now < 2 ^ 64 }
+        requires next { FitWindow places.now self.old.size (deque_len self.old.left)
+            lines.old.streams }
         ensures pass { S.is_ready service.now pass.new }
         ensures goes { (h : S.Pass) (tenant : List ℕ) (all : List Asked)
             (more : List (Option LabelFault))
@@ -200,13 +199,13 @@ impl<O: Drop> Windows<O> {
             self.old.left.items lines.old
             → WindowIsTaken (S.gives service.now) tenant h all result pass.new more
             self.new.left.items lines.new }
-        ensures fresh { IfOk result (λ _.
-            IsEmptyWindow self.new.calls.items self.new.outcomes.items) }
+        ensures over { IfOk result (λ _.
+            IsWindowOver self.new.calls.items self.new.outcomes.items (length places.now)
+            lines.old.streams
+            lines.new.streams) }
         ensures numbers { All AreNumbers self.new.left.items }
-        ensures left { deque_len self.new.left + called places.now ≡ deque_len self.old.left }
-        ensures size { self.new.size ≡ self.old.size }
-        ensures count { IfOk result (λ _.
-            lines.new.streams ≡ lines.old.streams + length places.now) }
+        ensures left { (deque_len self.new.left + called places.now ≡ deque_len self.old.left)
+            × (self.new.size ≡ self.old.size) }
     {
         self.fill(places);
         service.call_all(rt, alloc, pass, &mut self.calls, &mut self.outcomes);

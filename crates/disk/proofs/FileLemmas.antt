@@ -222,10 +222,9 @@ holds-on a b c bytes at from n le fits one more =
 -- after one more piece
 pub write-loop-on : (r r' r'' : Record) (at from n : ℕ) (bytes rest : List ℕ) → WriteLoop r r' at from bytes → rest ≡ drop from bytes → n ≤ length rest
     → (HasFollowed r'' → HasFollowed r')
-    → (HasFollowed r'' → at + from ≤ length (sight_by r' 0).seen → Holds (sight_by r' 0).seen (at + from) (take n rest) (sight_by r'' 0).seen)
-    → ((f f' : ℕ) → HasFollowed r'' → at + from ≤ length (sight_by r' 0).seen → Goes (at + from) n (sight_by r' f) (sight_by r'' f'))
+    → ((f f' : ℕ) → HasFollowed r'' → at + from ≤ length (sight_by r' 0).seen → WritesSoFar (at + from) n rest (sight_by r' f) (sight_by r'' f'))
     → WriteLoop r r'' at (from + n) bytes
-write-loop-on r r' r'' at from n bytes rest old e h before holds goes =
+write-loop-on r r' r'' at from n bytes rest old e h before more =
     let fits : from + n ≤ length bytes = omega (arith, old.fits, ap length e, length-drop from bytes) in
     record {
       fits = fits;
@@ -234,9 +233,9 @@ write-loop-on r r' r'' at from n bytes rest old e h before holds goes =
           let so_far : WritesSoFar at from bytes (sight_by r f) (sight_by r' 0) = old.written (before follows) le f 0 in
           let place : at + from ≤ length (sight_by r' 0).seen = length-holds (sight_by r 0).seen (sight_by r' 0).seen bytes at from le old.fits so_far.holds in
           record {
-            goes = goes-on (sight_by r f) (sight_by r' 0) (sight_by r'' f') at from n so_far.goes (goes 0 f' follows place);
+            goes = goes-on (sight_by r f) (sight_by r' 0) (sight_by r'' f') at from n so_far.goes (more 0 f' follows place).goes;
             holds = holds-on (sight_by r 0).seen (sight_by r' 0).seen (sight_by r'' 0).seen bytes at from n le fits so_far.holds
-                (subst (λ (xs : List ℕ). Holds (sight_by r' 0).seen (at + from) (take n xs) (sight_by r'' 0).seen) e (holds follows place));
+                (subst (λ (xs : List ℕ). Holds (sight_by r' 0).seen (at + from) (take n xs) (sight_by r'' 0).seen) e (more 0 0 follows place).holds);
           };
     }
 

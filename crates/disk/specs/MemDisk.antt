@@ -1,9 +1,9 @@
 -- What a disk in memory shows.
-use Rattle.std.specs.Prelude.{◌≡◌, ◌↔◌, ◌<◌, ◌≤◌, ℕ, List, [], ◌∷◌, ◌++◌, ◌+◌, ◌-◌, ◌^◌, min, vec_len}
+use Rattle.std.specs.Prelude.{◌≡◌, ◌↔◌, ◌<◌, ◌≤◌, ◌⊎◌, ℕ, List, [], ◌∷◌, ◌++◌, ◌+◌, ◌-◌, ◌^◌, min, length, vec_len, Result, OnOk, IsOk, IsErr}
 use Rattle.std.specs.Vec.{vec_capacity}
 use Rattle.disk.specs.declared.memory.MemDisk.{MemDisk}
 use Rattle.disk.specs.Sight.{Sight}
-use Rattle.disk.specs.State.{Act, State, nothing, state_after, sight_of}
+use Rattle.disk.specs.State.{Act, Write, State, nothing, state_after, sight_of}
 use Rattle.disk.specs.Laws.{now_counts, just_now, always_sound, sound_nothing}
 use Rattle.disk.specs.Memory.{acts}
 use Rattle.disk.specs.Plan.{IsAsked}
@@ -57,6 +57,30 @@ GoesOn old new = (k : ℕ) → 0 < k → (WillFail new k ↔ WillFail old (k + 1
 -- the disk counts one more call of `write_at` or `sync`
 abbrev pub CountsCall : MemDisk → MemDisk → Type 0
 CountsCall old new = calls_of new ≡ min (calls_of old + 1) (2 ^ 64 - 1)
+
+-- one call of `write_at` or `sync` was made, with this many bytes written
+pub record IsOneCall (written : ℕ) (old new : MemDisk) : Type 0 where
+  pub goes_on : GoesOn old new
+  pub calls : CountsCall old new
+  pub room : KeepsRoom 1 written old new
+
+-- a write is recorded whether it fails or not, except where it begins past the end. Where it fails for want of memory,
+-- it may be missing
+pub record RecordsWrite {T E : Type 0} (at : ℕ) (bytes : List ℕ) (result : Result T E)
+    (old new : MemDisk) : Type 0 where
+  pub made : OnOk result (Records (Write at bytes) old new)
+  pub failed : at ≤ length (memory_sight old).seen
+      → HasRoom old (at + length bytes) 1 (length bytes)
+      → Records (Write at bytes) old new
+  pub past_end : length (memory_sight old).seen < at → RecordsNothing old new
+  pub either : Records (Write at bytes) old new ⊎ RecordsNothing old new
+
+-- a write fails where that was asked for and where it begins past the end, otherwise only for want of memory
+pub record FailsAsAsked {T E : Type 0} (at n : ℕ) (result : Result T E) (old : MemDisk) : Type 0 where
+  pub asked : WillFail old 1 → IsErr result
+  pub past_end : length (memory_sight old).seen < at → IsErr result
+  pub works : ¬ WillFail old 1 → at ≤ length (memory_sight old).seen → HasRoom old (at + n) 1 n
+      → IsOk result
 
 -- what counts calls and failures is the same
 pub record SameOthers (old new : MemDisk) : Type 0 where

@@ -76,8 +76,8 @@ pub struct NotedFile {
 }
 
 impl NotedFile {
-    ghost use Rattle.disk.specs.Record.{HasFollowed, OnlyAsks, Goes, sight_by};
-    ghost use Rattle.disk.specs.Sight.{Holds, IsSynced, Looks};
+    ghost use Rattle.disk.specs.Record.{HasFollowed, OnlyAsks, Goes, WritesSoFar, sight_by};
+    ghost use Rattle.disk.specs.Sight.{IsSynced, Looks};
 
     /// A file in any state. No call was made on it yet.
     pub fn new(file: File) -> NotedFile
@@ -132,13 +132,10 @@ impl NotedFile {
             → self.new.noted.calls ≡ Broke at bytes.now ∷ self.old.noted.calls }
         ensures before { HasFollowed self.new.noted → HasFollowed self.old.noted }
         ensures within { IfOk result (λ n. n ≤ length bytes.now) }
-        ensures holds { IfOk result (λ n. HasFollowed self.new.noted
+        ensures written { IfOk result (λ n. (old new : ℕ) → HasFollowed self.new.noted
             → at ≤ length (sight_by self.old.noted 0).seen
-            → Holds (sight_by self.old.noted 0).seen at (take n bytes.now)
-            (sight_by self.new.noted 0).seen) }
-        ensures goes { IfOk result (λ n. (old new : ℕ) → HasFollowed self.new.noted
-            → at ≤ length (sight_by self.old.noted 0).seen
-            → Goes at n (sight_by self.old.noted old) (sight_by self.new.noted new)) }
+            → WritesSoFar at n bytes.now (sight_by self.old.noted old)
+            (sight_by self.new.noted new)) }
         ensures asks { IsErrOf result Stop.Interrupted → OnlyAsks self.old.noted self.new.noted }
         ensures broke { OnErr result ((old new : ℕ) → HasFollowed self.new.noted
             → at ≤ length (sight_by self.old.noted 0).seen

@@ -180,7 +180,7 @@ impl MemDisk {
 }
 
 impl Disk for MemDisk {
-    ghost use Rattle.disk.specs.MemDisk.{HasRoom, KeepsRoom, GoesOn, CountsCall, Records, RecordsNothing, WillFail, calls_of, memory_sight, memory_counts_now, memory_only_now, memory_seen_may_stay};
+    ghost use Rattle.disk.specs.MemDisk.{HasRoom, KeepsRoom, GoesOn, IsOneCall, Records, RecordsNothing, RecordsWrite, FailsAsAsked, WillFail, calls_of, memory_sight, memory_counts_now, memory_only_now, memory_seen_may_stay};
 
     ghost follows = { λ _. Unit {0} };
 
@@ -225,26 +225,9 @@ impl Disk for MemDisk {
             → Writes at (length bytes.now) (memory_sight self.old) (memory_sight self.new) }
         ensures counts { Counts result (memory_sight self.old).failures
             (memory_sight self.new).failures }
-
-        // It is recorded whether it fails or not, except where it begins past the end. Where it fails for want of
-        // memory, it may be missing.
-        ensures records { OnOk result (Records (Write at bytes.now) self.old self.new) }
-        ensures records_failed { at ≤ length (memory_sight self.old).seen
-            → HasRoom self.old (at + length bytes.now) 1 (length bytes.now)
-            → Records (Write at bytes.now) self.old self.new }
-        ensures refused { length (memory_sight self.old).seen < at
-            → RecordsNothing self.old self.new }
-        ensures either { Records (Write at bytes.now) self.old self.new
-            ⊎ RecordsNothing self.old self.new }
-
-        // It fails where that was asked for and where it begins past the end, otherwise only for want of memory.
-        ensures asked { WillFail self.old 1 → IsErr result }
-        ensures past_end { length (memory_sight self.old).seen < at → IsErr result }
-        ensures works { ¬ WillFail self.old 1 → at ≤ length (memory_sight self.old).seen
-            → HasRoom self.old (at + length bytes.now) 1 (length bytes.now) → IsOk result }
-        ensures goes_on { GoesOn self.old self.new }
-        ensures calls { CountsCall self.old self.new }
-        ensures room { KeepsRoom 1 (length bytes.now) self.old self.new }
+        ensures records { RecordsWrite at bytes.now result self.old self.new }
+        ensures fails { FailsAsAsked at (length bytes.now) result self.old }
+        ensures one_call { IsOneCall (length bytes.now) self.old self.new }
     {
         self.calls = self.calls.saturating_add(1);
         let fails = self.plan.next_fails();
@@ -267,9 +250,7 @@ impl Disk for MemDisk {
         // It fails where that was asked for, otherwise only for want of memory.
         ensures asked { WillFail self.old 1 → IsErr result }
         ensures works { ¬ WillFail self.old 1 → HasRoom self.old 0 1 0 → IsOk result }
-        ensures goes_on { GoesOn self.old self.new }
-        ensures calls { CountsCall self.old self.new }
-        ensures room { KeepsRoom 1 0 self.old self.new }
+        ensures one_call { IsOneCall 0 self.old self.new }
     {
         self.calls = self.calls.saturating_add(1);
         if self.plan.next_fails() || self.make_sync().is_err() {

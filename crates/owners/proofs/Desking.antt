@@ -9,7 +9,6 @@ use Rattle.history.specs.Histories.{shard_in}
 use Rattle.keyed.specs.declared.ends.QueueSender.{QueueSender}
 use Rattle.keyed.specs.declared.binding.Binding.TheVariants.{Bound}
 use Rattle.keyed.specs.Queues.{sends_to}
-use Rattle.shard.specs.declared.fault.ApplyFault.TheVariants.{Memory, GenerationSpent}
 use Rattle.shard.specs.declared.first_jobs.Job.{Job}
 use Rattle.shard.specs.declared.group.Settled.{Settled}
 use Rattle.shard.specs.declared.group.Settled.TheVariants.{Answered, GivenBack}
@@ -17,9 +16,9 @@ use Rattle.owners.specs.declared.desk.Desk.{Desk}
 use Rattle.owners.specs.declared.letters.Letter.{Letter}
 use Rattle.owners.specs.Homes.{Homed, NeedsGeneration}
 use Rattle.owners.specs.Openings.{Opening, HasSpentLog, home_of}
-use Rattle.owners.specs.Calls.{pass_in, with_memory, IsBatch, IsOfCall, IsSpentAt, IsDue, AreDue, AreCalls, AreMade, IsSpentAsSaid, AreOfCalls, AreTurned}
+use Rattle.owners.specs.Calls.{pass_in, IsBatch, IsSpentAt, IsDue, AreDue, AreCalls, AreMade, IsSpentAsSaid, AreOfCalls, AreTurned}
 use Rattle.owners.specs.Letters.{IsAnswerTo}
-use Rattle.owners.specs.Desks.{IsPlace, ArePlaces, IsDesk}
+use Rattle.owners.specs.Desks.{max_desk, IsPlace, ArePlaces, IsDesk}
 use Rattle.owners.specs.Bonds.{AreBoundFrom}
 use Rattle.owners.proofs.Each.{each_set, each_get}
 use Rattle.owners.proofs.Waiting.{calls_more}
@@ -49,14 +48,6 @@ module _ (home : Homed) where
   place_set places at place h is = let z : at ≡ 0 + at = omega arith in
       each_set (IsPlace home) 0 places at place h (subst (λ (n : ℕ). IsPlace home n place) z is)
 
-  -- what is told of a call after another one
-  pub told_due : (s : Settled) → IsOfCall home.table s → IsDue home (pass_in (with_memory s)) (with_memory s)
-  told_due (Answered reply receipt) h = record { pass = refl; call = h; spent = tt }
-  told_due (GivenBack fault t) h = record { pass = refl; call = h; spent = λ (e : Memory ≡ GenerationSpent). absurd (clash e) }
-    where
-      clash : Memory ≡ GenerationSpent → ⊥
-      clash e = cc
-
   pub place_gone : (places : List (Option Letter)) (at : ℕ) → ArePlaces home places → ArePlaces home (slice_set places at None)
   place_gone places at h = place_set places at None h tt
 
@@ -76,16 +67,13 @@ module _ (home : Homed) where
         turn = more.1;
         settled = ap (λ v. v.items) settled ∙ h.settled;
         letters = places;
-        room = subst (λ n. 128 ≤ n) (sym room) h.room;
-        room_settled = subst (λ v. 128 ≤ vec_capacity v) (sym settled) h.room_settled;
+        room = subst (λ n. max_desk ≤ n) (sym room) h.room;
+        room_settled = subst (λ v. max_desk ≤ vec_capacity v) (sym settled) h.room_settled;
       }
 
   -- what came first, and after it
   pub made_first : (all rest : List Settled) (s : Settled) → all ≡ s ∷ rest → AreMade home all → IsDue home (pass_in s) s × AreCalls home rest
   made_first all rest s e h = let here = subst (AreMade home) e h in (record { pass = refl; call = here.0; spent = here.1 }, here.2)
-
-  pub calls_first : (all rest : List Settled) (s : Settled) → all ≡ s ∷ rest → AreCalls home all → IsOfCall home.table s × AreCalls home rest
-  calls_first all rest s e h = subst (AreCalls home) e h
 
 -- what a turn makes, without its disks
 get_map : {A B : Type 0} (f : A → B) (xs : List A) (k : ℕ) (x : A) → slice_get xs k ≡ Some x → slice_get (map f xs) k ≡ Some (f x)

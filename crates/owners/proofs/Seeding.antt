@@ -1,16 +1,11 @@
 -- How ends are put together.
-use Rattle.std.proofs.Common.{◌≡◌, ℕ, ◌+◌, [], ◌∷◌, ◌++◌, length, length-append, sym, ap, ◌∙◌, subst}
-use Rattle.keyed.specs.declared.binding.Binding.{Binding}
+use Rattle.std.proofs.Common.{◌≡◌, ℕ, ◌+◌, [], ◌∷◌, ◌++◌, length, length-append, ap, ◌∙◌}
 use Rattle.keyed.specs.declared.binding.Binding.TheVariants.{Bound}
-use Rattle.keyed.specs.Bindings.{IsBound}
 use Rattle.keyed.specs.Queues.{sends_to, receives_as}
 use Rattle.owners.specs.Homes.{Homed}
 use Rattle.owners.specs.declared.rows.Seed.{Seed}
 use Rattle.owners.specs.Seeds.{IsSeed}
 use Rattle.owners.proofs.Each.{each_next}
-
-pub tied_is : {K : Type 0} (v : Binding K) (key : K) (n : ℕ) → v ≡ Bound key n → IsBound v
-tied_is v key n e = subst IsBound (sym e) tt
 
 -- one pass more
 pub seed_more : (home : Homed) (p k : ℕ) (old now : Seed) → IsSeed home p k old → sends_to now.orders ≡ sends_to old.orders → now.gets ≡ old.gets

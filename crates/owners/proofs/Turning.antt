@@ -1,6 +1,6 @@
 -- What a turn leaves: the shard of its lock, what came of its calls, and calls for the next turn.
-use Rattle.std.proofs.Common.{◌≡◌, ◌⊎◌, ℕ, suc, ◌+◌, ◌<◌, ◌≤◌, Bool, true, false, cond, ◌==◌, List, [], ◌∷◌, ◌++◌, length, length-append, inl, inr, refl, sym, ap, ◌∙◌, subst, eq-eqb, arith}
-use Rattle.std.specs.Prelude.{Some, Result, Ok, Err, is_err, OnOk, slice_get}
+use Rattle.std.proofs.Common.{◌≡◌, ℕ, suc, ◌+◌, ◌<◌, ◌≤◌, Bool, true, false, cond, ◌==◌, List, [], ◌∷◌, ◌++◌, length, length-append, inl, inr, refl, sym, ap, ◌∙◌, subst, eq-eqb, arith}
+use Rattle.std.specs.Prelude.{Some, slice_get}
 use Rattle.atomic_table.specs.Seated.{TableId}
 use Rattle.accept.specs.declared.history.Ask.{Ask}
 use Rattle.accept.specs.declared.call.Reply.{Reply}
@@ -10,10 +10,10 @@ use Rattle.history.specs.declared.views.About.{About}
 use Rattle.history.specs.Histories.{shard_in, step_of}
 use Rattle.history.specs.Handles.{Announced, Booked, Received, AreOf, asks_of}
 use Rattle.shard.specs.declared.fault.ApplyFault.{ApplyFault}
-use Rattle.shard.specs.declared.fault.ApplyFault.TheVariants.{Memory, GenerationSpent}
+use Rattle.shard.specs.declared.fault.ApplyFault.TheVariants.{GenerationSpent}
 use Rattle.shard.specs.declared.first_jobs.Job.{Job}
 use Rattle.shard.specs.declared.group.Settled.{Settled}
-use Rattle.shard.specs.declared.group.Settled.TheVariants.{Answered, GivenBack}
+use Rattle.shard.specs.declared.group.Settled.TheVariants.{Answered}
 use Rattle.shard.specs.Calls.{IsSpent}
 use Rattle.shard.specs.Groups.{with_step, marked_by}
 use Rattle.shard.specs.Keeping.{moments}
@@ -23,19 +23,11 @@ use Rattle.shard.specs.Queues.{settled_of}
 use Rattle.shard.specs.Shards.{Sharded}
 use Rattle.shard.specs.Turns.{Turn, span_of, AreReady, AreStepped, IsAlone, IsGivenBack, IsTurn, given_back_of}
 use Rattle.shard.proofs.Turning.{pass_turn_more}
-use Rattle.owners.specs.Calls.{AreSureTickets, AreWaiting, AreOfCalls, IsFirstSpent, AreTurned, IsOfCall, IsSpentAsSaid, IsDueTo, pass_in, with_memory}
+use Rattle.owners.specs.Calls.{AreSureTickets, AreWaiting, AreOfCalls, AreTurned}
 use Rattle.owners.specs.Openings.{Opening}
 use Rattle.owners.specs.Places.{IsOf}
 
 -- Before the first turn.
-
-clash : true ≡ false → ⊥
-clash e = cc
-
--- where there was memory
-pub had_memory : {T E P : Type 0} (r : Result T E) → is_err r ≡ false → OnOk r P → P
-had_memory (Ok x) e h = h
-had_memory (Err y) e h = absurd (clash e)
 
 module _ (table : TableId) (about : About) where
   pub waiting_open : (k : ℕ) (jobs : List Job) → AreWaiting table about k jobs → AreSureTickets table about (tickets_of jobs)
@@ -109,58 +101,6 @@ module _ {D : Type 0} (opening : Opening D) where
   refused_calls : (fault : ApplyFault) (ts : List Announced) → AreSureTickets opening.table opening.about ts → AreOfCalls opening (given_back_of fault ts)
   refused_calls fault [] h = tt
   refused_calls fault (t ∷ ts) h = ((h.0.pass, (h.0.same_table, h.0.sure)), refused_calls fault ts h.1)
-
-  -- what came of the last one
-  pub record IsLastTurned (front : List Settled) (last : Settled) : Type 0 where
-    pub front_turned : AreTurned opening front
-    pub pass : pass_in last < opening.about.passes
-    pub call : IsOfCall opening.table last
-    pub spent : front ≡ [] → IsSpentAsSaid opening last
-
-  calls_front : (front : List Settled) (last : Settled) → AreOfCalls opening (front ++ last ∷ []) → AreOfCalls opening front × (pass_in last < opening.about.passes) × IsOfCall opening.table last
-  calls_front [] last h = (tt, h.0.0, h.0.1)
-  calls_front (s ∷ front) last h = let r = calls_front front last h.1 in ((h.0, r.0), r.1, r.2)
-
-  spent_front : (front : List Settled) (last : Settled) → IsFirstSpent opening (front ++ last ∷ []) → IsFirstSpent opening front
-  spent_front [] last h = tt
-  spent_front (s ∷ front) last h = h
-
-  spent_last : (front : List Settled) (last : Settled) → IsFirstSpent opening (front ++ last ∷ []) → front ≡ [] → IsSpentAsSaid opening last
-  spent_last front last h none = subst (λ (l : List Settled). IsFirstSpent opening (l ++ last ∷ [])) none h
-
-  pub last_turned : (all front : List Settled) (last : Settled) → all ≡ front ++ last ∷ [] → AreTurned opening all → IsLastTurned front last
-  last_turned all front last e h =
-      let here = subst (AreTurned opening) e h in
-      let r = calls_front front last here.0 in
-      record { front_turned = (r.0, spent_front front last here.1); pass = r.1; call = r.2; spent = spent_last front last here.1 }
-
-  -- where there was no memory, no generation is wanted
-  pub memory_pass : (s : Settled) → pass_in (with_memory s) ≡ pass_in s
-  memory_pass (Answered reply receipt) = refl
-  memory_pass (GivenBack fault t) = refl
-
-  pub memory_call : (s : Settled) → IsOfCall opening.table s → IsOfCall opening.table (with_memory s)
-  memory_call (Answered reply receipt) h = h
-  memory_call (GivenBack fault t) h = h
-
-  pub memory_spent : (s : Settled) → IsSpentAsSaid opening (with_memory s)
-  memory_spent (Answered reply receipt) = tt
-  memory_spent (GivenBack fault t) = λ (e : Memory ≡ GenerationSpent). absurd (clash e)
-    where
-      clash : Memory ≡ GenerationSpent → ⊥
-      clash e = cc
-
-  -- the last one as it is told to its pass
-  abbrev pub IsTold : List Settled → Settled → Settled → Type 0
-  IsTold front last told = ((front ≡ []) × (told ≡ last)) ⊎ (told ≡ with_memory last)
-
-  pub told_pass : (front : List Settled) (last told : Settled) → IsTold front last told → pass_in told ≡ pass_in last
-  told_pass front last told (inl same) = ap pass_in same.1
-  told_pass front last told (inr less) = ap pass_in less ∙ memory_pass last
-
-  pub told_due : (front : List Settled) (last told : Settled) (p : ℕ) → IsLastTurned front last → IsTold front last told → p ≡ pass_in told → IsDueTo opening p told
-  told_due front last told p h (inl same) is = subst (λ (s : Settled). IsDueTo opening p s) (sym same.1) (record { pass = ap pass_in (sym same.1) ∙ sym is; call = h.call; spent = h.spent same.0 })
-  told_due front last told p h (inr less) is = subst (λ (s : Settled). IsDueTo opening p s) (sym less) (record { pass = ap pass_in (sym less) ∙ sym is; call = memory_call last h.call; spent = memory_spent last })
 
 -- A turn.
 

@@ -9,7 +9,7 @@ use Rattle.history.specs.Handles.{Announced, AreInLine}
 use Rattle.shard.specs.declared.first_jobs.Job.{Job}
 use Rattle.shard.specs.Groups.{HaveStepsOr}
 use Rattle.shard.specs.Jobs.{tickets_of, AreInPassTurn}
-use Rattle.owners.specs.Calls.{AreOfPass, IsWaiting, AreWaiting, IsBatch}
+use Rattle.owners.specs.Calls.{AreOfPass, AreWaiting, IsBatch}
 
 -- Calls of a pass after others.
 
@@ -74,7 +74,3 @@ module _ (table : TableId) (about : About) (k : ℕ) where
     subst (AreWaiting table about k) (sym items) (waiting_more jobs batch waiting is.waiting),
     subst (AreInPassTurn [] []) (sym (ap tickets_of items ∙ tickets_append jobs batch)) (turn_batch p [] [] (tickets_of jobs) (tickets_of batch) turn is.pass is.line),
   )
-
-  -- a call that names no other
-  pub one_batch : (job : Job) → IsWaiting table about k job → job.ticket.before ≡ [] → IsBatch table about k job.ticket.ask.pass (job ∷ [])
-  one_batch job is alone = record { waiting = (is, tt); pass = (refl, tt); line = (alone, tt) }

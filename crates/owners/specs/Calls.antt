@@ -105,11 +105,6 @@ module _ {D : Type 0} (opening : Opening D) where
   IsSpentAsSaid (GivenBack fault t) = fault ≡ GenerationSpent
       → HasSpentLog opening (shard_in opening.about t.ask) t.ask.call
 
-  pub record IsDueTo (p : ℕ) (settled : Settled) : Type 0 where
-    pub pass : pass_in settled ≡ p
-    pub call : IsOfCall opening.table settled
-    pub spent : IsSpentAsSaid settled
-
   -- each came of a call of one of the opening's passes
   abbrev pub AreOfCalls : List Settled → Type 0
   AreOfCalls [] = Unit {0}

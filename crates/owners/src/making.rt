@@ -3,8 +3,7 @@ ghost use Rattle.std.specs.Prelude.{◌≡◌, ◌≤◌, [], vec_capacity};
 ghost use Rattle.std.specs.VecDeque.{deque_len};
 ghost use Rattle.owners.specs.Calls.{AreMade, with_memory};
 ghost use Rattle.owners.specs.Places.{IsOf};
-ghost use Rattle.owners.specs.Desks.{ArePlaces};
-ghost use Rattle.owners.specs.Desks.{IsDesk};
+ghost use Rattle.owners.specs.Desks.{max_desk, ArePlaces, IsDesk};
 ghost use Rattle.owners.specs.Openings.{home_of};
 
 use crate::desk::{Desk, put};
@@ -57,7 +56,7 @@ pub(crate) fn make_all<D: Disk + Drop>(
     requires home { home.now ≡ home_of origin.now }
     requires state { IsOf origin.now state.old.book.shard state.old }
     requires desk { IsDesk home.now state.old.book.shard desk.old }
-    requires few { deque_len desk.old.jobs ≤ 128 }
+    requires few { deque_len desk.old.jobs ≤ max_desk }
     ensures state { IsOf origin.now state.old.book.shard state.new }
     ensures desk { IsDesk home.now state.old.book.shard desk.new }
     ensures made { (desk.new.jobs.items ≡ []) × (deque_len desk.new.jobs ≡ 0) }

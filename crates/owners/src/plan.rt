@@ -18,8 +18,9 @@ use crate::places::{Home, Origin};
 use crate::rows::{Seed, make_rows};
 use crate::ways::Way;
 use disk::Disk;
-use history::Book;
+use history::{Book, Pass};
 use keyed::{Fits, Locks, queue};
+use shard::MAX_TURN;
 use std::alloc::{AllocError, Global};
 use std::collections::VecDeque;
 use std::snapshot::Snapshot;
@@ -64,8 +65,8 @@ pub struct Plan<D: Disk + Drop> {
     pub ends: VecDeque<Ends<D>>,
 }
 
-/// For how many calls a desk has room: those of one letter, and of all that came before it.
-const ROOM: usize = 128;
+/// How many calls a desk has at most: those of one letter, and of all that came before it.
+const MAX_DESK: usize = MAX_TURN + Pass::MAX_OPEN;
 
 impl<D: Disk + Drop> Origin<D> {
     // The opening with this first book and these logs.
@@ -115,8 +116,8 @@ fn make_desk(alloc: Global, home: &Home, shard: usize, passes: usize) -> Result<
     }
     Ok(Desk {
         letters,
-        jobs: VecDeque::with_capacity(alloc, ROOM)?,
-        settled: Vec::with_capacity(alloc, ROOM)?,
+        jobs: VecDeque::with_capacity(alloc, MAX_DESK)?,
+        settled: Vec::with_capacity(alloc, MAX_DESK)?,
     })
 }
 

@@ -5,7 +5,7 @@ ghost use Rattle.keyed.specs.Queues.{receives_as};
 ghost use Rattle.keyed.specs.declared.binding.Binding.TheVariants.{Bound};
 ghost use Rattle.shard.specs.Jobs.{max_turn};
 ghost use Rattle.owners.specs.Letters.{IsLetterTo, IsOrderFor};
-ghost use Rattle.owners.specs.Desks.{IsDesk};
+ghost use Rattle.owners.specs.Desks.{max_desk, IsDesk};
 
 use crate::desk::{Desk, move_jobs, put_at};
 use crate::letters::{Letter, Order, OrdersIn};
@@ -19,7 +19,7 @@ fn take_letter(home: &Home, shard: usize, desk: &mut Desk, mut letter: Letter)
     requires few { deque_len desk.old.jobs ≤ max_turn }
     requires letter { IsLetterTo home.now shard letter }
     ensures desk { IsDesk home.now shard desk.new }
-    ensures few { deque_len desk.new.jobs ≤ 128 }
+    ensures few { deque_len desk.new.jobs ≤ max_desk }
     ensures jobs { desk.new.jobs.items ≡ desk.old.jobs.items ++ letter.jobs.items }
 {
     let _ = home;
@@ -37,7 +37,7 @@ fn take_order(home: &Home, shard: usize, desk: &mut Desk, order: Order) -> bool
     requires few { deque_len desk.old.jobs ≤ max_turn }
     requires order { IsOrderFor home.now shard order }
     ensures desk { IsDesk home.now shard desk.new }
-    ensures few { deque_len desk.new.jobs ≤ 128 }
+    ensures few { deque_len desk.new.jobs ≤ max_desk }
 {
     match order {
         Order::Make(letter) => {
@@ -62,7 +62,7 @@ pub(crate) fn take_group<R: Wait>(
     requires idle { deque_len desk.old.jobs ≡ 0 }
     ensures orders { receives_as orders.new ≡ Bound home.now shard }
     ensures desk { IsDesk home.now shard desk.new }
-    ensures few { deque_len desk.new.jobs ≤ 128 }
+    ensures few { deque_len desk.new.jobs ≤ max_desk }
 {
     let Some(first) = orders.receive(rt) else {
         return true;

@@ -1,5 +1,5 @@
 -- What a group of calls means, and what is kept of it while its steps are added.
-use Rattle.std.proofs.Common.{◌≡◌, ◌⊎◌, ℕ, ◌≤◌, Bool, true, false, cond, ◌&&◌, nat_lt, List, [], ◌∷◌, ◌++◌, map, length, take, inl, inr, refl, sym, ap, ◌∙◌, subst, arith}
+use Rattle.std.proofs.Common.{◌≡◌, ◌⊎◌, ℕ, ◌≤◌, Bool, true, false, cond, ◌&&◌, nat_lt, List, [], ◌∷◌, ◌++◌, length, take, inl, inr, refl, sym, ap, ◌∙◌, subst, arith}
 use Rattle.std.proofs.lemmas.Bool.Decides.{nat_tests}
 use Rattle.std.proofs.Math.Seq.{take-length, take-nil}
 use Rattle.accept.specs.declared.call.Call.{Call}
@@ -19,8 +19,8 @@ use Rattle.history.specs.Histories.{HaveSteps, HasStep, steps_by, doubt_or, doub
 use Rattle.history.specs.Handles.{Booked, Announced, history_in, longer}
 use Rattle.history.proofs.Past.{marked_step, marked_mark, doubt_marked, doubt_unmarked, have_more}
 use Rattle.shard.specs.Keeping.{owner_in, KeepsHistory}
-use Rattle.shard.specs.Calls.{answer_in, after_in, reply_in, NeedsWrite, IsCommitted, IsMarkedInDoubt, MayLeave}
-use Rattle.shard.specs.Groups.{with_step, with_steps, dues, changing_of, HaveStepsOr, AreInTurn, marked_by, AreCommitted, AreMarkedInDoubt, MayLeaveAll}
+use Rattle.shard.specs.Calls.{answer_in, after_in, reply_in, NeedsWrite, IsMarkedInDoubt, MayLeave}
+use Rattle.shard.specs.Groups.{with_step, with_steps, changing_of, HaveStepsOr, AreInTurn, marked_by, AreMarkedInDoubt, MayLeaveAll}
 use Rattle.shard.proofs.Growing.{doubt_step, doubt_mark}
 use Rattle.shard.proofs.Replies.{due_written, due_marked, within_due}
 
@@ -109,18 +109,6 @@ marked_after book ask marked = marked_step book.items (step_of ask (reply_in boo
 still_after : (book : Booked) (ask : Ask) → is_marked book.items ≡ true → changes (reply_in book ask.call) ≡ false
 still_after book ask marked = ap changes (sym (due_marked book ask.call marked))
 
-pub failed_dues : (book : Booked) (asks : List Ask) → is_marked book.items ≡ true → dues book asks ≡ map (λ _. Unavailable) asks
-failed_dues book [] marked = refl
-failed_dues book (a ∷ asks) marked =
-    ap (λ (r : Reply). r ∷ dues (with_step book a) asks) (sym (due_marked book a.call marked))
-    ∙ ap (λ (l : List Reply). Unavailable ∷ l) (failed_dues (with_step book a) asks (marked_after book a marked))
-
-pub failed_none : (book : Booked) (asks : List Ask) → is_marked book.items ≡ true → changing_of book asks ≡ []
-failed_none book [] marked = refl
-failed_none book (a ∷ asks) marked =
-    ap (λ (b : Bool). cond b (a ∷ changing_of (with_step book a) asks) (changing_of (with_step book a) asks)) (still_after book a marked)
-    ∙ failed_none (with_step book a) asks (marked_after book a marked)
-
 pub failed_means : (book : Booked) (asks : List Ask) → IsWithin book.about.limits (history_in book) → is_marked book.items ≡ true → meaning (history_in (with_steps book asks)) ≡ meaning (history_in book)
 failed_means book [] within marked = refl
 failed_means book (a ∷ asks) within marked =
@@ -184,16 +172,6 @@ failed_allows now book asks within either a b x y =
 -- a group of one is a call
 one_reply : (r s : Reply) → r ∷ [] ≡ s ∷ [] → r ≡ s
 one_reply r s e = cc
-
-pub one_made : (old new : Pair) (book : Booked) (ticket : Announced) (behind : Booked) (reply : Reply)
-    → AreCommitted old new book (ticket.ask ∷ []) behind (reply ∷ []) → IsCommitted old new book ticket behind reply
-one_made old new book ticket behind reply made =
-    let due = one_reply reply (reply_in book ticket.ask.call) made.replied in
-    record {
-      no_failure = made.no_failure;
-      replied = due;
-      book = made.book ∙ ap (λ (r : Reply). longer book (Answered (step_of ticket.ask r))) (sym due);
-    }
 
 pub one_changing : (book : Booked) (ask : Ask) → NeedsWrite book ask.call → changing_of book (ask ∷ []) ≡ ask ∷ []
 one_changing book ask writes = ap (λ (b : Bool). cond b (ask ∷ []) []) (writes_changes book ask.call writes)

@@ -18,9 +18,3 @@ pub doubt_mark : (xs : List Item) (asks : List Ask) → is_marked xs ≡ false �
 doubt_mark [] asks e = refl
 doubt_mark (Answered t ∷ xs) asks e = doubt_mark xs asks e
 doubt_mark (Failed more ∷ xs) asks e = absurd (cc)
-
--- without a mark nothing is in doubt
-pub doubt_none : (xs : List Item) → is_marked xs ≡ false → doubt_of xs ≡ []
-doubt_none [] e = refl
-doubt_none (Answered t ∷ xs) e = doubt_none xs e
-doubt_none (Failed more ∷ xs) e = absurd (cc)

@@ -1,5 +1,5 @@
 -- What stands of jobs while those of a pass are given back, and while the first of them are refused.
-use Rattle.std.proofs.Common.{◌≡◌, ℕ, ◌+◌, ◌<◌, ◌≤◌, Bool, true, cond, List, [], ◌∷◌, ◌++◌, length, inl, refl, sym, ap, ◌∙◌, subst, append_assoc, append-nil, length-append, eq-eqb, ne_eqb, arith}
+use Rattle.std.proofs.Common.{◌≡◌, ℕ, ◌+◌, ◌<◌, ◌≤◌, Bool, true, cond, List, [], ◌∷◌, ◌++◌, length, inl, refl, sym, ap, ◌∙◌, subst, append_assoc, length-append, eq-eqb, ne_eqb, arith}
 use Rattle.accept.specs.declared.limits.Limits.{Limits}
 use Rattle.accept.specs.declared.call.Reply.{Reply}
 use Rattle.accept.specs.declared.call.Reply.TheVariants.{Unavailable}
@@ -61,19 +61,6 @@ pub record ArePartly (fault : ApplyFault) (p : ℕ) (start : List Job) (was : Li
   pub kept : stay ++ jobs_but p todo ≡ jobs_but p start
   pub given : now ++ given_back_of fault (tickets_of (jobs_by p todo)) ≡ was ++ given_back_of fault (tickets_of (jobs_by p start))
 
-pub partly_first : (fault : ApplyFault) (p : ℕ) (start : List Job) (was : List Settled) (count : ℕ) → length start ≡ count → ArePartly fault p start was count 0 start was
-partly_first fault p start was count long = record {
-  todo = start;
-  stay = [];
-  left = omega arith;
-  jobs_are = sym (append-nil start);
-  kept = refl;
-  given = refl;
-}
-
-pub partly_some : (fault : ApplyFault) (p : ℕ) (start : List Job) (was : List Settled) (count n : ℕ) (jobs : List Job) (now : List Settled) → ArePartly fault p start was count n jobs now → n < count → 0 < length jobs
-partly_some fault p start was count n jobs now h more = omega (arith, h.left, ap length h.jobs_are, length-append h.todo h.stay)
-
 mine_next : (fault : ApplyFault) (p : ℕ) (start : List Job) (was : List Settled) (count n : ℕ) (todo stay jobs rest : List Job) (j : Job) (now pushed : List Settled)
     → length todo + n ≡ count → jobs ≡ todo ++ stay → stay ++ jobs_but p todo ≡ jobs_but p start
     → now ++ given_back_of fault (tickets_of (jobs_by p todo)) ≡ was ++ given_back_of fault (tickets_of (jobs_by p start))
@@ -127,20 +114,6 @@ pub partly_other : (fault : ApplyFault) (p : ℕ) (start : List Job) (was : List
     → n < count → jobs ≡ j ∷ rest → ¬ (p ≡ j.ticket.ask.pass) → pushed ≡ rest ++ j ∷ [] → ArePartly fault p start was count (n + 1) pushed now
 partly_other fault p start was count n jobs rest pushed j now h more popped other pushed_is =
     other_next fault p start was count n h.todo h.stay jobs rest pushed j now h.left h.jobs_are h.kept h.given more popped other pushed_is
-
-all_done : (fault : ApplyFault) (p : ℕ) (start : List Job) (was : List Settled) (todo stay jobs : List Job) (now : List Settled)
-    → length todo ≡ 0 → jobs ≡ todo ++ stay → stay ++ jobs_but p todo ≡ jobs_but p start
-    → now ++ given_back_of fault (tickets_of (jobs_by p todo)) ≡ was ++ given_back_of fault (tickets_of (jobs_by p start))
-    → (jobs ≡ jobs_but p start) × (now ≡ was ++ given_back_of fault (tickets_of (jobs_by p start)))
-all_done fault p start was [] stay jobs now none is kept given = (is ∙ (sym (append-nil stay) ∙ kept), sym (append-nil now) ∙ given)
-all_done fault p start was (t ∷ todo) stay jobs now none is kept given = absurd (omega arith)
-
--- all were looked at
-pub partly_all : (fault : ApplyFault) (p : ℕ) (start : List Job) (was : List Settled) (count n : ℕ) (jobs : List Job) (now : List Settled) → ArePartly fault p start was count n jobs now → count ≤ n
-    → (jobs ≡ jobs_but p start) × (now ≡ was ++ given_back_of fault (tickets_of (jobs_by p start)))
-partly_all fault p start was count n jobs now h all =
-    let none : length h.todo ≡ 0 = omega (arith, h.left, all) in
-    all_done fault p start was h.todo h.stay jobs now none h.jobs_are h.kept h.given
 
 -- The first jobs are refused.
 
@@ -196,18 +169,6 @@ pub record IsRefusing {D : Type 0} (sight : D → Sight) (follows : D → Type 0
   pub ready : AreReady p.book jobs
 
 module _ {D : Type 0} (sight : D → Sight) (follows : D → Type 0) (start : Parts D) (all : List Job) (was : List Settled) where
-  pub refusing_first : ArePartsOf sight follows start → start.is_marked ≡ true → AreReady start.book all → IsRefusing sight follows start all was start all was 0
-  refusing_first parts marked ready = record {
-    front = [];
-    count = refl;
-    split = refl;
-    parts_are = refl;
-    settled_are = sym (append-nil was);
-    parts = parts;
-    marked = marked;
-    ready = ready;
-  }
-
   -- the next of them may be refused
   pub refusing_ready : (p : Parts D) (jobs rest : List Job) (now : List Settled) (n : ℕ) (j : Job) → IsRefusing sight follows start all was p jobs now n → jobs ≡ j ∷ rest → AreReady p.book (j ∷ rest)
   refusing_ready p jobs rest now n j h popped = subst (λ (l : List Job). AreReady p.book l) popped h.ready

@@ -1,5 +1,5 @@
 -- What stands of jobs when others before them are done, and when those of a pass go.
-use Rattle.std.proofs.Common.{◌≡◌, ◌⊎◌, ℕ, suc, ◌+◌, Bool, true, false, cond, eqb, List, [], ◌∷◌, ◌++◌, length, inl, inr, refl, sym, ap, ◌∙◌, subst, append_assoc, append-nil, eq-eqb, ne_eqb, eqb-true, arith}
+use Rattle.std.proofs.Common.{◌≡◌, ◌⊎◌, ℕ, ◌+◌, Bool, true, false, cond, eqb, List, [], ◌∷◌, ◌++◌, length, inl, inr, refl, sym, ap, ◌∙◌, subst, append_assoc, append-nil, eq-eqb, ne_eqb, eqb-true, arith}
 use Rattle.accept.specs.declared.call.Reply.{Reply}
 use Rattle.accept.specs.declared.call.Reply.TheVariants.{Unavailable}
 use Rattle.accept.specs.Calls.{AreNumbers}
@@ -8,12 +8,12 @@ use Rattle.accept.specs.declared.history.Item.{Item}
 use Rattle.accept.specs.declared.history.Item.TheVariants.{Answered, Failed}
 use Rattle.disk.specs.Sight.{Sight}
 use Rattle.history.specs.declared.views.About.{About}
-use Rattle.history.specs.Histories.{HaveSteps, HasStep, IsAmong, of_pass, steps_by, reply_of, shard_in, step_of}
+use Rattle.history.specs.Histories.{HasStep, IsAmong, of_pass, steps_by, reply_of, shard_in, step_of}
 use Rattle.history.specs.Handles.{Booked, Announced, Received, AreOf, asks_of, longer}
-use Rattle.history.proofs.Past.{made_now, have_more}
+use Rattle.history.proofs.Past.{made_now}
 use Rattle.shard.specs.declared.first_jobs.Job.{Job}
 use Rattle.shard.specs.Groups.{items_with, with_steps, changing_of, marked_by, HaveStepsOr, AreInTurn}
-use Rattle.shard.specs.Jobs.{tickets_of, jobs_by, jobs_but, AreLawful, AreInPassTurn}
+use Rattle.shard.specs.Jobs.{tickets_of, jobs_but, AreLawful, AreInPassTurn}
 use Rattle.shard.specs.Parts.{IsApplied}
 use Rattle.shard.specs.Shards.{Sharded}
 use Rattle.shard.specs.Turns.{Span, AreReady, AreStepped}
@@ -85,19 +85,6 @@ pass_turn_steps about k items (a ∷ asks) ts h =
     let s = step_of a (reply_of about k items a.call) in
     pass_turn_steps about k (items ++ Answered s ∷ []) asks ts (pass_turn_made items (Answered s ∷ []) a asks ts (made_now s items) h)
 
-steps_kept : (about : About) (k : ℕ) (items : List Item) (asks : List Ask) (a : Ask) → HasStep a (steps_by a.pass items) → HasStep a (steps_by a.pass (items_with about k items asks))
-steps_kept about k items [] a h = h
-steps_kept about k items (b ∷ asks) a h =
-    let s = step_of b (reply_of about k items b.call) in
-    steps_kept about k (items ++ Answered s ∷ []) asks a (have_more (a ∷ []) items (Answered s ∷ []) (h, tt)).0
-
--- each call has its step after them all
-pub steps_made : (about : About) (k : ℕ) (items : List Item) (asks : List Ask) → HaveSteps asks (items_with about k items asks)
-steps_made about k items [] = tt
-steps_made about k items (a ∷ asks) =
-    let s = step_of a (reply_of about k items a.call) in
-    (steps_kept about k (items ++ Answered s ∷ []) asks a (made_now s items), steps_made about k (items ++ Answered s ∷ []) asks)
-
 -- The jobs of a pass go.
 
 -- the calls of other passes
@@ -143,9 +130,6 @@ pub but_first : (j : Job) (jobs : List Job) → jobs_but j.ticket.ask.pass (j �
 but_first j jobs =
     let p = j.ticket.ask.pass in
     ap (λ (b : Bool). cond b (jobs_but p jobs) (j ∷ jobs_but p jobs)) (eq-eqb p p refl)
-
-pub pass_turn_first : (items : List Item) (j : Job) (jobs : List Job) → AreInPassTurn items [] (j.ticket ∷ tickets_of jobs) → AreInPassTurn items [] (tickets_of (jobs_but j.ticket.ask.pass jobs))
-pass_turn_first items j jobs h = subst (λ (l : List Job). AreInPassTurn items [] (tickets_of l)) (but_first j jobs) (pass_turn_but items j.ticket.ask.pass [] (j ∷ jobs) h)
 
 lawful_cond : (about : About) (k : ℕ) (b : Bool) (j : Job) (rest : List Job) → (shard_in about j.ticket.ask ≡ k) × (j.ticket.ask.call ≡ j.call) × AreNumbers j.call → AreLawful about k rest
     → AreLawful about k (cond b rest (j ∷ rest))
@@ -252,14 +236,6 @@ ready_but book p jobs ready = record {
 }
 
 -- Numbers of jobs.
-
-length_cond : (b : Bool) (j : Job) (these those : List Job) (n : ℕ) → length these + length those ≡ n → length (cond b (j ∷ these) these) + length (cond b those (j ∷ those)) ≡ suc n
-length_cond true j these those n h = omega arith
-length_cond false j these those n h = omega arith
-
-pub length_by_but : (p : ℕ) (jobs : List Job) → length (jobs_by p jobs) + length (jobs_but p jobs) ≡ length jobs
-length_by_but p [] = refl
-length_by_but p (j ∷ jobs) = length_cond (eqb p j.ticket.ask.pass) j (jobs_by p jobs) (jobs_but p jobs) (length jobs) (length_by_but p jobs)
 
 pub length_tickets : (jobs : List Job) → length (tickets_of jobs) ≡ length jobs
 length_tickets [] = refl

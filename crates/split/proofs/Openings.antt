@@ -1,5 +1,5 @@
 -- Old shards that are read, one after another.
-use Rattle.std.proofs.Common.{◌≡◌, ℕ, ◌+◌, ◌^◌, ◌<◌, ◌≤◌, List, [], ◌∷◌, ◌++◌, length, set, refl, sym, ap, ◌∙◌, subst, arith}
+use Rattle.std.proofs.Common.{◌≡◌, ℕ, ◌+◌, ◌<◌, List, [], ◌∷◌, ◌++◌, length, set, refl, sym, ap, ◌∙◌, subst, arith}
 use Rattle.std.specs.FinMap as finite
 use Rattle.std.proofs.lemmas.List.{get_or_append_left, get_or_push}
 use Rattle.accept.specs.Rooms.{Streams}
@@ -7,10 +7,10 @@ use Rattle.disk.specs.Sight.{Sight}
 use Rattle.segment.specs.Segments.{owner_of}
 use Rattle.wal.specs.declared.fault.OpenFault.{OpenFault}
 use Rattle.split.specs.declared.fault.SplitFault.TheVariants.{Old}
-use Rattle.split.specs.Maps.{map_at, AreFit, HaveRoomWithin}
+use Rattle.split.specs.Maps.{map_at}
 use Rattle.split.specs.Splits.{pair_at, EachPair, IsAtRest, IsOldShardRead, IsOldShardRefused, IsCause}
 use Rattle.split.specs.Stages.{AreDone, IsOldShardOpened}
-use Rattle.split.proofs.Pairs.{KnowsNow, untouched, more_done, all_done, stopped, before_stop, at_stop}
+use Rattle.split.proofs.Pairs.{KnowsNow, untouched, more_done, stopped, before_stop, at_stop}
 
 module _ {D : Type 0} (sight : D → Sight) (follows : D → Type 0) where
   -- the first n shards were read, and these are their streams
@@ -41,18 +41,3 @@ module _ {D : Type 0} (sight : D → Sight) (follows : D → Type 0) where
     );
     untouched = refl;
   }
-
-  pub all_rest : (count n : ℕ) (maps : List Streams) (xs ys : List (List D)) → AreRead count maps n xs ys → length xs ≤ n → EachPair (λ _. IsAtRest sight follows) xs ys
-  all_rest count n maps xs ys all few = all_done (λ s given back. IsOldShardOpened sight follows (owner_of s count) given back (map_at maps s)) (λ _. IsAtRest sight follows) n xs ys all few (λ s given back lt opened. opened.rests)
-
-  pub all_read : (count n : ℕ) (maps : List Streams) (xs ys : List (List D)) → AreRead count maps n xs ys → length xs ≤ n → EachPair (λ s given back. IsOldShardRead sight follows (owner_of s count) given back (map_at maps s)) xs ys
-  all_read count n maps xs ys all few = all_done (λ s given back. IsOldShardOpened sight follows (owner_of s count) given back (map_at maps s)) (λ s given back. IsOldShardRead sight follows (owner_of s count) given back (map_at maps s)) n xs ys all few (λ s given back lt opened. opened.read)
-
-  pub all_fit : (count n : ℕ) (maps : List Streams) (xs ys : List (List D)) → AreRead count maps n xs ys → count ≤ n → AreFit count maps
-  all_fit count n maps xs ys all few s lt = (all.done s (omega (arith, lt, few))).fit
-
-  pub all_within : (count n : ℕ) (maps : List Streams) (xs ys : List (List D)) → AreRead count maps n xs ys → count ≤ n → HaveRoomWithin (2 ^ 31 + 27) count maps
-  all_within count n maps xs ys all few s lt = (all.done s (omega (arith, lt, few))).small
-
-  pub at_first : KnowsNow sight follows → (xs : List (List D)) → EachPair (λ _. IsAtRest sight follows) xs xs
-  at_first now xs s lt = untouched sight follows now (pair_at xs s)

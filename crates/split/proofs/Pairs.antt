@@ -1,6 +1,6 @@
 -- Pairs of slots, one after another.
-use Rattle.std.proofs.Common.{◌≡◌, ◌≢◌, ℕ, ◌+◌, ◌<◌, ◌≤◌, List, [], ◌∷◌, length, set, refl, sym, ap, ◌∙◌, subst, ⊎_elim, arith}
-use Rattle.std.proofs.lemmas.List.{length-set, get_or-set_same, get_or-set_other}
+use Rattle.std.proofs.Common.{◌≡◌, ◌≢◌, ℕ, ◌+◌, ◌<◌, ◌≤◌, List, [], ◌∷◌, length, set, sym, ap, ◌∙◌, subst, ⊎_elim, arith}
+use Rattle.std.proofs.lemmas.List.{length-set, get_or-set_other}
 use Rattle.std.proofs.lemmas.Bool.{cases_eq, cases_lt}
 use Rattle.disk.specs.Sight.{Sight}
 use Rattle.wal.specs.Opening.{slots_of, absent, AllFollow, PairRests}
@@ -31,9 +31,6 @@ module _ {D : Type 0} where
   at_other : (xs ys : List (List D)) (n s : ℕ) (x : List D) → ys ≡ set xs n x → s ≢ n → pair_at ys s ≡ pair_at xs s
   at_other xs ys n s x is not = ap (λ (l : List (List D)). pair_at l s) is ∙ get_or-set_other xs n s x [] not
 
-  pub none_done : (P : ℕ → List D → List D → Type 0) (xs : List (List D)) → AreDone P 0 xs xs
-  none_done P xs = record { len = refl; done = λ s lt. absurd (omega (arith, lt)); same = λ s le. refl }
-
   -- one pair more
   pub more_done : (P Q : ℕ → List D → List D → Type 0) (n : ℕ) (xs ys zs : List (List D)) (x : List D) → AreDone P n xs ys → zs ≡ set ys n x → ((s : ℕ) (given back : List D) → s < n → P s given back → Q s given back) → Q n (pair_at ys n) (pair_at zs n) → AreDone Q (n + 1) xs zs
   more_done P Q n xs ys zs x so_far is grows one = record {
@@ -44,9 +41,6 @@ module _ {D : Type 0} where
         (cases_eq s n);
     same = λ s le. at_other ys zs n s x is (λ (e : s ≡ n). omega (arith, le, e)) ∙ so_far.same s (omega (arith, le));
   }
-
-  pub all_done : (P Q : ℕ → List D → List D → Type 0) (n : ℕ) (xs ys : List (List D)) → AreDone P n xs ys → length xs ≤ n → ((s : ℕ) (given back : List D) → s < n → P s given back → Q s given back) → EachPair Q xs ys
-  all_done P Q n xs ys all few weaker s lt = weaker s (pair_at xs s) (pair_at ys s) (omega (arith, lt, few)) (all.done s (omega (arith, lt, few)))
 
   -- at this pair it stops
   pub stopped : (P R : ℕ → List D → List D → Type 0) (n : ℕ) (xs ys zs : List (List D)) (x : List D) → AreDone P n xs ys → zs ≡ set ys n x → ((s : ℕ) (given back : List D) → P s given back → R s given back) → R n (pair_at ys n) (pair_at zs n) → ((s : ℕ) (given : List D) → R s given given) → EachPair R xs zs
@@ -70,14 +64,3 @@ module _ {D : Type 0} where
   -- and this one
   pub at_stop : (P : ℕ → List D → List D → Type 0) (Q : List D → List D → Type 0) (n : ℕ) (xs ys : List (List D)) (back : List D) → AreDone P n xs ys → Q (pair_at ys n) back → Q (pair_at xs n) back
   at_stop P Q n xs ys back so_far one = subst (λ given. Q given back) (so_far.same n (omega arith)) one
-
-  -- ---- a pair in its place
-
-  now_there : (xs ys : List (List D)) (n : ℕ) (back : List D) → n < length xs → ys ≡ set xs n back → pair_at ys n ≡ back
-  now_there xs ys n back lt is = ap (λ (l : List (List D)). pair_at l n) is ∙ get_or-set_same xs n back [] lt
-
-  pub in_place : (R : List D → List D → Type 0) (xs ys : List (List D)) (n : ℕ) (given back : List D) → n < length xs → given ≡ pair_at xs n → ys ≡ set xs n back → R given back → R (pair_at xs n) (pair_at ys n)
-  in_place R xs ys n given back lt there is fact = subst (λ b. R (pair_at xs n) b) (sym (now_there xs ys n back lt is)) (subst (λ a. R a back) there fact)
-
-  pub set_in_place : (xs ys : List (List D)) (n : ℕ) (back : List D) → n < length xs → ys ≡ set xs n back → ys ≡ set xs n (pair_at ys n)
-  set_in_place xs ys n back lt is = is ∙ ap (set xs n) (sym (now_there xs ys n back lt is))

@@ -8,8 +8,8 @@ use Rattle.wal.specs.Opening.{slots_of, AllFollow}
 use Rattle.split.specs.declared.fault.SplitFault.{SplitFault}
 use Rattle.split.specs.declared.fault.SplitFault.TheVariants.{NotEmpty, NoRoom, Device, Memory}
 use Rattle.split.specs.Maps.{map_at, IsSplit, AreFit, HaveRoomWithin, IsFirstAbove}
-use Rattle.split.specs.Splits.{pair_at, EachPair, IsEmptyPair, HasNotFailed, HaveFollowed, IsAtRest, IsOldShardRead, Division, AreSplit, AreOldRead, IsCause}
-use Rattle.split.specs.Stages.{AreDone, IsTested, IsShardBegun, IsStartFault, found_more, broken, short}
+use Rattle.split.specs.Splits.{pair_at, EachPair, IsEmptyPair, HasNotFailed, HaveFollowed, IsOldShardRead, Division, AreSplit, AreOldRead, IsCause}
+use Rattle.split.specs.Stages.{AreDone, IsTested, IsShardBegun, IsStartFault, found_more, broken, short, IsStartedInPart}
 use Rattle.split.proofs.Dealt.{apart_by_fit}
 use Rattle.split.proofs.Pairs.{stopped}
 use Rattle.split.proofs.Logs.{none_failed, failed_then}
@@ -32,12 +32,6 @@ module _ {D : Type 0} (sight : D → Sight) (follows : D → Type 0) where
   -- what the slots of old shards hold, by the number of them
   pub old_read : (n : ℕ) (olds : List Streams) (old old_back : List (List D)) → n ≡ length old → EachPair (λ s given back. IsOldShardRead sight follows (owner_of s n) given back (map_at olds s)) old old_back → AreOldRead sight follows old old_back
   old_read n olds old old_back long read s lt = (map_at olds s, subst (λ (k : ℕ). IsOldShardRead sight follows (owner_of s k) (pair_at old s) (pair_at old_back s) (map_at olds s)) long (read s lt))
-
-  pub rested_before : (new mid : List (List D)) → EachPair (λ _. IsAtRest sight follows) new mid → EachPair (λ _. HaveFollowed sight follows) new mid
-  rested_before new mid rests s lt = (rests s lt).before
-
-  pub begun_before : (new mid back : List (List D)) → length mid ≡ length new → EachPair (λ _. IsAtRest sight follows) new mid → EachPair (λ _. HaveFollowed sight follows) mid back → EachPair (λ _. HaveFollowed sight follows) new back
-  begun_before new mid back len rests before s lt all = (rests s lt).before (before s (omega (arith, lt, len)) all)
 
   pub no_room : (n cap s : ℕ) (olds news : List Streams) (old old_back new mid : List (List D)) → n ≡ length old → length news ≡ length new → AreDivided n (length new) olds news old old_back → EachPair (λ _. IsTested sight follows) new mid → IsFirstAbove cap s news
       → IsCause sight follows (NoRoom s) cap old old_back new mid
@@ -99,9 +93,9 @@ module _ {D : Type 0} (sight : D → Sight) (follows : D → Type 0) where
   start_cause s cap fault old old_back new mid back lt len read tested before (short is never) others well = subst (λ (e : SplitFault). IsCause sight follows e cap old old_back new back) (sym is) ((λ i under. (read i under).1.not_failed), λ i under. none_failed (slots_of sight (pair_at new i)) (slots_of sight (pair_at mid i)) (slots_of sight (pair_at back i)) (tested i under).not_failed (well is i (omega (arith, under, len))))
 
   pub cause_if_err : (r : Result (Unit {0}) SplitFault) (m cap : ℕ) (old old_back new mid back : List (List D)) → m ≡ length new → length mid ≡ length new → AreOldRead sight follows old old_back → EachPair (λ _. IsTested sight follows) new mid → EachPair (λ _. HaveFollowed sight follows) mid back
-      → IfErr r (λ fault. (s : ℕ) × (s < m) × IsStartFault sight follows s (pair_at mid s) (pair_at back s) fault × EachPair (λ i given made. i ≢ s → HasNotFailed sight follows given made) mid back) → IfErr r (λ fault. fault ≡ Memory → EachPair (λ _. HasNotFailed sight follows) mid back) → IfErr r (λ fault. IsCause sight follows fault cap old old_back new back)
-  cause_if_err (Ok x) m cap old old_back new mid back many len read tested before h well = tt
-  cause_if_err (Err e) m cap old old_back new mid back many len read tested before h well = start_cause h.0 cap e old old_back new mid back (omega (arith, h.1, many)) len read tested before h.2 h.3 well
+      → IfErr r (λ fault. IsStartedInPart sight follows m mid back fault) → IfErr r (λ fault. IsCause sight follows fault cap old old_back new back)
+  cause_if_err (Ok x) m cap old old_back new mid back many len read tested before h = tt
+  cause_if_err (Err e) m cap old old_back new mid back many len read tested before h = start_cause h.shard cap e old old_back new mid back (omega (arith, h.within, many)) len read tested before h.why h.others h.memory
 
   -- want of memory, and nothing else
   unfailed : (n : ℕ) (given back : List D) (fault : SplitFault) → IsStartFault sight follows n given back fault → fault ≡ Memory → HasNotFailed sight follows given back

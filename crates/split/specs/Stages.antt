@@ -1,16 +1,17 @@
 -- What the stages of a split make of the slots, pair by pair.
-use Rattle.std.specs.Prelude.{◌≡◌, ◌≤◌, ◌<◌, ◌+◌, ◌^◌, ℕ, List, length}
+use Rattle.std.specs.Prelude.{◌≡◌, ◌≢◌, ◌≤◌, ◌<◌, ◌+◌, ◌^◌, ℕ, List, length}
 use Rattle.accept.specs.Rooms.{Streams, room}
 use Rattle.disk.specs.Sight.{Sight}
 use Rattle.segment.specs.declared.owner.Owner.{Owner}
+use Rattle.segment.specs.Versions.{latest}
 use Rattle.segment.specs.Fitting.{FitStreams}
 use Rattle.wal.specs.declared.log.Wal.{Wal}
 use Rattle.wal.specs.Moments.{HasFailed, HasNoFailure}
-use Rattle.wal.specs.Logs.{slots}
+use Rattle.wal.specs.Logs.{Follow, slots, IsOnDisk}
 use Rattle.wal.specs.Opening.{slots_of, AllFollow}
 use Rattle.split.specs.declared.fault.SplitFault.{SplitFault}
 use Rattle.split.specs.declared.fault.SplitFault.TheVariants.{NotEmpty, Device, Memory}
-use Rattle.split.specs.Splits.{pair_at, KeepsStreams, IsFirstSegment, IsEmptyPair, IsFirstFull, HaveFollowed, IsAtRest, IsOldShardRead}
+use Rattle.split.specs.Splits.{pair_at, EachPair, HasNotFailed, KeepsStreams, IsFirstSegment, IsEmptyPair, IsFirstFull, HaveFollowed, IsAtRest, IsOldShardRead}
 
 -- of the first n pairs this holds, and the others are as they were
 pub record AreDone {D : Type 0} (P : ℕ → List D → List D → Type 0) (n : ℕ)
@@ -58,6 +59,25 @@ module _ {D : Type 0} (sight : D → Sight) (follows : D → Type 0) where
         → IsStartFault s given back fault
     short : fault ≡ Memory → HasNoFailure (slots_of sight given) (slots_of sight back)
         → IsStartFault s given back fault
+
+  -- one of these shards did not start, and no device of another failed. For want of memory none failed at all
+  pub record IsStartedInPart (count : ℕ) (givens backs : List (List D))
+      (fault : SplitFault) : Type 0 where
+    pub shard : ℕ
+    pub within : shard < count
+    pub why : IsStartFault shard (pair_at givens shard) (pair_at backs shard) fault
+    pub others : EachPair (λ s given back. s ≢ shard → HasNotFailed sight follows given back)
+        givens backs
+    pub memory : fault ≡ Memory → EachPair (λ _. HasNotFailed sight follows) givens backs
+
+-- a log that had no generation has the first, of the latest version, with these streams
+pub record HasBegun {D : Type 0} (sight : D → Sight) (follows : D → Type 0) (old new : Wal D)
+    (m : Streams) : Type 0 where
+  pub settled : Follow follows new → (n : Streams) → IsOnDisk sight old n
+      → IsOnDisk sight new m
+  pub generation : new.generation ≡ 1
+  pub version : new.version ≡ latest
+  pub not_failed : HasNoFailure (slots sight old) (slots sight new)
 
 -- why a log has no first generation of these streams
 pub data IsBeginFault {D : Type 0} (sight : D → Sight) (old new : Wal D)

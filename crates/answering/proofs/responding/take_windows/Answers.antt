@@ -1,4 +1,4 @@
-use Rattle.std.proofs.Common.{◌≡◌, ◌≤◌, ◌+◌, ◌∙◌, [], length, refl, sym, ap, subst, arith}
+use Rattle.std.proofs.Common.{rules, ◌≡◌, ◌≤◌, ◌+◌, ◌∙◌, [], length, refl, sym, ap, subst, arith}
 use Rattle.std.proofs.lemmas.Grind.{common_steps}
 use Rattle.std.specs.VecDeque.{deque_len}
 use Rattle.answering.specs.Windows.{AreStreams, StreamsAreTaken, called}
@@ -17,22 +17,20 @@ loop-rest-init g c = record {
   most = omega arith;
 }
 
-pub take-requires-clause-enough : goal.take-requires-clause-enough
-take-requires-clause-enough g c =
-    let window = c.split_at.result.0.now in
-    let more = c.split_at.result.1.now in
-    let same : called c.loop-rest.rest.now ≡ called window + called more = ap called c.split_at.ensures.by_index.0 ∙ called_append window more in
-    omega (arith, same, c.loop-rest.invariant.enough)
-
-pub take-requires-clause-room : goal.take-requires-clause-room
-take-requires-clause-room g c =
+pub take-requires-clause-next : goal.take-requires-clause-next
+take-requires-clause-next g c =
     let inv = c.loop-rest.invariant in
     let window = c.split_at.result.0.now in
     let more = c.split_at.result.1.now in
     let same : called c.loop-rest.rest.now ≡ called window + called more = ap called c.split_at.ensures.by_index.0 ∙ called_append window more in
     let most = called_most window in
     let short : length window ≤ 64 = omega (arith, c.split_at.ensures.front_len, c.min.ensures) in
-    (omega (arith, same, most, short, inv.enough, inv.most, inv.size, c.requires.size), short)
+    record {
+      enough = omega (arith, same, inv.enough);
+      room = omega (arith, same, most, short, inv.enough, inv.most, inv.size, c.requires.size);
+      few = short;
+      counted = search rules;
+    }
 
 pub loop-rest-preserved : goal.loop-rest-preserved
 loop-rest-preserved g c =
@@ -44,15 +42,15 @@ loop-rest-preserved g c =
     let t = c.in_ok-take.ensures in
     record {
       pass = c.take.ensures.pass;
-      fresh = t.fresh;
+      fresh = t.over.fresh;
       numbers = c.take.ensures.numbers;
-      size = c.take.ensures.size ∙ inv.size;
+      size = c.take.ensures.left.1 ∙ inv.size;
       taken = λ tenant all are.
           t.goes c.args.pass.now tenant all more
           (subst (λ l. StreamsAreTaken (g.S.Calls.gives c.args.service.now) tenant c.args.pass.now all c.loop-rest.pass l c.loop-rest.windows.left.items c.loop-rest.lines) split (inv.taken tenant all are));
-      fits = omega (arith, inv.fits, t.count, c.split_at.ensures.back_len, c.split_at.ensures.front_len);
-      enough = omega (arith, same, inv.enough, c.take.ensures.left);
-      most = omega (arith, inv.most, c.take.ensures.left);
+      fits = omega (arith, inv.fits, t.over.count, c.split_at.ensures.back_len, c.split_at.ensures.front_len);
+      enough = omega (arith, same, inv.enough, c.take.ensures.left.0);
+      most = omega (arith, inv.most, c.take.ensures.left.0);
     }
 
 pub returns-clause-goes : goal.returns-clause-goes

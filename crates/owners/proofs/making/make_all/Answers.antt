@@ -9,6 +9,7 @@ use Rattle.owners.proofs.Turning.{waiting_open, waiting_ready, turn_of, turn_ope
 use Rattle.owners.specs.Homes.{Homed}
 use Rattle.owners.specs.Openings.{home_of}
 use Rattle.owners.specs.Calls.{AreMade}
+use Rattle.owners.specs.Desks.{max_desk}
 use Rattle.owners.proofs.Desking.{turned_made}
 use Rattle.owners.proofs.making.make_all.Goals as goal
 
@@ -94,6 +95,6 @@ loop-alloc-preserved g c =
       settled = out.none;
       places = out.places;
       fits = omega arith;
-      room = subst (λ n. 128 ≤ n) (sym caps.0) inv.room;
-      room_settled = subst (λ n. 128 ≤ n) (sym (same ∙ caps.1)) inv.room_settled;
+      room = subst (λ n. max_desk ≤ n) (sym caps.0) inv.room;
+      room_settled = subst (λ n. max_desk ≤ n) (sym (same ∙ caps.1)) inv.room_settled;
     }

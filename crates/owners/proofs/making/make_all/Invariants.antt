@@ -5,7 +5,7 @@ use Rattle.shard.specs.Jobs.{tickets_of}
 use Rattle.shard.specs.Turns.{AreReady}
 use Rattle.owners.specs.Calls.{AreSureTickets}
 use Rattle.owners.specs.Places.{IsOf}
-use Rattle.owners.specs.Desks.{ArePlaces}
+use Rattle.owners.specs.Desks.{max_desk, ArePlaces}
 use Rattle.owners.proofs.making.make_all.Given as goal
 
 abbrev pub invariant-loop-alloc : goal.invariant-loop-alloc
@@ -16,8 +16,8 @@ invariant-loop-alloc g l = record {
   settled : l.desk.settled.items ≡ [];
   places : ArePlaces l.home l.desk.letters.items;
   fits : deque_len l.desk.jobs ≤ vec_capacity l.desk.settled;
-  room : 128 ≤ deque_capacity l.desk.jobs;
-  room_settled : 128 ≤ vec_capacity l.desk.settled;
+  room : max_desk ≤ deque_capacity l.desk.jobs;
+  room_settled : max_desk ≤ vec_capacity l.desk.settled;
 }
 
 abbrev pub decreases-loop-alloc : goal.decreases-loop-alloc

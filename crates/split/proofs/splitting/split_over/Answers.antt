@@ -59,4 +59,4 @@ returns-clause-cause g c =
     let new = c.args.new.now in
     let mid = c.test_all.new.new in
     cause_if_err g.D.Disk.sight g.D.Disk.follows c.start_all.result (vec_len mid) c.args.cap c.args.old.now.items c.read_all.new.old.items new.items mid.items c.start_all.new.new.items
-    (c.test_all.ensures.len ∙ new.ok.0) (sym mid.ok.0 ∙ (c.test_all.ensures.len ∙ new.ok.0)) (old_read g.D.Disk.sight g.D.Disk.follows (vec_len c.args.old.now) c.in_ok-olds.olds.items c.args.old.now.items c.read_all.new.old.items c.args.old.now.ok.0 c.in_ok-olds.ensures.read) c.in_ok-test_all.ensures.tested c.start_all.ensures.before c.start_all.ensures.fault c.start_all.ensures.not_failed
+    (c.test_all.ensures.len ∙ new.ok.0) (sym mid.ok.0 ∙ (c.test_all.ensures.len ∙ new.ok.0)) (old_read g.D.Disk.sight g.D.Disk.follows (vec_len c.args.old.now) c.in_ok-olds.olds.items c.args.old.now.items c.read_all.new.old.items c.args.old.now.ok.0 c.in_ok-olds.ensures.read) c.in_ok-test_all.ensures.tested c.start_all.ensures.before c.start_all.ensures.fault

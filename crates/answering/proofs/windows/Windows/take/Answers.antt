@@ -23,4 +23,4 @@ returns-clause-goes g c h tenant all more taken =
     let count : length filled.calls.items ≡ called c.args.places.now = omega (arith, filled.calls.ok.0, c.fill.ensures.count) in
     let due : called c.args.places.now ≡ length outcomes = omega (arith, length-map c.call_all.new.outcomes.items g.S.Calls.told, c.call_all.new.outcomes.ok.0, c.call_all.ensures.lens.1, c.fill.ensures.count) in
     subst (λ l. WindowIsTaken gives tenant h all c.note.result c.call_all.new.pass more l.items c.note.new.lines) (sym c.note.ensures.left)
-    (window_taken gives tenant h all c.args.pass.now c.call_all.new.pass c.args.places.now more c.args.self.now.left.items filled.calls.items filled.left.items outcomes c.args.lines.now c.note.new.lines taken c.fill.ensures.split count due c.requires.room.1 c.call_all.ensures.given c.note.result c.note.ensures.noted)
+    (window_taken gives tenant h all c.args.pass.now c.call_all.new.pass c.args.places.now more c.args.self.now.left.items filled.calls.items filled.left.items outcomes c.args.lines.now c.note.new.lines taken c.fill.ensures.split count due c.requires.next.few c.call_all.ensures.given c.note.result c.note.ensures.noted)

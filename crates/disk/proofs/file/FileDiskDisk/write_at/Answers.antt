@@ -24,7 +24,7 @@ returns-in-Ok-eq0-clause-writes c follows le =
     write-loop-so-far first new c.args.at _ _ _ c.args.bytes.now
     (write-loop-on first old new c.args.at c.loop.from c.in-Ok-eq0.field-0 c.args.bytes.now _ c.loop.invariant.writes
     (take_rest c.args.bytes.now c.loop.from) c.in-Ok-eq0.ensures.within c.write_some.ensures.before
-    c.in-Ok-eq0.ensures.holds c.in-Ok-eq0.ensures.goes) follows le
+    c.in-Ok-eq0.ensures.written) follows le
 
 pub returns-in-Err-Failed-clause-writes : goal.returns-in-Err-Failed-clause-writes
 returns-in-Err-Failed-clause-writes c follows le =
@@ -35,7 +35,7 @@ pub loop-preserved : goal.loop-preserved
 loop-preserved c = record {
   writes = elim c.match-write_some.branch [
     | in-Ok w ↦ rw w.from-is (write-loop-on c.args.self.now.calls.noted c.loop.self.calls.noted c.write_some.new.self.noted c.args.at c.loop.from w.in-Ok.n c.args.bytes.now _
-        c.loop.invariant.writes (take_rest c.args.bytes.now c.loop.from) w.in-Ok.ensures.within c.write_some.ensures.before w.in-Ok.ensures.holds w.in-Ok.ensures.goes)
+        c.loop.invariant.writes (take_rest c.args.bytes.now c.loop.from) w.in-Ok.ensures.within c.write_some.ensures.before w.in-Ok.ensures.written)
     | in-Err-Interrupted w ↦ rw w.from-is (write-loop-again c.args.self.now.calls.noted c.loop.self.calls.noted c.write_some.new.self.noted c.args.at c.loop.from c.args.bytes.now
         c.loop.invariant.writes (w.in-Err-Interrupted.ensures.asks (ap Err w.in-Err-Interrupted.field-0-is)))
   ];

@@ -1,4 +1,4 @@
-use Rattle.std.proofs.Common.{refl, arith}
+use Rattle.std.proofs.Common.{rules, refl, arith}
 use Rattle.disk.specs.Memory.{acts}
 use Rattle.disk.proofs.Records.{memory-idle}
 use Rattle.disk.proofs.memory.MemDiskDisk.write_at.Goals as goal
@@ -14,9 +14,13 @@ returns-then-at-len-clause-writes c le = elim c.then-at-len.branch [
   | then-at-len-via-else-at-len+else-is_err+then-fails w ↦ rw w.self-is (w.make_write.ensures.writes _ _)
 ]
 
-pub returns-then-at-len-clause-room : goal.returns-then-at-len-clause-room
-returns-then-at-len-clause-room c room calls written h = elim c.then-at-len.branch [
-  | then-at-len-via-then-at-len w ↦ rw w.self-is (h.0, omega (arith, h.1), omega (arith, h.2))
-  | then-at-len-via-else-at-len+then-is_err w ↦ rw w.self-is (w.make_write.ensures.room room calls written h)
-  | then-at-len-via-else-at-len+else-is_err+then-fails w ↦ rw w.self-is (w.make_write.ensures.room room calls written h)
-]
+pub returns-then-at-len-clause-one_call : goal.returns-then-at-len-clause-one_call
+returns-then-at-len-clause-one_call c = record {
+  goes_on = search rules;
+  calls = search rules;
+  room = λ room calls written h. elim c.then-at-len.branch [
+    | then-at-len-via-then-at-len w ↦ rw w.self-is (h.0, omega (arith, h.1), omega (arith, h.2))
+    | then-at-len-via-else-at-len+then-is_err w ↦ rw w.self-is (w.make_write.ensures.room room calls written h)
+    | then-at-len-via-else-at-len+else-is_err+then-fails w ↦ rw w.self-is (w.make_write.ensures.room room calls written h)
+  ];
+}
