@@ -5,7 +5,7 @@ use std::alloc::AllocError;
 use thiserror::Error;
 
 /// How a connection ended in good order.
-#[derive(Clone, Copy, Debug, PartialEq, Eq)]
+#[derive(Clone, Copy, PartialEq, Eq)]
 pub enum Served {
     /// The stream ended, with no byte after the last request.
     Ended,
@@ -14,7 +14,7 @@ pub enum Served {
 }
 
 /// Why a connection ended in the middle.
-#[derive(Clone, Copy, Debug, PartialEq, Eq, Error)]
+#[derive(Clone, Copy, Debug, Error)]
 pub enum ServeFault {
     /// The reader failed.
     #[error("cannot read")]

@@ -5,7 +5,7 @@ ghost use Rattle.requests.specs.Verdicts.{method_text};
 use crate::status::Status;
 
 /// The methods of the routes.
-#[derive(Clone, Copy, Debug, PartialEq, Eq)]
+#[derive(Clone, Copy)]
 pub enum Method {
     Get,
     Post,
@@ -24,7 +24,7 @@ impl Method {
 
 /// The answers that need no call, in the order of their tests. Those up to `BodyTooLarge` come before the body is read,
 /// and end the connection.
-#[derive(Clone, Copy, Debug, PartialEq, Eq)]
+#[derive(Clone, Copy)]
 pub enum FixedAnswer {
     /// What was read is no head, or a head of more than `MAX_FIELDS` fields: 400.
     BadRequest,

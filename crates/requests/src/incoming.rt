@@ -17,7 +17,7 @@ use std::io::Read;
 use std::marker::Model;
 
 /// A whole request at the front of the buffer.
-#[derive(Debug, Drop)]
+#[derive(Drop)]
 pub struct Message {
     /// What it is.
     pub verdict: Verdict,
@@ -30,7 +30,7 @@ pub struct Message {
 }
 
 /// What is at the front of a connection's bytes.
-#[derive(Debug, Drop)]
+#[derive(Drop)]
 pub enum Next {
     /// A whole request.
     Whole(Message),
@@ -94,7 +94,7 @@ fn read_message<R: Read>(
 
 /// What was read of a connection and is not yet answered. It keeps its memory from request to request. Contracts see
 /// the bytes.
-#[derive(Debug, Drop)]
+#[derive(Drop)]
 pub struct Incoming {
     buffer: Vec<u8>,
 }

@@ -92,7 +92,7 @@ fn push_answer(
 }
 
 /// Where answers are put together, so that each is sent in one write. It keeps its memory from answer to answer.
-#[derive(Debug, Drop)]
+#[derive(Drop)]
 pub struct Outgoing {
     text: Vec<u8>,
 }

@@ -5,7 +5,7 @@ ghost use Rattle.requests.specs.Verdicts.{endpoint_of, method_of};
 use crate::fixed::Method;
 
 /// What a request with calls asks for.
-#[derive(Clone, Copy, Debug, PartialEq, Eq)]
+#[derive(Clone, Copy)]
 pub enum Route {
     /// `POST /loki/api/v1/push`
     Push,

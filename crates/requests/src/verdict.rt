@@ -13,7 +13,7 @@ use std::alloc::Global;
 use std::str;
 
 /// What a whole request is.
-#[derive(Debug, Drop)]
+#[derive(Drop)]
 pub enum Verdict {
     /// It has a fixed answer.
     Fixed(FixedAnswer),
