@@ -1,13 +1,16 @@
 //! Makes the calls of requests, with results that a list gives.
-use crate::script::Script;
-use accept::{Call, Reply};
-use answering::{Calls, Clock, Failure};
+use crate::plan::Visit;
+use crate::script::{Script, Told};
+use crate::visits::{Came, Ticking};
+use accept::{Call, Outcome, Reply};
+use answering::{Calls, Ends, Failure, serve};
 use std::alloc::Global;
 use std::collections::VecDeque;
 use std::sync::Wait;
+use wire::{Manner, Sink};
 
-/// What the clock tells.
-const NOW: u64 = 20;
+/// What comes of calls that no list tells of.
+pub const STORED: Told = Told::Each(Outcome::Stored);
 
 /// Makes calls as a list says. Nothing is promised of what comes of them.
 #[derive(Drop)]
@@ -52,14 +55,25 @@ impl Calls for Listed {
     }
 }
 
-/// A clock that always tells the same time.
-#[derive(Drop)]
-pub struct Standing;
-
-impl Clock for Standing {
-    ghost ticks = { λ _ _ _. Unit {0} };
-
-    fn now(&mut self) -> u64 {
-        NOW
+/// Serves a connection whose bytes come in this manner, over a list of what comes of its calls.
+pub fn run_listed<R: Wait>(
+    rt: &R,
+    alloc: Global,
+    visit: &Visit,
+    manner: Manner,
+    mut script: Script,
+) -> Came {
+    let mut clock = Ticking::of(visit);
+    let mut source = visit.connection.source(manner);
+    let mut sink = Sink::new(alloc, manner);
+    let mut ends = Ends::new(&mut source, &mut sink);
+    let end = serve(rt, alloc, &Listed, &mut script, &mut clock, &mut ends);
+    let made = script.made();
+    Came {
+        sink,
+        end,
+        count: made,
+        gained: made,
+        counted: "calls",
     }
 }

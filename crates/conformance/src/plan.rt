@@ -1,3 +1,4 @@
+use crate::script::Told;
 use anyhow::{Result, anyhow};
 use rows::word_of;
 use std::alloc::Global;
@@ -22,6 +23,10 @@ pub struct Visit {
     pub each: Option<Each>,
     /// Whether the owners of the shards end before it.
     pub ends_owners: bool,
+    /// What comes of its first calls, where a list makes them. Later ones are stored.
+    pub list: Vec<Told>,
+    /// What comes of one call and all later ones. The connection is served again for each of its calls.
+    pub at_each: Option<Told>,
 }
 
 impl Visit {
@@ -32,7 +37,14 @@ impl Visit {
             connection: Connection::new(alloc),
             each: None,
             ends_owners: false,
+            list: Vec::new(alloc),
+            at_each: None,
         }
+    }
+
+    /// Whether a list makes its calls, and not the shards.
+    pub fn is_listed(&self) -> bool {
+        !self.list.is_empty() || self.at_each.is_some()
     }
 
     fn take_line(&mut self, line: &str) -> Result<()> {
@@ -41,7 +53,16 @@ impl Visit {
             ("tick", tick) => self.tick = tick.parse::<u64>()?,
             ("each", name) => self.each = Some(Each::find(name)?),
             ("end_owners", _) => self.ends_owners = true,
+            ("comes", names) => self.take_list(names)?,
+            ("at_each", name) => self.at_each = Some(Told::find(name)?),
             _ => self.connection.take_line(line)?,
+        }
+        Ok(())
+    }
+
+    fn take_list(&mut self, names: &str) -> Result<()> {
+        for name in names.split(' ') {
+            self.list.push(Told::find(name)?)?;
         }
         Ok(())
     }

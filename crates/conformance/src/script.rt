@@ -86,8 +86,8 @@ impl Script {
     }
 
     /// How many calls were made.
-    pub fn made(&self) -> usize {
-        self.made
+    pub fn made(&self) -> u64 {
+        self.made as u64
     }
 
     /// Makes a call.

@@ -1,7 +1,9 @@
 //! The connections of a row, one after another.
 
+use crate::listed::{STORED, run_listed};
 use crate::opened::Opened;
 use crate::plan::{Plan, Visit};
+use crate::script::{Script, Told};
 use crate::visits::Came;
 use anyhow::Result;
 use rows::Said;
@@ -36,7 +38,7 @@ fn serve_visits<R: Wait>(
     serve_visit(rt, alloc, opened, &plan.last, said)
 }
 
-/// Serves a connection, and then again for each place.
+/// Serves a connection, and then again for each place, or for each of its calls.
 fn serve_visit<R: Wait>(
     rt: &R,
     alloc: Global,
@@ -47,10 +49,13 @@ fn serve_visit<R: Wait>(
     if visit.ends_owners {
         opened.end_owners(rt);
     }
-    let whole = opened.run_visit(rt, alloc, visit, visit.connection.manner);
+    let whole = opened.run_visit(rt, alloc, visit, visit.connection.manner)?;
     whole.say(said);
-    match visit.each {
-        Some(each) => serve_each(rt, alloc, opened, visit, each, &whole, said),
+    if let Some(each) = visit.each {
+        return serve_each(rt, alloc, opened, visit, each, &whole, said);
+    }
+    match visit.at_each {
+        Some(told) => serve_each_call(rt, alloc, visit, told, whole.count, said),
         None => Ok(()),
     }
 }
@@ -67,10 +72,30 @@ fn serve_each<R: Wait>(
     let mut groups = Groups::new(alloc);
     let end = each.end(visit.connection.len(), whole.sink.text().len());
     for place in each.first()..end {
-        let before = opened.steps();
         let manner = each.manner(visit.connection.manner, place);
-        let came = opened.run_visit(rt, alloc, visit, manner);
-        groups.note(came.beside(alloc, whole, before)?, said);
+        let came = opened.run_visit(rt, alloc, visit, manner)?;
+        groups.note(came.beside(alloc, whole)?, said);
+    }
+    groups.say(said);
+    Ok(())
+}
+
+/// Serves a connection once for each of its calls. The calls before that one are stored, and of it and all later ones
+/// comes what is told.
+fn serve_each_call<R: Wait>(
+    rt: &R,
+    alloc: Global,
+    visit: &Visit,
+    told: Told,
+    calls: u64,
+    said: &mut Said,
+) -> Result<()> {
+    let mut groups = Groups::new(alloc);
+    for place in 0..calls {
+        let list = vec![in alloc; STORED; place as usize]?;
+        let script = Script::new(list, told);
+        let came = run_listed(rt, alloc, visit, visit.connection.manner, script);
+        groups.note(came.last_line(alloc)?, said);
     }
     groups.say(said);
     Ok(())

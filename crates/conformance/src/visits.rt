@@ -42,32 +42,54 @@ pub struct Came {
     /// What was written.
     pub sink: Sink,
     pub end: Result<Served, ServeFault>,
-    /// How many steps all shards have.
-    pub steps: u64,
+    /// How many steps all shards have, or how many calls a list has made.
+    pub count: u64,
+    /// How many of them the run has made.
+    pub gained: u64,
+    /// `steps` or `calls`.
+    pub counted: &'static str,
 }
 
 impl Came {
-    /// Says what was written, how the connection ended, and how many steps all shards have.
+    /// Says what was written, how the connection ended, and how many steps or calls there are.
     pub fn say(&self, said: &mut Said) {
         self.sink.say(said);
-        self.say_end(said);
-        let steps = self.steps;
-        said.tell(format_args!(", steps {steps}\n"));
+        self.say_count(said);
+        said.put("\n");
     }
 
-    /// How much of the whole text was written, how the connection ended, and how many steps the shards have gained
-    /// since there were `before`.
+    /// How much of the whole text was written, how the connection ended, and how many steps or calls the run has made.
     ///
     /// # Errors
     /// Want of memory.
-    pub fn beside(&self, alloc: Global, whole: &Came, before: u64) -> Result<String> {
+    pub fn beside(&self, alloc: Global, whole: &Came) -> Result<String> {
         let mut came = Said::new(alloc);
         self.sink.say_beginning_of(whole.sink.text(), &mut came);
         came.put(", ");
         self.say_end(&mut came);
-        let gained = self.steps.saturating_sub(before);
-        came.tell(format_args!(", {gained} steps more"));
+        let (gained, counted) = (self.gained, self.counted);
+        came.tell(format_args!(", {gained} {counted} more"));
         Ok(came.end()?)
+    }
+
+    /// The last line that was written, how the connection ended, and how many steps or calls there are.
+    ///
+    /// # Errors
+    /// Want of memory.
+    pub fn last_line(&self, alloc: Global) -> Result<String> {
+        let mut line = Said::new(alloc);
+        let text = self.sink.text();
+        let last = text.rsplit(|byte| *byte == b'\n').next();
+        line.escape(last.unwrap_or(text));
+        line.put(", ");
+        self.say_count(&mut line);
+        Ok(line.end()?)
+    }
+
+    fn say_count(&self, into: &mut Said) {
+        self.say_end(into);
+        let (count, counted) = (self.count, self.counted);
+        into.tell(format_args!(", {counted} {count}"));
     }
 
     fn say_end(&self, into: &mut Said) {

@@ -13,5 +13,5 @@ pub use connection::Connection;
 pub use each::Each;
 pub use groups::Groups;
 pub use manner::Manner;
-pub use sink::{Sink, say_lines};
+pub use sink::Sink;
 pub use source::Source;

@@ -29,7 +29,8 @@ impl Sink {
         self.text.as_slice()
     }
 
-    /// Says what was taken, as [`say_lines`] says the bytes of each write.
+    /// Says what was taken in each write, with escapes: a line for each of its lines, and one for what follows the last
+    /// line feed.
     pub fn say(&self, into: &mut Said) {
         into.put_all(&self.said);
     }
@@ -71,7 +72,7 @@ impl Write for Sink {
 }
 
 /// Says bytes with escapes: a line for each of their lines, and one for what follows the last line feed.
-pub fn say_lines(bytes: &[u8], into: &mut Said) {
+fn say_lines(bytes: &[u8], into: &mut Said) {
     for line in bytes.split_inclusive(|byte| *byte == b'\n') {
         into.escape(line);
         into.put("\n");
