@@ -1,59 +1,133 @@
-//! A shard alone over a pair of slots, and its answers as text.
-ghost use Rattle.accept.specs.Calls.{AreNumbers};
+//! A shard alone over its slots, and its answers as text.
 
 use accept::Call;
 use anyhow::Result;
-use call_slots::{Left, Pair};
-use call_words::{Settings, call_of, write_reply};
+use call_words::{Counted, Gathered, Settings, call_of, write_outcome};
 use disk::MemDisk;
-use lone_shard::LoneShard;
+use lone_shard::{Grouped, LoneShard, Turn};
 use rows::Said;
+use shard::GroupEnd;
 use std::alloc::Global;
+use std::collections::VecDeque;
 use wal::OpenFault;
 
-/// Opens the shard in these slots. A refusal says why, and gives the slots back.
-pub fn open_alone(
+/// The shard.
+pub type Alone = Box<LoneShard<MemDisk>>;
+
+/// The shard that was opened, or why it was refused, and its slots.
+pub type Opening = Result<Alone, (OpenFault, [MemDisk; 2])>;
+
+/// Opens the shard in these slots.
+pub fn open_alone(alloc: Global, slots: [MemDisk; 2], settings: Settings) -> Result<Opening> {
+    match LoneShard::open(alloc, slots, settings.limits, settings.capacity)? {
+        Ok(shard) => Ok(Ok(Box::new(alloc, shard)?)),
+        Err(refusal) => Ok(Err(refusal)),
+    }
+}
+
+/// The shard with a group of calls that it has made, or why it was refused, and its slots.
+pub type Apart = Result<(Alone, Grouped), (OpenFault, [MemDisk; 2])>;
+
+/// Opens the shard in these slots, and makes the calls as a group, each by a pass of its own.
+pub fn open_apart(
     alloc: Global,
-    pair: Pair,
+    slots: [MemDisk; 2],
     settings: Settings,
-) -> Result<Result<Box<LoneShard<MemDisk>>, (OpenFault, Pair)>> {
+    calls: &Gathered,
+) -> Result<Apart> {
     let Settings {
         limits,
         capacity,
         ..
     } = settings;
-    match LoneShard::open(alloc, pair.into_slots(), limits, capacity)? {
-        Ok(shard) => Ok(Ok(Box::new(alloc, shard)?)),
-        Err(refusal) => Ok(Err((refusal.0, Pair::of_slots(refusal.1)))),
+    let mut calls = calls.calls(alloc)?;
+    match LoneShard::open_apart(alloc, slots, limits, capacity, &mut calls)? {
+        Ok((shard, grouped)) => Ok(Ok((Box::new(alloc, shard)?, grouped))),
+        Err(refusal) => Ok(Err(refusal)),
     }
 }
 
-/// Makes a call, and says its answer, or why it was refused.
-pub fn say_call(shard: &mut LoneShard<MemDisk>, alloc: Global, call: &Call, into: &mut Said)
-    requires numbers { AreNumbers call.now }
-{
-    match shard.call(alloc, call) {
-        Ok(reply) => write_reply(&reply, into),
-        Err(fault) => into.tell(format_args!("{fault}")),
+/// `look`: says how long the history is, and whether it has a failure mark. Any other line is a call, whose answer it
+/// says.
+pub fn say_line(
+    shard: &mut LoneShard<MemDisk>,
+    alloc: Global,
+    line: &str,
+    said: &mut Said,
+) -> Result<()> {
+    if !line.starts_with("look") {
+        say_call(shard, alloc, line, said)?;
+        said.put("\n");
+        return Ok(());
     }
+    let steps = shard.steps();
+    let mark = if shard.is_marked() { " marked" } else { "" };
+    said.tell(format_args!("steps {steps}{mark}\n"));
+    Ok(())
 }
 
-/// The answer to the call of a line, or why it was refused.
-pub fn answer_of(shard: &mut LoneShard<MemDisk>, alloc: Global, line: &str) -> Result<String> {
+/// Makes the call of a line, and says its answer, or why it was refused.
+pub fn say_call(
+    shard: &mut LoneShard<MemDisk>,
+    alloc: Global,
+    line: &str,
+    into: &mut Said,
+) -> Result<()> {
     let call = call_of(alloc, line)?;
-    let mut answer = Said::new(alloc);
-    say_call(shard, alloc, &call, &mut answer);
-    Ok(answer.end()?)
+    write_outcome(&shard.call(alloc, &call), into);
+    Ok(())
 }
 
-/// What is left of the shard.
-pub fn left_of(mut shard: Box<LoneShard<MemDisk>>) -> Left {
-    let steps = Some(shard.steps());
-    let is_marked = shard.is_marked();
-    Left::of_slots(Box::into_inner(shard).into_slots(), steps, is_marked)
+/// Makes the calls one after another, and says their answers, with a line feed between them.
+pub fn say_calls(
+    shard: &mut LoneShard<MemDisk>,
+    alloc: Global,
+    calls: &Gathered,
+    into: &mut Said,
+) -> Result<()> {
+    for (index, line) in calls.lines.iter().enumerate() {
+        into.put(if index > 0 { "\n" } else { "" });
+        say_call(shard, alloc, line.as_str(), into)?;
+    }
+    Ok(())
 }
 
-/// The slots of the shard, as its calls left them.
-pub fn pair_of(shard: Box<LoneShard<MemDisk>>) -> Pair {
-    Pair::of_slots(Box::into_inner(shard).into_slots())
+/// Makes the calls as a group, and says their answers and the turns, a line each. Gives the shard back.
+pub fn say_group(alloc: Global, shard: Alone, calls: &Gathered, said: &mut Said) -> Result<Alone> {
+    let mut jobs = calls.calls(alloc)?;
+    let (shard, grouped) = group(alloc, shard, &mut jobs)?;
+    say_grouped(alloc, &grouped, said)?;
+    Ok(shard)
+}
+
+fn group(alloc: Global, shard: Alone, jobs: &mut VecDeque<Call>) -> Result<(Alone, Grouped)> {
+    let (shard, grouped) = Box::into_inner(shard).group(alloc, jobs)?;
+    Ok((Box::new(alloc, shard)?, grouped))
+}
+
+/// Says the answers of a group and its turns, a line each.
+pub fn say_grouped(alloc: Global, grouped: &Grouped, said: &mut Said) -> Result<()> {
+    let mut lines = Counted::new(alloc, "\n");
+    for answer in grouped.answers.iter() {
+        let mut text = Said::new(alloc);
+        write_outcome(answer, &mut text);
+        lines.add(text.end()?);
+    }
+    for turn in grouped.turns.iter() {
+        lines.add(text_of_turn(alloc, turn)?);
+    }
+    lines.say(said);
+    Ok(())
+}
+
+fn text_of_turn(alloc: Global, turn: &Turn) -> Result<String> {
+    let Turn { calls, ended } = turn;
+    let why = match ended {
+        GroupEnd::Most => "most",
+        GroupEnd::Last => "last",
+        GroupEnd::Full => "full",
+        GroupEnd::Memory => "memory",
+    };
+    let plural = if *calls == 1 { "" } else { "s" };
+    Ok(format!(in alloc; "turn of {calls} call{plural}: {why}")?)
 }

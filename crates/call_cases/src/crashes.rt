@@ -1,348 +1,309 @@
 //! What a crash leaves of a shard, and what becomes of a call where a device fails.
 
-use crate::alone::{answer_of, open_alone, pair_of};
-use crate::grouped::{Doing, answers_of};
+use crate::alone::{Alone, open_alone, say_call, say_calls, say_group};
 use anyhow::{Result, bail};
-use call_slots::{Pair, Way};
-use call_words::{Counted, Gathered, Settings};
-use disk::{ImagesFault, MemDisk};
+use call_words::{
+    Contents, Counted, Gathered, Settings, Way, are_unavailable, calls_on, copy_of,
+    fail_as_planned, hold_the_same, slots_of, streams_found,
+};
+use disk::MemDisk;
 use lone_shard::LoneShard;
 use rows::Said;
 use std::alloc::Global;
 use wal::OpenFault;
 
-/// The most contents of a slot that are looked at.
-const MOST: usize = 8_192;
-
 /// More device calls than an opening with one call makes on a slot.
 const CALLS: u64 = 20;
 
-/// What becomes of a call where one of the calls on a slot fails.
-#[derive(Clone, Copy, PartialEq, Eq)]
-enum Tried {
-    /// The opening failed.
-    Unopened,
-    /// The call was unavailable, and each crash leaves the streams as before it.
-    Before,
-    /// It was unavailable, and each crash leaves the streams as after it.
-    After,
-    /// It was unavailable, and each crash leaves the streams as before it or as after it.
-    Either,
-    /// It was unavailable, and a crash may leave other streams.
-    Another,
-    /// It was unavailable, and no content of the slots was found.
-    Nothing,
-    /// A slot changed in an opening that failed.
-    Changed,
-    /// A call was unavailable, and another of its group or after it was answered or reached a slot, or there is no
-    /// mark.
-    GoesOn,
-    /// It was answered.
-    Answered,
-}
-
-impl Tried {
-    fn name(self) -> &'static str {
-        match self {
-            Tried::Unopened => "unopened",
-            Tried::Before => "before",
-            Tried::After => "after",
-            Tried::Either => "before or after",
-            Tried::Another => "another state",
-            Tried::Nothing => "nothing",
-            Tried::Changed => "changed",
-            Tried::GoesOn => "goes on",
-            Tried::Answered => "answered",
-        }
-    }
-}
-
-/// What reads give of the only shard in these slots, or why the slots are refused.
-fn found_in(alloc: Global, pair: Pair, settings: Settings, reads: &Gathered) -> Result<String> {
-    match open_alone(alloc, pair, settings)? {
-        Ok(mut shard) => answers_of(&mut shard, alloc, reads),
-        Err((fault, _)) => Ok(format!(in alloc; "{fault}")?),
-    }
-}
-
-/// The same of a copy of these slots.
-fn found_in_copy(
-    alloc: Global,
-    pair: &mut Pair,
-    settings: Settings,
-    reads: &Gathered,
-) -> Result<String> {
-    found_in(alloc, pair.copy(alloc)?, settings, reads)
-}
-
-/// Says what reads give of each pair of contents that a crash may leave, with these values for unsynced bytes.
-pub fn say_contents(
-    alloc: Global,
-    pair: &Pair,
-    settings: Settings,
-    reads: &Gathered,
-    values: &[u8],
-    said: &mut Said,
-) -> Result<()> {
-    let mut found = Counted::new(alloc, "\n");
-    let seconds = pair.second.images(alloc, values, MOST)?;
-    for first in pair.first.images(alloc, values, MOST)?.iter() {
-        add_found(alloc, first, &seconds, settings, reads, &mut found)?;
-    }
-    found.say(said);
-    Ok(())
-}
-
-fn add_found(
-    alloc: Global,
-    first: &[u8],
-    seconds: &[Vec<u8>],
-    settings: Settings,
-    reads: &Gathered,
-    found: &mut Counted,
-) -> Result<()> {
-    for second in seconds {
-        found.add(found_on(alloc, first, second, settings, reads)?);
-    }
-    Ok(())
-}
-
-/// What reads give of the only shard in slots with these bytes.
-fn found_on(
-    alloc: Global,
-    first: &[u8],
-    second: &[u8],
-    settings: Settings,
-    reads: &Gathered,
-) -> Result<String> {
-    let pair = Pair::of_bytes(alloc, first, second)?;
-    found_in(alloc, pair, settings, reads)
-}
-
-/// What a crash may leave on a disk: with each of four values for an unsynced byte where those are few contents, as
-/// after a write of one byte, otherwise with each of three values for all unsynced bytes.
-fn contents_of(alloc: Global, disk: &MemDisk) -> Result<Vec<Vec<u8>>> {
-    match disk.images(alloc, &[0, 1, 127, 255], 8) {
-        Err(ImagesFault::TooMany) => long_contents_of(alloc, disk),
-        found => Ok(found?),
-    }
-}
-
-fn long_contents_of(alloc: Global, disk: &MemDisk) -> Result<Vec<Vec<u8>>> {
-    let mut all = Vec::new(alloc);
-    for value in [0, 1, 255] {
-        let mut found = disk.images(alloc, &[value], MOST)?;
-        all.append(&mut found)?;
-    }
-    Ok(all)
-}
-
-/// What becomes of slots whose opening failed, by what they held before.
-fn unopened(alloc: Global, pair: &mut Pair, before: &mut Pair) -> Result<Tried> {
-    pair.mend();
-    for slot in 0..2 {
-        if pair.bytes(alloc, slot)? != before.bytes(alloc, slot)? {
-            return Ok(Tried::Changed);
-        }
-    }
-    Ok(Tried::Unopened)
-}
-
-fn are_unavailable(answers: &str) -> bool {
-    answers.lines().all(|line| line == "Unavailable")
-}
-
-/// A call, or a group of calls, that is tried on copies of slots.
+/// Calls that are made one after another, or as a group.
 #[derive(Drop)]
-struct Trial<'a> {
-    alloc: Global,
-    settings: Settings,
-    doing: &'a Doing,
-    /// What the reads give before the calls, and after them.
-    before: &'a str,
-    after: &'a str,
-    /// How many contents of slots were opened.
-    contents: u64,
+pub struct Doing {
+    calls: Gathered,
+    is_group: bool,
+    /// The reads that show the streams before and after.
+    reads: Gathered,
 }
 
-impl Trial<'_> {
-    /// What becomes of the call in a copy of these slots that fails as is planned.
-    fn attempt(&mut self, pair: &mut Pair, plan: Plan) -> Result<Tried> {
-        match open_alone(self.alloc, plan.copy_of(self.alloc, pair)?, self.settings)? {
-            Ok(shard) => self.attempt_in(shard, pair, plan),
-            Err((OpenFault::Device, mut left)) => unopened(self.alloc, &mut left, pair),
-            Err((fault, _)) => Err(fault.into()),
-        }
-    }
-
-    fn attempt_in(
-        &mut self,
-        shard: Box<LoneShard<MemDisk>>,
-        pair: &mut Pair,
-        plan: Plan,
-    ) -> Result<Tried> {
-        let mut said = Said::new(self.alloc);
-        let left = pair_of(self.doing.make(self.alloc, shard, &mut said)?);
-        self.judge(said.end()?.as_str(), &left, pair, plan)
-    }
-
-    /// What becomes of the call by what was said of it and the slots that it left.
-    fn judge(&mut self, said: &str, left: &Pair, pair: &mut Pair, plan: Plan) -> Result<Tried> {
-        if !said.contains("Unavailable") {
-            return Ok(Tried::Answered);
-        }
-        let is_kept = said.contains("Stored") || said.contains("Trimmed");
-        if is_kept || !self.is_over(pair, plan, left.calls())? {
-            return Ok(Tried::GoesOn);
-        }
-        self.left_in(left)
-    }
-
-    /// Whether all calls after the failed one in such slots are unavailable, the history has a mark, and the slots see
-    /// no more than the calls that they have seen without them.
-    fn is_over(&self, pair: &mut Pair, plan: Plan, calls: (u64, u64)) -> Result<bool> {
-        let mut shard = self.made_again(pair, plan)?;
-        let is_over = shard.is_marked() && self.are_over(&mut shard)?;
-        Ok(is_over && pair_of(shard).calls() == calls)
-    }
-
-    fn made_again(&self, pair: &mut Pair, plan: Plan) -> Result<Box<LoneShard<MemDisk>>> {
-        match open_alone(self.alloc, plan.copy_of(self.alloc, pair)?, self.settings)? {
-            Ok(shard) => self
-                .doing
-                .make(self.alloc, shard, &mut Said::new(self.alloc)),
-            Err(_) => bail!("the same slots are opened once, and not again"),
-        }
-    }
-
-    /// Whether all calls are unavailable now.
-    fn are_over(&self, shard: &mut LoneShard<MemDisk>) -> Result<bool> {
-        let again = answers_of(shard, self.alloc, &self.doing.calls)?;
-        let reads = answers_of(shard, self.alloc, &self.doing.reads)?;
-        let trim = answer_of(shard, self.alloc, "trim 1 0")?;
-        let is_over = are_unavailable(again.as_str()) && are_unavailable(reads.as_str());
-        Ok(is_over && trim.as_str() == "Unavailable")
-    }
-
-    /// Which streams a crash may leave in these slots.
-    fn left_in(&mut self, pair: &Pair) -> Result<Tried> {
-        let seconds = contents_of(self.alloc, &pair.second)?;
-        let (mut is_before, mut is_after) = (false, false);
-        for first in contents_of(self.alloc, &pair.first)?.iter() {
-            for second in seconds.iter() {
-                self.contents = self.contents.saturating_add(1);
-                match self.sight(first, second)? {
-                    Some(Tried::Before) => is_before = true,
-                    Some(_) => is_after = true,
-                    None => return Ok(Tried::Another),
-                }
-            }
-        }
-        Ok(match (is_before, is_after) {
-            (true, true) => Tried::Either,
-            (true, false) => Tried::Before,
-            (false, true) => Tried::After,
-            (false, false) => Tried::Nothing,
+impl Doing {
+    /// These calls, one after another or as a group.
+    pub fn of(alloc: Global, calls: Gathered, is_group: bool) -> Result<Doing> {
+        let reads = calls.reads(alloc)?;
+        Ok(Doing {
+            calls,
+            is_group,
+            reads,
         })
     }
 
-    /// Whether slots with these bytes have the streams as before the call or as after it.
-    fn sight(&self, first: &[u8], second: &[u8]) -> Result<Option<Tried>> {
-        let found = found_on(self.alloc, first, second, self.settings, &self.doing.reads)?;
-        Ok(match found.as_str() {
-            found if found == self.before => Some(Tried::Before),
-            found if found == self.after => Some(Tried::After),
-            _ => None,
-        })
-    }
-
-    /// What becomes of the call where the first call on a slot fails, where the second does, and so on, until it is
-    /// answered.
-    fn attempt_each(&mut self, pair: &mut Pair, slot: u64, way: Way) -> Result<Counted> {
-        let mut all = Counted::new(self.alloc, ", ");
-        for call in 1..CALLS {
-            let tried = self.attempt(pair, Plan { slot, way, call })?;
-            all.add(tried.name().to_string(self.alloc)?);
-            if tried == Tried::Answered {
-                return Ok(all);
-            }
+    /// Makes the calls, and says their answers, and for a group its turns. Gives the shard back.
+    fn make(&self, alloc: Global, shard: Alone, said: &mut Said) -> Result<Alone> {
+        if self.is_group {
+            return say_group(alloc, shard, &self.calls, said);
         }
-        bail!("the call is never answered");
+        let mut shard = shard;
+        say_calls(&mut shard, alloc, &self.calls, said)?;
+        said.put("\n");
+        Ok(shard)
     }
 
-    /// Says for each slot what becomes of the call where the slot fails.
-    fn say_slots(&mut self, pair: &mut Pair, way: Way, said: &mut Said) -> Result<()> {
-        for slot in 0..2 {
-            said.tell(format_args!("slot {slot}: "));
-            self.attempt_each(pair, slot, way)?.say(said);
-        }
-        Ok(())
-    }
-}
-
-/// Which call on which slot fails, and how.
-#[derive(Clone, Copy)]
-struct Plan {
-    slot: u64,
-    way: Way,
-    call: u64,
-}
-
-impl Plan {
-    /// Copies of slots that fail so.
-    fn copy_of(self, alloc: Global, pair: &mut Pair) -> Result<Pair> {
-        let mut copy = pair.copy(alloc)?;
-        copy.plan(self.slot, self.way, self.call)?;
-        Ok(copy)
+    /// Says the answers to the same calls after these, to the reads, and to a trim.
+    fn say_later(
+        &self,
+        alloc: Global,
+        shard: &mut LoneShard<MemDisk>,
+        later: &mut Said,
+    ) -> Result<()> {
+        say_calls(shard, alloc, &self.calls, later)?;
+        later.put("\n");
+        say_calls(shard, alloc, &self.reads, later)?;
+        later.put("\n");
+        say_call(shard, alloc, "trim 1 0", later)
     }
 }
 
-/// Makes the calls on a copy of these slots, and says their answers. Gives the slots after them.
-pub fn say_made(
-    alloc: Global,
-    pair: &mut Pair,
-    settings: Settings,
-    doing: &Doing,
-    said: &mut Said,
-) -> Result<Pair> {
-    match open_alone(alloc, pair.copy(alloc)?, settings)? {
-        Ok(shard) => Ok(pair_of(doing.make(alloc, shard, said)?)),
-        Err(refusal) => Err(refusal.0.into()),
-    }
+/// What a run of calls left.
+#[derive(Drop)]
+struct Ran {
+    /// Why the opening was refused.
+    fault: Option<OpenFault>,
+    /// The answers, and those to later calls.
+    said: String,
+    later: String,
+    slots: [MemDisk; 2],
+    is_marked: bool,
 }
 
 /// Calls that are tried, and how a slot fails.
 #[derive(Clone, Copy)]
 pub struct Tries<'a> {
+    pub alloc: Global,
     pub settings: Settings,
     pub way: Way,
     pub doing: &'a Doing,
 }
 
-/// Tries calls on copies of these slots, of which one fails, and says for each slot what becomes of them, by the slots
-/// after the calls. Gives how many contents were opened.
-pub fn say_trials(
+impl Tries<'_> {
+    /// Makes the calls in these slots, and where it goes on, the same calls, their reads and a trim after them.
+    fn run(self, slots: [MemDisk; 2], goes_on: bool) -> Result<Ran> {
+        match open_alone(self.alloc, slots, self.settings)? {
+            Ok(shard) => self.run_on(shard, goes_on),
+            Err(refusal) => {
+                let slots = refusal.1;
+                Ok(Ran {
+                    fault: Some(refusal.0),
+                    said: String::new(self.alloc),
+                    later: String::new(self.alloc),
+                    slots,
+                    is_marked: false,
+                })
+            }
+        }
+    }
+
+    fn run_on(self, shard: Alone, goes_on: bool) -> Result<Ran> {
+        let (mut said, mut later) = (Said::new(self.alloc), Said::new(self.alloc));
+        let mut shard = self.doing.make(self.alloc, shard, &mut said)?;
+        if goes_on {
+            self.doing.say_later(self.alloc, &mut shard, &mut later)?;
+        }
+        let (said, later, is_marked) = (said.end()?, later.end()?, shard.is_marked());
+        let slots = Box::into_inner(shard).into_slots();
+        Ok(Ran {
+            fault: None,
+            said,
+            later,
+            slots,
+            is_marked,
+        })
+    }
+
+    /// Makes the calls in a copy of these slots, of which this one fails at its call with this number.
+    fn run_failing(
+        self,
+        slots: &mut [MemDisk; 2],
+        slot: usize,
+        call: u64,
+        goes_on: bool,
+    ) -> Result<Ran> {
+        let mut copy = copy_of(self.alloc, slots)?;
+        if slot < 2 {
+            fail_as_planned(&mut copy[slot], self.way, call);
+        }
+        self.run(copy, goes_on)
+    }
+
+    /// Makes the calls on a copy of these slots, and says their answers. Gives the slots after them.
+    fn say_made(self, slots: &mut [MemDisk; 2], said: &mut Said) -> Result<[MemDisk; 2]> {
+        let ran = self.run(copy_of(self.alloc, slots)?, false)?;
+        let Ran {
+            fault,
+            said: answers,
+            later: _,
+            slots,
+            is_marked: _,
+        } = ran;
+        match fault {
+            Some(fault) => Err(fault.into()),
+            None => {
+                said.put(answers.as_str());
+                Ok(slots)
+            }
+        }
+    }
+
+    /// What the reads give of a copy of these slots.
+    fn found_in_copy(self, slots: &mut [MemDisk; 2]) -> Result<String> {
+        let copy = copy_of(self.alloc, slots)?;
+        found_in(self.alloc, copy, self.settings, &self.doing.reads)
+    }
+}
+
+/// What reads give of the only shard in these slots, or why the slots are refused.
+fn found_in(
     alloc: Global,
-    pair: &mut Pair,
-    next: &mut Pair,
-    tries: Tries<'_>,
+    slots: [MemDisk; 2],
+    settings: Settings,
+    reads: &Gathered,
+) -> Result<String> {
+    let mut found = Said::new(alloc);
+    match open_alone(alloc, slots, settings)? {
+        Ok(mut shard) => say_calls(&mut shard, alloc, reads, &mut found)?,
+        Err(refusal) => found.tell(format_args!("{}", refusal.0)),
+    }
+    Ok(found.end()?)
+}
+
+/// What reads give of each pair of contents.
+fn found_in_each(
+    alloc: Global,
+    contents: &Contents,
+    settings: Settings,
+    reads: &Gathered,
+) -> Result<Vec<String>> {
+    let mut found = Vec::new(alloc);
+    for first in contents.firsts.iter() {
+        for second in contents.seconds.iter() {
+            let slots = slots_of(alloc, first, second)?;
+            found.push(found_in(alloc, slots, settings, reads)?)?;
+        }
+    }
+    Ok(found)
+}
+
+/// Says what reads give of each pair of contents.
+pub fn say_contents(
+    alloc: Global,
+    contents: &Contents,
+    settings: Settings,
+    reads: &Gathered,
     said: &mut Said,
-) -> Result<u64> {
-    let Tries {
-        settings,
-        way,
-        doing,
-    } = tries;
-    let before = found_in_copy(alloc, pair, settings, &doing.reads)?;
-    let after = found_in_copy(alloc, next, settings, &doing.reads)?;
+) -> Result<()> {
+    let mut all = Counted::new(alloc, "\n");
+    for found in found_in_each(alloc, contents, settings, reads)? {
+        all.add(found);
+    }
+    all.say(said);
+    Ok(())
+}
+
+/// Calls that are tried on copies of slots.
+#[derive(Drop)]
+struct Trial<'a> {
+    tries: Tries<'a>,
+    /// What the reads give before the calls, and after them.
+    before: String,
+    after: String,
+    /// How many contents of slots were opened.
+    contents: u64,
+}
+
+impl Trial<'_> {
+    /// What becomes of the calls in a copy of these slots, of which this one fails at its call with this number.
+    fn attempt(
+        &mut self,
+        slots: &mut [MemDisk; 2],
+        slot: usize,
+        call: u64,
+    ) -> Result<&'static str> {
+        let mut ran = self.tries.run_failing(slots, slot, call, false)?;
+        match ran.fault {
+            Some(OpenFault::Device) => {
+                let are_same = hold_the_same(self.tries.alloc, &mut ran.slots, slots)?;
+                Ok(if are_same { "unopened" } else { "changed" })
+            }
+            Some(fault) => Err(fault.into()),
+            None if ran.said.contains("Unavailable") => self.judge(&ran, slots, slot, call),
+            None => Ok("answered"),
+        }
+    }
+
+    /// What becomes of calls of which one is unavailable: which streams a crash may leave, if nothing goes on.
+    fn judge(
+        &mut self,
+        ran: &Ran,
+        slots: &mut [MemDisk; 2],
+        slot: usize,
+        call: u64,
+    ) -> Result<&'static str> {
+        if self.is_over(ran, slots, slot, call)? {
+            self.left_in(&ran.slots)
+        } else {
+            Ok("goes on")
+        }
+    }
+
+    /// Whether no change of these calls is answered, all calls after them in such slots are unavailable, the history
+    /// has a mark, and the slots see no more than the calls that they have seen without them.
+    fn is_over(&self, ran: &Ran, slots: &mut [MemDisk; 2], slot: usize, call: u64) -> Result<bool> {
+        if ran.said.contains("Stored") || ran.said.contains("Trimmed") {
+            return Ok(false);
+        }
+        let again = self.tries.run_failing(slots, slot, call, true)?;
+        let is_over = again.is_marked && are_unavailable(again.later.as_str());
+        Ok(is_over && calls_on(&again.slots) == calls_on(&ran.slots))
+    }
+
+    /// Which streams a crash may leave in these slots.
+    fn left_in(&mut self, slots: &[MemDisk; 2]) -> Result<&'static str> {
+        let tries = self.tries;
+        let contents = Contents::of(tries.alloc, slots)?;
+        let reads = &tries.doing.reads;
+        let found = found_in_each(tries.alloc, &contents, tries.settings, reads)?;
+        self.contents = self.contents.saturating_add(found.len() as u64);
+        Ok(streams_found(&found, self.before.as_str(), self.after.as_str()))
+    }
+
+    /// What becomes of the calls where the first call on a slot fails, where the second does, and so on, until they are
+    /// answered.
+    fn attempt_each(&mut self, slots: &mut [MemDisk; 2], slot: usize) -> Result<Counted> {
+        let mut all = Counted::new(self.tries.alloc, ", ");
+        for call in 1..CALLS {
+            let tried = self.attempt(slots, slot, call)?;
+            all.add(tried.to_string(self.tries.alloc)?);
+            if tried == "answered" {
+                return Ok(all);
+            }
+        }
+        bail!("the call is never answered");
+    }
+}
+
+/// Tries calls on copies of these slots, of which one fails. Says their answers, and for each slot what becomes of
+/// them; the slots are then as after the calls. Gives how many contents were opened.
+pub fn say_trials(tries: Tries<'_>, slots: &mut [MemDisk; 2], said: &mut Said) -> Result<u64> {
+    let before = tries.found_in_copy(slots)?;
+    let mut next = tries.say_made(slots, said)?;
+    let after = tries.found_in_copy(&mut next)?;
     let mut trial = Trial {
-        alloc,
-        settings,
-        doing,
-        before: before.as_str(),
-        after: after.as_str(),
+        tries,
+        before,
+        after,
         contents: 0,
     };
-    trial.say_slots(pair, way, said)?;
+    for slot in 0..2 {
+        said.tell(format_args!("slot {slot}: "));
+        trial.attempt_each(slots, slot)?.say(said);
+    }
+    *slots = next;
     Ok(trial.contents)
 }

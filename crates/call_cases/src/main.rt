@@ -3,9 +3,6 @@
 
 mod alone;
 mod crashes;
-mod grouped;
-mod opened;
-mod prepared;
 mod stage;
 mod together;
 
@@ -84,8 +81,6 @@ where
 ///   mark. Each content that a crash may then leave is opened: with each of 0, 1, 127 and 255 for an unsynced byte
 ///   where that is no more than 8 contents, otherwise with 0, 1 and 255 for all
 /// - `contents`: how many contents the row's `fails` and `stops` opened
-/// - `store CALL`, `forget CALL`: on a `StreamMap` of its own: the reply, and `room R block B segment S then R`. Then
-///   `block` and `segment` say those bytes
 fn take_row<R>(rt: &R, row: &Row<'_>, said: &mut Said) -> Result<()>
 where
     R: Threads + Wait + AllocGlobal + Copy + Send + Sync + 'static,

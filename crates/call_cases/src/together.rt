@@ -1,19 +1,17 @@
 //! All shards of an ingester, and its passes.
 ghost use Rattle.std.specs.Prelude.{◌≡◌, ℕ, Some, slice_get};
 ghost use Rattle.std.specs.Coded.{codes};
-ghost use Rattle.accept.specs.Calls.{AreNumbers};
 ghost use Rattle.accept.specs.contracts.image.Image as image;
 ghost use Rattle.history.specs.Handles.{Passed};
 ghost use Rattle.ingester.specs.Calls.{IsPassOf};
 
-use accept::{Call, Reply};
+use accept::Reply;
 use anyhow::{Result, bail};
-use call_slots::{Left, Pair};
-use call_words::{Counted, Gathered, Settings, write_reply};
+use call_words::{Counted, Ended, Gathered, Settings, call_of, number_of, write_outcome};
 use disk::MemDisk;
 use history::Pass;
 use ingester::{CallFault, Closed, Ingester, OpenFault};
-use rows::Said;
+use rows::{Said, word_of};
 use std::alloc::Global;
 use std::collections::VecDeque;
 use std::mem;
@@ -33,49 +31,20 @@ pub struct Together {
     ghost shards: { ingester.about.shards ≡ count },
 }
 
-/// Says the answer to a call, or why it was refused.
-fn write_outcome(outcome: &Result<Reply, CallFault>, into: &mut Said) {
-    match outcome {
-        Ok(reply) => write_reply(reply, into),
-        Err(fault) => into.tell(format_args!("{fault}")),
-    }
-}
-
-/// What came of calls, in their order.
-fn answers_of(alloc: Global, outcomes: VecDeque<Result<Reply, CallFault>>) -> Result<Counted> {
-    let mut answers = Counted::new(alloc, "\n");
-    for outcome in outcomes.iter() {
-        let mut answer = Said::new(alloc);
-        write_outcome(outcome, &mut answer);
-        answers.add(answer.end()?);
-    }
-    Ok(answers)
-}
-
-fn slots_of(alloc: Global, pairs: Vec<Pair>) -> Result<Vec<[MemDisk; 2]>> {
-    let mut slots = Vec::new(alloc);
-    for pair in pairs {
-        slots.push(pair.into_slots())?;
-    }
-    Ok(slots)
-}
-
-fn pairs_of(alloc: Global, slots: Vec<[MemDisk; 2]>) -> Result<Vec<Pair>> {
-    let mut pairs = Vec::new(alloc);
-    for both in slots {
-        pairs.push(Pair::of_slots(both))?;
-    }
-    Ok(pairs)
-}
+/// The slots of each shard.
+pub type AllSlots = Vec<[MemDisk; 2]>;
 
 impl Together {
     /// Opens a shard over each pair of slots. A refusal says why, and gives the slots back in their order.
+    ///
+    /// # Errors
+    /// Settings or a number of shards out of bounds, or want of memory.
     pub fn open<R>(
         rt: &R,
         alloc: Global,
-        pairs: Vec<Pair>,
+        slots: AllSlots,
         settings: Settings,
-    ) -> Result<Result<Together, (OpenFault, Vec<Pair>)>>
+    ) -> Result<Result<Together, (OpenFault, AllSlots)>>
     where
         R: Threads + Wait + Copy + Send + Sync + 'static,
     {
@@ -84,7 +53,6 @@ impl Together {
             capacity,
             passes,
         } = settings;
-        let slots = slots_of(alloc, pairs)?;
         if slots.is_empty() || slots.len() > 64 || passes == 0 || passes > 64 {
             bail!("there are 1 to 64 shards and passes");
         }
@@ -104,24 +72,70 @@ impl Together {
                     count,
                 }))
             }
-            Err(refusal) => Ok(Err((refusal.0, pairs_of(alloc, refusal.1)?))),
+            Err(refusal) => Ok(Err(refusal)),
         }
     }
 
-    /// Makes a call, and says its answer, or why it was refused.
-    pub fn call<R: Wait>(&mut self, rt: &R, alloc: Global, call: Call, into: &mut Said)
-        requires numbers { AreNumbers call }
-    {
-        write_outcome(&self.ingester.call(rt, alloc, &mut self.pass, call), into)
+    /// Does what a line asks for: a call; `each` and a call, which each pass makes in its turn; `look [SHARD]`; `turn`,
+    /// so that the next pass makes the calls; `end_owners`.
+    pub fn take_line<R: Wait>(
+        &mut self,
+        rt: &R,
+        alloc: Global,
+        line: &str,
+        said: &mut Said,
+    ) -> Result<()> {
+        let (word, rest) = word_of(line);
+        match word {
+            "each" => self.call_each(rt, alloc, rest, said),
+            "look" => self.say_steps(rest, said),
+            "turn" => self.turn(),
+            "end_owners" => {
+                self.ingester.end_owners(rt, &self.pass);
+                Ok(())
+            }
+            _ => {
+                self.call(rt, alloc, line, said)?;
+                said.put("\n");
+                Ok(())
+            }
+        }
     }
 
-    /// Makes calls of the pass together, at most 64: what came of each, in their order.
+    /// Makes the call of a line, and says its answer, or why it was refused.
+    fn call<R: Wait>(&mut self, rt: &R, alloc: Global, line: &str, into: &mut Said) -> Result<()> {
+        let call = call_of(alloc, line)?;
+        write_outcome(&self.ingester.call(rt, alloc, &mut self.pass, call), into);
+        Ok(())
+    }
+
+    /// Makes the call of a line with each pass in turn, and says their answers.
+    fn call_each<R: Wait>(
+        &mut self,
+        rt: &R,
+        alloc: Global,
+        line: &str,
+        said: &mut Said,
+    ) -> Result<()> {
+        let mut answers = Counted::new(alloc, "\n");
+        for _ in 0..self.others.len().saturating_add(1) {
+            let mut answer = Said::new(alloc);
+            self.call(rt, alloc, line, &mut answer)?;
+            answers.add(answer.end()?);
+            self.turn()?;
+        }
+        answers.say(said);
+        Ok(())
+    }
+
+    /// Makes calls of the pass together, at most 64, and says what came of each, in their order.
     pub fn call_all<R: Wait>(
         &mut self,
         rt: &R,
         alloc: Global,
         calls: &Gathered,
-    ) -> Result<Counted> {
+        said: &mut Said,
+    ) -> Result<()> {
         let mut calls = calls.calls(alloc)?;
         if calls.len() > 64 {
             bail!("a pass makes at most 64 calls together");
@@ -129,16 +143,11 @@ impl Together {
         let mut outcomes = VecDeque::with_capacity(alloc, calls.len())?;
         self.ingester
             .call_all(rt, alloc, &mut self.pass, &mut calls, &mut outcomes);
-        answers_of(alloc, outcomes)
-    }
-
-    /// How many passes there are.
-    pub fn passes(&self) -> usize {
-        self.others.len().saturating_add(1)
+        say_outcomes(alloc, &outcomes, said)
     }
 
     /// Lets the next pass make the calls, each in its turn.
-    pub fn turn(&mut self) -> Result<()> {
+    fn turn(&mut self) -> Result<()> {
         if let Some(next) = self.others.pop() {
             let last = mem::replace(&mut self.pass, next);
             self.others.insert(0, last)?;
@@ -146,24 +155,27 @@ impl Together {
         Ok(())
     }
 
-    /// Ends the owner of each shard: from then on calls are in doubt.
-    pub fn end_owners<R: Wait>(&self, rt: &R) {
-        self.ingester.end_owners(rt, &self.pass);
+    /// `[SHARD]`: says how long its history is, as the pass sees it now.
+    fn say_steps(&mut self, text: &str, said: &mut Said) -> Result<()> {
+        let (shard, _) = number_of(if text.is_empty() { "0" } else { text })?;
+        let steps = self.steps(u32::try_from(shard)?)?;
+        said.tell(format_args!("steps {steps}\n"));
+        Ok(())
     }
 
     /// How long the history of a shard is, as the pass sees it now.
-    pub fn steps(&mut self, shard: u32) -> Result<u64> {
+    fn steps(&mut self, shard: u32) -> Result<u64> {
         if shard >= self.count {
             bail!("no such shard");
         }
         Ok(self.ingester.look(&mut self.pass, shard))
     }
 
-    /// What is left of each shard, shard 0 first.
-    pub fn close<R: Wait>(self, rt: &R, alloc: Global) -> Result<Vec<Left>> {
+    /// The slots of each shard, shard 0 first, and what became of it.
+    pub fn close<R: Wait>(self, rt: &R, alloc: Global) -> Result<(AllSlots, Vec<Ended>)> {
         let mut open = self;
         let steps = open.all_steps(alloc)?;
-        left_of(alloc, open.end(rt)?, &steps)
+        take_apart(alloc, open.end(rt)?, &steps)
     }
 
     fn all_steps(&mut self, alloc: Global) -> Result<Vec<u64>> {
@@ -186,16 +198,41 @@ impl Together {
     }
 }
 
-/// What is left of each shard, shard 0 first, with these numbers of steps.
-fn left_of(alloc: Global, closed: Closed<MemDisk>, steps: &[u64]) -> Result<Vec<Left>> {
+/// Says what came of calls, in their order.
+fn say_outcomes(
+    alloc: Global,
+    outcomes: &VecDeque<Result<Reply, CallFault>>,
+    said: &mut Said,
+) -> Result<()> {
+    let mut answers = Counted::new(alloc, "\n");
+    for outcome in outcomes.iter() {
+        let mut answer = Said::new(alloc);
+        write_outcome(outcome, &mut answer);
+        answers.add(answer.end()?);
+    }
+    answers.say(said);
+    Ok(())
+}
+
+/// The slots of each shard, and what became of it, with these numbers of steps.
+fn take_apart(
+    alloc: Global,
+    closed: Closed<MemDisk>,
+    steps: &[u64],
+) -> Result<(AllSlots, Vec<Ended>)> {
     let mut closed = closed;
-    let mut all = Vec::new(alloc);
+    let (mut slots, mut ended) = (Vec::new(alloc), Vec::new(alloc));
     for steps in steps.iter().rev() {
         let Some(shard) = closed.take() else {
             bail!("a shard is lost");
         };
-        all.push(Left::of_slots(shard.0, Some(*steps), shard.1))?;
+        ended.push(Ended {
+            steps: *steps,
+            is_marked: shard.1,
+        })?;
+        slots.push(shard.0)?;
     }
-    all.reverse();
-    Ok(all)
+    slots.reverse();
+    ended.reverse();
+    Ok((slots, ended))
 }

@@ -4,7 +4,7 @@ ghost use Rattle.accept.specs.Calls.{AreNumbers};
 use crate::calls::{call_of, number_of};
 use accept::Call;
 use anyhow::Result;
-use rows::{Said, word_of};
+use rows::word_of;
 use std::alloc::Global;
 use std::collections::VecDeque;
 
@@ -49,7 +49,8 @@ impl Gathered {
         let (from, text) = number_of(text)?;
         let (to, line) = number_of(text)?;
         for number in from..=to {
-            self.lines.push(numbered(alloc, line, number)?)?;
+            let number = format!(in alloc; "{number}")?;
+            self.lines.push(line.replace(alloc, '#', number.as_str())?)?;
         }
         Ok(())
     }
@@ -82,16 +83,4 @@ impl Gathered {
         }
         Ok(reads)
     }
-}
-
-/// The line with this number in place of each `#`.
-fn numbered(alloc: Global, line: &str, number: u64) -> Result<String> {
-    let mut text = Said::new(alloc);
-    for (index, part) in line.split('#').enumerate() {
-        if index > 0 {
-            text.tell(format_args!("{number}"));
-        }
-        text.put(part);
-    }
-    Ok(text.end()?)
 }

@@ -1,8 +1,17 @@
 use accept::{Entry, Outcome, Reply};
 use rows::{Said, only_character};
+use std::fmt::Display;
 
 /// A line that is longer than this and repeats one character is written by its length.
 const LONG: usize = 8;
+
+/// Says the answer to a call, or why it was refused.
+pub fn write_outcome<F: Display>(outcome: &Result<Reply, F>, into: &mut Said) {
+    match outcome {
+        Ok(reply) => write_reply(reply, into),
+        Err(fault) => into.tell(format_args!("{fault}")),
+    }
+}
 
 /// Says an answer: `verdict` and the outcomes, `entries` and the entries as a push gives them, or its name.
 pub fn write_reply(reply: &Reply, into: &mut Said) {

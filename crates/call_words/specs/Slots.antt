@@ -3,8 +3,8 @@ use Rattle.std.specs.Prelude.{◌≡◌, ◌≤◌, ◌<◌, ◌↔◌, ℕ, Lis
 use Rattle.disk.specs.Sight.{Holds, IsSynced}
 use Rattle.disk.specs.MemDisk.{WillFail, memory_sight}
 use Rattle.disk.specs.declared.memory.MemDisk.{MemDisk}
-use Rattle.call_slots.specs.declared.slots.Way.{Way}
-use Rattle.call_slots.specs.declared.slots.Way.TheVariants.{Fails, Stops}
+use Rattle.call_words.specs.declared.slots.Way.{Way}
+use Rattle.call_words.specs.declared.slots.Way.TheVariants.{Fails, Stops}
 
 -- what a read gives
 abbrev pub bytes_in : MemDisk → List ℕ
