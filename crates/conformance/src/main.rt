@@ -1,5 +1,5 @@
-//! `conformance FILE..`: serves connections over ingesters in memory, or over lists of what comes of their calls, as the
-//! rows of the files say, and prints each row that does not say what it must.
+//! `conformance FILE..`: serves connections over ingesters in memory, or over lists of what comes of their calls, as
+//! the rows of the files say, and prints each row that does not say what it must.
 #![tactic(auto)]
 
 mod listed;
