@@ -104,7 +104,7 @@ theorem-check: ## tries wrong headlines, each of which a small run refutes and t
 	@RT='$(RT)' tests/theorem_check $(NAMES)
 
 faults: ## hostile bytes, refused memory, bad files, slow clients, held to the definitions (some minutes)
-	@RT='$(RT)' tests/build bench ingest1 call_cases conformance ingestctl server walcat walsplit
+	@RT='$(RT)' tests/build bench bench_calls ingest1 call_cases conformance ingestctl server walcat walsplit
 	@failed=0; for it in judge_rows mutations 'each_allocation_fails bench ingest1 call_cases conformance ingestctl server' refused_threads hostile_files hostile_clients; do \
 		tests/$$it || failed=1; done; exit $$failed
 
@@ -125,8 +125,9 @@ fmt: ## lays out the code of every crate
 HELD = glibc.malloc.mmap_max=0:glibc.malloc.trim_threshold=17179869184
 
 bench: ## how fast bodies are read, calls are made, and connections are served
-	@RT='$(RT)' tests/build bench
-	@TMPDIR='$(CURDIR)' GLIBC_TUNABLES=$(HELD) crates/bench/out/bench time
+	@RT='$(RT)' tests/build bench bench_calls
+	@for it in bench bench_calls; do \
+		TMPDIR='$(CURDIR)' GLIBC_TUNABLES=$(HELD) crates/$$it/out/$$it time || exit 1; done
 
 metrics-check: ## the metrics and alerts with Debian's Prometheus, over a server that fills, is drained, is killed, and has a disk that fails
 	@RT='$(RT)' tests/build server walcat

@@ -1,12 +1,9 @@
 //! How fast push bodies are read, beside JSON alone.
 
-use crate::pushes::START;
-use crate::stopwatch::{Mode, Stopwatch};
 use anyhow::Result;
+use bench_parts::{Mode, START, Stopwatch, body_of};
 use pushjson::read_push;
-use rows::Said;
 use serde_json::Value;
-use std::alloc::Global;
 use std::rt::Clock;
 
 /// Entries and bytes of a line, of the bodies of about 1 MB and 4 MB. A body holds at most 10,000 entries, so the lines
@@ -21,20 +18,6 @@ pub fn run<R: Clock + Print + AllocGlobal>(rt: &R, mode: Mode) -> Result<()> {
         run_push(rt, mode, body.as_bytes())?;
     }
     Ok(())
-}
-
-/// A push body of one stream: entries a nanosecond apart, from this time on.
-pub fn body_of(alloc: Global, first: u64, entries: u64, line: usize) -> Result<String> {
-    let text = "x".repeat(alloc, line)?;
-    let mut body = Said::new(alloc);
-    body.put("{\"streams\":[{\"stream\":{\"a\":\"1\"},\"values\":[");
-    for entry in 0..entries {
-        let time = first.saturating_add(entry);
-        let comma = if entry == 0 { "" } else { "," };
-        body.tell(format_args!("{comma}[\"{time}\",\"{text}\"]"));
-    }
-    body.put("]}]}");
-    Ok(body.end()?)
 }
 
 fn run_json<R: Clock + Print + AllocGlobal>(rt: &R, mode: Mode, body: &[u8]) -> Result<()> {

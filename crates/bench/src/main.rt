@@ -1,29 +1,19 @@
-//! `bench time` prints how fast the parts are: how push bodies and segments are read, how the log appends, how long
-//! calls on one stream take, how many calls a shard makes in groups and an ingester by its passes, and how fast a
-//! connection is served. Files are in a folder of their own among the temporary files. `bench check` makes a few of
-//! what needs no thread and no file, and `bench calls` a few of the rest. Several words are taken one after another.
+//! `bench time` prints how fast push bodies and segments are read, how the log appends, and how long calls on one
+//! stream take. Files are in a folder of their own among the temporary files. `bench check` makes a few of all that
+//! needs no file, and `bench quiet` calls that request no memory. Several words are taken one after another.
 #![tactic(auto)]
 
 mod appends;
 mod bodies;
-mod calls;
-mod folders;
 mod frames;
-mod groups;
-mod pushes;
-mod quiet_ingester;
-mod quiet_parts;
-mod served;
+mod quiet;
 mod slots;
-mod stopwatch;
 mod stream;
 
-use crate::stopwatch::Mode;
 use anyhow::{Result, bail};
+use bench_parts::Mode;
 use std::fs::File;
 use std::rt::{Clock, Files};
-use std::sync::Wait;
-use std::thread::Threads;
 use std::{env, process};
 
 fn main(rt: HostRuntime) -> Result<()> {
@@ -36,28 +26,25 @@ fn main(rt: HostRuntime) -> Result<()> {
     Ok(())
 }
 
-fn run<R>(rt: &R, word: &str, folder: &str) -> Result<()>
-where
-    R: Clock + Print + Files<File = File> + Threads + Wait + Sync + AllocGlobal,
-    R: Copy + Send + 'static,
-{
+fn run<R: Clock + Print + Files<File = File> + AllocGlobal>(
+    rt: &R,
+    word: &str,
+    folder: &str,
+) -> Result<()> {
     match word {
         "time" => {
             run_parts(rt, Mode::Time)?;
-            appends::time(rt, folder)?;
-            run_calls(rt, Mode::Time, folder)
+            appends::time(rt, folder)
         }
         "check" => {
             run_parts(rt, Mode::Check)?;
             appends::check(rt)
         }
-        "calls" => run_calls(rt, Mode::Check, folder),
         "quiet" => {
-            quiet_ingester::run(rt)?;
-            quiet_parts::trim(rt)?;
-            quiet_parts::write(rt)
+            quiet::trim(rt)?;
+            quiet::write(rt)
         }
-        _ => bail!("usage: bench time|check|calls|quiet"),
+        _ => bail!("usage: bench time|check|quiet"),
     }
 }
 
@@ -65,14 +52,4 @@ fn run_parts<R: Clock + Print + AllocGlobal>(rt: &R, mode: Mode) -> Result<()> {
     bodies::run(rt, mode)?;
     slots::run(rt, mode)?;
     stream::run(rt, mode)
-}
-
-fn run_calls<R>(rt: &R, mode: Mode, folder: &str) -> Result<()>
-where
-    R: Clock + Print + Files<File = File> + Threads + Wait + Sync + AllocGlobal,
-    R: Copy + Send + 'static,
-{
-    groups::run(rt, mode, folder)?;
-    calls::run(rt, mode)?;
-    served::run(rt, mode)
 }

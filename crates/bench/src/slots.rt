@@ -1,8 +1,8 @@
 //! How fast the segment in a slot is read.
 
 use crate::frames::{SEGMENT, frame_of};
-use crate::stopwatch::{Mode, Stopwatch};
 use anyhow::{Result, bail};
+use bench_parts::{Mode, Stopwatch};
 use segment_reader::read_segment;
 use std::alloc::Global;
 use std::rt::Clock;
