@@ -8,7 +8,7 @@ mod bytes;
 mod crash;
 mod desk;
 mod drive;
-mod entries;
+mod entry_words;
 mod numbers;
 mod slots;
 mod stream_rows;

@@ -1,5 +1,5 @@
 //! The two slots of a log.
-use crate::entries::write_image;
+use crate::entry_words::write_image;
 use crate::numbers::{number_of, owner_of};
 use accept::Image;
 use anyhow::{Result, bail};

@@ -1,7 +1,7 @@
 ghost use Rattle.std.specs.Prelude.{◌↔◌, IsTrue};
 ghost use Rattle.accept.specs.OneStream.{AreTimes};
 
-use crate::entries::write_entry;
+use crate::entry_words::write_entry;
 use crate::numbers::number_of;
 use crate::texts;
 use accept::{END_OF_TIME, Entry, Limits, Line, Meta, Outcome, StreamState, TrimRefusal};
