@@ -3,6 +3,7 @@ ghost use Rattle.std.specs.Prelude.{◌≡◌, ℕ, Some, slice_get, IfOk};
 ghost use Rattle.history.specs.Handles.{Passed};
 ghost use Rattle.ingester.specs.Calls.{IsPassOf};
 
+use crate::course::Slot;
 use accept::Limits;
 use disk::{Disk, Gate, GateDisk, MemDisk};
 use history::Pass;
@@ -11,9 +12,6 @@ use std::alloc::Global;
 use std::sync::Wait;
 use std::test::Fail;
 use std::thread::Threads;
-
-/// A slot in memory. A gate can hold its syncs.
-pub(crate) type Slot = GateDisk<MemDisk>;
 
 /// How many bytes a segment may have.
 const CAPACITY: u64 = 4_096;

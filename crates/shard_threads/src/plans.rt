@@ -3,8 +3,9 @@ ghost use Rattle.std.specs.Prelude.{◌≡◌, ℕ, Some, slice_get};
 ghost use Rattle.history.specs.Handles.{Passed};
 ghost use Rattle.ingester.specs.Calls.{IsPassOf};
 
-use crate::opening::{Slot, last_of, open, slot_lengths};
-use crate::tasks::{Course, Pushes, Task, play};
+use crate::course::{Course, Pushes, Slot, Task};
+use crate::opening::{last_of, open, slot_lengths};
+use crate::tasks::play;
 use disk::Gate;
 use history::Pass;
 use ingester::Ingester;
