@@ -1,12 +1,14 @@
 //! What becomes of a shard's slots.
 ghost use Rattle.std.specs.Prelude.{◌≡◌, ◌<◌, ◌≤◌, ◌*◌, ◌^◌, ◌∷◌, []};
 ghost use Rattle.std.specs.Mem.{type_size};
+ghost use Rattle.labels.specs.Shards.{max_shards};
 ghost use Rattle.segment.specs.Segments.{owner_of};
 ghost use Rattle.openings.specs.Places.{IsNotLookedAt, AreSlotsThere, IsTried, slots_in, refusal_in};
 
 use crate::observer::Observer;
 use accept::Image;
 use disk::Disk;
+use segment_reader::ReadBlocks;
 use std::alloc::Global;
 use std::mem;
 use wal::{OpenFault, Wal};
@@ -38,18 +40,20 @@ pub(crate) fn given_place<D: Disk + Drop>(slots: [D; 2]) -> Place<D>
 }
 
 // Opens the log over these slots of a shard.
-fn open_slots<D: Disk + Drop>(
+fn open_slots<D: Disk + Drop, B: ReadBlocks>(
+    by: &B,
     alloc: Global,
     given: [D; 2],
     shard: u32,
     count: u32,
     capacity: u64,
 ) -> Place<D>
-    requires shard { (shard < count) × (count ≤ 64) }
+    requires reader { B.can_read }
+    requires shard { (shard < count) × (count ≤ max_shards) }
     requires capacity { capacity ≤ 2 ^ 30 }
     ensures { IsTried D.sight D.follows (owner_of shard count) capacity given result }
 {
-    match Wal::open(alloc, given, shard, count, capacity) {
+    match Wal::open_by(by, alloc, given, shard, count, capacity) {
         Ok((log, image)) => Place::Opened(log, image),
         Err(refusal) => {
             let fault = refusal.0;
@@ -76,7 +80,8 @@ fn tell_opened<D: Disk + Drop, O: Observer>(observer: &O, shard: u32, place: &Pl
 }
 
 // Opens the log over the slots in this place, and tells the observer of it.
-pub(crate) fn open_place<D: Disk + Drop, O: Observer>(
+pub(crate) fn open_place<D: Disk + Drop, B: ReadBlocks, O: Observer>(
+    by: &B,
     alloc: Global,
     place: &mut Place<D>,
     shard: u32,
@@ -84,9 +89,10 @@ pub(crate) fn open_place<D: Disk + Drop, O: Observer>(
     capacity: u64,
     observer: &O,
 )
+    requires reader { B.can_read }
     requires fits { 2 * type_size D.row < 2 ^ 63 }
     requires given { IsNotLookedAt place.old }
-    requires shard { (shard < count) × (count ≤ 64) }
+    requires shard { (shard < count) × (count ≤ max_shards) }
     requires capacity { capacity ≤ 2 ^ 30 }
     ensures { IsTried D.sight D.follows (owner_of shard count) capacity
         (slots_in place.old) place.new }
@@ -94,7 +100,7 @@ pub(crate) fn open_place<D: Disk + Drop, O: Observer>(
     let Place::Given(first, second) = mem::replace(place, Place::Out) else {
         unreachable!();
     };
-    let tried = open_slots(alloc, [first, second], shard, count, capacity);
+    let tried = open_slots(by, alloc, [first, second], shard, count, capacity);
     tell_opened(observer, shard, &tried);
     *place = tried;
 }

@@ -1,8 +1,10 @@
 //! How the logs of shards are opened side by side.
+ghost use denote.Param.Send.{IsSync};
 ghost use Rattle.std.specs.Prelude.{◌≡◌, ◌<◌, ◌≤◌, ◌+◌, ◌*◌, ◌^◌, ◌∷◌, ◌++◌, [], All, map, vec_len, IfOk, IfErr};
 ghost use Rattle.std.specs.Mem.{type_size};
 ghost use Rattle.std.specs.Vec.{vec_capacity};
 ghost use Rattle.std.specs.VecDeque.{deque_len, deque_capacity};
+ghost use Rattle.labels.specs.Shards.{max_shards};
 ghost use Rattle.segment.specs.Segments.{owner_of};
 ghost use Rattle.openings.specs.Findings.{AreOpenedFrom, AreRefused};
 ghost use Rattle.openings.specs.Places.{IsNotLookedAt, IsOpened, AreSlotsThere, IsTried, AreTried};
@@ -13,6 +15,7 @@ use crate::observer::Observer;
 use crate::place::{Place, given_place, open_place, refusal_of, take_slots};
 use accept::Image;
 use disk::Disk;
+use segment_reader::ReadAhead;
 use std::alloc::Global;
 use std::collections::VecDeque;
 use std::thread::{Threads, available_parallelism, for_each_mut};
@@ -34,7 +37,7 @@ pub fn open_logs<D: Disk + Drop + Send, R: Threads + Sync, O: Observer + Sync>(
     capacity: u64,
     observer: &O,
 ) -> Result<(Vec<Wal<D>>, Vec<Image>), LogsFault>
-    requires few { deque_len slots.old ≤ 64 }
+    requires few { deque_len slots.old ≤ max_shards }
     requires room { deque_len slots.old ≤ deque_capacity slots.old }
     requires capacity { capacity ≤ 2 ^ 30 }
     ensures opened { IfOk result
@@ -100,7 +103,7 @@ fn try_each<D: Disk + Drop + Send, R: Threads + Sync, O: Observer + Sync>(
 )
     requires fits { 2 * type_size D.row < 2 ^ 63 }
     requires given { All IsNotLookedAt places.old.items }
-    requires few { vec_len places.old ≤ 64 }
+    requires few { vec_len places.old ≤ max_shards }
     requires capacity { capacity ≤ 2 ^ 30 }
     ensures tried { AreTried D.sight D.follows (vec_len places.old) capacity 0
         (map slots_in places.old.items)
@@ -109,19 +112,22 @@ fn try_each<D: Disk + Drop + Send, R: Threads + Sync, O: Observer + Sync>(
 {
     let count = places.len() as u32;
     let threads = processors(rt);
+    // With fewer shards than processors, each shard's segment is read by several.
+    let by = ReadAhead::new(rt, threads / places.len().max(1));
     let try_one = |shard: usize, place: &mut Place<D>|
-        requires { (2 * type_size D.row < 2 ^ 63) × IsNotLookedAt place.old × (shard < count)
-            × (count ≤ 64)
+        requires { IsSync R.row × (2 * type_size D.row < 2 ^ 63) × IsNotLookedAt place.old
+            × (shard < count)
+            × (count ≤ max_shards)
             × (capacity ≤ 2 ^ 30) }
         ensures { IsTried D.sight D.follows (owner_of shard count) capacity
             (slots_in place.old) place.new }
-    { open_place(alloc, place, shard as u32, count, capacity, observer) };
+    { open_place(&by, alloc, place, shard as u32, count, capacity, observer) };
     for_each_mut(rt, places.as_mut_slice(), threads, &try_one);
 }
 
 // The first place that is refused, and why.
 fn find_refused<D: Disk + Drop>(places: &Vec<Place<D>>) -> Option<(u32, OpenFault)>
-    requires { vec_len places.now ≤ 64 }
+    requires { vec_len places.now ≤ max_shards }
     ensures { result ≡ first_refused 0 places.now.items }
 {
     for shard in 0..places.len() {
