@@ -2,6 +2,7 @@ use crate::bytes::bytes_of;
 use crate::crash::say_crash;
 use crate::drive::{Drive, take_memory_word};
 use crate::numbers::number_of;
+use crate::records::written_anew;
 use crate::slots::{Slots, open, synced};
 use anyhow::{Context, Result, bail};
 use disk::{DeviceFault, FileDisk, FileFault, ImagesFault, LockedFile, MemDisk};
@@ -80,6 +81,7 @@ impl Desk {
             "append" => self.append(&bytes_of(alloc, rest)?, said),
             "roll" => self.roll(&bytes_of(alloc, rest)?, said),
             "fits" | "log" => self.look(word, rest, said),
+            "records" => self.write_records(alloc, &bytes_of(alloc, rest)?, said),
             _ => match &mut self.drive {
                 Some(drive) => drive.take_word(alloc, word, rest, said),
                 None => bail!("no such word, or no disk"),
@@ -157,6 +159,14 @@ impl Desk {
             said.put("above the capacity\n");
         } else {
             say_call(log.roll(segment), said);
+        }
+        Ok(())
+    }
+
+    /// Keeps a disk with one block of the records in a slot of these bytes, where they are a segment.
+    fn write_records(&mut self, alloc: Global, slot: &[u8], said: &mut Said) -> Result<()> {
+        if let Some(block) = written_anew(alloc, slot, said)? {
+            self.drive = Some(Drive::Memory(synced(alloc, &block)?));
         }
         Ok(())
     }

@@ -10,6 +10,7 @@ mod desk;
 mod drive;
 mod entry_words;
 mod numbers;
+mod records;
 mod slots;
 mod stream_rows;
 mod texts;
@@ -85,6 +86,12 @@ fn judge_row<R: Files<File = File> + Print + AllocGlobal>(
 /// - `append BYTES`, `roll BYTES`, `fits COUNT`, `log`, `close`: calls, and what they say
 /// - `crash SLOT VALUES MAX PLACE`: what a crash may leave of a slot: of contents that follow one another and are
 ///   alike how many and how long, the byte at a place, whether the others are as a read gives, and what is opened
+///
+/// Of a segment of the only shard:
+///
+/// - `records BYTES`: reads the records in a slot of these bytes: the generation, how many records there are, and the
+///   offset of the closing gate; or `closed`; or the fault. The disk then has one block of them all, as it is written
+///   after an open gate
 ///
 /// Bytes are hex digits, `COUNT*HEX`, `-` (none), `segment` and `frame` (the example, which stands in `bytes`),
 /// `segment_with_pair` and `frame_with_pair` (that of an entry with the metadata `k=v`), `segment_of_1` and

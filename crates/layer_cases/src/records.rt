@@ -1,0 +1,38 @@
+//! The records of a segment, read and written anew.
+
+use anyhow::{Result, bail};
+use rows::Said;
+use segment::put_block;
+use segment_reader::read_records;
+use std::alloc::Global;
+
+/// The greatest length of a slot, in bytes. A block of its records, in the latest version, is shorter than 2^32 bytes.
+const LONGEST: usize = 1 << 30;
+
+/// Reads the records in a slot of the only shard, and writes one block of them all. Says the segment's generation, how
+/// many records it has, and the offset of its closing gate; or why there is no block.
+///
+/// # Errors
+/// A slot that is too long, or want of memory.
+pub fn written_anew(alloc: Global, slot: &[u8], said: &mut Said) -> Result<Option<Vec<u8>>> {
+    if slot.len() > LONGEST {
+        bail!("too long");
+    }
+    match read_records(alloc, slot, 0, 1) {
+        Ok(Some((header, records, end))) => {
+            let (generation, count) = (header.generation, records.len());
+            said.tell(format_args!("generation {generation} records {count} end {end}\n"));
+            let mut block = Vec::new(alloc);
+            put_block(&records, &mut block)?;
+            Ok(Some(block))
+        }
+        Ok(None) => {
+            said.put("closed\n");
+            Ok(None)
+        }
+        Err(fault) => {
+            said.tell(format_args!("{fault}\n"));
+            Ok(None)
+        }
+    }
+}
