@@ -33,8 +33,7 @@ longer_entry v e h = omega (arith, longer_behind v e.meta h.behind, length-entry
 entries_anew : (v : Version) (es : List Entry) → AllByRecursion (FitsEntry v) es → AreShort es × (length (flat_map (entry latest) es) ≤ 2 * length (flat_map (entry v) es))
 entries_anew v [] h = (tt, omega arith)
 entries_anew v (e ∷ es) h =
-    let left = entries_anew v es h.1 in
-    (
+    let left = entries_anew v es h.1 in (
       (short_entry v e h.0, left.0),
       omega (arith, left.1, longer_entry v e h.0, length-append (entry latest e) (flat_map (entry latest) es), length-append (entry v e) (flat_map (entry v) es)),
     )
@@ -45,8 +44,7 @@ record_anew v owner (Append k es) h =
     (all.0, omega (arith, all.1, length-append_text latest k es, length-append_text v k es, length-entries latest es, length-entries v es))
 record_anew v owner (Trim k bound) h = (tt, omega arith)
 record_anew v owner (State k highest last es) h =
-    let all = entries_anew v es h.1.fit_entries.each in
-    (
+    let all = entries_anew v es h.1.fit_entries.each in (
       (short_entry v last h.1.fits_last, all.0),
       omega (arith, all.1, longer_entry v last h.1.fits_last, length-state_text latest k highest last es, length-state_text v k highest last es, length-entries latest es, length-entries v es),
     )
@@ -55,8 +53,7 @@ block_anew : (v : Version) (owner : Owner) (rs : List Record) → AllByRecursion
 block_anew v owner [] h = (tt, omega arith)
 block_anew v owner (r ∷ rs) h =
     let one = record_anew v owner r h.0 in
-    let left = block_anew v owner rs h.1 in
-    (
+    let left = block_anew v owner rs h.1 in (
       (one.0, left.0),
       omega (arith, one.1, left.1, length-append (record_text latest r) (payload latest rs), length-append (record_text v r) (payload v rs)),
     )
@@ -65,8 +62,7 @@ blocks_anew : (v : Version) (owner : Owner) (before groups : List (List Record))
 blocks_anew v owner before [] s = (tt, omega arith)
 blocks_anew v owner before (rs ∷ groups) s =
     let one = block_anew v owner rs s.0.each in
-    let left = blocks_anew v owner (before ++ rs ∷ []) groups s.2 in
-    (
+    let left = blocks_anew v owner (before ++ rs ∷ []) groups s.2 in (
       all_both IsShortRecord rs (all_of groups) one.0 left.0,
       omega (arith, one.1, left.1, ap length (flat_map-append (record_text latest) rs (all_of groups)), length-append (payload latest rs) (payload latest (all_of groups)), length-append (1 ∷ frame v rs) (blocks v groups), length-append (number 4 (length (payload v rs))) (payload v rs)),
     )
