@@ -1,7 +1,9 @@
 -- The steps of a pass at its own word keep the rule.
-use Rattle.std.proofs.Common.{◌≡◌, ◌⊎◌, ℕ, ◌+◌, ◌<◌, List, [], length, true, false, refl, sym, ap, ◌∙◌, subst, inl, inr, arith}
-use mathlib.Core.Option.{none}
-use Rattle.atomic_table.specs.Table.{Me, Allows, step, keeps}
+use Rattle.std.proofs.Common.{◌≡◌, ◌⊎◌, ℕ, ◌+◌, ◌<◌, List, [], ◌∷◌, ◌++◌, length, true, false, refl, sym, ap, ◌∙◌, subst, inl, inr, arith}
+use Rattle.std.specs.Prelude.{slice_set}
+use mathlib.Core.Option.{some, none}
+use lib.ListN.{get_elem?}
+use Rattle.atomic_table.specs.Table.{State, Me, Allows, stepped, step, keeps}
 use Rattle.accept.specs.declared.call.Call.{Call}
 use Rattle.accept.specs.declared.history.Ask.{Ask}
 use Rattle.accept.specs.declared.history.Step.{Step}
@@ -13,7 +15,7 @@ use Rattle.history.specs.declared.views.Role.TheVariants.{Nobody, Calls}
 use Rattle.history.specs.declared.views.Token.{Token}
 use Rattle.history.specs.declared.views.Token.TheVariants.{Nothing, Open, Done}
 use Rattle.history.specs.Histories.{shard_in, IsFirstIfAmong, behind_first, bound}
-use Rattle.history.specs.Rule.{alone, TableContents, Seating, IsInDoubt, number_of, KeepsRule}
+use Rattle.history.specs.Rule.{alone, TableContents, Seating, AccountOk, IsInDoubt, number_of, HoldsFor, KeepsRule}
 use Rattle.history.specs.Plays.{IsRested, ask_of, before_of, announce_to, withdraw_to, collect_to, announced_as, withdrew, collected}
 use Rattle.history.proofs.Lists.{put, put_at, put_other, put_two, put_two_at}
 use Rattle.history.proofs.Past.{legal_front, by_passes_front, number_last}
@@ -70,6 +72,31 @@ announces slots id n c call few above small s h wide e fits =
       ((refl, rested_of x.items c (x.tokens c.pass) ok), refl),
     )
 
+-- the pass with other calls that were seen, made and withdrawn, and others that are open
+abbrev with_calls : Caller → List (List Item) → List Step → List ℕ → List Ask → Caller
+with_calls c seen made withdrawn pending =
+    record { about = c.about; pass = c.pass; last = c.last; seen = seen; made = made; withdrawn = withdrawn; pending = pending }
+
+-- a pass gives back the token of a call that is not in doubt, and its word is that of the calls that are left
+gives_back : (s : State Unit View) (id n word : ℕ) (c : Caller) (t : Token) (seen : List (List Item)) (made : List Step) (withdrawn : List ℕ) (pending : List Ask) (k : HoldsFor c.about s) → get_elem? s.views id ≡ some (alone (Calls c) t)
+    → k.contents.tokens c.pass n ≡ t → k.seating.holders c.pass n ≡ id → ((a : Ask) → IsInDoubt a t → ⊥)
+    → AccountOk c.about k.contents.items c.pass (with_calls c seen made withdrawn pending) (put (k.contents.tokens c.pass) n Nothing) → word ≡ number_of c.last pending
+    → HoldsFor c.about (stepped s (c.about.shards + c.pass) word id [] (alone (Calls (with_calls c seen made withdrawn pending)) Nothing) keeps)
+gives_back s id n word c t seen made withdrawn pending k e has holds settled ok due =
+    let x = k.contents in
+    let mine = (k.seats id (alone (Calls c) t) e).role in
+    let c' : Caller = with_calls c seen made withdrawn pending in
+    record {
+      contents = with_pass x c.pass n c' Nothing;
+      seating = held_by k.seating c.pass n id;
+      words = words_pass c.about x s.words c.pass c' (put_two x.tokens c.pass n Nothing) word k.words mine.1 due;
+      good = good_pass c.about x c.pass n c' Nothing k.good ok;
+      seats = seats_set c.about x k.seating id (with_pass x c.pass n c' Nothing) (held_by k.seating c.pass n id)
+          (pass_frame c.about x k.seating c.pass n id c' t Nothing mine.2 has (inr holds) (λ a o. absurd (settled a o)))
+          s.views (alone (Calls c') Nothing) k.seats
+          (record { role = (mine.0, mine.1, mine.2, put_at x.callers c.pass c' c.pass refl); guest = tt; two = tt; hand = tt });
+    }
+
 withdraws : (slots id word : ℕ) (c : Caller) (a : Ask) (d : List Ask) → a.pass ≡ c.pass → IsFirstIfAmong a c.pending → word ≡ number_of c.last (behind_first c.pending)
     → Allows KeepsRule slots id (alone (Calls c) (Open a false d), []) (c.about.shards + c.pass) (λ _. word) (λ _. withdrew (step slots (c.about.shards + c.pass) word 0 none) (alone (Calls c) (Open a false d), []) word)
 withdraws slots id word c a d own number due s h wide e fits =
@@ -88,16 +115,8 @@ withdraws slots id word c a d own number due s h wide e fits =
       tt,
       (
         c.about,
-        record {
-          contents = with_pass x c.pass n c' Nothing;
-          seating = held_by k.seating c.pass n id;
-          words = words_pass c.about x s.words c.pass c' (put_two x.tokens c.pass n Nothing) word k.words mine.1 due;
-          good = good_pass c.about x c.pass n c' Nothing k.good (withdrawn_ok c.about x.items c.pass c (x.tokens c.pass) ok a d first has);
-          seats = seats_set c.about x k.seating id (with_pass x c.pass n c' Nothing) (held_by k.seating c.pass n id)
-              (pass_frame c.about x k.seating c.pass n id c' (Open a false d) Nothing mine.2 has (inr holds) (λ b o. absurd (not_doubted a b d o.0 o.1)))
-              s.views (alone (Calls c') Nothing) k.seats
-              (record { role = (mine.0, mine.1, mine.2, put_at x.callers c.pass c' c.pass refl); guest = tt; two = tt; hand = tt });
-        },
+        gives_back s id n word c (Open a false d) c.seen c.made (c.withdrawn ++ n ∷ []) (behind_first c.pending) k e has holds (λ b o. not_doubted a b d o.0 o.1)
+            (withdrawn_ok c.about x.items c.pass c (x.tokens c.pass) ok a d first has) due,
       ),
       ((refl, first), refl),
     )
@@ -125,16 +144,8 @@ collects slots id word c r upto at own number due rested s h wide e fits =
       tt,
       (
         c.about,
-        record {
-          contents = with_pass x c.pass n c' Nothing;
-          seating = held_by k.seating c.pass n id;
-          words = words_pass c.about x s.words c.pass c' (put_two x.tokens c.pass n Nothing) word k.words mine.1 due;
-          good = good_pass c.about x c.pass n c' Nothing k.good (collected_ok x.items c ts r upto at ok has first there);
-          seats = seats_set c.about x k.seating id (with_pass x c.pass n c' Nothing) (held_by k.seating c.pass n id)
-              (pass_frame c.about x k.seating c.pass n id c' (Done r upto at) Nothing mine.2 has (inr holds) (λ b o. absurd (not_open r upto at b o.0 o.1)))
-              s.views (alone (Calls c') Nothing) k.seats
-              (record { role = (mine.0, mine.1, mine.2, put_at x.callers c.pass c' c.pass refl); guest = tt; two = tt; hand = tt });
-        },
+        gives_back s id n word c (Done r upto at) (slice_set c.seen (shard_in c.about r.ask) upto) (c.made ++ r ∷ []) c.withdrawn (behind_first c.pending) k e has holds (λ b o. not_open r upto at b o.0 o.1)
+            (collected_ok x.items c ts r upto at ok has first there) due,
       ),
       (
         (
