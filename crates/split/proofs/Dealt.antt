@@ -9,7 +9,7 @@ use Rattle.std.proofs.lemmas.List.{length-set, length-replicate, get_or-set_same
 use Rattle.std.proofs.lemmas.List.Sums.{sum_by-cons}
 use Rattle.std.proofs.lemmas.Bool.{cases_eq, cases_lt, eq-eqb, ne_eqb, eqb-true, false≢true}
 use Rattle.labels.specs.Keys.{key_cmp, same_key}
-use Rattle.labels.specs.Shards.{shard}
+use Rattle.labels.specs.Shards.{shard, max_shards}
 use Rattle.labels.specs.declared.key.StreamKey.{StreamKey}
 use Rattle.accept.specs.declared.image.StreamImage.{StreamImage}
 use Rattle.accept.specs.Rooms.{Streams, stream_room, room}
@@ -189,7 +189,7 @@ module _ (m : ℕ) where
   all_more (old ∷ olds) maps s bound some len small =
       omega (arith, all_more olds (dealt m maps old) s bound some (length-given_all m (finite.entries old) maps ∙ len) (λ t lt. small (suc t) (omega (arith, lt))), some_more (finite.entries old) maps s some len, small 0 (omega arith))
 
-  pub rooms_within : (olds news : List Streams) → 0 < m → length olds ≤ 64 → HaveRoomWithin (2 ^ 31 + 27) (length olds) olds → news ≡ all_dealt m (replicate m finite.empty) olds → HaveRoomWithin (2 ^ 40) m news
+  pub rooms_within : (olds news : List Streams) → 0 < m → length olds ≤ max_shards → HaveRoomWithin (2 ^ 31 + 27) (length olds) olds → news ≡ all_dealt m (replicate m finite.empty) olds → HaveRoomWithin (2 ^ 40) m news
   rooms_within olds news some few small is s lt =
       let more = all_more olds (replicate m finite.empty) s (2 ^ 31 + 27) some (length-replicate m finite.empty) small in
       let none : room (map_at (replicate m finite.empty) s) ≡ 27 = ap room (get_or-replicate m s finite.empty finite.empty lt) ∙ room-empty in

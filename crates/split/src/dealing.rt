@@ -1,6 +1,7 @@
 //! Streams dealt to the shards of their keys.
 ghost use Rattle.std.specs.Prelude.{◌≡◌, ◌≤◌, ◌<◌, ◌+◌, ◌^◌, ℕ, IfOk, OnOk, IfErr, length, replicate, vec_len};
 ghost use Rattle.std.specs.FinMap as finite;
+ghost use Rattle.labels.specs.Shards.{max_shards};
 ghost use Rattle.accept.specs.Rooms.{room};
 ghost use Rattle.split.specs.Maps.{map_at, IsSplit, dealt, AreFit, HaveRoomWithin, IsFirstAbove};
 
@@ -24,7 +25,7 @@ fn empty_maps(alloc: Global, count: u32) -> Result<Vec<Image>, AllocError>
 
 /// Moves each stream of a map to the map of its key's shard.
 fn deal(old: Image, news: &mut Vec<Image>, count: u32) -> Result<(), AllocError>
-    requires count { (1 ≤ count) × (count ≤ 64) }
+    requires count { (1 ≤ count) × (count ≤ max_shards) }
     requires len { vec_len news.old ≡ count }
     ensures len { vec_len news.new ≡ count }
     ensures dealt { OnOk result (news.new.items ≡ dealt count news.old.items old) }
@@ -42,8 +43,8 @@ pub(crate) fn deal_all(
     olds: Vec<Image>,
     count: u32,
 ) -> Result<Vec<Image>, AllocError>
-    requires olds { (0 < vec_len olds) × (vec_len olds ≤ 64) }
-    requires count { (1 ≤ count) × (count ≤ 64) }
+    requires olds { (0 < vec_len olds) × (vec_len olds ≤ max_shards) }
+    requires count { (1 ≤ count) × (count ≤ max_shards) }
     requires fit { AreFit (vec_len olds) olds.items }
     requires small { HaveRoomWithin (2 ^ 31 + 27) (vec_len olds) olds.items }
     ensures len { IfOk result (λ news. vec_len news ≡ count) }
@@ -65,7 +66,7 @@ pub(crate) fn deal_all(
 ///
 /// `NoRoom`: the first map that needs more.
 pub(crate) fn test_rooms(news: &[Image], cap: u64) -> Result<(), SplitFault>
-    requires few { length news.now ≤ 64 }
+    requires few { length news.now ≤ max_shards }
     requires small { HaveRoomWithin (2 ^ 40) (length news.now) news.now }
     ensures ok { OnOk result (HaveRoomWithin cap (length news.now) news.now) }
     ensures full { IfErr result (λ fault. (s : ℕ) × (fault ≡ SplitFault.NoRoom s)

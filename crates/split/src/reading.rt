@@ -1,5 +1,6 @@
 //! The streams that the slots of old shards hold.
 ghost use Rattle.std.specs.Prelude.{◌≡◌, ◌<◌, ◌≤◌, ◌+◌, ◌^◌, List, set, IfOk, IfErr, vec_len};
+ghost use Rattle.labels.specs.Shards.{max_shards};
 ghost use Rattle.segment.specs.Segments.{owner_of};
 ghost use Rattle.split.specs.Maps.{map_at, AreFit, HaveRoomWithin};
 ghost use Rattle.split.specs.Splits.{pair_at, EachPair, IsAtRest, IsOldShardRead, IsOldShardRefused, IsCause};
@@ -20,7 +21,7 @@ fn read_pair<D: Disk>(
     count: u32,
     cap: u64,
 ) -> (Result<Image, OpenFault>, [D; 2])
-    requires shard { (shard < count) × (count ≤ 64) }
+    requires shard { (shard < count) × (count ≤ max_shards) }
     requires cap { cap ≤ 2 ^ 30 }
     ensures rests { IsAtRest D.sight D.follows given result.1 }
     ensures read { IfOk result.0
@@ -47,7 +48,7 @@ fn read_at<D: Disk>(
     shard: u32,
     cap: u64,
 ) -> Result<Image, OpenFault>
-    requires shard { (shard < vec_len old.old) × (vec_len old.old ≤ 64) }
+    requires shard { (shard < vec_len old.old) × (vec_len old.old ≤ max_shards) }
     requires cap { cap ≤ 2 ^ 30 }
     ensures set { old.new.items ≡ set old.old.items shard (pair_at old.new.items shard) }
     ensures len { vec_len old.new ≡ vec_len old.old }
@@ -79,7 +80,7 @@ pub(crate) fn read_all<D: Disk>(
     old: &mut Vec<[D; 2]>,
     cap: u64,
 ) -> Result<Vec<Image>, SplitFault>
-    requires few { vec_len old.old ≤ 64 }
+    requires few { vec_len old.old ≤ max_shards }
     requires cap { cap ≤ 2 ^ 30 }
     ensures len { vec_len old.new ≡ vec_len old.old }
     ensures rests { EachPair (λ _. IsAtRest D.sight D.follows) old.old.items old.new.items }

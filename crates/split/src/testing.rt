@@ -1,5 +1,6 @@
 //! Whether the slots of new shards are empty.
 ghost use Rattle.std.specs.Prelude.{◌≡◌, ◌≢◌, ◌⊎◌, ◌<◌, ◌≤◌, ℕ, List, [], ◌∷◌, set, OnOk, IfErr, vec_len};
+ghost use Rattle.labels.specs.Shards.{max_shards};
 ghost use Rattle.wal.specs.Opening.{IsRestedDisk};
 ghost use Rattle.split.specs.Splits.{pair_at, EachPair, IsAtRest, AreOldRead, IsCause};
 ghost use Rattle.split.specs.Stages.{IsTested, IsTestFault};
@@ -73,7 +74,7 @@ fn test_at<D: Disk>(new: &mut Vec<[D; 2]>, shard: u32) -> Result<(), SplitFault>
 ///
 /// `NotEmpty`: the first slot that is not empty; `Device`.
 pub(crate) fn test_all<D: Disk>(new: &mut Vec<[D; 2]>) -> Result<(), SplitFault>
-    requires few { vec_len new.old ≤ 64 }
+    requires few { vec_len new.old ≤ max_shards }
     ensures len { vec_len new.new ≡ vec_len new.old }
     ensures rests { EachPair (λ _. IsAtRest D.sight D.follows) new.old.items new.new.items }
     ensures tested { OnOk result
