@@ -50,7 +50,8 @@ called [] = 0
 called (Some fault ∷ places) = called places
 called (None ∷ places) = called places + 1
 
--- these places make a window of this size: so many calls are left, and the lines can count their streams
+-- These places fit the next window: the calls that they have are left, a window of this size has room for them, the
+-- places are at most as many as a window takes, and the lines can count them.
 pub record FitWindow (places : List (Option LabelFault)) (size left streams : ℕ) : Type 0 where
   pub enough : called places ≤ left
   pub room : called places ≤ size
