@@ -10,10 +10,6 @@ use Rattle.keyed.specs.declared.binding.Binding.TheVariants.{Unbound, Bound}
 use Rattle.keyed.specs.Bindings.{FitsBinding, IsBound, AreBound, IsUnusedOrBound}
 
 module _ {K : Type 0} where
-  abbrev key_or : K → Binding K → K
-  key_or k Unbound = k
-  key_or k (Bound key n) = key
-
   abbrev number_of : Binding K → ℕ
   number_of Unbound = 0
   number_of (Bound key n) = n
