@@ -8,6 +8,7 @@ pub mod Slots
 pub mod Shards
 pub mod Applied
 pub mod Stored
+pub mod Rolled
 pub mod Ends
 pub mod Groups
 pub mod GroupRows
