@@ -5,7 +5,7 @@ use Rattle.labels.specs.Shards.{max_shards}
 use Rattle.words.specs.Words.{value, IsNumberIn}
 use Rattle.splitting.specs.declared.said.SplitWords.{SplitWords}
 
--- three words: the folder of the old slots, that of the new ones, and 1 to 64 shards
+-- three words: the folder of the old slots, that of the new ones, and how many shards are wanted
 pub record GiveSplit (words : List (String Global)) : Type 0 where
   pub old : String Global
   pub new : String Global

@@ -1,5 +1,6 @@
 //! The words of `walsplit`.
 ghost use Rattle.std.specs.Prelude.{IfSome, MatchOption};
+ghost use Rattle.labels.specs.Shards.{max_shards};
 ghost use Rattle.words.specs.Words.{IsNumberIn};
 ghost use Rattle.splitting.specs.Words.{GiveSplit, SaysSplit, SaysOfSplit};
 
@@ -20,7 +21,7 @@ pub fn split_in(words: &[String]) -> Option<SplitWords<'_>>
 
 fn split_of<'a>(old: &'a str, new: &'a str, count: &str) -> Option<SplitWords<'a>>
     ensures named { MatchOption result
-        (¬ IsNumberIn 1 64 count.now) (λ _. IsNumberIn 1 64 count.now) }
+        (¬ IsNumberIn 1 max_shards count.now) (λ _. IsNumberIn 1 max_shards count.now) }
     ensures says { IfSome result (SaysOfSplit old.now new.now count.now) }
 {
     let shards = time_of(count)?;

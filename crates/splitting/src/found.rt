@@ -1,5 +1,6 @@
 //! Which slots a folder has.
 ghost use Rattle.std.specs.Prelude.{◌≤◌, IfOk};
+ghost use Rattle.labels.specs.Shards.{max_shards};
 
 use crate::stopped::Stopped;
 use slots::{SlotName, SlotsFault};
@@ -13,10 +14,11 @@ const MAX_SHARDS: u32 = words::MAX_SHARDS as u32;
 ///
 /// # Errors
 ///
-/// `NoShards`: there are none, or more than 64. `Missing`: a shard has no slot 1, or a shard after the last has a slot;
-/// it names the first missing slot. `Slots`: it cannot be found out whether a file exists, or memory is wanting.
+/// `NoShards`: there are none, or more than `MAX_SHARDS`. `Missing`: a shard has no slot 1, or a shard after the last
+/// has a slot; it names the first missing slot. `Slots`: it cannot be found out whether a file exists, or memory is
+/// wanting.
 pub fn shards_in<R: Files>(rt: &R, alloc: Global, folder: &str) -> Result<u32, Stopped>
-    ensures { IfOk result (λ shards. (1 ≤ shards) × (shards ≤ 64)) }
+    ensures { IfOk result (λ shards. (1 ≤ shards) × (shards ≤ max_shards)) }
 {
     if folder.is_empty() {
         return Err(Stopped::Slots(SlotsFault::Path(String::new(alloc))));
@@ -39,7 +41,7 @@ pub fn shards_in<R: Files>(rt: &R, alloc: Global, folder: &str) -> Result<u32, S
     Ok(shards)
 }
 
-/// Whether a folder has a slot of this shard or of a later one, up to shard 64.
+/// Whether a folder has a slot of this shard or of a later one, up to shard `MAX_SHARDS`.
 pub fn has_slots<R: Files>(
     rt: &R,
     alloc: Global,
@@ -54,7 +56,7 @@ pub fn has_slots<R: Files>(
     Ok(false)
 }
 
-// How many slots 0 there are without a gap: 65 where there are more.
+// How many slots 0 there are without a gap: `MAX_SHARDS` + 1 where there are more.
 fn first_slots<R: Files>(rt: &R, alloc: Global, folder: &str) -> Result<u32, Stopped> {
     for shard in 0..=MAX_SHARDS {
         if !has_slot(rt, alloc, folder, shard, 0)? {

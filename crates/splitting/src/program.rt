@@ -1,6 +1,7 @@
 //! The program `walsplit`: the slots of a folder under another number of shards.
 ghost use Rattle.std.specs.Prelude.{◌≡◌, ◌⊎◌, ◌↔◌, ◌<◌, ◌≤◌, ◌^◌, ℕ, IfOk, IfErr, OnOk, option_map, vec_len};
 ghost use Rattle.std.specs.Io.KnownBytes.{Appends};
+ghost use Rattle.labels.specs.Shards.{max_shards};
 ghost use Rattle.words.specs.Words.{GivesCapacity};
 ghost use Rattle.split.specs.declared.fault.SplitFault.{SplitFault};
 ghost use Rattle.split.specs.declared.splitting.Slots.{Slots};
@@ -78,7 +79,7 @@ fn split_and_print<R: Files<File = File>, W: Write>(
     marks: Option<Stderr>,
 ) -> Result<(), Stopped>
     requires { capacity ≤ 2 ^ 30 }
-    ensures said { OnOk result ((shards : ℕ) × (1 ≤ shards) × (shards ≤ 64)
+    ensures said { OnOk result ((shards : ℕ) × (1 ≤ shards) × (shards ≤ max_shards)
         × Appends (W.contents output.old) (W.contents output.new)
         (split_line shards words.entry.shards)) }
     ensures stopped { IfErr result (λ stop. (stop ≡ Stopped.Output)
@@ -104,7 +105,7 @@ fn split_folder<R: Files<File = File>>(
     marks: Option<Stderr>,
 ) -> Result<u32, Stopped>
     requires { capacity ≤ 2 ^ 30 }
-    ensures { IfOk result (λ shards. (1 ≤ shards) × (shards ≤ 64)) }
+    ensures { IfOk result (λ shards. (1 ≤ shards) × (shards ≤ max_shards)) }
 {
     let SplitWords {
         old_folder,
@@ -144,8 +145,8 @@ fn split_slots<D: Disk + Drop>(
     new: Vec<[D; 2]>,
     capacity: u64,
 ) -> Result<(), Stopped>
-    requires old { (0 < vec_len old) × (vec_len old ≤ 64) }
-    requires new { (0 < vec_len new) × (vec_len new ≤ 64) }
+    requires old { (0 < vec_len old) × (vec_len old ≤ max_shards) }
+    requires new { (0 < vec_len new) × (vec_len new ≤ max_shards) }
     requires capacity { capacity ≤ 2 ^ 30 }
     ensures done { OnOk result ((backs : Slots D)
         × AreSplit D.sight D.follows capacity old.items backs.old.items new.items backs.new.items) }

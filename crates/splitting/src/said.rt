@@ -1,5 +1,6 @@
 //! What the words of `walsplit` say.
 ghost use Rattle.std.specs.Prelude.{◌≤◌};
+ghost use Rattle.labels.specs.Shards.{max_shards};
 
 /// The words of `walsplit OLD NEW COUNT`.
 #[derive(Clone, Copy, Debug)]
@@ -8,8 +9,8 @@ pub struct SplitWords<'a> {
     pub old_folder: &'a str,
     /// The folder of the new ones.
     pub new_folder: &'a str,
-    /// The new number of shards, 1 to 64.
+    /// The new number of shards, 1 to `MAX_SHARDS` of `words`.
     pub shards: u32,
     ghost some: { 1 ≤ shards },
-    ghost few: { shards ≤ 64 },
+    ghost few: { shards ≤ max_shards },
 }
