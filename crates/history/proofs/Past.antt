@@ -57,14 +57,6 @@ module _ (about : About) (k : ℕ) where
   pub on_else : (xs : List Step) (s : Step) → k ≢ shard_in about s.ask → steps_on about k (xs ++ s ∷ []) ≡ steps_on about k xs
   on_else xs s n = on_append xs (s ∷ []) ∙ ap (λ b. steps_on about k xs ++ cond b (s ∷ []) []) (ne_eqb k (shard_in about s.ask) n) ∙ append-nil (steps_on about k xs)
 
-  length_cond : (b : Bool) (s : Step) (xs : List Step) (n : ℕ) → length xs ≤ n → length (cond b (s ∷ xs) xs) ≤ suc n
-  length_cond true s xs n h = omega arith
-  length_cond false s xs n h = omega arith
-
-  pub length_on : (xs : List Step) → length (steps_on about k xs) ≤ length xs
-  length_on [] = omega arith
-  length_on (s ∷ xs) = length_cond (eqb k (shard_in about s.ask)) s (steps_on about k xs) (length xs) (length_on xs)
-
   below_cond : (n : ℕ) (b : Bool) (s : Step) (xs : List Step) → s.ask.number < n → HaveNumbersBelow n xs → HaveNumbersBelow n (cond b (s ∷ xs) xs)
   below_cond n true s xs h t = (h, t)
   below_cond n false s xs h t = t
@@ -171,10 +163,6 @@ made_left a (s ∷ xs) ys h = ⊎_elim (λ (e : s.ask ≡ a). inl e) (λ (t : Ha
 pub made_last : (a : Ask) (xs : List Step) (s : Step) → s.ask ≡ a → HasStep a (xs ++ s ∷ [])
 made_last a [] s e = inl e
 made_last a (x ∷ xs) s e = inr (made_last a xs s e)
-
-pub made_right : (a : Ask) (xs ys : List Step) → HasStep a ys → HasStep a (xs ++ ys)
-made_right a [] ys h = h
-made_right a (x ∷ xs) ys h = inr (made_right a xs ys h)
 
 -- a call above all these steps has none of them
 pub not_made : (a : Ask) (n : ℕ) (xs : List Step) → HaveNumbersBelow n xs → n ≤ a.number → HasStep a xs → ⊥
