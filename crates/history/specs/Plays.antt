@@ -1,5 +1,5 @@
 -- What each step of a seat leaves it with, and tells it.
-use Rattle.std.specs.Prelude.{◌≡◌, ◌⊎◌, ℕ, ◌+◌, ◌*◌, ◌<◌, ◌≤◌, List, [], ◌∷◌, ◌++◌, true, false, length, slice_index_or, slice_set}
+use Rattle.std.specs.Prelude.{◌≡◌, ◌≢◌, ◌⊎◌, ℕ, ◌+◌, ◌*◌, ◌<◌, ◌≤◌, List, [], ◌∷◌, ◌++◌, true, false, length, slice_index_or, slice_set}
 use Rattle.atomic_table.specs.Table.{Step as TableStep, Me}
 use Rattle.accept.specs.declared.call.Call.{Call}
 use Rattle.accept.specs.declared.call.Reply.{Reply}
@@ -191,6 +191,15 @@ pub record Extends (p : ℕ) (old : List Item) (s : Step) (new : List Item) : Ty
   pub between : List Item
   pub is : new ≡ (old ++ between) ++ Answered s ∷ []
   pub none : steps_by p between ≡ []
+
+-- Of the shard of step s a pass has now seen the history up to that step, which is what it had seen, then items of
+-- others, then the step. Of the other shards it has seen what it had seen.
+pub record HasSeenStep (old new : Caller) (s : Step) (upto : List Item) : Type 0 where
+  pub seen : seen_at new (shard_in old.about s.ask) ≡ upto
+  pub extends : Extends old.pass (seen_at old (shard_in old.about s.ask)) s upto
+  pub legal : IsLegalAt old.about (shard_in old.about s.ask) upto
+  pub by_passes : IsByPasses old.about.passes upto
+  pub others : (k : ℕ) → k ≢ shard_in old.about s.ask → seen_at new k ≡ seen_at old k
 
 abbrev pub Collects : Role → Token → View → Type 0
 Collects (Calls c) (Done s upto at) w =

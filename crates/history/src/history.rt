@@ -1,6 +1,6 @@
-ghost use Rattle.std.specs.Prelude.{◌≡◌, ◌≢◌, ◌↔◌, ℕ, ◌+◌, ◌<◌, ◌≤◌, ◌==◌, [], true, false, length, IfOk, OnOk, OnErr, IsOk};
-ghost use Rattle.history.specs.Histories.{IsBeginning, IsLegalAt, IsByPasses, shard_in, IsFirst, IsFirstIfAmong, bound, max_open};
-ghost use Rattle.history.specs.Plays.{seen_at, ask_of, before_of, announce_to, withdraw_to, collect_to, look_to, IsRested, Extends, HasStepsOf};
+ghost use Rattle.std.specs.Prelude.{◌≡◌, ◌≢◌, ◌↔◌, ℕ, ◌+◌, ◌<◌, ◌≤◌, [], false, length, IfOk, OnOk, OnErr, IsOk};
+ghost use Rattle.history.specs.Histories.{IsBeginning, IsLegalAt, IsByPasses, IsFirst, IsFirstIfAmong, bound, max_open};
+ghost use Rattle.history.specs.Plays.{seen_at, ask_of, before_of, announce_to, withdraw_to, collect_to, look_to, IsRested, HasSeenStep, HasStepsOf};
 ghost use Rattle.history.specs.Handles.{is_closed_pass, caller_in, pair_of, with_seen, HaveMet};
 
 use crate::handles::{Pass, PassSpent, Receipt, Ticket};
@@ -123,17 +123,8 @@ impl History {
           caller =
               collect_to pass.old.caller receipt.step receipt.upto;
         } }
-        ensures seen { seen_at pass.new.caller (shard_in pass.old.caller.about receipt.step.ask)
-            ≡ receipt.upto }
-        ensures others { (k : ℕ) → k ≢ shard_in pass.old.caller.about receipt.step.ask
-            → seen_at pass.new.caller k ≡ seen_at pass.old.caller k }
-        ensures legal { IsLegalAt pass.old.caller.about
-            (shard_in pass.old.caller.about receipt.step.ask) receipt.upto }
+        ensures seen { HasSeenStep pass.old.caller pass.new.caller receipt.step receipt.upto }
         ensures rested { IsRested pass.new.caller }
-        ensures by_passes { IsByPasses pass.old.caller.about.passes receipt.upto }
-        ensures extends { Extends pass.old.caller.pass
-            (seen_at pass.old.caller (shard_in pass.old.caller.about receipt.step.ask)) receipt.step
-            receipt.upto }
     {
         let Receipt {
             number: _,

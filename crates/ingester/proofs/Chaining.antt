@@ -75,12 +75,18 @@ module _ {D : Type 0} (opening : Opening D) where
       let here = first_still old.caller.pending x h.first a is h.is_first in
       let s : Step = step_of h.first reply in
       let by : IsCollected (with_next old call) new h.first reply = h.by in
+      let seen = by.seen in
       let c : Caller = collect_to old.caller s by.upto in (
         record { table = old.table; caller = c; closed = old.closed },
         record {
           first = h.first;
           is_first = here;
-          by = record { upto = by.upto; pass = refl; seen = by.seen; extends = by.extends; legal = by.legal; by_passes = by.by_passes; others = by.others; rested = by.rested };
+          by = record {
+            upto = by.upto;
+            pass = refl;
+            seen = record { seen = seen.seen; extends = seen.extends; legal = seen.legal; by_passes = seen.by_passes; others = seen.others };
+            rested = by.rested;
+          };
         },
         by.pass ∙ (λ i. record {
           table = old.table;
@@ -124,14 +130,15 @@ module _ {D : Type 0} (opening : Opening D) where
       let c : Caller = announce_to old.caller (old.caller.last + 1) call in
       let s : Step = next_step old.caller call reply in
       let k : ℕ = shard_for old.caller call in
+      let seen = by.seen in
       subst (IsDone old call (Ok reply)) (sym by.pass) (record {
         given = record {
           answered = record {
-            pass = ap (λ (u : List Item). record old { caller = collect_to c s u }) (sym by.seen);
-            extends = subst (Extends old.caller.pass (seen_at old.caller k) s) (sym by.seen) by.extends;
-            legal = subst (IsLegalAt old.caller.about k) (sym by.seen) by.legal;
-            by_passes = subst (IsByPasses old.caller.about.passes) (sym by.seen) by.by_passes;
-            others = by.others;
+            pass = ap (λ (u : List Item). record old { caller = collect_to c s u }) (sym seen.seen);
+            extends = subst (Extends old.caller.pass (seen_at old.caller k) s) (sym seen.seen) seen.extends;
+            legal = subst (IsLegalAt old.caller.about k) (sym seen.seen) seen.legal;
+            by_passes = subst (IsByPasses old.caller.about.passes) (sym seen.seen) seen.by_passes;
+            others = seen.others;
           };
           refused = tt;
           closed = (λ (e : IsErrOf {T = Reply} {E = CallFault} (Ok reply) faults.PassClosed). absurd (not_refused reply faults.PassClosed e), λ (e : is_closed_pass old ≡ true). absurd (false≢true (sym up ∙ e)));

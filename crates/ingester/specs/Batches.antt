@@ -1,5 +1,5 @@
 -- Calls of a pass that are announced one after another, and whose answers are taken in together.
-use Rattle.std.specs.Prelude.{◌≡◌, ◌≢◌, ◌⊎◌, ℕ, zero, suc, ◌+◌, ◌-◌, ◌^◌, ◌<◌, ◌≤◌, List, [], ◌∷◌, ◌++◌, Some, false, length, Result, Ok, Err, slice_get}
+use Rattle.std.specs.Prelude.{◌≡◌, ◌⊎◌, ℕ, zero, suc, ◌+◌, ◌-◌, ◌^◌, ◌<◌, ◌≤◌, List, [], ◌∷◌, ◌++◌, Some, false, length, Result, Ok, Err, slice_get}
 use Rattle.atomic_table.specs.Seated.{TableId}
 use Rattle.accept.specs.Calls.{AreNumbers}
 use Rattle.accept.specs.declared.call.Call.{Call}
@@ -8,8 +8,8 @@ use Rattle.accept.specs.declared.history.Ask.{Ask}
 use Rattle.accept.specs.declared.history.Item.{Item}
 use Rattle.history.specs.declared.views.About.{About}
 use Rattle.history.specs.declared.views.Caller.{Caller}
-use Rattle.history.specs.Histories.{IsLegalAt, IsByPasses, IsFirst, asks_on, shard_in, step_of, max_open}
-use Rattle.history.specs.Plays.{seen_at, ask_of, before_of, withdraw_to, collect_to, Extends, IsRested}
+use Rattle.history.specs.Histories.{IsFirst, asks_on, shard_in, step_of, max_open}
+use Rattle.history.specs.Plays.{ask_of, before_of, withdraw_to, collect_to, HasSeenStep, IsRested}
 use Rattle.history.specs.Handles.{Passed, is_closed_pass, asks_of}
 use Rattle.shard.specs.declared.fault.ApplyFault.{ApplyFault}
 use Rattle.shard.specs.declared.fault.ApplyFault.TheVariants.{GenerationSpent}
@@ -127,15 +127,8 @@ pub record HasBegunRound {D : Type 0} (opening : Opening D) (old new : Passed) (
 pub record IsCollected (old new : Passed) (first : Ask) (reply : Reply) : Type 0 where
   pub upto : List Item
   pub pass : new ≡ record old { caller = collect_to old.caller (step_of first reply) upto }
-  pub seen : seen_at (collect_to old.caller (step_of first reply) upto)
-      (shard_in old.caller.about first) ≡ upto
-  pub extends : Extends old.caller.pass (seen_at old.caller (shard_in old.caller.about first))
-      (step_of first reply)
-      upto
-  pub legal : IsLegalAt old.caller.about (shard_in old.caller.about first) upto
-  pub by_passes : IsByPasses old.caller.about.passes upto
-  pub others : (k : ℕ) → k ≢ shard_in old.caller.about first
-      → seen_at (collect_to old.caller (step_of first reply) upto) k ≡ seen_at old.caller k
+  pub seen : HasSeenStep old.caller (collect_to old.caller (step_of first reply) upto)
+      (step_of first reply) upto
   pub rested : IsRested (collect_to old.caller (step_of first reply) upto)
 
 -- this open call was taken back
