@@ -129,12 +129,6 @@ module _ (table : TableId) (about : About) where
       subst (λ (p : Passed). AreBatchesOf table about p.caller (slice_set batches k now)) (sym h.pass)
       (batches_more old.caller h.call batches k was now at below h.numbers (routed about a first count k same shards routes) lt there h.jobs_are all)
 
-  -- batches without a call
-  pub batches_none : (home : Homed) (p : ℕ) (c : Caller) (ways : List Way) → c.pending ≡ [] → AreIdleWays home p ways → AreBatchesOf table about c ways
-  batches_none home p c ways idle none k way e =
-      let empty : IsBatchOf table about k c [] = record { batch = record { waiting = tt; pass = tt; line = tt }; asks = ap (λ (l : List Ask). asks_on about k l) (sym idle) } in
-      subst (IsBatchOf table about k c) (sym (none k way e).letter.jobs) empty
-
   no_asks : (jobs : List Job) → asks_of (tickets_of jobs) ≡ [] → jobs ≡ []
   no_asks [] e = refl
   no_asks (j ∷ jobs) e = absurd (clash e)

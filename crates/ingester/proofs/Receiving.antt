@@ -7,7 +7,7 @@ use Rattle.accept.specs.Calls.{AreNumbers}
 use Rattle.accept.specs.declared.call.Call.{Call}
 use Rattle.accept.specs.declared.call.Reply.{Reply}
 use Rattle.accept.specs.declared.history.Ask.{Ask}
-use Rattle.history.specs.Histories.{IsFirstNumber, behind_first}
+use Rattle.history.specs.Histories.{behind_first}
 use Rattle.history.specs.Plays.{IsRested}
 use Rattle.history.specs.Handles.{Passed}
 use Rattle.owners.specs.Openings.{Opening}
@@ -37,10 +37,6 @@ announced_ahead old new [] a = subst (IsAhead old) (sym a) (record { table = ref
 announced_ahead old new (call ∷ calls) a =
     let h = announced_ahead (with_next old call) new calls a.1 in
     record { table = h.table; about = h.about; pass = h.pass; rested = λ (r : IsRested old.caller). h.rested r }
-
-pub numbered_first : (n : ℕ) (asks : List Ask) → 0 < length asks → AreCountedFrom n asks → IsFirstNumber n asks
-numbered_first n [] some h = absurd (omega arith)
-numbered_first n (a ∷ asks) some h = h.0
 
 pub numbered_behind : (n : ℕ) (asks : List Ask) → AreCountedFrom n asks → AreCountedFrom (n + 1) (behind_first asks)
 numbered_behind n [] h = tt
