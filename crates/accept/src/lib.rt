@@ -11,7 +11,7 @@ mod refusal;
 mod stream;
 
 pub use call::{Call, END_OF_TIME, MAX_ENTRIES, Reply};
-pub use entries::{Entry, EntryList, Line};
+pub use entries::{Entry, EntryList, KeptEntries, KeptList, Line};
 pub use history::{Ask, History, Item, Step};
 pub use image::{Image, StreamImage};
 pub use labels::Meta;
