@@ -1,6 +1,7 @@
 use accept::{Entry, Image};
 use labels::StreamKey;
 use rows::{Said, only_character};
+use std::alloc::{AllocError, Global};
 
 /// A line of at least this many bytes that repeats one character is written as that character and a count.
 const LONG: usize = 64;
@@ -29,7 +30,7 @@ pub fn write_entry(entry: &Entry, into: &mut Said) {
 }
 
 /// Says what a stream has: `highest TIME last ENTRY kept ENTRY ..`.
-pub fn write_stream(highest: u64, last: &Entry, kept: &[Entry], into: &mut Said) {
+pub fn write_stream(highest: u64, last: &Entry, kept: &[&Entry], into: &mut Said) {
     into.tell(format_args!("highest {highest} last "));
     write_entry(last, into);
     into.put(" kept");
@@ -40,11 +41,13 @@ pub fn write_stream(highest: u64, last: &Entry, kept: &[Entry], into: &mut Said)
 }
 
 /// Says a line for each stream, in rising order of their keys.
-pub fn write_image(image: &Image, into: &mut Said) {
+pub fn write_image(alloc: Global, image: &Image, into: &mut Said) -> Result<(), AllocError> {
     for (key, stream) in image.iter() {
+        let kept = stream.kept.in_order(alloc)?;
         write_key(key, into);
         into.put(" ");
-        write_stream(stream.highest, &stream.last, stream.kept.as_slice(), into);
+        write_stream(stream.highest, &stream.last, &kept, into);
         into.put("\n");
     }
+    Ok(())
 }

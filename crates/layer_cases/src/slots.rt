@@ -1,7 +1,6 @@
 //! The two slots of a log.
 use crate::entry_words::write_image;
 use crate::numbers::{number_of, owner_of};
-use accept::Image;
 use anyhow::{Result, bail};
 use disk::{Disk, MemDisk};
 use rows::Said;
@@ -82,7 +81,8 @@ pub fn open(
     let Slots { first, second } = slots;
     match Wal::open(alloc, [first, second], shard, count, capacity) {
         Ok((log, image)) => {
-            say_opened(log.generation(), &image, said);
+            said.tell(format_args!("generation {}\n", log.generation()));
+            write_image(alloc, &image, said)?;
             Ok(Ok(log))
         }
         Err(refusal) => {
@@ -91,9 +91,4 @@ pub fn open(
             Ok(Err(Slots::of(left)))
         }
     }
-}
-
-fn say_opened(generation: u64, image: &Image, said: &mut Said) {
-    said.tell(format_args!("generation {generation}\n"));
-    write_image(image, said);
 }

@@ -147,7 +147,7 @@ impl Opened {
             return Ok(());
         }
         let image = self.stream.to_image(self.alloc)?;
-        self.stream = StreamState::of(self.alloc, image)?;
+        self.stream = StreamState::of(image);
         Ok(())
     }
 }
