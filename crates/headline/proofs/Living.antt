@@ -62,18 +62,6 @@ from_last : (n : ℕ) (asks : List Ask) (a : Ask) → AreFrom n asks → n ≤ a
 from_last n [] a h l = (l, tt)
 from_last n (b ∷ asks) a h l = (h.0, from_last n asks a h.1 l)
 
--- a pass as it was, but for its flag
-sound_kept : (about : About) (old new : Passed) → new.caller ≡ old.caller → new.closed ≡ old.closed → IsSound about old → IsSound about new
-sound_kept about old new c f s = record {
-  about_is = ap (λ (d : Caller). d.about) c ∙ s.about_is;
-  idle = λ e. ap (λ (d : Caller). d.pending) c ∙ s.idle (sym f ∙ e);
-  floor = s.floor;
-  low = subst (λ (d : Caller). s.floor ≤ d.last + 1) (sym c) s.low;
-  made = subst (λ (d : Caller). HaveNumbersBelow s.floor d.made) (sym c) s.made;
-  pending = subst (λ (d : Caller). AreFrom s.floor d.pending) (sym c) s.pending;
-  rising = subst (λ (d : Caller). IsRising d.made) (sym c) s.rising;
-}
-
 -- one number is used up
 sound_skipped : (about : About) (old : Passed) → IsSound about old → IsSound about (without_next old)
 sound_skipped about old s = record {
