@@ -2,6 +2,7 @@ ghost use Rattle.std.specs.Prelude.{◌≡◌, ◌≤◌, [], IfOk, All};
 ghost use Rattle.accept.specs.Calls.{AreNumbers};
 ghost use Rattle.accept.specs.Histories.{is_marked};
 ghost use Rattle.wal.specs.Opening.{disks};
+ghost use Rattle.history.specs.Histories.{max_passes};
 ghost use Rattle.lone_shard.specs.Passes.{IsIdlePass};
 
 use accept::{Call, Limits, Reply};
@@ -32,7 +33,7 @@ pub(crate) fn opened<D: Disk + Drop>(
     capacity: u64,
     passes: u32,
 ) -> Result<Result<(LoneShard<D>, Vec<Pass>), (OpenFault, [D; 2])>>
-    requires passes { passes ≤ 64 }
+    requires passes { passes ≤ max_passes }
     ensures idle { IfOk result
         (λ opened. IfOk opened (λ it. All (IsIdlePass it.0.history) it.1.items)) }
 {

@@ -1,6 +1,7 @@
 //! Calls of the pass on their way: announced, made by turns, and collected.
 
 ghost use Rattle.std.specs.Prelude.{◌≡◌, ◌≤◌, ◌+◌, ◌↔◌, IsTrue, IsOk, IsErr, IfOk, OnOk, OnErr};
+ghost use Rattle.history.specs.Histories.{max_open};
 
 use crate::lone::LoneShard;
 use accept::{Call, Reply};
@@ -13,7 +14,7 @@ use std::collections::VecDeque;
 use std::marker::Model;
 
 /// How many open calls a pass may have.
-pub const MOST: usize = 64;
+pub const MOST: usize = Pass::MAX_OPEN;
 
 /// The shard while calls of its pass are open. An announced call is a job, a turn makes it a settled call, and then its
 /// answer is collected. Contracts see how many of the calls are jobs.
@@ -76,7 +77,7 @@ impl<D: Disk + Drop> Round<D> {
     pub fn announce(&mut self, call: Call) -> Result<()>
         ensures ok { OnOk result (self.new ≡ self.old + 1) }
         ensures err { OnErr result (self.new ≡ self.old) }
-        ensures full { 64 ≤ self.old → IsErr result }
+        ensures full { max_open ≤ self.old → IsErr result }
     {
         let jobs = self.jobs.len();
         if jobs >= MOST || jobs >= self.jobs.capacity() {

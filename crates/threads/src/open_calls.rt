@@ -2,7 +2,7 @@
 ghost use Rattle.std.specs.Prelude.{◌≡◌, ◌+◌, ◌<◌, ◌≤◌, [], length, IfOk, IfSome};
 ghost use Rattle.accept.specs.declared.call.Reply.TheVariants.{Unavailable};
 ghost use Rattle.accept.specs.declared.history.Item.TheVariants.{Answered};
-ghost use Rattle.history.specs.Histories.{HaveSteps, shard_in, step_of};
+ghost use Rattle.history.specs.Histories.{HaveSteps, max_open, shard_in, step_of};
 ghost use Rattle.history.specs.Handles.{longer};
 ghost use Rattle.threads.specs.Windows.{AreBooks, HaveAll, IsMarkedBook, IsOpeningOfTwo, IsThreadReady, IsWindow, MayFollowIn, with_step_of_shard};
 
@@ -96,7 +96,7 @@ fn open_call<J: Opening>(
     call: &Call,
 ) -> Option<()>
     requires history { history.now ≡ J.table }
-    requires few { length pass.old.caller.pending < 64 }
+    requires few { length pass.old.caller.pending < max_open }
     requires books { AreBooks J.table J.about zero.old one.old }
     requires window { IsWindow J.table J.about pass.old answers.old.items }
     requires had { HaveAll J.about pass.old.caller.pending zero.old one.old }
@@ -125,7 +125,7 @@ fn open_all<J: Opening>(
     calls: &[Call],
 ) -> Option<()>
     requires history { history.now ≡ J.table }
-    requires few { length calls.now ≤ 64 }
+    requires few { length calls.now ≤ max_open }
     requires books { AreBooks J.table J.about zero.old one.old }
     requires window { IsWindow J.table J.about pass.old answers.old.items }
     requires idle { pass.old.caller.pending ≡ [] }
@@ -181,7 +181,7 @@ impl<J: Opening> Books<J> {
         calls: &[Call],
     ) -> Option<()>
         requires history { history.now ≡ J.table }
-        requires few { length calls.now ≤ 64 }
+        requires few { length calls.now ≤ max_open }
         requires window { IsWindow J.table J.about pass.old answers.old.items }
         requires idle { pass.old.caller.pending ≡ [] }
         ensures window { IsWindow J.table J.about pass.new answers.new.items }
@@ -200,7 +200,7 @@ fn rounds<J: Opening>(
     mut pass: Pass,
 ) -> Option<Pass>
     requires history { history.now ≡ J.table }
-    requires few { length calls.now ≤ 64 }
+    requires few { length calls.now ≤ max_open }
     requires pass { IsWindow J.table J.about pass [] }
     ensures { IfSome result (λ p. IsWindow J.table J.about p []) }
 {
@@ -228,7 +228,7 @@ fn both_call<J: Opening + Send + Sync, R: Threads + Wait + Abort + Sync>(
     two: Pass,
 ) -> Result<(), Fail>
     requires history { history.now ≡ J.table }
-    requires few { length calls.now ≤ 64 }
+    requires few { length calls.now ≤ max_open }
     requires opening { IsOpeningOfTwo J.table J.about books.0 books.1 one two }
 {
     let (zero, first) = books;
