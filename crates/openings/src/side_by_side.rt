@@ -112,7 +112,7 @@ fn try_each<D: Disk + Drop + Send, R: Threads + Sync, O: Observer + Sync>(
 {
     let count = places.len() as u32;
     let threads = processors(rt);
-    // With fewer shards than processors, each shard's segment is read by several.
+    // With two processors a shard or more, several threads read each segment.
     let by = ReadAhead::new(rt, threads / places.len().max(1));
     let try_one = |shard: usize, place: &mut Place<D>|
         requires { IsSync R.row × (2 * type_size D.row < 2 ^ 63) × IsNotLookedAt place.old
