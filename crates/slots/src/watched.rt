@@ -38,7 +38,7 @@ fn say_unavailable(errors: Option<Stderr>, shard: u32) {
     };
     let mut line =
         *b"shard 00 is unavailable: a call on its disk failed, and its requests are answered 503 from now \
-on. See to the disk, then start the server again as README says under \"After a failed disk\".\n";
+on. See to the disk, then start the server again as docs/OPERATING.md says under \"After a failed disk\".\n";
     line[6] = b'0' + (shard / 10 % 10) as u8;
     line[7] = b'0' + (shard % 10) as u8;
     let _ = errors.write_all(&line);
