@@ -21,7 +21,7 @@ pub data Came : Type 0 where
   Replied : Reply → Came
   Failed : Failure → Came
 
--- whether a call is in doubt of which this came
+-- whether a call of which this came is in doubt
 abbrev pub leaves_doubt : Result Reply Failure → Bool
 leaves_doubt (Ok reply) = false
 leaves_doubt (Err OutOfMemory) = false

@@ -109,7 +109,8 @@ module _ {H : Type 0} (gives : Giving H) (tenant : List ℕ) where
   BodyGives h asked (Broken cames failure) h' = (all : List Asked) × (asked ≡ Ok all)
       × BodyFails h all cames failure h'
 
-  -- it was given up at a stream of which there was something to say, or at a body's form that is not answered by a 500
+  -- What was asked for was given up. A body that was refused led to no call, and its fault is none that is answered by
+  -- a 500. A body that was read was given up at a stream of which there is something to say.
   abbrev pub BodyIsLeft : (ℕ → Came → List ℕ) → H → Result (List Asked) PushFault → H → Type 0
   BodyIsLeft says h (Err fault) h' = (fault_failure fault ≡ None) × (h' ≡ h)
   BodyIsLeft says h (Ok all) h' = BodyStops says h all h'

@@ -26,7 +26,9 @@ pub enum FileFault {
 }
 
 /// A disk over a file. A short read or write is finished, and an interrupted one is tried again. Every other error of
-/// the system is a `DeviceFault`. After a failed sync nothing is assumed of what was written.
+/// the system is a `DeviceFault`. So are, without an error, a write of which the system takes no byte, a range that
+/// ends at 2^64 or later, and a read or a write that 2^64 - 1 calls did not finish. After a failed sync nothing is
+/// assumed of what was written.
 ///
 /// It has a record of its calls. The record takes no memory, and only contracts see it. What `Disk` promises holds as
 /// long as each recorded call answered what the model gives.

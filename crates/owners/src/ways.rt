@@ -20,7 +20,8 @@ use std::sync::Wait;
 pub struct Way {
     /// The letter.
     pub letter: Letter,
-    /// Whether the letter is out.
+    /// Whether `send_letters` sent the letter, and `receive_letters` has not waited for it yet. `call`, which waits for
+    /// its letter itself, leaves this as it is.
     pub is_out: bool,
     /// How orders reach the owner.
     pub orders: Orders,

@@ -16,7 +16,8 @@ pub enum SplitFault {
         /// Why.
         fault: wal::OpenFault,
     },
-    /// This slot of a new shard is not empty. It is the first such slot. Nothing was written.
+    /// This slot of a new shard is not empty. If the new slots followed the disk model, it is the first such slot. If
+    /// those of this shard did, nothing was written; otherwise shards before it may have been begun.
     #[error("new shard {shard} is not empty")]
     NotEmpty {
         /// Which new shard.
