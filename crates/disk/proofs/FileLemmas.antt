@@ -1,13 +1,15 @@
 -- What a call on a file does to what is known of it.
-use Rattle.std.proofs.Common.{◌≡◌, ◌≤◌, ℕ, ◌+◌, ◌-◌, List, [], ◌∷◌, ◌++◌, length, get_or, take, drop, refl, ap, subst, sym, inl, inr, ◌∙◌, arith, length-append, length-take, length-drop, append_assoc}
+use Rattle.std.proofs.Common.{◌≡◌, ◌≤◌, ◌<◌, ℕ, ◌+◌, ◌-◌, ◌^◌, List, [], ◌∷◌, ◌++◌, length, get_or, take, drop, refl, ap, subst, sym, inl, inr, ◌∙◌, arith, length-append, length-take, length-drop, append_assoc}
 use borrow.Rule.Slice.PartMut.{put_mid, post_of}
 use Rattle.std.proofs.lemmas.List.{take_all, take_rest, take-append-drop, take-take, drop-take, drop-drop, length-take-le, take-append-le, take_at, drop_at}
+use Rattle.std.proofs.lemmas.List.Elements.{All-nil, All-cons}
 use Rattle.std.proofs.lemmas.Slice.{take-put_mid_below}
+use Rattle.std.specs.Prelude.{Ok, Err}
 use Rattle.disk.specs.declared.calls.Record.{Record}
 use Rattle.disk.specs.Sight.{Sight, Elapses, Looks, Writes, IsSynced, Torn, Holds}
 use Rattle.disk.specs.State.{Act, Write, Sync, State, over, state_after, IsImage}
 use Rattle.disk.specs.Laws.{length-over}
-use Rattle.disk.specs.Calls.{Call, acts_by, IsRead, start_sound}
+use Rattle.disk.specs.Calls.{Call, acts_by, IsRead, start_sound, IsFailedCall, HaveWorked, IsServedByCalls}
 use Rattle.disk.specs.Record.{HasFollowed, acts_in, sight_by, OnlyAsks, Goes, ReadsSoFar, WritesSoFar}
 use Rattle.disk.proofs.Acts.{state_after-push}
 use Rattle.disk.proofs.Crash.{IsOver, seen-write, writes-push, synced-push, looks-sync}
@@ -268,3 +270,62 @@ pub write-loop-whole : (r r' : Record) (at from : ℕ) (bytes : List ℕ) → Wr
     → HasFollowed r' → at ≤ length (sight_by r 0).seen → Holds (sight_by r 0).seen at bytes (sight_by r' 0).seen
 write-loop-whole r r' at from bytes old all follows le =
     subst (λ (xs : List ℕ). Holds (sight_by r 0).seen at xs (sight_by r' 0).seen) (take_all from bytes (omega arith)) (old.written follows le 0 0).holds
+
+-- What a loop of calls has noted so far: k calls, of which none failed.
+pub record CallLoop (k : ℕ) (old new : List Call) : Type 0 where
+  pub made : List Call
+  pub noted : new ≡ made ++ old
+  pub size : length made ≡ k
+  pub worked : HaveWorked made
+
+pub call-loop-none : (old : List Call) → CallLoop 0 old old
+call-loop-none old = record { made = []; noted = refl; size = refl; worked = All-nil (λ (call : Call). ¬ IsFailedCall call) }
+
+pub call-loop-on : (k : ℕ) (old mid new : List Call) (call : Call) → CallLoop k old mid → new ≡ call ∷ mid → ¬ IsFailedCall call
+    → CallLoop (k + 1) old new
+call-loop-on k old mid new call so_far e worked = record {
+  made = call ∷ so_far.made;
+  noted = e ∙ ap (λ (calls : List Call). call ∷ calls) so_far.noted;
+  size = omega (arith, so_far.size);
+  worked = All-cons (λ (c : Call). ¬ IsFailedCall c) call so_far.made worked so_far.worked;
+}
+
+-- what was done
+pub served-ok : {T E : Type 0} (x : T) (k at n : ℕ) (old new : List Call) → CallLoop k old new → at + n < 2 ^ 64
+    → IsServedByCalls {T = T} {E = E} at n (Ok x) old new
+served-ok x k at n old new so_far within = record {
+  made = so_far.made;
+  noted = so_far.noted;
+  ok = (so_far.worked, within);
+  err = tt;
+}
+
+-- a call failed
+pub served-failed : {T E : Type 0} (e : E) (k at n : ℕ) (old mid new : List Call) (call : Call) → CallLoop k old mid → new ≡ call ∷ mid
+    → IsFailedCall call → IsServedByCalls {T = T} {E = E} at n (Err e) old new
+served-failed e k at n old mid new call so_far more failed = record {
+  made = call ∷ so_far.made;
+  noted = more ∙ ap (λ (calls : List Call). call ∷ calls) so_far.noted;
+  ok = tt;
+  err = inl (failed, so_far.worked);
+}
+
+-- no call was made
+pub served-past : {T E : Type 0} (e : E) (at n : ℕ) (old : List Call) → 2 ^ 64 ≤ at + n
+    → IsServedByCalls {T = T} {E = E} at n (Err e) old old
+served-past e at n old past = record {
+  made = [];
+  noted = refl;
+  ok = tt;
+  err = inr (inl (refl, past));
+}
+
+-- as many as there can be
+pub served-spent : {T E : Type 0} (e : E) (at n : ℕ) (old new : List Call) → CallLoop (2 ^ 64 - 1) old new
+    → IsServedByCalls {T = T} {E = E} at n (Err e) old new
+served-spent e at n old new so_far = record {
+  made = so_far.made;
+  noted = so_far.noted;
+  ok = tt;
+  err = inr (inr (so_far.worked, so_far.size));
+}

@@ -1,5 +1,5 @@
 -- The calls of the system on a file, and what the model says that they answer.
-use Rattle.std.specs.Prelude.{◌≡◌, ◌≤◌, ℕ, ◌-◌, min, List, [], ◌∷◌, ◌++◌, length, take, drop, ◌==◌, if◌then◌else◌, slice_index, slice_index_or}
+use Rattle.std.specs.Prelude.{◌≡◌, ◌≤◌, ◌<◌, ◌⊎◌, ℕ, ◌+◌, ◌-◌, ◌^◌, min, List, [], ◌∷◌, ◌++◌, length, take, drop, ◌==◌, if◌then◌else◌, slice_index, slice_index_or, All, Result, OnOk, OnErr}
 use Rattle.disk.specs.State.{Act, Write, Break, Sync, State, nothing, state_after, IsImage}
 
 pub data Call : Type 0 where
@@ -83,3 +83,39 @@ pub start_sound : (start : Start) (calls : List Call) → AreAnswers start calls
     → IsImage start.state start.state.now
 start_sound start [] sound = sound
 start_sound start (call ∷ calls) answers = start_sound start calls answers.0
+
+-- A call that failed. A write of which the system took no byte is one; a call that was interrupted is none.
+abbrev pub IsFailedCall : Call → Type 0
+IsFailedCall (Read at n bytes) = ⊥
+IsFailedCall (Wrote at n bytes) = n ≡ 0
+IsFailedCall (Broke at bytes) = Unit {0}
+IsFailedCall Synced = ⊥
+IsFailedCall (Measured n) = ⊥
+IsFailedCall Interrupted = ⊥
+IsFailedCall Refused = Unit {0}
+
+-- none of these calls failed
+abbrev pub HaveWorked : List Call → Type 0
+HaveWorked calls = All (λ call. ¬ IsFailedCall call) calls
+
+-- the last of these calls, which stands first, failed, and no other one
+abbrev pub HasFailedLast : List Call → Type 0
+HasFailedLast [] = ⊥
+HasFailedLast (last ∷ earlier) = IsFailedCall last × HaveWorked earlier
+
+-- why these calls did not read or write n bytes at a place: the last of them failed; or none was made, since the range
+-- ends at 2^64 or later; or none failed, and there were 2^64 - 1
+abbrev pub HasStopped : ℕ → ℕ → List Call → Type 0
+HasStopped at n made =
+    HasFailedLast made
+    ⊎ ((made ≡ []) × (2 ^ 64 ≤ at + n))
+    ⊎ (HaveWorked made × (length made ≡ 2 ^ 64 - 1))
+
+-- These calls of the system are a read or a write of n bytes at a place, with this result.
+pub record IsServedByCalls {T E : Type 0} (at n : ℕ) (result : Result T E)
+    (old new : List Call) : Type 0 where
+  -- the calls that were made for it, the last of them first
+  pub made : List Call
+  pub noted : new ≡ made ++ old
+  pub ok : OnOk result (HaveWorked made × (at + n < 2 ^ 64))
+  pub err : OnErr result (HasStopped at n made)

@@ -1,6 +1,6 @@
-ghost use Rattle.std.specs.Prelude.{◌≡◌, ◌∷◌, length, IfOk, OnOk, OnErr};
-ghost use Rattle.disk.specs.Sight.{IsSynced, Looks, Counts};
-ghost use Rattle.disk.specs.Calls.{Start, Synced, Measured, Refused};
+ghost use Rattle.std.specs.Prelude.{◌≡◌, ◌≤◌, ◌∷◌, length, IfOk, OnOk, OnErr};
+ghost use Rattle.disk.specs.Sight.{Holds, Reads, IsSynced, Looks, Writes, Counts};
+ghost use Rattle.disk.specs.Calls.{Start, Synced, Measured, Refused, IsServedByCalls};
 
 use crate::calls::{NotedFile, Stop};
 use crate::device::failed;
@@ -110,7 +110,19 @@ impl Disk for FileDisk {
 
     ghost seen_may_stay = { file_seen_may_stay };
 
-    fn read(&mut self, at: u64, buf: &mut [u8]) -> Result<usize, DeviceFault> {
+    fn read(&mut self, at: u64, buf: &mut [u8]) -> Result<usize, DeviceFault>
+        ensures before { FileFollows self.new → FileFollows self.old }
+        ensures bytes { IfOk result (λ n. FileFollows self.new
+            → Reads (file_sight self.old).seen at n buf.old buf.new) }
+        ensures looks { FileFollows self.new → Looks (file_sight self.old) (file_sight self.new) }
+        ensures counts { Counts result (file_sight self.old).failures
+            (file_sight self.new).failures }
+
+        // It is some calls of the system. It fails where one of them failed, and where its end or their number would
+        // pass 2^64 - 1.
+        ensures calls { IsServedByCalls at (length buf.old) result
+            (calls_on self.old) (calls_on self.new) }
+    {
         if at > u64::MAX - buf.len() as u64 {
             return Err(failed(&mut self.failures));
         }
@@ -129,7 +141,20 @@ impl Disk for FileDisk {
         Err(failed(&mut self.failures))
     }
 
-    fn write_at(&mut self, at: u64, bytes: &[u8]) -> Result<(), DeviceFault> {
+    fn write_at(&mut self, at: u64, bytes: &[u8]) -> Result<(), DeviceFault>
+        ensures before { FileFollows self.new → FileFollows self.old }
+        ensures written { OnOk result (FileFollows self.new → at ≤ length (file_sight self.old).seen
+            → Holds (file_sight self.old).seen at bytes.now (file_sight self.new).seen) }
+        ensures writes { FileFollows self.new → at ≤ length (file_sight self.old).seen
+            → Writes at (length bytes.now) (file_sight self.old) (file_sight self.new) }
+        ensures counts { Counts result (file_sight self.old).failures
+            (file_sight self.new).failures }
+
+        // It is some calls of the system. It fails where one of them failed, and where its end or their number would
+        // pass 2^64 - 1.
+        ensures calls { IsServedByCalls at (length bytes.now) result
+            (calls_on self.old) (calls_on self.new) }
+    {
         if at > u64::MAX - bytes.len() as u64 {
             return Err(failed(&mut self.failures));
         }
