@@ -1,21 +1,22 @@
 -- The headline of an opening, until it is closed or cut.
-use Rattle.std.proofs.Common.{◌≡◌, ℕ, ◌<◌, ◌≤◌, List, [], length, sym, ◌∙◌, subst, ⊎_elim, arith, Option, Some, None}
+use Rattle.std.proofs.Common.{◌≡◌, ℕ, suc, ◌+◌, ◌<◌, ◌≤◌, List, [], ◌∷◌, length, sym, ap, ◌∙◌, subst, ⊎_elim, arith, Option, Some, None, length-append}
 use Rattle.std.specs.Prelude.{slice_get}
 use Rattle.std.proofs.lemmas.Option.{slice_get_cases}
 use Rattle.accept.specs.declared.history.Item.{Item}
 use Rattle.accept.specs.Rooms.{Streams}
 use Rattle.disk.specs.Sight.{Sight}
 use Rattle.segment.specs.Segments.{owner_of}
+use Rattle.wal.specs.declared.fault.OpenFault.{OpenFault}
 use Rattle.wal.specs.Covers.{Covers, IsAfter}
-use Rattle.wal.specs.Opening.{slots_of}
+use Rattle.wal.specs.Opening.{slots_of, IsOfDeviceOrMemory}
 use Rattle.history.specs.Histories.{history_of, doubt_of}
 use Rattle.owners.specs.Openings.{Opening}
 use Rattle.ingester.specs.Closings.{IsHandedOut}
 use Rattle.headline.specs.Threads.{Thread, last_passes}
 use Rattle.headline.specs.Headline.{IsHeadline}
 use Rattle.headline.specs.Turns.{shard_then}
-use Rattle.headline.specs.Lives.{Life, ShardEnd, HandedOut, CutAt, IsLife, IsEnd, MayBeReplayed, LeftAt, writing_at, writing_in}
-use Rattle.headline.proofs.Leaving.{covered_left, found_at, left_length, opened_at}
+use Rattle.headline.specs.Lives.{Life, ShardEnd, HandedOut, CutAt, IsLife, IsEnd, MayBeReplayed, MayBeRefused, LeftAt, AreLeftAt, writing_at, writing_in}
+use Rattle.headline.proofs.Leaving.{covered_left, found_at, left_length, left_at, opened_at}
 use Rattle.headline.proofs.Saying.{IsKnown, end_among, says as said}
 use Rattle.headline.proofs.Turning.{stretch_covers}
 
@@ -84,5 +85,17 @@ module _ {D : Type 0} (sight : D → Sight) (follows : D → Type 0) (only_now :
       subst (λ (o : Option (ShardEnd D)). IsAfter opening.about.limits (history_of opening.about k (histories k)) (writing_at o (histories k)) state) (sym g.there)
       (found.opened.covered found.follow opening.about.limits (history_of opening.about k (histories k)) (writing_at (Some g.end) (histories k)) covers)
 
-  pub says : IsHeadline opening.about threads histories (writing_in ends histories) (MayBeReplayed sight follows ends)
-  says = said opening threads life.threads_are some_shard histories (λ k lt. ((history_at k).1 lt).good.known) (writing_in ends histories) (MayBeReplayed sight follows ends) after
+  -- the slots of a shard that is refused keep its history, so they have no fault
+  gives : (k : ℕ) (fault : OpenFault) → MayBeRefused sight follows ends k fault → IsOfDeviceOrMemory fault
+  gives k fault r =
+      let f = r.refused in
+      let counted : opening.about.shards ≡ length r.left = life.shards ∙ sym life.ends_of_all ∙ sym (left_length sight follows ends r.left r.crash) in
+      let parts : length r.left ≡ length f.front + suc (length f.behind) = ap length f.all_are ∙ length-append f.front (f.given ∷ f.behind) in
+      let number : length f.front ≡ k = f.number in
+      let g = (history_at k).1 (omega arith) in
+      let crash : LeftAt sight follows g.end f.given = left_at sight follows ends f.front f.behind f.given g.end (subst (AreLeftAt sight follows ends) f.all_are r.crash) (ap (slice_get ends) number ∙ g.there) in
+      let covers = subst (λ (n : ℕ). Covers (owner_of k n) opening.about.limits (slots_of sight f.given) (history_of opening.about k (histories k)) (writing_at (Some g.end) (histories k))) counted (g.good.covers f.given crash) in
+      f.refusal.covered r.follow opening.about.limits (history_of opening.about k (histories k)) (writing_at (Some g.end) (histories k)) covers
+
+  pub says : IsHeadline opening.about threads histories (writing_in ends histories) (MayBeReplayed sight follows ends) (MayBeRefused sight follows ends)
+  says = said opening threads life.threads_are some_shard histories (λ k lt. ((history_at k).1 lt).good.known) (writing_in ends histories) (MayBeReplayed sight follows ends) after (MayBeRefused sight follows ends) gives

@@ -1,5 +1,5 @@
 -- What a crash leaves, and what the next opening finds in it.
-use Rattle.std.proofs.Common.{◌≡◌, ℕ, zero, suc, ◌+◌, List, [], ◌∷◌, length, refl, subst, arith, Some, None}
+use Rattle.std.proofs.Common.{◌≡◌, ℕ, zero, suc, ◌+◌, List, [], ◌∷◌, ◌++◌, length, refl, subst, arith, Some, None}
 use Rattle.std.specs.Prelude.{slice_get}
 use Rattle.accept.specs.declared.limits.Limits.{Limits}
 use Rattle.accept.specs.declared.history.Ask.{Ask}
@@ -70,6 +70,16 @@ module _ {D : Type 0} (sight : D → Sight) (follows : D → Type 0) where
   left_length [] (l ∷ left) a = absurd a
   left_length (x ∷ ends) [] a = absurd a
   left_length (x ∷ ends) (l ∷ left) a = let more = left_length ends left a.1 in omega arith
+
+  -- the slots of one shard, as a crash left them
+  pub left_at : (ends : List (ShardEnd D)) (front behind : List (List D)) (given : List D) (end : ShardEnd D) → AreLeftAt sight follows ends (front ++ given ∷ behind) → slice_get ends (length front) ≡ Some end → LeftAt sight follows end given
+  left_at [] [] behind given end a h = absurd a
+  left_at [] (l ∷ front) behind given end a h = absurd a
+  left_at (x ∷ ends) [] behind given end a h =
+      let one : Some x ≡ Some end = h in
+      let same : x ≡ end = cc in
+      subst (λ (y : ShardEnd D). LeftAt sight follows y given) same a.0
+  left_at (x ∷ ends) (l ∷ front) behind given end a h = left_at ends front behind given end a.1 h
 
   -- the log that was opened over the slots of shard k, and what it found there
   pub record IsOpenedAt (count capacity k : ℕ) (log : Wal D) (bases : List Streams) : Type 0 where

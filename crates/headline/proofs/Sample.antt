@@ -13,6 +13,8 @@ use Rattle.accept.specs.declared.history.Item.TheVariants.{Answered, Failed}
 use Rattle.accept.specs.Rooms.{Streams}
 use Rattle.accept.specs.Histories.{meaning, stream_of, MayFollow, answered_to, reply_to}
 use Rattle.accept.proofs.Meanings.{get-meaning}
+use Rattle.wal.specs.declared.fault.OpenFault.{OpenFault}
+use Rattle.wal.specs.declared.fault.OpenFault.TheVariants.{Memory}
 use Rattle.history.specs.declared.views.About.{About}
 use Rattle.history.specs.Shards.{shard_of}
 use Rattle.history.specs.Histories.{IsBeginning, IsLegalAt, IsByPasses, terms_of, history_of}
@@ -47,6 +49,10 @@ in_doubt k = push 1 ∷ []
 -- it was found
 abbrev pub found : ℕ → Streams → Type 0
 found k state = state ≡ meaning (answered_to about.limits (history_of about k items) (push 1 ∷ []))
+
+-- or its slots were not opened for want of memory
+abbrev pub wanting : ℕ → OpenFault → Type 0
+wanting k fault = fault ≡ Memory
 
 module _ (any : Passed) where
   abbrev pub knows : ℕ → List Item → List Step → Passed
@@ -109,7 +115,7 @@ module _ (any : Passed) where
   unfolding shard_of
   due = refl
 
-  pub stands : IsHeadline about threads failed in_doubt found
+  pub stands : IsHeadline about threads failed in_doubt found wanting
   stands = record {
     each_shards_calls = each;
     one_growing_history = λ h one k lt. subst (λ (g : Happening). IsBeginning (seen_at g.before.caller k) (seen_at g.after.caller k) × IsBeginning (seen_at g.after.caller k) items) (sym (only_happening h one)) (grows k lt);
@@ -119,6 +125,7 @@ module _ (any : Passed) where
     the_reply = λ a one e. absurd (true≢false (ap (λ (b : AnsweredCall). is_refusal b.reply) (sym (only_call a one)) ∙ e));
     a_refusal_in_its_stated_place = λ a one. subst (λ (b : AnsweredCall). b.reply ≡ reply_to (terms_of about (shard_at about b)) (history_before about failed b) b.call) (sym (only_call a one)) due;
     whatever_crash_comes = λ k lt state e. replayed k lt state e;
+    replay_gives = λ k fault e. inr e;
   }
     where
       each : (k : ℕ) → k < 1 → IsLegalAt about k items × IsByPasses 1 items
@@ -146,7 +153,7 @@ two k = push 1 ∷ push 2 ∷ []
 abbrev pub one_found : ℕ → Streams → Type 0
 one_found k state = state ≡ meaning (answered_to about.limits (history_of about k []) (push 1 ∷ []))
 
-pub also_stands : IsHeadline about [] nothing two one_found
+pub also_stands : IsHeadline about [] nothing two one_found wanting
 also_stands = record {
   each_shards_calls = λ k lt. (record { is = λ n i e. let never : None ≡ Some i = e in absurd (cc) }, tt);
   one_growing_history = λ h one. absurd one;
@@ -163,6 +170,7 @@ also_stands = record {
     continued_only_by_calls_being_written = record { rest = push 2 ∷ []; is = refl };
     holds_every_answered_call = λ a one. absurd one;
   };
+  replay_gives = λ k fault e. inr e;
 }
 
 -- whether there is a stream on the key of this number

@@ -14,7 +14,9 @@ use Rattle.accept.specs.Rooms.{Streams}
 use Rattle.accept.specs.Histories.{answer, reply_to, MayFollow, is_step_of}
 use Rattle.accept.proofs.Legal.{legal-last}
 use Rattle.accept.proofs.OtherKeys.{answer-only_about}
+use Rattle.wal.specs.declared.fault.OpenFault.{OpenFault}
 use Rattle.wal.specs.Covers.{IsAfter}
+use Rattle.wal.specs.Opening.{IsOfDeviceOrMemory}
 use Rattle.history.specs.declared.views.About.{About}
 use Rattle.history.specs.declared.views.Caller.{Caller}
 use Rattle.history.specs.Histories.{IsBeginning, IsLegalAt, IsByPasses, terms_of, history_of, shard_in, step_of, steps_by, steps_on, HaveNumbersBelow, HaveNumbersAbove, IsRising}
@@ -178,7 +180,8 @@ module _ {D : Type 0} (opening : Opening D) (threads : List Thread) (threads_are
       subst (IsOneOf (step_for a)) (sym p.stands) (among_right (step_for a) (before_step (ask_for a) (histories (shard_at opening.about a))) (step_for a ∷ p.behind) (inl refl)) in
       subst (λ j. IsOneOf (step_for a) (histories j)) e here
 
-  module _ (writing : ℕ → List Ask) (replay : ℕ → Streams → Type 0) (after : (k : ℕ) → k < opening.about.shards → (state : Streams) → replay k state → IsAfter opening.about.limits (history_of opening.about k (histories k)) (writing k) state) where
+  module _ (writing : ℕ → List Ask) (replay : ℕ → Streams → Type 0) (after : (k : ℕ) → k < opening.about.shards → (state : Streams) → replay k state → IsAfter opening.about.limits (history_of opening.about k (histories k)) (writing k) state)
+      (refusal : ℕ → OpenFault → Type 0) (gives : (k : ℕ) (fault : OpenFault) → refusal k fault → IsOfDeviceOrMemory fault) where
     replayed : (k : ℕ) → k < opening.about.shards → (state : Streams) → replay k state → IsReplay opening.about threads k (histories k) (writing k) state
     replayed k lt state r =
         let found = after k lt state r in
@@ -191,7 +194,7 @@ module _ {D : Type 0} (opening : Opening D) (threads : List Thread) (threads_are
           holds_every_answered_call = λ a one e. held a one k e;
         }
 
-    pub says : IsHeadline opening.about threads histories writing replay
+    pub says : IsHeadline opening.about threads histories writing replay refusal
     says = record {
       each_shards_calls = λ k lt. let g = good k lt in (g.legal, g.by_passes);
       one_growing_history = λ h one k lt.
@@ -207,4 +210,5 @@ module _ {D : Type 0} (opening : Opening D) (threads : List Thread) (threads_are
           not_refused _ _ a.reply (answer opening.about.limits h a.call) (stands_at a one).due answered ∙ sym (answer-only_about opening.about.limits h a.call);
       a_refusal_in_its_stated_place = λ a one. (stands_at a one).due;
       whatever_crash_comes = replayed;
+      replay_gives = gives;
     }

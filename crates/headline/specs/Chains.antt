@@ -10,7 +10,7 @@ use Rattle.disk.specs.Sight.{Sight}
 use Rattle.history.specs.Histories.{IsBeginning, base_at}
 use Rattle.headline.specs.Threads.{AnsweredCall}
 use Rattle.headline.specs.Headline.{IsOneOf, WasAnswered, IsHeadline, is_refusal, shard_at, step_for}
-use Rattle.headline.specs.Lives.{Life, IsLife, MayBeReplayed, AreLeftAt, LogsFollow, writing_in}
+use Rattle.headline.specs.Lives.{Life, IsLife, MayBeReplayed, MayBeRefused, AreLeftAt, LogsFollow, writing_in}
 
 -- what was found of a shard's history after an opening: a beginning of it, and calls that were being written
 pub record Part : Type 0 where
@@ -84,6 +84,7 @@ module _ {D : Type 0} (sight : D → Sight) (follows : D → Type 0) where
   AreHeadlines (life ∷ lives) (h ∷ histories) =
       IsHeadline life.opening.about life.threads h (writing_in life.ends h)
       (MayBeReplayed sight follows life.ends)
+      (MayBeRefused sight follows life.ends)
       × AreHeadlines lives histories
   AreHeadlines lives histories = ⊥
 

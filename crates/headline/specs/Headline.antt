@@ -9,6 +9,8 @@ use Rattle.accept.specs.declared.history.History.{History}
 use Rattle.accept.specs.Rooms.{Streams}
 use Rattle.accept.specs.Histories.{key_of, answer, meaning, reply_to, answered_to, is_step_of}
 use Rattle.accept.specs.OneKey.{only_about}
+use Rattle.wal.specs.declared.fault.OpenFault.{OpenFault}
+use Rattle.wal.specs.Opening.{IsOfDeviceOrMemory}
 use Rattle.history.specs.declared.views.About.{About}
 use Rattle.history.specs.Histories.{IsBeginning, IsLegalAt, IsByPasses, terms_of, history_of, shard_in, step_of}
 use Rattle.history.specs.Plays.{seen_at, ask_of, HasStepsOf}
@@ -73,7 +75,8 @@ pub record IsReplay (about : About) (threads : List Thread) (k : ℕ) (history :
 -- its stated place; and whatever crash comes, ..
 pub record IsHeadline (about : About) (threads : List Thread) (history : ℕ → List Item)
     (writing : ℕ → List Ask)
-    (replay : ℕ → Streams → Type 0) : Type 0 where
+    (replay : ℕ → Streams → Type 0)
+    (refusal : ℕ → OpenFault → Type 0) : Type 0 where
   pub each_shards_calls : (k : ℕ) → k < about.shards
       → IsLegalAt about k (history k) × IsByPasses about.passes (history k)
   pub one_growing_history : (h : Happening) → IsOneOf h (happened_to threads) → (k : ℕ)
@@ -95,3 +98,5 @@ pub record IsHeadline (about : About) (threads : List Thread) (history : ℕ →
       (history_before about history a) a.call
   pub whatever_crash_comes : (k : ℕ) → k < about.shards → (state : Streams) → replay k state
       → IsReplay about threads k (history k) (writing k) state
+  -- It is refused for want of a device or of memory, and for nothing that a crash left.
+  pub replay_gives : (k : ℕ) (fault : OpenFault) → refusal k fault → IsOfDeviceOrMemory fault

@@ -5,13 +5,14 @@ use Rattle.accept.specs.declared.history.Ask.{Ask}
 use Rattle.accept.specs.declared.history.Item.{Item}
 use Rattle.accept.specs.Rooms.{Streams}
 use Rattle.disk.specs.Sight.{Sight}
+use Rattle.wal.specs.declared.fault.OpenFault.{OpenFault}
 use Rattle.wal.specs.declared.log.Wal.{Wal}
 use Rattle.wal.specs.Logs.{Follow}
 use Rattle.wal.specs.Opening.{AllFollow}
 use Rattle.history.specs.Histories.{doubt_of}
 use Rattle.history.specs.Handles.{about_of}
 use Rattle.owners.specs.Openings.{Opening}
-use Rattle.openings.specs.Findings.{AreOpenedFrom}
+use Rattle.openings.specs.Findings.{AreOpenedFrom, IsFirstRefused}
 use Rattle.ingester.specs.Closings.{IsHandedOut}
 use Rattle.headline.specs.Threads.{Thread, IsThread, last_passes}
 use Rattle.headline.specs.Headline.{IsOneOf}
@@ -98,3 +99,12 @@ module _ {D : Type 0} (sight : D → Sight) (follows : D → Type 0) where
     pub found : AreOpenedFrom sight follows (length left) capacity 0 left logs states
     pub follow : LogsFollow logs
     pub there : slice_get states k ≡ Some state
+
+  -- A crash left slots of which the next opening refuses those of shard k first, for this fault. Their disks have
+  -- followed the model.
+  pub record MayBeRefused (ends : List (ShardEnd D)) (k : ℕ) (fault : OpenFault) : Type 0 where
+    pub left : List (List D)
+    pub crash : AreLeftAt ends left
+    pub backs : List (List D)
+    pub refused : IsFirstRefused sight follows (length left) k fault left backs
+    pub follow : AllFollow follows refused.back
