@@ -1,7 +1,10 @@
 -- What a crash leaves of a shard between its opening and its end.
-use Rattle.std.proofs.Common.{◌≡◌, ◌⊎◌, ℕ, zero, suc, ◌-◌, Bool, true, false, List, [], ◌∷◌, ◌++◌, length, take, refl, sym, ap, ◌∙◌, subst, inl, inr, ⊎_elim, arith, Some, None, length-append}
+use Rattle.std.proofs.Common.{◌≡◌, ◌⊎◌, ℕ, zero, suc, Bool, true, false, List, [], ◌∷◌, ◌++◌, length, take, drop, refl, sym, ap, ◌∙◌, subst, inl, inr, ⊎_elim, append_assoc, append-nil, arith, Some, None}
 use Rattle.std.specs.Prelude.{slice_get, slice_index_or}
+use Rattle.accept.specs.declared.call.Reply.TheVariants.{Unavailable}
 use Rattle.accept.specs.declared.history.Ask.{Ask}
+use Rattle.accept.specs.declared.history.Item.{Item}
+use Rattle.accept.specs.declared.history.Item.TheVariants.{Answered, Failed}
 use Rattle.accept.specs.Histories.{meaning, answered_to, is_marked, IsWithin}
 use Rattle.accept.proofs.Legal.{legal-within}
 use Rattle.accept.proofs.Meanings.{meaning-nothing}
@@ -16,38 +19,53 @@ use Rattle.wal.specs.Moments.{pair}
 use Rattle.wal.specs.Opening.{slots_of}
 use Rattle.wal.proofs.OneImage.{settled_covers}
 use Rattle.history.specs.declared.views.About.{About}
-use Rattle.history.specs.Histories.{base_at, terms_of, history_of, doubt_of, doubt_or}
-use Rattle.history.specs.Handles.{Booked, Announced, history_in, asks_of, fresh_book}
+use Rattle.history.specs.Histories.{base_at, terms_of, history_of, reply_of, step_of, doubt_of, doubt_or}
+use Rattle.history.specs.Handles.{Booked, history_in, asks_of, fresh_book}
 use Rattle.history.proofs.Past.{doubt_marked, doubt_unmarked}
 use Rattle.shard.specs.Calls.{MayLeave, IsCommitted, IsMarkedInDoubt}
-use Rattle.shard.specs.Groups.{with_steps, changing_of, MayLeaveAll}
-use Rattle.shard.specs.Jobs.{tickets_of}
+use Rattle.shard.specs.Groups.{items_with, with_steps, changing_of, marked_by, MayLeaveAll}
 use Rattle.shard.specs.Keeping.{owner_in, IsAllowed, KeepsHistory}
 use Rattle.shard.specs.Shards.{Sharded}
-use Rattle.shard.specs.Turns.{Turn, IsTurn}
+use Rattle.shard.specs.Turns.{Turn, AreTogether, IsAlone, IsTurn}
 use Rattle.shard.proofs.Groups.{steps_mean, failed_means, step_written}
 use Rattle.owners.specs.Openings.{Opening}
 use Rattle.headline.specs.Threads.{Thread}
-use Rattle.headline.specs.Turns.{Moment, Between, Within, Stretch, shard_then, writing_then, IsMade, Lead, IsMoment, FollowThen, IsStretch, MayBeLeft, IsLeftThen}
+use Rattle.headline.specs.Turns.{Moment, Between, Within, Stretch, shard_then, calls_with_steps, made_in, writing_then, IsMade, Lead, IsMoment, FollowThen, IsStretch, MayBeLeft, IsLeftThen}
 use Rattle.headline.proofs.Leaving.{IsOpenedAt}
 
 take_none : {A : Type 0} (j : ℕ) → take {A = A} j [] ≡ []
 take_none zero = refl
 take_none (suc j) = refl
 
-take_front : {A : Type 0} (xs ys : List A) → take (length xs) (xs ++ ys) ≡ xs
-take_front [] ys = refl
-take_front (x ∷ xs) ys = ap (λ l. x ∷ l) (take_front xs ys)
-
 take_whole : {A : Type 0} (xs : List A) → take (length xs) xs ≡ xs
 take_whole [] = refl
 take_whole (x ∷ xs) = ap (λ l. x ∷ l) (take_whole xs)
 
--- the first of a list, by what is left
-front_of : {A : Type 0} (all front rest : List A) → all ≡ front ++ rest → take (length all - length rest) all ≡ front
-front_of all front rest e =
-    let n : length all - length rest ≡ length front = let l = length-append front rest in let m = ap length e in omega arith in
-    ap (λ k. take k all) n ∙ ap (take (length front)) e ∙ take_front front rest
+drop_front : {A : Type 0} (xs ys : List A) → drop (length xs) (xs ++ ys) ≡ ys
+drop_front [] ys = refl
+drop_front (x ∷ xs) ys = drop_front xs ys
+
+-- after what was there stand the steps of these calls, in their order
+record AddsSteps (before after : List Item) (asks : List Ask) : Type 0 where
+  pub more : List Item
+  pub is : after ≡ before ++ more
+  pub calls : calls_with_steps more ≡ asks
+
+calls_added : (before after : List Item) (asks : List Ask) → AddsSteps before after asks → calls_with_steps (drop (length before) after) ≡ asks
+calls_added before after asks a = ap (λ l. calls_with_steps (drop (length before) l)) a.is ∙ ap calls_with_steps (drop_front before a.more) ∙ a.calls
+
+steps_added : (about : About) (k : ℕ) (items : List Item) (asks : List Ask) → AddsSteps items (items_with about k items asks) asks
+steps_added about k items [] = record { more = []; is = sym (append-nil items); calls = refl }
+steps_added about k items (a ∷ asks) =
+    let s : Item = Answered (step_of a (reply_of about k items a.call)) in
+    let rest = steps_added about k (items ++ s ∷ []) asks in
+    record { more = s ∷ rest.more; is = rest.is ∙ append_assoc items (s ∷ []) rest.more; calls = ap (λ l. a ∷ l) rest.calls }
+
+-- also where a mark stands before them
+steps_marked : (about : About) (k : ℕ) (items : List Item) (doubt asks : List Ask) → AddsSteps items (items_with about k (items ++ Failed doubt ∷ []) asks) asks
+steps_marked about k items doubt asks =
+    let rest = steps_added about k (items ++ Failed doubt ∷ []) asks in
+    record { more = Failed doubt ∷ rest.more; is = rest.is ∙ append_assoc items (Failed doubt ∷ []) rest.more; calls = rest.calls }
 
 index_get : {A : Type 0} (xs : List A) (k : ℕ) (d x : A) → slice_get xs k ≡ Some x → slice_index_or xs k d ≡ x
 index_get [] k d x e = let never : None ≡ Some x = e in absurd (cc)
@@ -98,6 +116,18 @@ one_group : (book : Booked) (ask : Ask) (a b : List ℕ) → MayLeave book ask.c
 one_group book ask a b (inl old) = inl old
 one_group book ask a b (inr (w, found)) = inr (subst (Recovers (owner_in book) a b) (sym (step_written book ask w)) found)
 
+-- a turn leaves a book of the same shard of the same opening
+pub same_book : {D : Type 0} (sight : D → Sight) (follows : D → Type 0) (t : Turn D) → IsTurn sight follows t → (t.new.book.about ≡ t.old.book.about) × (t.new.book.shard ≡ t.old.book.shard)
+same_book {D = D} sight follows t (inl h) = ⊎_elim
+    (λ (c : _ × (t.new.book ≡ with_steps t.old.book (asks_of h.front)) × _). (ap (λ (b : Booked). b.about) c.1, ap (λ (b : Booked). b.shard) c.1))
+    (λ (c : _ × (t.new.book ≡ _) × _). (ap (λ (b : Booked). b.about) c.1, ap (λ (b : Booked). b.shard) c.1))
+    h.applied.stepped
+same_book {D = D} sight follows t (inr (inl h)) = ⊎_elim
+    (λ (c : IsCommitted (slots sight t.old.log) (slots sight t.new.log) t.old.book h.job.ticket t.new.book h.reply). (ap (λ (b : Booked). b.about) c.book, ap (λ (b : Booked). b.shard) c.book))
+    (λ (c : IsMarkedInDoubt (slots sight t.old.log) (slots sight t.new.log) t.old.book h.job.ticket t.new.book h.reply). (ap (λ (b : Booked). b.about) c.book, ap (λ (b : Booked). b.shard) c.book))
+    h.applied.step
+same_book {D = D} sight follows t (inr (inr h)) = (ap (λ (s : Sharded D). s.book.about) h.same, ap (λ (s : Sharded D). s.book.shard) h.same)
+
 module _ {D : Type 0} (sight : D → Sight) (follows : D → Type 0) (only_now : (d : D) (c : List ℕ) → follows d → (sight d).left_since (sight d).moment c → (sight d).may_leave c) where
   -- a crash since now leaves what a crash now may leave
   since_now : (log : Wal D) (a b : List ℕ) → Follow follows log → (slots sight log).first.left_since (slots sight log).first.moment a → (slots sight log).second.left_since (slots sight log).second.moment b → (slots sight log).first.may_leave a × (slots sight log).second.may_leave b
@@ -114,20 +144,9 @@ module _ {D : Type 0} (sight : D → Sight) (follows : D → Type 0) (only_now :
     pub number : s.book.shard ≡ k
     pub covers : Follow follows s.log → KeepsHistory (slots sight s.log) s.book (doubt_of s.book.items)
 
-  same_book : (t : Turn D) → IsTurn sight follows t → (t.new.book.about ≡ t.old.book.about) × (t.new.book.shard ≡ t.old.book.shard)
-  same_book t (inl h) = ⊎_elim
-      (λ (c : _ × (t.new.book ≡ with_steps t.old.book (asks_of h.front)) × _). (ap (λ (b : Booked). b.about) c.1, ap (λ (b : Booked). b.shard) c.1))
-      (λ (c : _ × (t.new.book ≡ _) × _). (ap (λ (b : Booked). b.about) c.1, ap (λ (b : Booked). b.shard) c.1))
-      h.applied.stepped
-  same_book t (inr (inl h)) = ⊎_elim
-      (λ (c : IsCommitted (slots sight t.old.log) (slots sight t.new.log) t.old.book h.job.ticket t.new.book h.reply). (ap (λ (b : Booked). b.about) c.book, ap (λ (b : Booked). b.shard) c.book))
-      (λ (c : IsMarkedInDoubt (slots sight t.old.log) (slots sight t.new.log) t.old.book h.job.ticket t.new.book h.reply). (ap (λ (b : Booked). b.about) c.book, ap (λ (b : Booked). b.shard) c.book))
-      h.applied.step
-  same_book t (inr (inr h)) = (ap (λ (s : Sharded D). s.book.about) h.same, ap (λ (s : Sharded D). s.book.shard) h.same)
-
   made_rests : (about : About) (k : ℕ) (t : Turn D) → Rests about k t.old → IsMade sight follows t → Rests about k t.new
   made_rests about k t r m =
-      let same = same_book t m.turn in
+      let same = same_book sight follows t m.turn in
       record { about_is = same.0 ∙ r.about_is; number = same.1 ∙ r.number; covers = m.covered }
 
   lead_rests : (about : About) (k : ℕ) (start end : Sharded D) (ts : List (Turn D)) → Rests about k start → Lead sight follows start ts end → Rests about k end
@@ -148,6 +167,31 @@ module _ {D : Type 0} (sight : D → Sight) (follows : D → Type 0) (only_now :
         subst (λ (w : Owner). Covers w opening.about.limits (slots sight log) (history_of opening.about k []) []) whose (settled_covers sight log opening.about.limits (history_of opening.about k []) [] settled);
   }
 
+  -- the calls of a group, or the one that goes alone, are those that the turn makes
+  group_makes : (t : Turn D) (h : AreTogether sight follows t) → made_in t ≡ asks_of h.front
+  group_makes t h =
+      let old : Booked = t.old.book in
+      let asks : List Ask = asks_of h.front in
+      let adds : (b : Booked) → t.new.book ≡ b → AddsSteps old.items b.items asks → made_in t ≡ asks = λ b e a.
+      calls_added old.items t.new.book.items asks (subst (λ (x : Booked). AddsSteps old.items x.items asks) (sym e) a) in
+      ⊎_elim
+      (λ (c : _ × (t.new.book ≡ with_steps old asks) × _). adds (with_steps old asks) c.1 (steps_added old.about old.shard old.items asks))
+      (λ (c : _ × (t.new.book ≡ with_steps (marked_by old asks) asks) × _). adds (with_steps (marked_by old asks) asks) c.1 (steps_marked old.about old.shard old.items (changing_of old asks) asks))
+      h.applied.stepped
+
+  alone_makes : (t : Turn D) (h : IsAlone sight follows t) → made_in t ≡ h.job.ticket.ask ∷ []
+  alone_makes t h =
+      let items : List Item = t.old.book.items in
+      let ask : Ask = h.job.ticket.ask in
+      let last : Item = Answered (step_of ask h.reply) in
+      let refused : Item = Answered (step_of ask Unavailable) in
+      calls_added items t.new.book.items (ask ∷ []) (⊎_elim
+      (λ (c : IsCommitted (slots sight t.old.log) (slots sight t.new.log) t.old.book h.job.ticket t.new.book h.reply).
+      record { more = last ∷ []; is = ap (λ (b : Booked). b.items) c.book; calls = refl })
+      (λ (c : IsMarkedInDoubt (slots sight t.old.log) (slots sight t.new.log) t.old.book h.job.ticket t.new.book h.reply).
+      record { more = Failed (ask ∷ []) ∷ refused ∷ []; is = ap (λ (b : Booked). b.items) c.book ∙ append_assoc items (Failed (ask ∷ []) ∷ []) (refused ∷ []); calls = refl })
+      h.applied.step)
+
   -- in the middle of a turn a crash leaves the history before it and a beginning of the calls that it writes
   within_turn : (about : About) (k : ℕ) (t : Turn D) (a b : List ℕ) → Rests about k t.old → IsMade sight follows t → Follow follows t.new.log → IsWithin t.old.book.about.limits (history_in t.old.book)
       → MayBeLeft sight follows (Within t) a b → IsAllowed t.old.book (writing_then (Within t)) a b
@@ -155,18 +199,16 @@ module _ {D : Type 0} (sight : D → Sight) (follows : D → Type 0) (only_now :
     where
       by : IsTurn sight follows t → IsAllowed t.old.book (writing_then (Within t)) a b
       by (inl h) =
-          subst (λ (ts : List Announced). IsAllowed t.old.book (doubt_or t.old.book.items (changing_of t.old.book (asks_of ts))) a b)
-          (sym (front_of (tickets_of t.jobs) h.front (tickets_of t.rest) h.split))
+          subst (λ (asks : List Ask). IsAllowed t.old.book (doubt_or t.old.book.items (changing_of t.old.book asks)) a b) (sym (group_makes t h))
           (group_allowed t.old.book (asks_of h.front) a b within ((h.applied.any_moment f).each a b left.0 left.1))
       by (inr (inl h)) =
-          subst (λ (ts : List Announced). IsAllowed t.old.book (doubt_or t.old.book.items (changing_of t.old.book (asks_of ts))) a b)
-          (sym (front_of (tickets_of t.jobs) (h.job.ticket ∷ []) (tickets_of t.rest) (ap tickets_of h.split)))
+          subst (λ (asks : List Ask). IsAllowed t.old.book (doubt_or t.old.book.items (changing_of t.old.book asks)) a b) (sym (alone_makes t h))
           (group_allowed t.old.book (h.job.ticket.ask ∷ []) a b within (one_group t.old.book h.job.ticket.ask a b ((h.applied.any_moment f).each a b left.0 left.1)))
       by (inr (inr h)) =
           let g : Follow follows t.old.log = subst (λ (s : Sharded D). Follow follows s.log) h.same f in
           let there = subst (λ (s : Sharded D). (slots sight s.log).first.left_since (slots sight t.old.log).first.moment a × (slots sight s.log).second.left_since (slots sight t.old.log).second.moment b) h.same left in
           let now = since_now t.old.log a b g there.0 there.1 in
-          allowed_or t.old.book _ a b (r.covers g a b now.0 now.1)
+          allowed_or t.old.book (changing_of t.old.book (made_in t)) a b (r.covers g a b now.0 now.1)
 
   -- at any moment
   pub moment_covers : (about : About) (k : ℕ) (m : Moment D) (left : List D) → Rests about k (shard_then m) → IsMoment sight follows m → FollowThen sight follows m → IsWithin (shard_then m).book.about.limits (history_in (shard_then m).book)

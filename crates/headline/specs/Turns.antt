@@ -1,14 +1,15 @@
 -- A shard between its opening and its end: the turns that its owner made, and what a crash then leaves.
-use Rattle.std.specs.Prelude.{◌≡◌, ◌-◌, ℕ, List, [], ◌∷◌, take, length, Some, slice_get}
+use Rattle.std.specs.Prelude.{◌≡◌, ℕ, List, [], ◌∷◌, drop, length, Some, slice_get}
 use Rattle.accept.specs.declared.history.Ask.{Ask}
+use Rattle.accept.specs.declared.history.Item.{Item}
+use Rattle.accept.specs.declared.history.Item.TheVariants.{Answered, Failed}
 use Rattle.disk.specs.Sight.{Sight}
 use Rattle.wal.specs.declared.log.Wal.{Wal}
 use Rattle.wal.specs.Logs.{Follow, slots}
 use Rattle.wal.specs.Opening.{slots_of}
 use Rattle.history.specs.Histories.{IsLegalAt, IsByPasses, doubt_of, doubt_or}
-use Rattle.history.specs.Handles.{Announced, asks_of, fresh_book}
+use Rattle.history.specs.Handles.{fresh_book}
 use Rattle.shard.specs.Groups.{changing_of}
-use Rattle.shard.specs.Jobs.{tickets_of}
 use Rattle.shard.specs.Keeping.{KeepsHistory}
 use Rattle.shard.specs.Shards.{Sharded}
 use Rattle.shard.specs.Turns.{Turn, IsTurn}
@@ -17,9 +18,15 @@ use Rattle.ingester.specs.Closings.{IsTold}
 use Rattle.headline.specs.Threads.{Thread}
 use Rattle.headline.specs.Headline.{IsOneOf}
 
--- the jobs that a turn takes, from the first on
-abbrev pub taken_in : {D : Type 0} → Turn D → List Announced
-taken_in t = take (length (tickets_of t.jobs) - length (tickets_of t.rest)) (tickets_of t.jobs)
+-- the calls whose steps stand in these items
+abbrev pub calls_with_steps : List Item → List Ask
+calls_with_steps [] = []
+calls_with_steps (Answered s ∷ items) = s.ask ∷ calls_with_steps items
+calls_with_steps (Failed doubt ∷ items) = calls_with_steps items
+
+-- the calls that a turn makes: those of the steps that it adds. Jobs that come back are not among them.
+abbrev pub made_in : {D : Type 0} → Turn D → List Ask
+made_in t = calls_with_steps (drop (length t.old.book.items) t.new.book.items)
 
 -- where the owner of a shard is: between two turns, or in the middle of one
 pub data Moment (D : Type 0) : Type 0 where
@@ -39,7 +46,7 @@ shard_then (Within t) = t.old
 -- the calls that are then being written: those in doubt by the mark, or those of the turn that change something
 abbrev pub writing_then : {D : Type 0} → Moment D → List Ask
 writing_then (Between s) = doubt_of s.book.items
-writing_then (Within t) = doubt_or t.old.book.items (changing_of t.old.book (asks_of (taken_in t)))
+writing_then (Within t) = doubt_or t.old.book.items (changing_of t.old.book (made_in t))
 
 module _ {D : Type 0} (sight : D → Sight) (follows : D → Type 0) where
   -- what `Shard::apply_group` says
