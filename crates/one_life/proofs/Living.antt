@@ -77,7 +77,7 @@ module _ {D : Type 0} (sight : D → Sight) (follows : D → Type 0) (given : Li
   end_is f zero end e = let same : HandedOut handed ≡ end = cc in subst (IsEnd sight follows opening (thread ∷ []) 0) same (out, f)
   end_is f (suc k) end e = let never : None ≡ Some end = e in absurd (cc)
 
-  pub lived : IsLivedOnce sight follows given call handed
+  pub lived : IsLivedOnce sight follows given call outcome handed
   lived = record {
     life = the_life;
     is_life = λ f. record {
@@ -94,6 +94,5 @@ module _ {D : Type 0} (sight : D → Sight) (follows : D → Type 0) (given : Li
     };
     given_are = refl;
     ends_are = refl;
-    outcome = outcome;
     happened = refl;
   }

@@ -4,14 +4,14 @@ ghost use Rattle.accept.specs.OneStream.{AreLimits};
 ghost use Rattle.accept.specs.Calls.{AreNumbers};
 ghost use Rattle.one_life.specs.Once.{IsLivedOnce};
 
-use accept::{Call, Limits};
+use accept::{Call, Limits, Reply};
 use disk::Disk;
-use ingester::Ingester;
+use ingester::{CallFault, Ingester};
 use std::alloc::Global;
 use std::sync::Wait;
 use std::thread::Threads;
 
-/// Opens one shard, makes one call, and closes: what comes out is the life of an opening.
+/// Opens one shard, makes one call, and closes: what comes out, with what came of the call, is the life of an opening.
 ///
 /// # Errors
 ///
@@ -24,7 +24,7 @@ pub fn live_once<D: Disk + Drop, R, H>(
     limits: Limits,
     capacity: u64,
     call: Call,
-) -> Option<([D; 2], bool)>
+) -> Option<(([D; 2], bool), Result<Reply, CallFault>)>
 where
     D: Send + 'static,
     R: Threads + Wait + Sync,
@@ -33,13 +33,16 @@ where
     requires limits { AreLimits limits }
     requires capacity { capacity ≤ 2 ^ 30 }
     requires numbers { AreNumbers call }
-    ensures { IfSome result (λ handed. IsLivedOnce D.sight D.follows slots.items call handed) }
+    ensures { IfSome result (λ it. IsLivedOnce D.sight D.follows slots.items call it.1 it.0) }
 {
     let Ok((ingester, mut passes)) = Ingester::open(rt, handle, alloc, slots, 1, limits, capacity)
     else {
         return None;
     };
-    let _ = ingester.call(rt, alloc, &mut passes[0], call);
+    let outcome = ingester.call(rt, alloc, &mut passes[0], call);
     let mut closed = ingester.close(rt, passes);
-    closed.take()
+    match closed.take() {
+        Some(handed) => Some((handed, outcome)),
+        None => None,
+    }
 }
