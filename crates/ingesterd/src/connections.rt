@@ -1,4 +1,6 @@
 //! How the server's workers serve connections.
+ghost use Rattle.std.specs.Prelude.{not};
+ghost use Rattle.history.specs.Handles.{is_closed_pass};
 ghost use Rattle.ingester.specs.Calls.{IsPassOf};
 
 use disk::Disk;
@@ -27,6 +29,8 @@ impl<C: Clock> Connections<C> {
 
 impl<D: Disk + Drop, C: Clock> Serve<Ingester<D>, Pass> for Connections<C> {
     ghost is_pass_of = { IsPassOf };
+
+    ghost may_go_on = { λ pass. not (is_closed_pass pass) };
 
     fn serve<R: Wait>(
         &mut self,

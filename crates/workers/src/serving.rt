@@ -1,5 +1,5 @@
 //! The server's loop: one acceptor, and workers with a pass each.
-ghost use Rattle.std.specs.Prelude.{◌≡◌, ℕ, Some, All, slice_get, IfOk};
+ghost use Rattle.std.specs.Prelude.{◌≡◌, ℕ, Bool, Some, All, slice_get, IfOk};
 
 use crate::fault::WorkersFault;
 use crossbeam_channel::{Receiver, Sender, bounded};
@@ -27,6 +27,9 @@ pub trait Serve<I, P> {
     /// The pass is one of this service's.
     ghost is_pass_of: { I → P → Type 0 };
 
+    /// Whether a worker with this pass may take another connection.
+    ghost may_go_on: { P → Bool };
+
     /// Serves a connection until it ends, whatever goes wrong with it. Tells whether the worker may take another.
     fn serve<R: Wait>(
         &mut self,
@@ -37,7 +40,8 @@ pub trait Serve<I, P> {
         stream: &TcpStream,
     ) -> bool
         requires { is_pass_of service.now pass.old }
-        ensures { is_pass_of service.now pass.new };
+        ensures pass { is_pass_of service.now pass.new }
+        ensures told { result ≡ may_go_on pass.new };
 }
 
 // Sets that a connection is closed that does nothing for long, and that what is written is sent at once.
