@@ -1,11 +1,10 @@
 //! The program `ingesterd`: the server.
-ghost use Rattle.std.specs.Prelude.{◌≡◌, ◌↔◌, ◌≤◌, ◌^◌, ℕ, Some, IfOk, IfErr, OnOk, slice_get, option_map};
-ghost use Rattle.std.specs.Io.KnownBytes.{Appends};
+ghost use Rattle.std.specs.Prelude.{◌≡◌, ◌≢◌, ◌↔◌, ◌≤◌, ◌^◌, ℕ, Some, IfErr, OnOk, slice_get, option_map};
 ghost use Rattle.history.specs.Handles.{Passed};
 ghost use Rattle.ingester.specs.Calls.{IsPassOf};
 ghost use Rattle.words.specs.Words.{GiveServer, GivesCapacity};
 ghost use Rattle.ingesterd.specs.Openings.{IsProfiled};
-ghost use Rattle.ingesterd.specs.Endings.{ServerEnds, ready_line, stop_status};
+ghost use Rattle.ingesterd.specs.Endings.{ServerEnds, HasSaidReady, HasSaidUntil, stop_status};
 
 use crate::clock::SystemClock;
 use crate::connections::Connections;
@@ -55,7 +54,7 @@ where
     ensures status { result ≤ 3 }
     ensures usage { (result ≡ 2)
         ↔ (¬ (GiveServer words.now × GivesCapacity (option_map (λ s. s.now) setting.entry))) }
-    ensures ends { ServerEnds (W.contents output.old) (W.contents output.new) result }
+    ensures ends { ServerEnds words.now (W.contents output.old) (W.contents output.new) result }
 {
     let Some(words) = server_in(words) else {
         let _ = writeln!(
@@ -94,13 +93,16 @@ fn serve_folder<R, W: Write>(
 where
     R: Files<File = File> + Net<Listener = TcpListener, Stream = TcpStream>,
     R: Clock + Threads + Wait + Copy + Send + Sync + 'static,
-    ensures served { OnOk result ((port : ℕ)
-        × Appends (W.contents output.old) (W.contents output.new) (ready_line port)) }
-    ensures refused { IfErr result (λ stop. stop_status stop ≡ 3
-        → W.contents output.new ≡ W.contents output.old) }
+    ensures served { OnOk result
+        (HasSaidReady asked.entry.words.port (W.contents output.old) (W.contents output.new)) }
+    ensures stopped { IfErr result
+        (HasSaidUntil asked.entry.words.port (W.contents output.old) (W.contents output.new)) }
 {
     let words = asked.words;
-    let slots = open_slots(rt, alloc, words.folder, words.shards, marks)?;
+    let slots = match open_slots(rt, alloc, words.folder, words.shards, marks) {
+        Ok(slots) => slots,
+        Err(fault) => return Err(Stopped::Slots(fault)),
+    };
     let start = Instant::now(rt).ok();
     let terminal = terminal_in(marks);
     let observer = Replaying::new(terminal);
@@ -138,9 +140,11 @@ where
         → IsPassOf ingester.now pass }
     ensures passes { (i : ℕ) (pass : Passed) → slice_get result.0.items i ≡ Some pass
         → IsPassOf ingester.now pass }
-    ensures served { OnOk result.1 ((port : ℕ)
-        × Appends (W.contents output.old) (W.contents output.new) (ready_line port)) }
-    ensures stopped { IfErr result.1 (λ stop. stop_status stop ≡ 1) }
+    ensures served { OnOk result.1
+        (HasSaidReady asked.entry.words.port (W.contents output.old) (W.contents output.new)) }
+    ensures stopped { IfErr result.1
+        (HasSaidUntil asked.entry.words.port (W.contents output.old) (W.contents output.new)) }
+    ensures running { IfErr result.1 (λ stop. stop_status stop ≡ 1) }
 {
     let words = asked.words;
     let servers = match make_servers(rt, alloc, passes.len()) {
@@ -192,9 +196,11 @@ fn listen<R: Net<Listener = TcpListener, Stream = TcpStream>, W: Write>(
     port: u16,
     output: &mut W,
 ) -> Result<TcpListener, Stopped>
-    ensures said { OnOk result ((port : ℕ)
-        × Appends (W.contents output.old) (W.contents output.new) (ready_line port)) }
-    ensures stopped { IfErr result (λ stop. stop_status stop ≡ 1) }
+    ensures said { OnOk result
+        (HasSaidReady port (W.contents output.old) (W.contents output.new)) }
+    ensures stopped { IfErr result
+        (HasSaidUntil port (W.contents output.old) (W.contents output.new)) }
+    ensures running { IfErr result (λ stop. stop_status stop ≡ 1) }
 {
     let address = SocketAddr::new(IpAddr::V4(Ipv4Addr::LOCALHOST), port);
     let Ok(listener) = TcpListener::bind(rt, address) else {
@@ -203,12 +209,20 @@ fn listen<R: Net<Listener = TcpListener, Stream = TcpStream>, W: Write>(
     let Ok(bound) = listener.local_addr() else {
         return Err(Stopped::Listen);
     };
-    let port = bound.port();
-    let Ok(()) = writeln!(output, "ready {port}") else {
+    let said = port_said(port, bound.port());
+    let Ok(()) = writeln!(output, "ready {said}") else {
         return Err(Stopped::Output);
     };
     let Ok(()) = output.flush() else {
         return Err(Stopped::Output);
     };
     Ok(listener)
+}
+
+// The port that is said: the one that was asked for, and where that is 0 the one that was bound.
+fn port_said(asked: u16, bound: u16) -> u16
+    ensures same { asked ≢ 0 → result ≡ asked }
+    ensures any { asked ≡ 0 → result ≡ bound }
+{
+    if asked == 0 { bound } else { asked }
 }

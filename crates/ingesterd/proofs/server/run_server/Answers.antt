@@ -3,9 +3,7 @@ use Rattle.ingesterd.specs.Endings.{ended_server, stopped_server}
 use Rattle.ingesterd.proofs.server.run_server.Goals as goal
 
 pub returns-in-Err-clause-ends : goal.returns-in-Err-clause-ends
-returns-in-Err-clause-ends g c = stopped_server c.in-Err.stopped c.in-Err.ensures.refused c.status.ensures.cause
+returns-in-Err-clause-ends g c = stopped_server c.in-Some.words c.in-Some.ensures.says c.in-Err.stopped c.in-Err.ensures.stopped c.status.ensures.cause
 
 pub returns-clause-ends : goal.returns-clause-ends
-returns-clause-ends g c =
-    let served = c.in_default-serve_folder.ensures.served in
-    ended_server served.0 served.1 refl
+returns-clause-ends g c = ended_server c.in-Some.words c.in-Some.ensures.says c.in_default-serve_folder.ensures.served refl
