@@ -1,14 +1,11 @@
 -- From how the calls of a request went to its answer.
-use Rattle.std.proofs.Common.{◌≡◌, ◌≢◌, ℕ, ◌+◌, ◌<◌, ◌≤◌, ◌^◌, false, All, sum_by, List, [], ◌∷◌, map, length, None, Some, Result, Ok, Err, refl, sym, ap, ap₂, ◌∙◌, subst, arith}
+use Rattle.std.proofs.Common.{◌≡◌, ◌≢◌, ℕ, ◌+◌, ◌<◌, ◌≤◌, ◌^◌, false, All, sum_by, List, [], ◌∷◌, map, length, None, Result, Ok, Err, refl, sym, ap, ap₂, ◌∙◌, subst, arith}
 use Rattle.accept.specs.declared.call.Call.{Call}
 use Rattle.pushjson.specs.declared.fault.PushFault.{PushFault}
-use Rattle.pushjson.specs.declared.fault.PushFault.TheVariants.{NotJson, WrongShape, BadTime, TooManyEntries, Memory}
+use Rattle.pushjson.specs.declared.fault.PushFault.TheVariants.{Memory}
 use Rattle.pushjson.specs.declared.push.RawBatch.{RawBatch}
-use Rattle.requests.specs.Answers.{failure_body}
 use Rattle.requests.specs.declared.answer.Answer.{Answer}
 use Rattle.requests.specs.declared.failure.Failure.{Failure}
-use Rattle.requests.specs.declared.failure.Failure.TheVariants.{OutOfMemory}
-use Rattle.requests.specs.declared.status.Status.TheVariants.{InternalServerError}
 use Rattle.requests.specs.declared.route.Route.{Route}
 use Rattle.requests.specs.declared.route.Route.TheVariants.{Push, Read, Trim}
 use Rattle.answering.specs.declared.responding.Halt.{Halt}
@@ -19,13 +16,13 @@ use Rattle.std.proofs.lemmas.List.{length-map}
 use Rattle.std.proofs.lemmas.List.Sums.{sum_by-cons, get_or-le-sum_by}
 use Rattle.answering.specs.Calls.{Giving, Came}
 use Rattle.answering.specs.Calls as cames
-use Rattle.answering.specs.Courses.{Course, Unread, Whole, Broken, fault_failure, first_failure, said_of, StreamGives}
+use Rattle.answering.specs.Courses.{Unread, Whole, Broken, first_failure, said_of, StreamGives}
 use Rattle.answering.specs.declared.calling.Uncalled.{Uncalled}
 use Rattle.answering.specs.declared.calling.Uncalled.TheVariants.{Body, Labels}
 use Rattle.answering.specs.Parts.{BodyIsRefused, UncalledIsAnswered, BodyIsAnswered, AsksForCall, IsUncalled, IsOfOne}
 use Rattle.answering.specs.Replies.{one_status, one_text}
 use Rattle.answering.specs.Showing.{IsShown}
-use Rattle.answering.specs.Responses.{RequestEnds, RequestIsUnsaid, cames_status, cames_text, status_for, text_for, failure_in, fault_status, fault_text}
+use Rattle.answering.specs.Responses.{RequestEnds, RequestIsUnsaid, cames_status, cames_text}
 
 shows_one : (route : Route) → IsOfOne route → (came : Came) (answer : Answer) → IsShown (one_status came) (one_text came) answer → IsShown (cames_status route (came ∷ [])) (cames_text route (came ∷ [])) answer
 shows_one Push never came answer shows = absurd never

@@ -1,5 +1,5 @@
 -- From windows of streams to all of them.
-use Rattle.std.proofs.Common.{◌≡◌, ◌≢◌, ℕ, suc, ◌+◌, ◌<◌, ◌≤◌, Bool, false, All, List, [], ◌∷◌, ◌++◌, length, drop, get_or, Option, None, Some, Result, Ok, Err, refl, sym, ap, ◌∙◌, subst, append_assoc, add-one, drop-cons, arith}
+use Rattle.std.proofs.Common.{◌≡◌, ◌≢◌, ℕ, suc, ◌+◌, ◌<◌, ◌≤◌, Bool, false, All, List, [], ◌∷◌, ◌++◌, length, map, drop, get_or, Option, None, Some, Result, Ok, Err, refl, sym, ap, ◌∙◌, subst, append_assoc, add-one, drop-cons, arith}
 use Rattle.std.proofs.lemmas.List.{append-nil}
 use Rattle.std.proofs.lemmas.List.Elements.{All-nil, All-cons, All-head, All-tail}
 use Rattle.labels.specs.Faults.{first_fault}
@@ -19,7 +19,7 @@ use Rattle.answering.specs.Lines.{push_status, lines_from, came_lines}
 use Rattle.answering.specs.Parts.{BodyIsAnswered}
 use Rattle.answering.specs.Showing.{IsShown}
 use Rattle.answering.specs.Telling.{Tells, CameIsNoted}
-use Rattle.answering.specs.Windows.{AreStreams, called, came_of, merged, AreNoted, AreNotedTo, StreamsAreTaken, WindowIsTaken}
+use Rattle.answering.specs.Windows.{AreStreams, called, came_of, halt_by, merged, AreNoted, AreNotedTo, StreamsAreTaken, WindowIsTaken}
 
 -- the next stream of a push: its labels are refused, or it has a call
 module _ (tenant : List ℕ) (all : List Asked) (places : List (Option LabelFault)) (calls : List Call) where
@@ -118,6 +118,15 @@ same_behind (cames.Refused f ∷ cs) ds none = same_behind cs ds none
 same_behind (cames.Replied r ∷ cs) ds none = same_behind cs ds none
 same_behind (cames.Failed f ∷ cs) ds none = absurd (cc)
 
+-- streams fail as their calls do
+pub same_failure : (places : List (Option LabelFault)) (outcomes : List (Result Reply Failure)) → called places ≡ length outcomes → first_failure (merged places outcomes) ≡ first_failure (map came_of outcomes)
+same_failure [] [] due = refl
+same_failure [] (r ∷ rs) due = absurd (omega (arith, due))
+same_failure (Some fault ∷ ps) outcomes due = same_failure ps outcomes due
+same_failure (None ∷ ps) [] due = absurd (omega (arith, due))
+same_failure (None ∷ ps) (Ok reply ∷ rs) due = same_failure ps rs (omega (arith, due))
+same_failure (None ∷ ps) (Err failure ∷ rs) due = refl
+
 -- what came of a window is taken into the lines
 module _ (before all : List Came) where
   module _ (came : Came) (left : List Came) (lines new : PushLines) (p : AreNotedTo before all (came ∷ left) lines) where
@@ -130,17 +139,19 @@ module _ (before all : List Came) where
       few = omega (arith, p.few);
     }
 
-    pub noted_halt : (halt : Halt) → CameIsNoted came lines (Err halt) new → AreNoted before all (Err halt) new
-    noted_halt (Failed failure) is = ap first_failure p.split ∙ failure_behind p.noted (came ∷ left) p.whole ∙ ap (λ c. first_failure (c ∷ left)) is
-    noted_halt GivenUp (whole, said) = record {
-      first = p.noted;
-      last = came;
-      behind = left;
-      split = p.split;
-      whole = failure_behind p.noted (came ∷ []) p.whole ∙ whole;
-      said = subst (λ (n : ℕ). came_lines n came ≢ []) p.tells.streams said;
-      few = omega (arith, p.few);
-    }
+    pub noted_halt : (calls : List Came) → first_failure left ≡ first_failure calls → (halt : Halt) → CameIsNoted came lines (Err halt) new → AreNoted before all calls (Err halt) new
+    noted_halt calls same (Failed failure) is = ap first_failure p.split ∙ failure_behind p.noted (came ∷ left) p.whole ∙ ap (λ c. first_failure (c ∷ left)) is
+    noted_halt calls same GivenUp (whole, said) = (
+      ap first_failure p.split ∙ failure_behind p.noted (came ∷ left) p.whole ∙ failure_behind (came ∷ []) left whole ∙ same,
+      record {
+        first = p.noted;
+        last = came;
+        behind = left;
+        split = p.split;
+        said = subst (λ (n : ℕ). came_lines n came ≢ []) p.tells.streams said;
+        few = omega (arith, p.few);
+      },
+    )
 
 module _ {H : Type 0} (gives : Giving H) (tenant : List ℕ) where
   came_given : (doubt : Bool) (h h' : H) (asked : Asked) (call : Call) (outcome : Result Reply Failure) → IsCallOf tenant asked call → gives doubt h call outcome h' → StreamGives gives tenant doubt h asked (came_of outcome) h'
@@ -197,42 +208,50 @@ module _ {H : Type 0} (gives : Giving H) (tenant : List ℕ) where
             others,
           )
 
-      pub window_taken : (result : Result (Unit {0}) Halt) → ((before : List Came) → Tells before lines → first_failure before ≡ None → AreNoted before (merged window outcomes) result new)
-          → WindowIsTaken gives tenant h all result m' more left new
-      window_taken (Ok u) noted =
-          let (done, rest, is, each, others) = parts in
-          let (whole, tells) = noted taken.cames taken.tells taken.whole in
-          record { done = done; more = rest; cames = taken.cames ++ merged window outcomes; split = is; left = others; each = each; whole = whole; tells = tells }
-      window_taken (Err (Failed failure)) noted =
-          let (done, rest, is, each, others) = parts in
-          let cs = merged window outcomes in
-          let fails = noted taken.cames taken.tells taken.whole in
-          let below = few_behind cs failure (sym (failure_behind taken.cames cs taken.whole) ∙ fails) in (
-            taken.cames ++ cs,
+      module _ (behind : List Came) where
+        abbrev pub Noted : Result (Unit {0}) Halt → Type 0
+        Noted result = (before : List Came) → Tells before lines → first_failure before ≡ None → AreNoted before (merged window outcomes) behind result new
+
+        pub window_taken : (result : Result (Unit {0}) Halt) → Noted result → (result ≢ Err GivenUp) → WindowIsTaken gives tenant h all result m' more left new
+        window_taken (Ok u) noted some =
+            let (done, rest, is, each, others) = parts in
+            let (whole, tells) = noted taken.cames taken.tells taken.whole in
+            record { done = done; more = rest; cames = taken.cames ++ merged window outcomes; split = is; left = others; each = each; whole = whole; tells = tells }
+        window_taken (Err (Failed failure)) noted some =
+            let (done, rest, is, each, others) = parts in
+            let cs = merged window outcomes in
+            let fails = noted taken.cames taken.tells taken.whole in
+            let below = few_behind cs failure (sym (failure_behind taken.cames cs taken.whole) ∙ fails) in (
+              taken.cames ++ cs,
+              record {
+                done = done;
+                more = rest;
+                split = is;
+                each = each;
+                fails = fails;
+                few = subst (λ (n : ℕ). n < 64) (sym (same_behind taken.cames cs taken.whole)) (omega (arith, below, merged_length window outcomes due, few));
+              },
+            )
+        window_taken (Err GivenUp) noted some = absurd (some refl)
+
+        -- there was no memory for the lines, and of what is left this one failed first, or none
+        pub window_given_up : (failure : Option Failure) → first_failure behind ≡ failure → Noted (Err GivenUp) → WindowIsTaken gives tenant h all (Err (halt_by failure)) m' more left new
+        window_given_up (Some failure) first noted = window_taken (Err (Failed failure)) (λ before tells whole. (noted before tells whole).0 ∙ first) (λ is. cc)
+        window_given_up None first noted =
+            let (done, rest, is, each, others) = parts in
+            let (fails, s) = noted taken.cames taken.tells taken.whole in
             record {
               done = done;
               more = rest;
+              cames = s.first;
+              last = s.last;
+              behind = s.behind;
               split = is;
-              each = each;
-              fails = fails;
-              few = subst (λ (n : ℕ). n < 64) (sym (same_behind taken.cames cs taken.whole)) (omega (arith, below, merged_length window outcomes due, few));
-            },
-          )
-      window_taken (Err GivenUp) noted =
-          let (done, rest, is, each, others) = parts in
-          let s = noted taken.cames taken.tells taken.whole in
-          record {
-            done = done;
-            more = rest;
-            cames = s.first;
-            last = s.last;
-            behind = s.behind;
-            split = is;
-            each = subst (λ l. StreamsGive gives tenant h done l m') s.split each;
-            whole = s.whole;
-            said = s.said;
-            few = omega (arith, s.few, merged_length window outcomes due, few);
-          }
+              each = subst (λ l. StreamsGive gives tenant h done l m') s.split each;
+              whole = sym (ap first_failure s.split) ∙ fails ∙ first;
+              said = s.said;
+              few = omega (arith, s.few, merged_length window outcomes due, few);
+            }
 
     none_more : (more : List Asked) (calls : List Call) → AreStreams tenant more [] calls → more ≡ []
     none_more [] calls are = refl

@@ -86,8 +86,8 @@ module _ {H : Type 0} (gives : Giving H) (tenant : List ℕ) where
     pub fails : first_failure cames ≡ Some failure
     pub few : behind_failure cames < max_window
 
-  -- of a beginning of these streams this came: none failed up to one of which there is something to say, and fewer
-  -- than a window's stand after that
+  -- of a beginning of these streams this came: none failed, of one there is something to say, and fewer than a
+  -- window's stand after that
   pub record BodyStops (says : ℕ → Came → List ℕ) (h : H) (all : List Asked) (h' : H) : Type 0 where
     pub done : List Asked
     pub more : List Asked
@@ -96,7 +96,7 @@ module _ {H : Type 0} (gives : Giving H) (tenant : List ℕ) where
     pub behind : List Came
     pub split : all ≡ done ++ more
     pub each : StreamsGive h done (cames ++ last ∷ behind) h'
-    pub whole : first_failure (cames ++ last ∷ []) ≡ None
+    pub whole : first_failure (cames ++ last ∷ behind) ≡ None
     pub said : says (length cames) last ≢ []
     pub few : length behind < max_window
 

@@ -69,23 +69,29 @@ merged (Some fault ∷ places) outcomes = Refused fault ∷ merged places outcom
 merged (None ∷ places) [] = []
 merged (None ∷ places) (r ∷ rs) = came_of r ∷ merged places rs
 
--- after others these came: none failed up to one of these of which there is something to say
+-- a push without memory for its lines ends for the first failure, if there is one
+abbrev pub halt_by : Option Failure → Halt
+halt_by None = halts.GivenUp
+halt_by (Some failure) = halts.Failed failure
+
+-- after others these came, and of one of these there is something to say
 pub record StopsAmong (before cames : List Came) : Type 0 where
   pub first : List Came
   pub last : Came
   pub behind : List Came
   pub split : before ++ cames ≡ first ++ last ∷ behind
-  pub whole : first_failure (first ++ last ∷ []) ≡ None
   pub said : came_lines (length first) last ≢ []
   pub few : length behind < length cames
 
--- after others these came, and they were taken into the lines up to the first that failed
-abbrev pub AreNoted : List Came → List Came → Result (Unit {0}) Halt → PushLines → Type 0
-AreNoted before cames (Ok u) new = (first_failure (before ++ cames) ≡ None)
+-- after others these came, and they were taken into the lines up to the first that failed; or there was no memory for
+-- the lines, and only those that are left may have failed
+abbrev pub AreNoted : List Came → List Came → List Came → Result (Unit {0}) Halt → PushLines → Type 0
+AreNoted before cames left (Ok u) new = (first_failure (before ++ cames) ≡ None)
     × Tells (before ++ cames) new
-AreNoted before cames (Err (halts.Failed failure)) new =
+AreNoted before cames left (Err (halts.Failed failure)) new =
     first_failure (before ++ cames) ≡ Some failure
-AreNoted before cames (Err halts.GivenUp) new = StopsAmong before cames
+AreNoted before cames left (Err halts.GivenUp) new =
+    (first_failure (before ++ cames) ≡ first_failure left) × StopsAmong before cames
 
 -- the same so far, and these are left
 pub record AreNotedTo (before cames left : List Came) (lines : PushLines) : Type 0 where

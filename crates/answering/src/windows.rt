@@ -9,7 +9,7 @@ ghost use Rattle.answering.specs.Asking.{Asked, AsksFor, HasNumbers, asked_push}
 ghost use Rattle.answering.specs.Calls.{Came, max_window};
 ghost use Rattle.answering.specs.Courses.{first_failure};
 ghost use Rattle.answering.specs.Telling.{Tells, CameIsNoted};
-ghost use Rattle.answering.specs.Windows.{AreStreams, AsksForStreams, IsEmptyWindow, IsWindowOver, FitWindow, StreamsAreTaken, WindowIsTaken, AreNoted, called, came_of, merged};
+ghost use Rattle.answering.specs.Windows.{AreStreams, AsksForStreams, IsEmptyWindow, IsWindowOver, FitWindow, StreamsAreTaken, WindowIsTaken, AreNoted, called, came_of, halt_by, merged};
 
 use crate::calling::{Uncalled, key_of};
 use crate::calls::Calls;
@@ -145,7 +145,7 @@ impl<O: Drop> Windows<O> {
         }
     }
 
-    // Takes what came of the streams at these places into the lines.
+    // Takes what came of the streams at these places into the lines, up to one that failed, or for which there is no memory.
     fn note<S: Calls<Outcome = O>>(
         &mut self,
         places: &[Option<LabelFault>],
@@ -154,8 +154,8 @@ impl<O: Drop> Windows<O> {
         requires due { called places.now ≡ deque_len self.old.outcomes }
         requires few { lines.old.streams + length places.now < 2 ^ 64 }
         ensures noted { (before : List Came) → Tells before lines.old → first_failure before ≡ None
-            → AreNoted before (merged places.now (map S.told self.old.outcomes.items)) result
-            lines.new }
+            → AreNoted before (merged places.now (map S.told self.old.outcomes.items))
+            (map came_of (map S.told self.new.outcomes.items)) result lines.new }
         ensures count { IfOk result (λ _.
             lines.new.streams ≡ lines.old.streams + length places.now) }
         ensures fresh { IfOk result (λ _. self.new.outcomes.items ≡ []) }
@@ -209,7 +209,11 @@ impl<O: Drop> Windows<O> {
     {
         self.fill(places);
         service.call_all(rt, alloc, pass, &mut self.calls, &mut self.outcomes);
-        self.note::<S>(places, lines)
+        match self.note::<S>(places, lines) {
+            Ok(()) => Ok(()),
+            Err(Halt::Failed(failure)) => Err(Halt::Failed(failure)),
+            Err(Halt::GivenUp) => Err(halt_of::<S>(&mut self.outcomes)),
+        }
     }
 }
 
@@ -222,4 +226,17 @@ fn note_outcome<S: Calls>(lines: &mut PushLines, outcome: S::Outcome) -> Result<
     let reply = S::told(outcome)?;
     lines.note_reply(&reply)?;
     Ok(())
+}
+
+// Why a push ends that has no memory for its lines, where these outcomes are left: for the first failure among them.
+fn halt_of<S: Calls>(outcomes: &mut VecDeque<S::Outcome>) -> Halt
+    ensures halt { result ≡ halt_by (first_failure (map came_of (map S.told outcomes.old.items))) }
+    ensures capacity { deque_capacity outcomes.new ≡ deque_capacity outcomes.old }
+{
+    while let Some(outcome) = outcomes.pop_front() {
+        if let Err(failure) = S::told(outcome) {
+            return Halt::Failed(failure);
+        }
+    }
+    Halt::GivenUp
 }
