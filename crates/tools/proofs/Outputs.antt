@@ -1,22 +1,34 @@
 -- What is written after what was written.
-use Rattle.std.proofs.Common.{◌++◌, ℕ, List, [], Option, append-nil, sym, subst}
-use Rattle.std.specs.Prelude.{Result, Ok, Err, OnOk}
+use Rattle.std.proofs.Common.{◌≡◌, ◌++◌, ℕ, List, [], ◌∷◌, Option, None, append-nil, sym, subst}
+use Rattle.std.specs.Prelude.{Result, Ok, Err, OnOk, codes}
+use Rattle.std.specs.FinMap as finite
 use Rattle.std.specs.Io.KnownBytes.{Appends}
 use Rattle.std.proofs.KnownBytes.{Appends-trans}
+use Rattle.disk.specs.declared.memory.MemDisk.{MemDisk}
 use Rattle.requests.specs.declared.answer.Answer.{Answer}
+use Rattle.requests.specs.declared.route.Route.TheVariants.{Push}
+use Rattle.owners.specs.Openings.{Opening}
+use Rattle.words.specs.Words.{capacity_of}
 use Rattle.ingesterd.specs.declared.stopped.Stopped.{Stopped}
-use Rattle.tools.specs.Endings.{answer_lines}
+use Rattle.tools.specs.Endings.{IsBodyOf, IsAnswerDue, IsDueToPush, answer_lines}
 
 -- some bytes, and then these
 pub then_bytes : (r : Result (Unit {0}) Stopped) (a b c : Option (List ℕ)) (xs ys : List ℕ) → Appends a b xs → OnOk r (Appends b c ys) → OnOk r ((zs : List ℕ) × Appends a c zs)
 then_bytes (Ok x) a b c xs ys first second = (xs ++ ys, Appends-trans a b c xs ys first second)
 then_bytes (Err e) a b c xs ys first second = tt
 
--- an answer, and then some bytes
-pub then_back : (r : Result (Unit {0}) Stopped) (a b c : Option (List ℕ)) (answer : Answer) → Appends a b (answer_lines answer) → OnOk r ((ys : List ℕ) × Appends b c ys) → OnOk r ((x : Answer) × (ys : List ℕ) × Appends a c (answer_lines x ++ ys))
-then_back (Ok x) a b c answer first second = (answer, second.0, Appends-trans a b c (answer_lines answer) second.0 first second.1)
-then_back (Err e) a b c answer first second = tt
+-- an answer that is due, and then some bytes
+pub then_back : (IsDue : Answer → Type 0) (r : Result (Unit {0}) Stopped) (a b c : Option (List ℕ)) (answer : Answer) → IsDue answer → Appends a b (answer_lines answer) → OnOk r ((ys : List ℕ) × Appends b c ys) → OnOk r ((x : Answer) × (ys : List ℕ) × IsDue x × Appends a c (answer_lines x ++ ys))
+then_back IsDue (Ok x) a b c answer due first second = (answer, second.0, due, Appends-trans a b c (answer_lines answer) second.0 first second.1)
+then_back IsDue (Err e) a b c answer due first second = tt
 
--- an answer alone
-pub answer_alone : (a b : Option (List ℕ)) (answer : Answer) → Appends a b (answer_lines answer) → (x : Answer) × (ys : List ℕ) × Appends a b (answer_lines x ++ ys)
-answer_alone a b answer first = (answer, [], subst (Appends a b) (sym (append-nil (answer_lines answer))) first)
+-- such an answer alone
+pub answer_alone : (IsDue : Answer → Type 0) (a b : Option (List ℕ)) (answer : Answer) → IsDue answer → Appends a b (answer_lines answer) → (x : Answer) × (ys : List ℕ) × IsDue x × Appends a b (answer_lines x ++ ys)
+answer_alone IsDue a b answer due first = (answer, [], due, subst (Appends a b) (sym (append-nil (answer_lines answer))) first)
+
+-- such an answer to a push, where the opening found no stream
+pub on_empty : (r : Result (Unit {0}) Stopped) (opening : Opening MemDisk) (now : ℕ) (input a b : Option (List ℕ)) (body : List ℕ) → opening.about.bases ≡ finite.empty ∷ [] → IsBodyOf input body
+    → OnOk r ((x : Answer) × (ys : List ℕ) × IsAnswerDue opening 1 (capacity_of None) Push now (codes "t") body x × Appends a b (answer_lines x ++ ys))
+    → OnOk r ((x : Answer) × (bytes : List ℕ) × (ys : List ℕ) × IsBodyOf input bytes × IsDueToPush MemDisk now bytes x × Appends a b (answer_lines x ++ ys))
+on_empty (Ok u) opening now input a b body empty is h = (h.0, body, h.1, is, record { opening = opening; empty = empty; due = h.2 }, h.3)
+on_empty (Err e) opening now input a b body empty is h = tt

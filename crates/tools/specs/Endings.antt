@@ -1,17 +1,22 @@
 -- How `ingestctl` and `ingest1` end, and with which exit status.
-use Rattle.std.specs.Prelude.{◌≡◌, ◌⊎◌, ℕ, List, [], ◌∷◌, ◌++◌, codes, decimal, Option, IfSome, String, Ok}
+use Rattle.std.specs.Prelude.{◌≡◌, ◌⊎◌, ◌≤◌, ℕ, List, [], ◌∷◌, ◌++◌, length, codes, decimal, Option, None, IfSome, String, Ok}
+use Rattle.std.specs.FinMap as finite
 use Rattle.std.specs.Io.KnownBytes.{Appends}
 use Rattle.std.specs.declared.alloc.Global.{Global}
+use Rattle.disk.specs.declared.memory.MemDisk.{MemDisk}
 use Rattle.history.specs.Handles.{Passed}
 use Rattle.requests.specs.Answers.{code_of}
+use Rattle.requests.specs.Framings.{max_body}
 use Rattle.requests.specs.declared.answer.Answer.{Answer}
+use Rattle.requests.specs.declared.route.Route.{Route}
+use Rattle.requests.specs.declared.route.Route.TheVariants.{Push}
 use Rattle.requests.specs.declared.status.Status.{Status}
 use Rattle.requests.specs.declared.status.Status.TheVariants as statuses
 use Rattle.answering.specs.Responses.{RequestIsAnswered}
 use Rattle.owners.specs.Openings.{Opening}
 use Rattle.front.specs.Calls.{CallGives}
 use Rattle.words.specs.declared.said.CallWords.{CallWords}
-use Rattle.words.specs.Words.{SaysCall, capacity_of}
+use Rattle.words.specs.Words.{SaysCall, SaysClock, capacity_of}
 use Rattle.ingesterd.specs.declared.stopped.Stopped.{Stopped}
 use Rattle.ingesterd.specs.declared.stopped.Stopped.TheVariants.{Output}
 use Rattle.ingesterd.specs.Endings.{stop_status}
@@ -27,18 +32,34 @@ answer_status _ = 1
 abbrev pub answer_lines : Answer → List ℕ
 answer_lines answer = decimal (code_of answer.status) ++ codes "\n" ++ answer.body.items
 
--- The answer that is due to a request with this body, as the words say it: at an opening of their number of shards,
--- under the profile's limits, by its one pass.
-pub record IsAnswerDue (D : Type 0) (call : CallWords) (capacity : ℕ) (body : List ℕ)
-    (answer : Answer) : Type 0 where
-  pub opening : Opening D
+-- The body that an input is: all its bytes, where they are known, and no more than a body may have.
+pub record IsBodyOf (input : Option (List ℕ)) (body : List ℕ) : Type 0 where
+  pub whole : IfSome input (λ bytes. body ≡ bytes)
+  pub short : length body ≤ max_body
+
+-- The answer that is due to a request with this body, by the one pass of an opening of this number of shards under the
+-- profile's limits.
+pub record IsAnswerDue {D : Type 0} (opening : Opening D) (shards capacity : ℕ) (route : Route)
+    (now : ℕ) (tenant body : List ℕ) (answer : Answer) : Type 0 where
   pub before : Passed
   pub after : Passed
-  pub opened : IsProfiled call.shards 1 capacity opening (before ∷ [])
+  pub opened : IsProfiled shards 1 capacity opening (before ∷ [])
+  pub answers : RequestIsAnswered (CallGives opening) route now tenant body before
+      (Ok answer) after
+
+-- what is due to a request with this body, as the words say it
+pub record IsDueToCall (D : Type 0) (call : CallWords) (capacity : ℕ) (body : List ℕ)
+    (answer : Answer) : Type 0 where
+  pub opening : Opening D
   pub tenant : List ℕ
   pub named : call.tenant ≡ Ok tenant
-  pub answers : RequestIsAnswered (CallGives opening) call.route call.now tenant body before
-      (Ok answer) after
+  pub due : IsAnswerDue opening call.shards capacity call.route call.now tenant body answer
+
+-- what is due to a push of this body by the tenant `t`, on one shard that has no stream
+pub record IsDueToPush (D : Type 0) (now : ℕ) (body : List ℕ) (answer : Answer) : Type 0 where
+  pub opening : Opening D
+  pub empty : opening.about.bases ≡ finite.empty ∷ []
+  pub due : IsAnswerDue opening 1 (capacity_of None) Push now (codes "t") body answer
 
 -- How `ingestctl` ended, by what its output held before and after: its words or its setting were wrong; or the answer
 -- that is due to them was written; or it stopped, and where that is not for its output, nothing was written.
@@ -47,20 +68,22 @@ pub data CallEnds (D : Type 0) (words : List (String Global))
     (status : ℕ) : Type 0 where
   unasked_call : status ≡ 2 → after ≡ before → CallEnds D words setting input before after status
   answered_call : (call : CallWords) → SaysCall words call → (body : List ℕ)
-      → IfSome input (λ bytes. body ≡ bytes)
-      → (answer : Answer) → IsAnswerDue D call (capacity_of setting) body answer
+      → IsBodyOf input body
+      → (answer : Answer) → IsDueToCall D call (capacity_of setting) body answer
       → Appends before after (answer_lines answer) → status ≡ answer_status answer.status
       → CallEnds D words setting input before after status
   stopped_call : (stop : Stopped) → (stop ≡ Output) ⊎ (after ≡ before) → status ≡ stop_status stop
       → CallEnds D words setting input before after status
 
--- How `ingest1` ended: its word was wrong; or the answer to the push was written, and what was read back; or it
--- stopped, and where its opening was refused, nothing was written.
-pub data PushEnds (before after : Option (List ℕ)) (status : ℕ) : Type 0 where
-  unasked_push : status ≡ 2 → after ≡ before → PushEnds before after status
-  answered_push : (answer : Answer) (back : List ℕ)
+-- How `ingest1` ended: its word was wrong; or the answer that is due to a push of its input at the time of its word was
+-- written, and what was read back; or it stopped, and where its opening was refused, nothing was written.
+pub data PushEnds (words : List (String Global)) (input before after : Option (List ℕ))
+    (status : ℕ) : Type 0 where
+  unasked_push : status ≡ 2 → after ≡ before → PushEnds words input before after status
+  answered_push : (now : ℕ) → SaysClock words now → (body : List ℕ) → IsBodyOf input body
+      → (answer : Answer) → IsDueToPush MemDisk now body answer → (back : List ℕ)
       → Appends before after (answer_lines answer ++ back) → status ≡ 0
-      → PushEnds before after status
+      → PushEnds words input before after status
   stopped_push : (stop : Stopped) → (stop_status stop ≡ 3 → after ≡ before)
       → status ≡ stop_status stop
-      → PushEnds before after status
+      → PushEnds words input before after status

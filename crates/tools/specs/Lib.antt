@@ -1,1 +1,2 @@
+pub mod EmptySlots
 pub mod Endings

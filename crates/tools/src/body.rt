@@ -1,6 +1,7 @@
 //! Bodies that programs read, and answers that they write.
-ghost use Rattle.std.specs.Prelude.{◌≡◌, ◌⊎◌, OnOk, IfOk, IfErr, IfSome};
+ghost use Rattle.std.specs.Prelude.{◌≡◌, ◌⊎◌, ◌≤◌, length, OnOk, IfOk, IfErr, IfSome};
 ghost use Rattle.std.specs.Io.KnownBytes.{Appends};
+ghost use Rattle.requests.specs.Framings.{max_body};
 ghost use Rattle.tools.specs.Endings.{answer_lines};
 
 use front::Answer;
@@ -13,6 +14,7 @@ use std::io::{ErrorKind, Read, Write};
 pub fn read_body<I: Read>(alloc: Global, input: &mut I) -> Result<Vec<u8>, Stopped>
     ensures whole { IfOk result
         (λ body. IfSome (I.remaining input.old) (λ bytes. body.items ≡ bytes)) }
+    ensures short { IfOk result (λ body. length body.items ≤ max_body) }
     ensures cause { IfErr result (λ stop. (stop ≡ Stopped.Body) ⊎ (stop ≡ Stopped.Memory)) }
 {
     let mut body = Vec::new(alloc);

@@ -1,12 +1,12 @@
 //! The program `ingestctl`: one request on the slots of a folder.
-ghost use Rattle.std.specs.Prelude.{◌≡◌, ◌⊎◌, ◌↔◌, ◌≤◌, ◌^◌, ℕ, List, IfOk, IfErr, IfSome, option_map};
+ghost use Rattle.std.specs.Prelude.{◌≡◌, ◌⊎◌, ◌↔◌, ◌≤◌, ◌^◌, ℕ, List, IfOk, IfErr, option_map};
 ghost use Rattle.std.specs.Io.KnownBytes.{Appends};
 ghost use Rattle.requests.specs.declared.answer.Answer.{Answer};
 ghost use Rattle.disk.specs.declared.file.FileDisk.{FileDisk};
 ghost use Rattle.slots.specs.declared.watched.Watched.{Watched};
 ghost use Rattle.words.specs.Words.{GiveCall, GivesCapacity};
 ghost use Rattle.ingesterd.specs.Endings.{stop_status};
-ghost use Rattle.tools.specs.Endings.{CallEnds, IsAnswerDue, answer_lines, answer_status};
+ghost use Rattle.tools.specs.Endings.{CallEnds, IsBodyOf, IsDueToCall, answer_lines, answer_status};
 
 use crate::body::{read_body, write_answer};
 use crate::one_pass::{close_for_one, open_for_one};
@@ -77,8 +77,8 @@ where
     requires { capacity ≤ 2 ^ 30 }
     ensures few { IfOk result (λ status. status ≤ 1) }
     ensures answered { IfOk result (λ status. (answer : Answer) × (body : List ℕ)
-        × IfSome (I.remaining input.old) (λ bytes. body ≡ bytes)
-        × IsAnswerDue (Watched FileDisk) words.entry capacity body answer
+        × IsBodyOf (I.remaining input.old) body
+        × IsDueToCall (Watched FileDisk) words.entry capacity body answer
         × Appends (W.contents output.old) (W.contents output.new) (answer_lines answer)
         × (status ≡ answer_status answer.status)) }
     ensures stopped { IfErr result (λ stop. (stop ≡ Stopped.Output)
@@ -111,9 +111,8 @@ fn call_folder<R, I: Read>(
 where
     R: Files<File = File> + Threads + Wait + Copy + Send + Sync + 'static,
     requires { capacity ≤ 2 ^ 30 }
-    ensures { IfOk result (λ answer. (body : List ℕ)
-        × IfSome (I.remaining input.old) (λ bytes. body ≡ bytes)
-        × IsAnswerDue (Watched FileDisk) words.entry capacity body answer) }
+    ensures { IfOk result (λ answer. (body : List ℕ) × IsBodyOf (I.remaining input.old) body
+        × IsDueToCall (Watched FileDisk) words.entry capacity body answer) }
 {
     let CallWords {
         route,

@@ -1,19 +1,24 @@
 //! The program `ingest1`: a push body, judged on an empty shard in memory and read back.
-ghost use Rattle.std.specs.Prelude.{◌≡◌, ◌↔◌, ◌<◌, ◌≤◌, ◌++◌, ◌∷◌, [], ℕ, List, IfOk, IfErr, OnOk, vec_len};
+ghost use Rattle.std.specs.Prelude.{◌≡◌, ◌↔◌, ◌<◌, ◌≤◌, ◌++◌, ◌∷◌, [], ℕ, List, None, Ok, IfOk, IfErr, OnOk, codes, vec_len};
 ghost use Rattle.std.specs.Io.KnownBytes.{Appends};
 ghost use Rattle.accept.specs.OneStream.{end_of_time};
+ghost use Rattle.disk.specs.MemDisk.{memory_sight};
+ghost use Rattle.disk.specs.declared.memory.MemDisk.{MemDisk};
 ghost use Rattle.requests.specs.declared.answer.Answer.{Answer};
+ghost use Rattle.answering.specs.Responses.{RequestIsAnswered};
+ghost use Rattle.front.specs.Calls.{CallGives};
 ghost use Rattle.ingester.specs.Calls.{IsPassOf};
-ghost use Rattle.words.specs.Words.{GiveClock};
+ghost use Rattle.words.specs.Words.{GiveClock, capacity_of};
 ghost use Rattle.ingesterd.specs.Openings.{IsProfiled};
 ghost use Rattle.ingesterd.specs.Endings.{stop_status};
-ghost use Rattle.tools.specs.Endings.{PushEnds, answer_lines};
+ghost use Rattle.tools.specs.EmptySlots.{AreEmptySlots};
+ghost use Rattle.tools.specs.Endings.{PushEnds, IsAnswerDue, IsBodyOf, IsDueToPush, answer_lines};
 
 use crate::body::{read_body, write_answer, write_bytes};
 use crate::one_pass::{close_for_one, open_for_one};
 use accept::{Call, END_OF_TIME};
 use disk::{Disk, MemDisk};
-use front::{Route, Status, answer, answer_of_read};
+use front::{Answer, Route, Status, answer, answer_of_read};
 use history::Pass;
 use ingester::Ingester;
 use ingesterd::Stopped;
@@ -53,7 +58,8 @@ where
     R: Threads + Wait + Copy + Send + Sync + 'static,
     ensures status { result ≤ 3 }
     ensures usage { (result ≡ 2) ↔ (¬ GiveClock words.now) }
-    ensures ends { PushEnds (W.contents output.old) (W.contents output.new) result }
+    ensures ends { PushEnds words.now (I.remaining input.old) (W.contents output.old)
+        (W.contents output.new) result }
 {
     let Some(now) = clock_in(words) else {
         let _ = writeln!(errors, "usage: ingest1 NOW");
@@ -77,7 +83,8 @@ fn push_and_read<R, I: Read, W: Write>(
 where
     R: Threads + Wait + Copy + Send + Sync + 'static,
     requires { now < end_of_time }
-    ensures pushed { OnOk result ((answer : Answer) × (back : List ℕ)
+    ensures pushed { OnOk result ((answer : Answer) × (body : List ℕ) × (back : List ℕ)
+        × IsBodyOf (I.remaining input.old) body × IsDueToPush MemDisk now body answer
         × Appends (W.contents output.old) (W.contents output.new) (answer_lines answer ++ back)) }
     ensures refused { IfErr result (λ stop. stop_status stop ≡ 3
         → W.contents output.new ≡ W.contents output.old) }
@@ -99,20 +106,16 @@ fn push_body<D: Disk + Drop, R: Wait, W: Write>(
     body: &[u8],
     output: &mut W,
 ) -> Result<(), Stopped>
-    requires profiled { IsProfiled 1 1 67108864 ingester.now (pass.old ∷ []) }
+    requires profiled { IsProfiled 1 1 (capacity_of None) ingester.now (pass.old ∷ []) }
     requires pass { IsPassOf ingester.now pass.old }
     requires clock { now < end_of_time }
     ensures pass { IsPassOf ingester.now pass.new }
     ensures pushed { OnOk result ((answer : Answer) × (back : List ℕ)
+        × IsAnswerDue ingester.now 1 (capacity_of None) Route.Push now (codes "t") body.now answer
         × Appends (W.contents output.old) (W.contents output.new) (answer_lines answer ++ back)) }
     ensures stopped { IfErr result (λ stop. stop_status stop ≡ 1) }
 {
-    let Ok(tenant) = Tenant::new(alloc, TENANT) else {
-        return Err(Stopped::Memory);
-    };
-    let Ok(pushed) = answer(rt, alloc, ingester, pass, now, Route::Push, &tenant, body) else {
-        return Err(Stopped::Memory);
-    };
+    let pushed = answer_push(rt, alloc, ingester, pass, now, body)?;
     write_answer(alloc, output, &pushed)?;
     if pushed.status == Status::InternalServerError {
         return Ok(());
@@ -120,9 +123,36 @@ fn push_body<D: Disk + Drop, R: Wait, W: Write>(
     read_back(rt, alloc, ingester, pass, body, output)
 }
 
+// The answer to a push of this body.
+fn answer_push<D: Disk + Drop, R: Wait>(
+    rt: &R,
+    alloc: Global,
+    ingester: &Ingester<D>,
+    pass: &mut Pass,
+    now: u64,
+    body: &[u8],
+) -> Result<Answer, Stopped>
+    requires pass { IsPassOf ingester.now pass.old }
+    requires clock { now < end_of_time }
+    ensures pass { IsPassOf ingester.now pass.new }
+    ensures answers { IfOk result (λ pushed. RequestIsAnswered
+        (CallGives ingester.now) Route.Push now (codes "t") body.now pass.old (Ok pushed)
+        pass.new) }
+    ensures stopped { IfErr result (λ stop. stop ≡ Stopped.Memory) }
+{
+    let Ok(tenant) = Tenant::new(alloc, TENANT) else {
+        return Err(Stopped::Memory);
+    };
+    match answer(rt, alloc, ingester, pass, now, Route::Push, &tenant, body) {
+        Ok(pushed) => Ok(pushed),
+        Err(_) => Err(Stopped::Memory),
+    }
+}
+
 // The two empty slots of one shard.
 fn empty_slots(alloc: Global) -> Result<Vec<[MemDisk; 2]>, Stopped>
     ensures one { IfOk result (λ slots. vec_len slots ≡ 1) }
+    ensures empty { IfOk result (λ slots. AreEmptySlots memory_sight slots.items) }
     ensures stopped { IfErr result (λ stop. stop ≡ Stopped.Memory) }
 {
     let first = MemDisk::new(alloc, ROOM, CALLS, ROOM)?;

@@ -1,6 +1,7 @@
 //! Shards that are opened and closed by one pass.
 ghost use Rattle.std.specs.Prelude.{◌≡◌, ◌<◌, ◌≤◌, ◌^◌, ◌∷◌, [], List, vec_len, IfOk, IfErr};
 ghost use Rattle.labels.specs.Shards.{max_shards};
+ghost use Rattle.openings.specs.Findings.{AreOpenedFrom};
 ghost use Rattle.ingester.specs.Calls.{IsPassOf};
 ghost use Rattle.ingester.specs.declared.refusal.OpenFault.{OpenFault};
 ghost use Rattle.ingester.specs.Findings.{IsUnmade};
@@ -28,6 +29,9 @@ where
     requires slots { (0 < vec_len slots) × (vec_len slots ≤ max_shards) }
     requires capacity { capacity ≤ 2 ^ 30 }
     ensures profiled { IfOk result (λ it. IsProfiled (vec_len slots) 1 capacity it.0 (it.1 ∷ [])) }
+    ensures found { IfOk result (λ it.
+        AreOpenedFrom D.sight D.follows
+        (vec_len slots) capacity 0 slots.items it.0.logs it.0.about.bases) }
     ensures refused { IfErr result (λ stop. (fault : OpenFault) × (backs : List (List D))
         × (stop ≡ Stopped.Opening fault)
         × IsUnmade D.sight D.follows (vec_len slots) slots.items backs fault) }
