@@ -1,5 +1,5 @@
 -- Slots that hold nothing yet.
-use Rattle.std.specs.Prelude.{◌≡◌, ℕ, List, [], ◌∷◌}
+use Rattle.std.specs.Prelude.{◌≡◌, List, [], ◌∷◌}
 use Rattle.disk.specs.Sight.{Sight, IsSynced}
 
 -- no byte stands there, whatever crash comes
