@@ -1,9 +1,12 @@
 -- How `walsplit` ends, and with which exit status.
-use Rattle.std.specs.Prelude.{◌≡◌, ◌⊎◌, ◌≤◌, ℕ, List, ◌++◌, codes, decimal, Option, String}
+use Rattle.std.specs.Prelude.{◌≡◌, ◌⊎◌, ◌≤◌, ℕ, List, length, ◌++◌, codes, decimal, Option, String}
 use Rattle.std.specs.Io.KnownBytes.{Appends}
 use Rattle.std.specs.declared.alloc.Global.{Global}
 use Rattle.labels.specs.Shards.{max_shards}
+use Rattle.disk.specs.Sight.{Sight}
+use Rattle.split.specs.Splits.{AreSplit}
 use Rattle.split.specs.declared.fault.SplitFault.TheVariants as faults
+use Rattle.words.specs.Words.{capacity_of}
 use Rattle.splitting.specs.Words.{SaysSplit}
 use Rattle.splitting.specs.declared.said.SplitWords.{SplitWords}
 use Rattle.splitting.specs.declared.stopped.Stopped.{Stopped}
@@ -23,14 +26,29 @@ split_status Output = 1
 abbrev pub split_line : ℕ → ℕ → List ℕ
 split_line old new = codes "split " ++ decimal old ++ codes " to " ++ decimal new ++ codes "\n"
 
--- How it ended, by what its output held before and after: its words or its setting were wrong; or it split as the words
--- say; or it stopped, and where that is not for its output, it said nothing.
-pub data SplitEnds (words : List (String Global)) (before after : Option (List ℕ))
+-- There are slots of m shards that were split into slots of n shards under this capacity, each as it was given and as it
+-- came back.
+pub record IsDivided {D : Type 0} (sight : D → Sight) (follows : D → Type 0)
+    (capacity m n : ℕ) : Type 0 where
+  pub old : List (List D)
+  pub old_back : List (List D)
+  pub new : List (List D)
+  pub new_back : List (List D)
+  pub old_count : length old ≡ m
+  pub new_count : length new ≡ n
+  pub split : AreSplit sight follows capacity old old_back new new_back
+
+-- How it ended, by its setting and by what its output held before and after: its words or its setting were wrong; or
+-- slots were split as the words and the setting say, and the line has the numbers of the old shards and of the new ones;
+-- or it stopped, and where that is not for its output, it said nothing.
+pub data SplitEnds {D : Type 0} (sight : D → Sight) (follows : D → Type 0)
+    (words : List (String Global)) (setting before after : Option (List ℕ))
     (status : ℕ) : Type 0 where
-  unasked_split : status ≡ 2 → after ≡ before → SplitEnds words before after status
+  unasked_split : status ≡ 2 → after ≡ before
+      → SplitEnds sight follows words setting before after status
   divided_split : (said : SplitWords) → SaysSplit words said → (shards : ℕ) → 1 ≤ shards
-      → shards ≤ max_shards
+      → shards ≤ max_shards → IsDivided sight follows (capacity_of setting) shards said.shards
       → Appends before after (split_line shards said.shards) → status ≡ 0
-      → SplitEnds words before after status
+      → SplitEnds sight follows words setting before after status
   stopped_split : (stop : Stopped) → (stop ≡ Output) ⊎ (after ≡ before) → status ≡ split_status stop
-      → SplitEnds words before after status
+      → SplitEnds sight follows words setting before after status

@@ -1,2 +1,3 @@
 pub mod Words
+pub mod Announced
 pub mod Endings

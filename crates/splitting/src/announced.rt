@@ -1,5 +1,6 @@
 //! Slots that say when they are first read or written.
-ghost use Rattle.std.specs.Prelude.{◌≡◌, IfOk, vec_len};
+ghost use Rattle.std.specs.Prelude.{◌≡◌, map, IfOk, vec_len};
+ghost use Rattle.splitting.specs.Announced.{slots_within};
 
 use disk::{DeviceFault, Disk};
 use std::alloc::{AllocError, Global};
@@ -24,14 +25,16 @@ pub enum Side {
     New,
 }
 
-/// These slots, which say at a terminal, where one is given, which shard is being worked on: one line for each shard.
+/// These slots, in their order, which say at a terminal, where one is given, which shard is being worked on: one line
+/// for each shard.
 pub fn announce<D: Disk + Drop>(
     alloc: Global,
     slots: Vec<[D; 2]>,
     side: Side,
     terminal: Option<Stderr>,
 ) -> Result<Vec<[Announced<D>; 2]>, AllocError>
-    ensures { IfOk result (λ announced. vec_len announced ≡ vec_len slots) }
+    ensures count { IfOk result (λ announced. vec_len announced ≡ vec_len slots) }
+    ensures slots { IfOk result (λ announced. slots_within announced.items ≡ slots.items) }
 {
     let mut announced = Vec::new(alloc);
     for (shard, pair) in slots.into_iter().enumerate() {
@@ -48,7 +51,9 @@ fn pair_of<D: Disk>(
     shard: usize,
     side: Side,
     terminal: Option<Stderr>,
-) -> [Announced<D>; 2] {
+) -> [Announced<D>; 2]
+    ensures { map (λ slot. slot.inner) result ≡ pair }
+{
     let [first, second] = pair;
     let (reading, writing) = match side {
         Side::Old => (terminal, None),

@@ -1,13 +1,15 @@
 //! The program `walsplit`: the slots of a folder under another number of shards.
-ghost use Rattle.std.specs.Prelude.{◌≡◌, ◌⊎◌, ◌↔◌, ◌<◌, ◌≤◌, ◌^◌, ℕ, IfOk, IfErr, OnOk, option_map, vec_len};
+ghost use Rattle.std.specs.Prelude.{◌≡◌, ◌⊎◌, ◌↔◌, ◌<◌, ◌≤◌, ◌^◌, ℕ, List, IfOk, IfErr, OnOk, option_map, vec_len};
 ghost use Rattle.std.specs.Io.KnownBytes.{Appends};
 ghost use Rattle.labels.specs.Shards.{max_shards};
+ghost use Rattle.disk.specs.declared.file.FileDisk.{FileDisk};
+ghost use Rattle.slots.specs.declared.watched.Watched.{Watched};
 ghost use Rattle.words.specs.Words.{GivesCapacity};
 ghost use Rattle.split.specs.declared.fault.SplitFault.{SplitFault};
 ghost use Rattle.split.specs.declared.splitting.Slots.{Slots};
 ghost use Rattle.split.specs.Splits.{AreSplit, IsCause};
 ghost use Rattle.splitting.specs.Words.{GiveSplit};
-ghost use Rattle.splitting.specs.Endings.{SplitEnds, split_line};
+ghost use Rattle.splitting.specs.Endings.{IsDivided, SplitEnds, split_line};
 
 use crate::announced::{Side, announce};
 use crate::asked::split_in;
@@ -15,13 +17,16 @@ use crate::beside::{give_name, unfinished, unopened};
 use crate::found::{has_slots, shards_in};
 use crate::said::SplitWords;
 use crate::stopped::Stopped;
-use disk::Disk;
-use slots::{open_slots, terminal_in};
+use disk::{Disk, FileDisk};
+use slots::{Watched, open_slots, terminal_in};
 use split::split;
 use std::alloc::Global;
 use std::fs::{File, Files};
 use std::io::{Stderr, Write};
 use words::capacity_in;
+
+/// A slot of a folder.
+type Slot = Watched<FileDisk>;
 
 /// Runs `walsplit OLD NEW COUNT`, and gives its exit status. `setting` is the capacity of a slot by the environment.
 ///
@@ -50,7 +55,9 @@ pub fn run_walsplit<R: Files<File = File>, W: Write, E: Write>(
     ensures status { result ≤ 3 }
     ensures usage { (result ≡ 2)
         ↔ (¬ (GiveSplit words.now × GivesCapacity (option_map (λ s. s.now) setting.entry))) }
-    ensures ends { SplitEnds words.now (W.contents output.old) (W.contents output.new) result }
+    ensures ends { SplitEnds ⟦<Slot as Disk>⟧.sight ⟦<Slot as Disk>⟧.follows words.now
+        (option_map (λ s. s.now) setting.entry)
+        (W.contents output.old) (W.contents output.new) result }
 {
     let Some(words) = split_in(words) else {
         let _ = writeln!(errors, "usage: walsplit OLD NEW COUNT");
@@ -80,6 +87,8 @@ fn split_and_print<R: Files<File = File>, W: Write>(
 ) -> Result<(), Stopped>
     requires { capacity ≤ 2 ^ 30 }
     ensures said { OnOk result ((shards : ℕ) × (1 ≤ shards) × (shards ≤ max_shards)
+        × IsDivided ⟦<Slot as Disk>⟧.sight ⟦<Slot as Disk>⟧.follows capacity shards
+        words.entry.shards
         × Appends (W.contents output.old) (W.contents output.new)
         (split_line shards words.entry.shards)) }
     ensures stopped { IfErr result (λ stop. (stop ≡ Stopped.Output)
@@ -105,7 +114,9 @@ fn split_folder<R: Files<File = File>>(
     marks: Option<Stderr>,
 ) -> Result<u32, Stopped>
     requires { capacity ≤ 2 ^ 30 }
-    ensures { IfOk result (λ shards. (1 ≤ shards) × (shards ≤ max_shards)) }
+    ensures some { IfOk result (λ shards. (1 ≤ shards) × (shards ≤ max_shards)) }
+    ensures divided { IfOk result (λ shards. IsDivided ⟦<Slot as Disk>⟧.sight
+        ⟦<Slot as Disk>⟧.follows capacity shards words.entry.shards) }
 {
     let SplitWords {
         old_folder,
@@ -126,16 +137,36 @@ fn split_folder<R: Files<File = File>>(
         }
     };
     let old = open_slots(rt, alloc, old_folder, old_shards, None)?;
-    let old = announce(alloc, old, Side::Old, terminal)?;
     let new = match open_slots(rt, alloc, folder, shards, None) {
-        Ok(new) => announce(alloc, new, Side::New, terminal)?,
+        Ok(new) => new,
         Err(fault) => return Err(unopened(alloc, fault, folder, new_folder)?),
     };
-    split_slots(alloc, old, new, capacity)?;
+    split_opened(alloc, old, new, capacity, terminal)?;
     if let Some(path) = &unfinished {
         give_name(rt, alloc, path.as_str(), new_folder)?;
     }
     Ok(old_shards)
+}
+
+// Splits what these slots hold, and drops them. Where a terminal is given, they say there which shard is worked on.
+fn split_opened(
+    alloc: Global,
+    old: Vec<[Slot; 2]>,
+    new: Vec<[Slot; 2]>,
+    capacity: u64,
+    terminal: Option<Stderr>,
+) -> Result<(), Stopped>
+    requires old { (0 < vec_len old) × (vec_len old ≤ max_shards) }
+    requires new { (0 < vec_len new) × (vec_len new ≤ max_shards) }
+    requires capacity { capacity ≤ 2 ^ 30 }
+    ensures { OnOk result ((old_back : List (List (Watched FileDisk)))
+        × (new_back : List (List (Watched FileDisk)))
+        × AreSplit ⟦<Slot as Disk>⟧.sight ⟦<Slot as Disk>⟧.follows capacity old.items old_back
+        new.items new_back) }
+{
+    let old = announce(alloc, old, Side::Old, terminal)?;
+    let new = announce(alloc, new, Side::New, terminal)?;
+    split_slots(alloc, old, new, capacity)
 }
 
 // Splits what these slots hold, and drops them.

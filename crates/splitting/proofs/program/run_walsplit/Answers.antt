@@ -1,5 +1,6 @@
 use Rattle.std.proofs.Common.{refl}
 use Rattle.splitting.specs.Endings.{divided_split, stopped_split}
+use Rattle.splitting.proofs.Within.{divided_by}
 use Rattle.splitting.proofs.program.run_walsplit.Goals as goal
 
 pub returns-in-Err-clause-ends : goal.returns-in-Err-clause-ends
@@ -8,4 +9,5 @@ returns-in-Err-clause-ends g c = stopped_split c.in-Err.stopped c.in-Err.ensures
 pub returns-clause-ends : goal.returns-clause-ends
 returns-clause-ends g c =
     let said = c.in_default-split_and_print.ensures.said in
-    divided_split c.in-Some.words c.in-Some.ensures.says said.0 said.1 said.2 said.3 refl
+    let divided = divided_by _ _ _ _ _ _ c.in-Some-capacity_in.ensures.says said.3 in
+    divided_split c.in-Some.words c.in-Some.ensures.says said.0 said.1 said.2 divided said.4 refl
