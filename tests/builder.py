@@ -28,7 +28,7 @@ AS_LONG, NEARLY = 0.95, 0.65
 # by so much the priority of the other crates is lower
 LOWER = 10
 # the memory of each job but the first, as a part of the first one's
-FURTHER = 0.3
+FURTHER = 0.6
 
 
 def processors():
