@@ -4,6 +4,7 @@ use crate::script::{Script, Told};
 use crate::visits::{Came, Ticking};
 use accept::{Call, Outcome, Reply};
 use answering::{Calls, Ends, Failure, serve};
+use anyhow::{Result, bail};
 use std::alloc::Global;
 use std::collections::VecDeque;
 use std::sync::Wait;
@@ -76,4 +77,18 @@ pub fn run_listed<R: Wait>(
         gained: made,
         counted: "calls",
     }
+}
+
+/// Serves a connection that makes no call.
+///
+/// # Errors
+/// It makes one.
+pub fn run_alone<R: Wait>(rt: &R, alloc: Global, visit: &Visit, manner: Manner) -> Result<Came> {
+    let script = Script::new(Vec::new(alloc), STORED);
+    let mut came = run_listed(rt, alloc, visit, manner, script);
+    if came.count > 0 {
+        bail!("a row that is alone makes a call");
+    }
+    came.counted = "steps";
+    Ok(came)
 }

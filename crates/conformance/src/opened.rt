@@ -4,9 +4,7 @@ ghost use Rattle.std.specs.Coded.{codes};
 ghost use Rattle.accept.specs.contracts.image.Image as image;
 ghost use Rattle.ingester.specs.Calls.{IsPassOf};
 
-use crate::listed::{STORED, run_listed};
 use crate::plan::{Plan, Visit};
-use crate::script::Script;
 use crate::visits::{Came, Ticking};
 use accept::Limits;
 use anyhow::{Result, bail};
@@ -99,21 +97,14 @@ impl Opened {
         self.ingester.end_owners(rt, &self.pass);
     }
 
-    /// Serves a connection whose bytes come in this manner, over its list if it has one, and otherwise over the shards.
-    ///
-    /// # Errors
-    /// Want of memory for the list.
+    /// Serves a connection whose bytes come in this manner.
     pub fn run_visit<R: Wait>(
         &mut self,
         rt: &R,
         alloc: Global,
         visit: &Visit,
         manner: Manner,
-    ) -> Result<Came> {
-        if visit.is_listed() {
-            let script = Script::new(visit.list.clone()?, STORED);
-            return Ok(run_listed(rt, alloc, visit, manner, script));
-        }
+    ) -> Came {
         let before = self.steps();
         let mut clock = Ticking::of(visit);
         let mut source = visit.connection.source(manner);
@@ -129,13 +120,13 @@ impl Opened {
             &mut sink,
         );
         let count = self.steps();
-        Ok(Came {
+        Came {
             sink,
             end,
             count,
             gained: count.saturating_sub(before),
             counted: "steps",
-        })
+        }
     }
 
     /// Ends the threads of the shards.

@@ -68,10 +68,12 @@ impl Visit {
     }
 }
 
-/// What a row asks for: shards over empty slots, and connections to them.
+/// What a row asks for: connections, and shards over empty slots for their calls.
 #[derive(Drop)]
 pub struct Plan {
     alloc: Global,
+    /// Whether it says that no connection without a list makes a call.
+    is_alone: bool,
     /// How many bytes a segment may have. More than 2^30 count as 2^30.
     pub capacity: u64,
     /// How many shards there are.
@@ -92,6 +94,7 @@ impl Plan {
     pub fn read(alloc: Global, lines: &[&str]) -> Result<Plan> {
         let mut plan = Plan {
             alloc,
+            is_alone: false,
             capacity: WIDE,
             shards: 1,
             stops: 0,
@@ -105,8 +108,17 @@ impl Plan {
         Ok(plan)
     }
 
+    /// Whether shards make calls of its connections.
+    pub fn has_shards(&self) -> bool {
+        if self.is_alone {
+            return false;
+        }
+        !self.last.is_listed() || self.visits.iter().any(|visit| !visit.is_listed())
+    }
+
     fn take_line(&mut self, line: &str) -> Result<()> {
         match word_of(line) {
+            ("alone", _) => self.is_alone = true,
             ("capacity", bytes) => self.capacity = bytes.parse::<u64>()?,
             ("shards", count) => self.shards = count.parse::<u32>()?,
             ("stops", call) => self.stops = call.parse::<u64>()?,

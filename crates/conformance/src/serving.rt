@@ -1,6 +1,6 @@
 //! The connections of a row, one after another.
 
-use crate::listed::{STORED, run_listed};
+use crate::listed::{STORED, run_alone, run_listed};
 use crate::opened::Opened;
 use crate::plan::{Plan, Visit};
 use crate::script::{Script, Told};
@@ -10,9 +10,9 @@ use rows::Said;
 use std::alloc::Global;
 use std::sync::Wait;
 use std::thread::Threads;
-use wire::{Each, Groups};
+use wire::{Each, Groups, Manner};
 
-/// Serves the connections of a row, and says what each came to.
+/// Serves the connections of a row, and says what each came to. Shards are opened where some connection needs them.
 ///
 /// # Errors
 /// Want of memory; a thread that could not be started.
@@ -20,15 +20,21 @@ pub fn serve_plan<R>(rt: &R, alloc: Global, plan: &Plan, said: &mut Said) -> Res
 where
     R: Threads + Wait + Copy + Send + Sync + 'static,
 {
-    let mut opened = Opened::open(rt, alloc, plan)?;
+    if !plan.has_shards() {
+        return serve_visits(rt, alloc, &mut None, plan, said);
+    }
+    let mut opened = Some(Opened::open(rt, alloc, plan)?);
     serve_visits(rt, alloc, &mut opened, plan, said)?;
-    opened.close(rt, alloc)
+    match opened {
+        Some(opened) => opened.close(rt, alloc),
+        None => Ok(()),
+    }
 }
 
 fn serve_visits<R: Wait>(
     rt: &R,
     alloc: Global,
-    opened: &mut Opened,
+    opened: &mut Option<Opened>,
     plan: &Plan,
     said: &mut Said,
 ) -> Result<()> {
@@ -38,18 +44,39 @@ fn serve_visits<R: Wait>(
     serve_visit(rt, alloc, opened, &plan.last, said)
 }
 
+/// Serves a connection whose bytes come in this manner: over its list if it has one, else over the shards, if there are
+/// any.
+fn run_visit<R: Wait>(
+    rt: &R,
+    alloc: Global,
+    opened: &mut Option<Opened>,
+    visit: &Visit,
+    manner: Manner,
+) -> Result<Came> {
+    if visit.is_listed() {
+        let script = Script::new(visit.list.clone()?, STORED);
+        return Ok(run_listed(rt, alloc, visit, manner, script));
+    }
+    match opened {
+        Some(opened) => Ok(opened.run_visit(rt, alloc, visit, manner)),
+        None => run_alone(rt, alloc, visit, manner),
+    }
+}
+
 /// Serves a connection, and then again for each place, or for each of its calls.
 fn serve_visit<R: Wait>(
     rt: &R,
     alloc: Global,
-    opened: &mut Opened,
+    opened: &mut Option<Opened>,
     visit: &Visit,
     said: &mut Said,
 ) -> Result<()> {
-    if visit.ends_owners {
-        opened.end_owners(rt);
+    if let Some(opened) = opened {
+        if visit.ends_owners {
+            opened.end_owners(rt);
+        }
     }
-    let whole = opened.run_visit(rt, alloc, visit, visit.connection.manner)?;
+    let whole = run_visit(rt, alloc, opened, visit, visit.connection.manner)?;
     whole.say(said);
     if let Some(each) = visit.each {
         return serve_each(rt, alloc, opened, visit, each, &whole, said);
@@ -63,7 +90,7 @@ fn serve_visit<R: Wait>(
 fn serve_each<R: Wait>(
     rt: &R,
     alloc: Global,
-    opened: &mut Opened,
+    opened: &mut Option<Opened>,
     visit: &Visit,
     each: Each,
     whole: &Came,
@@ -73,7 +100,7 @@ fn serve_each<R: Wait>(
     let end = each.end(visit.connection.len(), whole.sink.text().len());
     for place in each.first()..end {
         let manner = each.manner(visit.connection.manner, place);
-        let came = opened.run_visit(rt, alloc, visit, manner)?;
+        let came = run_visit(rt, alloc, opened, visit, manner)?;
         groups.note(came.beside(alloc, whole)?, said);
     }
     groups.say(said);
