@@ -26,8 +26,8 @@ split_status Output = 1
 abbrev pub split_line : ℕ → ℕ → List ℕ
 split_line old new = codes "split " ++ decimal old ++ codes " to " ++ decimal new ++ codes "\n"
 
--- There are slots of m shards that were split into slots of n shards under this capacity, each as it was given and as it
--- came back.
+-- There are slots of m shards that were split into slots of n shards under this capacity, each as it was given and as
+-- it came back.
 pub record IsDivided {D : Type 0} (sight : D → Sight) (follows : D → Type 0)
     (capacity m n : ℕ) : Type 0 where
   pub old : List (List D)
@@ -39,8 +39,8 @@ pub record IsDivided {D : Type 0} (sight : D → Sight) (follows : D → Type 0)
   pub split : AreSplit sight follows capacity old old_back new new_back
 
 -- How it ended, by its setting and by what its output held before and after: its words or its setting were wrong; or
--- slots were split as the words and the setting say, and the line has the numbers of the old shards and of the new ones;
--- or it stopped, and where that is not for its output, it said nothing.
+-- slots were split as the words and the setting say, and the line has the numbers of the old shards and of the new
+-- ones; or it stopped, and where that is not for its output, it said nothing.
 pub data SplitEnds {D : Type 0} (sight : D → Sight) (follows : D → Type 0)
     (words : List (String Global)) (setting before after : Option (List ℕ))
     (status : ℕ) : Type 0 where
