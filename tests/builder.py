@@ -1,9 +1,11 @@
 """Proves and builds crates of crates.txt, those that don't stand on one another side by side.
 
 There are as many at a time as there are processors and memory for, first those with the longest chain of others after
-them. On the longest chain, which all else waits for, a crate gets as many jobs as there are processors. One that isn't
-nearly on it gets a single job and a lower priority, so that it holds the chain up little. Each half minute is printed
-which crates it is at and how many are left, and, where a crate isn't proved, what the prover says of it.
+them. On the longest chain, which all else waits for, a crate gets as many jobs as there are processors. Any other gets a
+single job where there is work for each processor, since two take a fifth more of them. One that isn't nearly on that
+chain has a lower priority, and one that is does not wait until a processor is free, so that the chain is held up little.
+Each half minute is printed which crates it is at and how many are left, and, where a crate isn't proved, what the prover
+says of it.
 
 A library is proved from nothing, and its statements alone are kept, in its out/statements (`rattle build --help`): those
 above it load them sooner than its proofs. What was built here from the same text is left as it is. What `rt` builds for
@@ -28,7 +30,7 @@ AS_LONG, NEARLY = 0.95, 0.65
 # by so much the priority of the other crates is lower
 LOWER = 10
 # the memory of each job but the first, as a part of the first one's
-FURTHER = 0.6
+FURTHER = 0.3
 
 
 def processors():
@@ -54,12 +56,12 @@ def chains_of(crates):
     return chains
 
 
-def jobs_for(crate, share, lanes, memory):
-    """As many jobs as there are processors for a crate on the longest chain, half of them for one on a chain nearly as
-    long, and one for another, since two take a fifth more of the processors: as far as there is memory, so none where
-    there is too little of it for one. The share is that of the crate's chain in the longest one."""
-    wanted = 1 if os.environ.get("RT_JOBS") or share < NEARLY else lanes // 2 if share < AS_LONG else lanes
-    return min(max(wanted, 1), int((memory / crate.memory - 1) // FURTHER) + 1)
+def jobs_for(crate, share, idle, lanes, memory):
+    """How many jobs a crate gets: as many as there are processors where it is on the longest chain, and else one, or as
+    many as there are idle processors that nothing else could use. It gets none where there is too little memory for one.
+    The share is that of its chain in the longest one."""
+    wanted = 1 if os.environ.get("RT_JOBS") else lanes if share >= AS_LONG else max(1, idle)
+    return min(wanted, int((memory / crate.memory - 1) // FURTHER) + 1)
 
 
 def run(crates, say):
@@ -67,16 +69,18 @@ def run(crates, say):
     returns those that don't stand in the end."""
     chains, lanes, memory = chains_of(crates), processors(), room()
     waiting, running, stands = sorted(crates, key=lambda it: -chains[it]), {}, {}
-    with ThreadPoolExecutor(lanes) as pool:
+    with ThreadPoolExecutor(len(crates)) as pool:
         while waiting or running:
             longest = max(chains[it] for it in crates if it not in stands)
-            for crate in [it for it in waiting if {*it.below} & {*crates} <= {*stands}]:
+            ready = [it for it in waiting if {*it.below} & {*crates} <= {*stands}]
+            for number, crate in enumerate(ready):
                 left, share = memory - sum(held for _, held in running.values()), chains[crate] / longest
-                jobs = max(jobs_for(crate, share, lanes, left), int(not running))
+                idle = lanes - len(running) - len(ready[number + 1:])
+                jobs = max(jobs_for(crate, share, idle, lanes, left), int(not running))
                 if not all(stands.get(it, True) for it in crate.below):
                     waiting.remove(crate)
                     stands[crate] = False
-                elif jobs > 0 and len(running) < lanes:
+                elif jobs > 0 and (len(running) < lanes or lanes > 1 and share >= NEARLY):
                     waiting.remove(crate)
                     held = crate.memory * (1 + FURTHER * (jobs - 1))
                     running[pool.submit(make, crate, jobs, share < NEARLY)] = crate, held

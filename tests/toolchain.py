@@ -59,9 +59,9 @@ class Crate:
         self.files = [f"{at}/{it}" for at, _, names in places for it in sorted(names)]
         lines = {it: read(it).count(b"\n") for it in self.files}
         self.lines = sum(count for it, count in lines.items() if it.endswith(".rt"))
-        # (what a check from nothing was seen to take, of the code, the proofs and the libraries)
-        self.memory = (1_600_000_000 + 1_000_000 * self.lines + 200_000 * (sum(lines.values()) - self.lines)
-                       + 100_000 * sum(it.lines for it in self.below))
+        # (more than a check from nothing was seen to take over statements, by code, proofs and libraries below)
+        self.memory = (1_200_000_000 + 600_000 * self.lines + 100_000 * (sum(lines.values()) - self.lines)
+                       + 30_000 * sum(it.lines for it in self.below))
 
     def words(self, *flags):
         """What `rattle check` and `rattle build` take: the crate, the libraries in `out/statements`, the logic."""

@@ -110,3 +110,19 @@ returns-clause-made g c =
     let no_books : length c.loop-log.books.items ≡ 0 = omega arith in
     subst (λ s. AreShardsOfLogs s c.args.logs.items c.args.books.items) (sym c.into_vec-2.ensures.items)
     (partly_all c.loop-log.shards.items c.loop-log.logs.items c.args.logs.items c.loop-log.books.items c.args.books.items inv.partly (nil_from_length _ no_logs) (nil_from_length _ no_books))
+
+pub make_one-requires-clause-room : goal.make_one-requires-clause-room
+make_one-requires-clause-room g c =
+    let inv = c.loop-log.invariant in
+    let popped = c.in-Some.ensures.len in
+    let made = inv.made in
+    let room = inv.room in
+    omega arith
+
+pub returns-clause-room : goal.returns-clause-room
+returns-clause-room g c =
+    let inv = c.loop-log.invariant in
+    let none = c.in_default.ensures.cases.0 in
+    let made = inv.made in
+    let len = c.into_vec-2.ensures.len in
+    (inv.slots, omega arith)

@@ -1,12 +1,24 @@
-use Rattle.std.proofs.Common.{◌++◌, [], ◌∷◌, map, ap, ◌∙◌, subst, arith}
+use Rattle.std.proofs.Common.{◌≡◌, ◌++◌, [], ◌∷◌, map, length, refl, sym, ap, ◌∙◌, subst, arith}
+use Rattle.std.proofs.lemmas.List.{nil_from_length}
 use Rattle.wal.specs.Opening.{disks}
 use Rattle.ingester.specs.Makings.{AreThere, logs_of_shards}
 use Rattle.ingester.proofs.Making.{there_front, there_last, moved_shard}
 use Rattle.ingester.proofs.made_shards.return_shards.Goals as goal
 
+pub loop-last-init : goal.loop-last-init
+loop-last-init g c = record { items = refl; there = c.requires.there; len = refl; capacity = refl }
+
 pub unreachable-requires : goal.unreachable-requires
 unreachable-requires g c =
     there_last c.pop.new.self.items (subst AreThere (c.in-Some.ensures.items ∙ ap (λ x. c.pop.new.self.items ++ x ∷ []) c.in_default-last.is) c.loop-last.invariant.there)
+
+pub push_front_reserved-requires : goal.push_front_reserved-requires
+push_front_reserved-requires g c =
+    let popped = c.in-Some.ensures.len in
+    let len = c.loop-last.invariant.len in
+    let capacity = c.loop-last.invariant.capacity in
+    let room = c.requires.room in
+    omega arith
 
 pub loop-last-preserved : goal.loop-last-preserved
 loop-last-preserved g c =
@@ -24,3 +36,18 @@ loop-last-preserved g c =
       len = omega arith;
       capacity = front.capacity ∙ inv.capacity;
     }
+
+pub returns-clause-items : goal.returns-clause-items
+returns-clause-items g c =
+    let none = c.in_default.ensures.cases.0 in
+    let no_shards : length c.loop-last.shards.items ≡ 0 = omega arith in
+    ap (λ s. map disks (logs_of_shards s) ++ c.loop-last.slots.items) (sym (nil_from_length _ no_shards)) ∙ c.loop-last.invariant.items
+
+pub returns-clause-capacity : goal.returns-clause-capacity
+returns-clause-capacity g c = c.loop-last.invariant.capacity
+
+pub returns-clause-len : goal.returns-clause-len
+returns-clause-len g c =
+    let none = c.in_default.ensures.cases.0 in
+    let len = c.loop-last.invariant.len in
+    omega arith
