@@ -120,7 +120,8 @@ module _ {D : Type 0} (sight : D → Sight) (follows : D → Type 0) where
       EachPair (λ s given back. (m : Streams)
       × IsOldShardRead (owner_of s (length old)) given back m) old old_back
 
-  -- Every old shard was read, this slot of this new shard is the first that is not empty, and nothing was written.
+  -- Every old shard was read. If the new slots follow the disk model, this slot of this new shard is the first that is
+  -- not empty, and nothing was written.
   pub record IsNotEmpty (s slot : ℕ) (old old_back new new_back : List (List D)) : Type 0 where
     pub read : AreOldRead old old_back
     pub within : s < length new
@@ -130,8 +131,8 @@ module _ {D : Type 0} (sight : D → Sight) (follows : D → Type 0) where
         → IsEmptyPair (slots_of sight (pair_at new i))
     pub rests : AllFollow follows (pair_at new_back s) → EachPair (λ _. IsAtRest) new new_back
 
-  -- All new slots are empty, this new shard is the first whose streams need more room than there is, and nothing was
-  -- written.
+  -- This new shard is the first whose streams need more room than there is. If the new slots follow the disk model, all
+  -- of them are empty, and nothing was written.
   pub record HasNoRoom (cap s : ℕ) (old old_back new new_back : List (List D)) : Type 0 where
     pub division : Division (length new) old old_back
     pub within : s < length new

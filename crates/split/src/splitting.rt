@@ -33,7 +33,8 @@ pub struct Slots<D> {
 /// shard that holds something. `NoRoom`: all new slots are empty, and this is the first new shard whose streams need
 /// more room than `cap`. Up to there nothing was written. `Device`: a device of this new shard failed, and no other.
 /// `Memory`: want of memory, but for the opening of an old shard. After any fault what the new slots hold is to be
-/// given up.
+/// given up. What is said here of slots holds of those that follow the disk model: if those of a new shard do not,
+/// `NotEmpty` may also come after new shards were begun.
 pub fn split<D: Disk>(
     alloc: Global,
     old: Vec<[D; 2]>,
