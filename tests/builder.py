@@ -24,7 +24,7 @@ from toolchain import RT, TOP, kit, read, version
 
 EACH = 30
 # what it takes to load a line of the libraries below, where to prove a line takes 1
-LOADING = 0.03
+LOADING = 0.01
 # chains of crates that are so long, as parts of the longest that is left, count as it does, and as nearly on it
 AS_LONG, NEARLY = 0.95, 0.65
 # by so much the priority of the other crates is lower
