@@ -24,7 +24,7 @@ from toolchain import RT, TOP, kit, read, version
 
 EACH = 30
 # what it takes to load a line of the libraries below, where to prove a line takes 1
-LOADING = 0.01
+LOADING = 0.03
 # chains of crates that are so long, as parts of the longest that is left, count as it does, and as nearly on it
 AS_LONG, NEARLY = 0.95, 0.65
 # by so much the priority of the other crates is lower
@@ -74,8 +74,8 @@ def run(crates, say):
             longest = max(chains[it] for it in crates if it not in stands)
             ready = [it for it in waiting if {*it.below} & {*crates} <= {*stands}]
             for number, crate in enumerate(ready):
-                left, share = memory - sum(held for _, held in running.values()), chains[crate] / longest
-                idle = lanes - len(running) - len(ready[number + 1:])
+                left, share = memory - sum(held for _, held, _ in running.values()), chains[crate] / longest
+                idle = lanes - sum(jobs for *_, jobs in running.values()) - len(ready[number + 1:])
                 jobs = max(jobs_for(crate, share, idle, lanes, left), int(not running))
                 if not all(stands.get(it, True) for it in crate.below):
                     waiting.remove(crate)
@@ -83,7 +83,7 @@ def run(crates, say):
                 elif jobs > 0 and (len(running) < lanes or lanes > 1 and share >= NEARLY):
                     waiting.remove(crate)
                     held = crate.memory * (1 + FURTHER * (jobs - 1))
-                    running[pool.submit(make, crate, jobs, share < NEARLY)] = crate, held
+                    running[pool.submit(make, crate, jobs, share < NEARLY)] = crate, held, jobs
             ended = wait(running, EACH - time.monotonic() % EACH, FIRST_COMPLETED).done
             for it in ended:
                 crate, (status, text) = running.pop(it)[0], it.result()
@@ -91,7 +91,7 @@ def run(crates, say):
                 if status:
                     say(f"{crate.name} is not proved:\n{text}")
             if running and not ended:
-                at = ", ".join(crate.name for crate, _ in running.values())
+                at = ", ".join(crate.name for crate, *_ in running.values())
                 say(f"at {at}; {len(waiting) + len(running)} crate{'s' * (len(waiting) + len(running) != 1)} left")
     return [it for it in crates if not stands[it]]
 
