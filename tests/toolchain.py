@@ -61,7 +61,7 @@ class Crate:
         self.lines = sum(count for it, count in lines.items() if it.endswith(".rt"))
         # (more than a check from nothing was seen to take over statements, by code, proofs and libraries below)
         self.memory = (1_200_000_000 + 600_000 * self.lines + 100_000 * (sum(lines.values()) - self.lines)
-                       + 30_000 * sum(it.lines for it in self.below))
+                       + 30_000 * sum(it.lines for it in self.below) + 1_300_000_000 * self.is_program)
 
     def words(self, *flags):
         """What `rattle check` and `rattle build` take: the crate, the libraries in `out/statements`, the logic."""
