@@ -9,8 +9,8 @@ use Rattle.headline.specs.Threads.{Thread}
 use Rattle.headline.specs.Turns.{Between, Within, IsStretch}
 
 -- The first turn of the only shard of an opening, with its book compared with a pass before it and after it. A crash
--- may cut it at any moment of the turn, or between it and the next: this is a stretch, where the disks have followed the
--- model.
+-- may cut it at any moment of the turn, or between it and the next: this is a stretch, where the disks have followed
+-- the model.
 pub record IsTurnedOnce {D : Type 0} (sight : D → Sight) (follows : D → Type 0)
     (opening : Opening D) (t : Turn D) (pass : Passed) : Type 0 where
   pub within : Follow follows t.new.log → (thread : Thread) → thread.end ≡ pass
