@@ -3,9 +3,9 @@
 use crate::frames::{SEGMENT, frame_of};
 use anyhow::{Result, bail};
 use bench_parts::{Mode, Stopwatch};
-use segment_reader::read_segment;
 use std::alloc::Global;
 use std::rt::Clock;
+use whole_segments::read_segment;
 
 /// How many blocks of 1,000 lines of 200 bytes make a segment of 64 MiB.
 const BLOCKS: u64 = 315;

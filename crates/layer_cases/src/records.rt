@@ -3,8 +3,8 @@
 use anyhow::{Result, bail};
 use rows::Said;
 use segment::put_block;
-use segment_reader::read_records;
 use std::alloc::Global;
+use whole_segments::read_records;
 
 /// The greatest length of a slot, in bytes. A block of its records, in the latest version, is shorter than 2^32 bytes.
 const LONGEST: usize = 1 << 30;
