@@ -155,6 +155,47 @@ where
     }
 }
 
+// Starts a worker for the next pass, and adds its thread to the others. Tells whether a pass was left for it.
+fn start_next<'s, E, I, P, S, R>(
+    scope: &'s Scope<'s, E>,
+    rt: &'s R,
+    alloc: Global,
+    service: &'s I,
+    crew: &mut Crew<I, P, S>,
+    server: S,
+    streams: &Receiver<TcpStream>,
+) -> Result<bool, WorkersFault>
+where
+    I: Sync + 's,
+    P: Drop + Send + 's,
+    S: Serve<I, P> + Drop + Send + 's,
+    R: Threads + Wait + Sync,
+    requires passes { All (S.is_pass_of service.now) crew.old.passes.items }
+    requires threads { All (λ thread. thread.promise.service.value
+        ≡ service.now) crew.old.threads.items }
+    ensures passes { All (S.is_pass_of service.now) crew.new.passes.items }
+    ensures threads { All (λ thread. thread.promise.service.value
+        ≡ service.now) crew.new.threads.items }
+{
+    let streams = streams.clone()?;
+    let Some(pass) = crew.passes.pop() else {
+        return Ok(false);
+    };
+    let worker = Worker {
+        rt,
+        alloc,
+        service,
+        pass,
+        server,
+        streams,
+    };
+    let thread = start(scope, worker)?;
+    if crew.threads.push(thread).is_err() {
+        return Err(WorkersFault::Memory);
+    }
+    Ok(true)
+}
+
 // Starts a worker for each pass, and adds its thread to the others. Leaves the passes for which no worker was started.
 fn start_all<'s, E, I, P, S, R>(
     scope: &'s Scope<'s, E>,
@@ -178,21 +219,8 @@ where
         ≡ service.now) crew.new.threads.items }
 {
     while let Some(server) = servers.pop() {
-        let streams = streams.clone()?;
-        let Some(pass) = crew.passes.pop() else {
+        if !start_next(scope, rt, alloc, service, crew, server, &streams)? {
             break;
-        };
-        let worker = Worker {
-            rt,
-            alloc,
-            service,
-            pass,
-            server,
-            streams,
-        };
-        let thread = start(scope, worker)?;
-        if crew.threads.push(thread).is_err() {
-            return Err(WorkersFault::Memory);
         }
     }
     Ok(())

@@ -1,0 +1,23 @@
+use Rattle.std.proofs.Common.{◌≡◌}
+use Rattle.std.proofs.lemmas.List.Elements.{All-pop}
+use Rattle.std.specs.Result.{is_ok}
+use Rattle.workers.proofs.Lists.{pushed}
+use Rattle.workers.proofs.serving.start_next.Goals as goal
+
+pub returns-in_default-clause-passes : goal.returns-in_default-clause-passes
+returns-in_default-clause-passes g c = (All-pop (g.S.Serve.is_pass_of c.args.service.now) c.args.crew.now.passes.items c.pop.new.self.items c.pop.result c.pop.ensures.items c.requires.passes).0
+
+pub returns-in_err-thread-clause-passes : goal.returns-in_err-thread-clause-passes
+returns-in_err-thread-clause-passes g c = (All-pop (g.S.Serve.is_pass_of c.args.service.now) c.args.crew.now.passes.items c.pop.new.self.items c.pop.result c.pop.ensures.items c.requires.passes).0
+
+pub returns-then-is_err-clause-passes : goal.returns-then-is_err-clause-passes
+returns-then-is_err-clause-passes g c = (All-pop (g.S.Serve.is_pass_of c.args.service.now) c.args.crew.now.passes.items c.pop.new.self.items c.pop.result c.pop.ensures.items c.requires.passes).0
+
+pub returns-then-is_err-clause-threads : goal.returns-then-is_err-clause-threads
+returns-then-is_err-clause-threads g c = pushed c.args.crew.now.threads.items c.push.new.self.items (λ thread. thread.promise.service.value ≡ c.args.service.now) (is_ok c.push.result) c.in_ok-thread.thread c.push.ensures.items c.requires.threads c.in_ok-thread.ensures.promise
+
+pub returns-clause-passes : goal.returns-clause-passes
+returns-clause-passes g c = (All-pop (g.S.Serve.is_pass_of c.args.service.now) c.args.crew.now.passes.items c.pop.new.self.items c.pop.result c.pop.ensures.items c.requires.passes).0
+
+pub returns-clause-threads : goal.returns-clause-threads
+returns-clause-threads g c = pushed c.args.crew.now.threads.items c.push.new.self.items (λ thread. thread.promise.service.value ≡ c.args.service.now) (is_ok c.push.result) c.in_ok-thread.thread c.push.ensures.items c.requires.threads c.in_ok-thread.ensures.promise
