@@ -1,18 +1,18 @@
 //! The answers to reads and trims, and what a reply to any call is answered by.
-ghost use Rattle.std.specs.Prelude.{◌≡◌, ◌≢◌, ◌∷◌, [], IfOk, IfErr, OnErr, map};
-ghost use Rattle.serde_json.specs.Data.{object};
-ghost use Rattle.serde_json.specs.View.{view};
+ghost use Rattle.std.specs.Prelude.{◌≡◌, ◌≢◌, ◌∷◌, ◌++◌, [], IfOk, IfErr, OnErr, map, decimal};
+ghost use Rattle.serde_json.specs.Data.{string, array, object};
+ghost use Rattle.serde_json.specs.View.{view, items_of};
 ghost use Rattle.serde_json.specs.Written.{compact_text};
 ghost use Rattle.labels.specs.Labels.{label_of};
 ghost use Rattle.labels.specs.Canonical.{NamesRise};
 ghost use Rattle.pushjson.specs.Bodies.{labels_tree};
 ghost use Rattle.answering.specs.Calls.{Refused, Replied};
 ghost use Rattle.answering.specs.Lines.{push_status, lines_from};
-ghost use Rattle.answering.specs.Replies.{entry_tree, read_tree, trimmed_text, reply_status, reply_text};
+ghost use Rattle.answering.specs.Replies.{meta_tree, entry_tree, read_tree, trimmed_text, reply_status, reply_text};
 ghost use Rattle.answering.specs.Showing.{IsShown};
 
 use crate::lines::{PushLines, push_number};
-use accept::{Entry, EntryList, Reply};
+use accept::{Entry, EntryList, Line, Reply};
 use labels::LabelFault;
 use requests::{Answer, ServeFault, Status};
 use serde_json::{Map, Value};
@@ -140,14 +140,39 @@ fn value_of_entry(alloc: Global, entry: Entry) -> Result<Value, AllocError>
     ensures { IfOk result (λ v. view v ≡ entry_tree entry) }
 {
     let Entry { time, line, meta } = entry;
-    let pairs = meta.as_slice();
+    value_of_parts(alloc, time, line, meta.as_slice())
+}
+
+fn value_of_parts(
+    alloc: Global,
+    time: u64,
+    line: Line,
+    pairs: &[(String, String)],
+) -> Result<Value, AllocError>
+    requires { NamesRise (map label_of pairs.now) }
+    ensures { IfOk result (λ v. view v ≡ array (items_of
+        (string (decimal time) ∷ string line ∷ meta_tree (map label_of pairs.now)))) }
+{
     let mut value = Vec::with_capacity(alloc, if pairs.is_empty() { 2 } else { 3 })?;
     value.push(Value::String(time.to_string(alloc)?))?;
     value.push(Value::String(line.into_string()))?;
+    push_pairs(alloc, &mut value, pairs)?;
+    Ok(Value::Array(value))
+}
+
+fn push_pairs(
+    alloc: Global,
+    value: &mut Vec<Value>,
+    pairs: &[(String, String)],
+) -> Result<(), AllocError>
+    requires { NamesRise (map label_of pairs.now) }
+    ensures { IfOk result (λ _. map view value.new.items
+        ≡ map view value.old.items ++ meta_tree (map label_of pairs.now)) }
+{
     if !pairs.is_empty() {
         value.push(object_of_pairs(alloc, pairs)?)?;
     }
-    Ok(Value::Array(value))
+    Ok(())
 }
 
 /// The object of these pairs, whose names rise.

@@ -106,22 +106,27 @@ fn work<I, P, S: Serve<I, P> + Drop, R: Wait>(worker: Worker<I, P, S, R>) -> P
     pass
 }
 
-// Hands each connection that comes to the workers, at most `connections`, until no worker is left. Where none can be
-// accepted, for example for want of file descriptors, it waits a little before it tries again.
+// Accepts a connection. Where none can be accepted, for example for want of file descriptors, it waits a little before
+// it tries again.
+fn accept_one<R: Wait + rt::Clock>(rt: &R, listener: &TcpListener) -> TcpStream {
+    for _turn in rt.forever() {
+        if let Ok((stream, _)) = listener.accept() {
+            return stream;
+        }
+        thread::sleep(rt, Duration::from_millis(PAUSE_MILLIS));
+    }
+    unreachable!()
+}
+
+// Hands each connection that comes to the workers, at most `connections`, until no worker is left.
 fn accept<R: Wait + rt::Clock>(
     rt: &R,
     listener: &TcpListener,
     connections: u64,
     workers: Sender<TcpStream>,
 ) {
-    let streams = listener.incoming().filter_map(|accepted| {
-        if accepted.is_err() {
-            thread::sleep(rt, Duration::from_millis(PAUSE_MILLIS));
-        }
-        accepted.ok()
-    });
-    for stream in streams.take(connections as usize) {
-        if workers.send(rt, stream).is_err() {
+    for _connection in 0..connections {
+        if workers.send(rt, accept_one(rt, listener)).is_err() {
             break;
         }
     }
