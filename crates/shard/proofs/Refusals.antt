@@ -1,5 +1,5 @@
 -- What stands of jobs while those of a pass are given back, and while the first of them are refused.
-use Rattle.std.proofs.Common.{◌≡◌, ℕ, ◌+◌, ◌<◌, ◌≤◌, Bool, true, cond, List, [], ◌∷◌, ◌++◌, length, inl, refl, sym, ap, ◌∙◌, subst, append_assoc, length-append, eq-eqb, ne_eqb, arith}
+use Rattle.std.proofs.Common.{◌≡◌, ℕ, ◌+◌, ◌<◌, ◌≤◌, Bool, true, cond, List, [], ◌∷◌, ◌++◌, length, inl, refl, sym, ap, ◌∙◌, subst, append_assoc, append-nil, length-append, eq-eqb, ne_eqb, arith}
 use Rattle.accept.specs.declared.limits.Limits.{Limits}
 use Rattle.accept.specs.declared.call.Reply.{Reply}
 use Rattle.accept.specs.declared.call.Reply.TheVariants.{Unavailable}
@@ -114,6 +114,22 @@ pub partly_other : (fault : ApplyFault) (p : ℕ) (start : List Job) (was : List
     → n < count → jobs ≡ j ∷ rest → ¬ (p ≡ j.ticket.ask.pass) → pushed ≡ rest ++ j ∷ [] → ArePartly fault p start was count (n + 1) pushed now
 partly_other fault p start was count n jobs rest pushed j now h more popped other pushed_is =
     other_next fault p start was count n h.todo h.stay jobs rest pushed j now h.left h.jobs_are h.kept h.given more popped other pushed_is
+
+-- none was looked at
+pub partly_first : (fault : ApplyFault) (p : ℕ) (start : List Job) (was : List Settled) (count : ℕ) → length start ≡ count → ArePartly fault p start was count 0 start was
+partly_first fault p start was count long = record { todo = start; stay = []; left = omega (arith, long); jobs_are = sym (append-nil start); kept = refl; given = refl }
+
+all_next : (fault : ApplyFault) (p : ℕ) (start : List Job) (was : List Settled) (count n : ℕ) (todo stay jobs : List Job) (now : List Settled)
+    → length todo + n ≡ count → jobs ≡ todo ++ stay → stay ++ jobs_but p todo ≡ jobs_but p start
+    → now ++ given_back_of fault (tickets_of (jobs_by p todo)) ≡ was ++ given_back_of fault (tickets_of (jobs_by p start))
+    → count ≤ n → (now ≡ was ++ given_back_of fault (tickets_of (jobs_by p start))) × (jobs ≡ jobs_but p start)
+all_next fault p start was count n [] stay jobs now left is kept given all = (sym (append-nil now) ∙ given, is ∙ (sym (append-nil stay) ∙ kept))
+all_next fault p start was count n (t ∷ todo) stay jobs now left is kept given all = absurd (omega arith)
+
+-- all were looked at
+pub partly_all : (fault : ApplyFault) (p : ℕ) (start : List Job) (was : List Settled) (count n : ℕ) (jobs : List Job) (now : List Settled) → ArePartly fault p start was count n jobs now
+    → count ≤ n → (now ≡ was ++ given_back_of fault (tickets_of (jobs_by p start))) × (jobs ≡ jobs_but p start)
+partly_all fault p start was count n jobs now h all = all_next fault p start was count n h.todo h.stay jobs now h.left h.jobs_are h.kept h.given all
 
 -- The first jobs are refused.
 

@@ -1,8 +1,16 @@
-use Rattle.std.proofs.Common.{◌≡◌, [], ◌∷◌, ◌++◌, sym, ap, ◌∙◌, arith}
+use Rattle.std.proofs.Common.{◌≡◌, [], ◌∷◌, ◌++◌, sym, ap, refl, ◌∙◌, arith}
 use Rattle.shard.specs.declared.group.Settled.{Settled}
-use Rattle.shard.proofs.Refusals.{partly_mine, partly_other}
+use Rattle.shard.proofs.Refusals.{partly_first, partly_mine, partly_other, partly_all}
 use Rattle.shard.proofs.refusing.give_back_pass.Goals as goal
 use Rattle.shard.proofs.refusing.give_back_pass.Goals.{then-pass, else-pass}
+
+pub loop-turn-init : goal.loop-turn-init
+loop-turn-init c = record {
+  partly = partly_first c.args.fault c.args.pass c.args.jobs.now.items c.args.settled.now.items c.len-turn-end.result (omega (arith, c.len-turn-end.ensures, c.args.jobs.now.ok.0));
+  capacity = refl;
+  places = refl;
+  room = omega arith;
+}
 
 pub loop-turn-preserved : goal.loop-turn-preserved
 loop-turn-preserved c =
@@ -33,3 +41,14 @@ loop-turn-preserved c =
         | else-pass w ↦ rw w.jobs-is (rw w.settled-is (omega (arith, inv.room, c.in-Some.ensures.cases, w.push_back_reserved.ensures.len)))
       ];
     }
+
+pub returns-clause-settled : goal.returns-clause-settled
+returns-clause-settled c =
+    (partly_all c.args.fault c.args.pass c.args.jobs.now.items c.args.settled.now.items c.len-turn-end.result c.loop-turn._turn c.loop-turn.jobs.items c.loop-turn.settled.items c.loop-turn.invariant.partly c.loop-turn-test.false).0
+
+pub returns-clause-jobs : goal.returns-clause-jobs
+returns-clause-jobs c =
+    (partly_all c.args.fault c.args.pass c.args.jobs.now.items c.args.settled.now.items c.len-turn-end.result c.loop-turn._turn c.loop-turn.jobs.items c.loop-turn.settled.items c.loop-turn.invariant.partly c.loop-turn-test.false).1
+
+pub returns-clause-room : goal.returns-clause-room
+returns-clause-room c = (c.loop-turn.invariant.capacity, c.loop-turn.invariant.room)
