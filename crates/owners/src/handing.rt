@@ -1,10 +1,11 @@
 //! How shards are handed to their owners, and given back.
-ghost use Rattle.std.specs.Prelude.{◌≡◌, vec_len};
+ghost use Rattle.std.specs.Prelude.{◌≡◌, ◌+◌, ◌<◌, vec_len};
 ghost use Rattle.std.specs.VecDeque.{deque_len};
 ghost use Rattle.keyed.specs.Queues.{receives_as};
 ghost use Rattle.keyed.specs.declared.binding.Binding.TheVariants.{Bound};
-ghost use Rattle.owners.specs.Owners.{AreEnds};
-ghost use Rattle.owners.specs.Places.{IsOf, AreShardsOf};
+ghost use Rattle.owners.specs.Lists.{AreEach};
+ghost use Rattle.owners.specs.Owners.{AreEnds, HasEndsOf};
+ghost use Rattle.owners.specs.Places.{IsOf, IsShardAt, AreShardsOf};
 
 use crate::owning::{BackIn, Ends, Owner};
 use crate::places::Origin;
@@ -14,6 +15,39 @@ use shard::Shard;
 use std::alloc::Global;
 use std::collections::VecDeque;
 use std::sync::Wait;
+
+// The owner of the next shard, which has this number.
+fn next_owner<D: Disk + Drop>(
+    alloc: Global,
+    origin: &Origin<D>,
+    number: usize,
+    shards: &mut VecDeque<Option<Shard<D>>>,
+    all_ends: &mut VecDeque<Ends<D>>,
+) -> Owner<D>
+    requires shards { AreEach (IsShardAt origin.now) number shards.old.items }
+    requires ends { AreEach (HasEndsOf origin.now) number all_ends.old.items }
+    requires some { 0 < deque_len all_ends.old }
+    requires same { deque_len shards.old ≡ deque_len all_ends.old }
+    ensures shards { AreEach (IsShardAt origin.now) (number + 1) shards.new.items }
+    ensures ends { AreEach (HasEndsOf origin.now) (number + 1) all_ends.new.items }
+    ensures len { deque_len all_ends.new + 1 ≡ deque_len all_ends.old }
+    ensures same { deque_len shards.new ≡ deque_len all_ends.new }
+{
+    let _ = origin;
+    let Some(ends) = all_ends.pop_front() else {
+        unreachable!()
+    };
+    let Some(place) = shards.pop_front() else {
+        unreachable!()
+    };
+    let Some(state) = place else { unreachable!() };
+    Owner {
+        alloc,
+        number,
+        state,
+        ends,
+    }
+}
 
 /// Hands each shard of an opening to a thread of the team, with what it works by.
 pub fn hand_all<D: Disk + Drop, R: Wait>(
@@ -28,22 +62,9 @@ pub fn hand_all<D: Disk + Drop, R: Wait>(
     requires ends { AreEnds origin.now all_ends.items }
     requires count { deque_len all_ends ≡ vec_len shards }
 {
-    let _ = origin;
     let mut shards = VecDeque::from_vec(shards);
     for number in 0..all_ends.len() {
-        let Some(ends) = all_ends.pop_front() else {
-            unreachable!()
-        };
-        let Some(place) = shards.pop_front() else {
-            unreachable!()
-        };
-        let Some(state) = place else { unreachable!() };
-        let owner = Owner {
-            alloc,
-            number,
-            state,
-            ends,
-        };
+        let owner = next_owner(alloc, origin, number, &mut shards, &mut all_ends);
         team.hand_over(rt, owner);
     }
 }
