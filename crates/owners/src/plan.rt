@@ -13,7 +13,7 @@ ghost use Rattle.keyed.specs.Queues.{receives_as};
 ghost use Rattle.keyed.specs.declared.binding.Binding.TheVariants.{Bound};
 
 use crate::desk::Desk;
-use crate::owning::{BackIn, Ends};
+use crate::owning::{Back, BackIn, Ends};
 use crate::places::{Home, Origin};
 use crate::rows::{Seed, make_rows};
 use crate::ways::Way;
@@ -121,6 +121,38 @@ fn make_desk(alloc: Global, home: &Home, shard: usize, passes: usize) -> Result<
     })
 }
 
+// What an owner works by, of these parts.
+fn ends_with<D: Disk + Drop>(
+    origin: Origin<D>,
+    home: Home,
+    seed: Seed,
+    back: Back<D>,
+    desk: Desk,
+) -> Ends<D>
+    ensures { result ≡ record {
+        origin = origin;
+        home = home;
+        orders = seed.gets;
+        answers = seed.answers;
+        back = back;
+        desk = desk;
+    } }
+{
+    let Seed {
+        orders: _,
+        gets,
+        answers,
+    } = seed;
+    Ends {
+        origin,
+        home,
+        orders: gets,
+        answers,
+        back,
+        desk,
+    }
+}
+
 // What the owner of a shard works by, and the end by which the shard comes back.
 fn make_ends<D: Disk + Drop>(
     alloc: Global,
@@ -135,22 +167,9 @@ fn make_ends<D: Disk + Drop>(
     ensures ends { IfOk result (λ made. HasEndsOf origin shard made.0) }
     ensures back { IfOk result (λ made. receives_as made.1 ≡ Bound origin shard) }
 {
-    let Seed {
-        orders: _,
-        gets,
-        answers,
-    } = seed;
-    let (back, comes) = queue(alloc, 1, &origin, shard)?;
     let desk = make_desk(alloc, &home, shard, passes)?;
-    let ends = Ends {
-        origin,
-        home,
-        orders: gets,
-        answers,
-        back,
-        desk,
-    };
-    Ok((ends, comes))
+    let (back, comes) = queue(alloc, 1, &origin, shard)?;
+    Ok((ends_with(origin, home, seed, back, desk), comes))
 }
 
 // What each owner works by, and the ends by which the shards come back, in the order of their numbers.
