@@ -10,6 +10,3 @@ loop-thread-preserved g c =
     let left = popped c.loop-thread.threads.items c.pop.new.self.items (λ thread. thread.promise.service.value ≡ service) c.pop.result c.in-Some.thread c.pop.ensures.items c.in-Some.is c.loop-thread.invariant.1 in
     let this = subst (λ s. IsPass s c.join-pass.result) left.1 c.join-pass.ensures in
     (pushed c.loop-thread.passes.items c.push.new.self.items (IsPass service) (is_ok c.push.result) c.join-pass.result c.push.ensures.items c.loop-thread.invariant.0 this, left.0)
-
-pub returns : goal.returns
-returns g c = record { passes = c.loop-thread.invariant.0 }
