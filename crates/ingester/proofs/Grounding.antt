@@ -55,6 +55,23 @@ length-fresh_books table about = length-dealt (fresh_book table about) (fresh_bo
 pub fresh_book_at : (table : TableId) (about : About) (n k : ℕ) (book : Booked) → slice_get (fresh_books table about n) k ≡ Some book → book ≡ fresh_book table about k
 fresh_book_at table about = dealt_at (fresh_book table about) (fresh_books table about) refl (λ n. refl)
 
+-- n values fit into an emptied list that had room for them
+pub all_fit : (n left count capacity had : ℕ) → n ≡ count → left ≡ 0 → capacity ≡ had → count ≤ had → n + left ≤ capacity
+all_fit n left count capacity had many none same room = omega arith
+
+-- shards that were made, a log and the logs that are left go back to where all were
+pub back_fit : {shards made slots old capacity had all : ℕ} (left : ℕ) → shards ≡ made → slots ≡ old → capacity ≡ had → left + made ≡ all → all + old ≤ had → left + (shards + slots) ≤ capacity
+back_fit left shards_are slots_are same all_are room = omega arith
+
+pub shards_fit : (left : ℕ) {back capacity : ℕ} → left + back ≤ capacity → back ≤ capacity
+shards_fit left fit = omega arith
+
+pub log_fits : (fewer : ℕ) {left back now capacity had : ℕ} → fewer + 1 ≡ left → now ≡ back → capacity ≡ had → left + back ≤ had → now < capacity
+log_fits fewer popped is same fit = omega arith
+
+pub logs_fit : (fewer : ℕ) {left back one now capacity had : ℕ} → fewer + 1 ≡ left → one ≡ back → now ≡ one + 1 → capacity ≡ had → left + back ≤ had → fewer + now ≤ capacity
+logs_fit fewer popped is more same fit = omega arith
+
 -- the first book
 pub first_fresh : (table : TableId) (about : About) (n : ℕ) (books : List Booked) (book : Booked) → books ≡ fresh_books table about n → 0 < n → book ≡ get_or books 0 book → book ≡ fresh_book table about 0
 first_fresh table about n books book e some is =

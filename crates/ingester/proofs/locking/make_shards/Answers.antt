@@ -3,7 +3,7 @@ use Rattle.std.specs.VecDeque.{deque_len, deque_capacity}
 use Rattle.std.proofs.lemmas.List.{nil_from_length}
 use Rattle.wal.specs.Opening.{disks}
 use Rattle.ingester.specs.Makings.{AreShardsOfLogs, AreThere, logs_of_shards}
-use Rattle.ingester.proofs.Grounding.{partly_none, partly_more, partly_all, partly_back, made_there, ground_popped}
+use Rattle.ingester.proofs.Grounding.{partly_none, partly_more, partly_all, partly_back, made_there, ground_popped, back_fit, shards_fit, log_fits, logs_fit}
 use Rattle.ingester.proofs.locking.make_shards.Goals as goal
 
 pub loop-log-init : goal.loop-log-init
@@ -32,42 +32,25 @@ pub return_shards-requires : goal.return_shards-requires
 return_shards-requires g c =
     let inv = c.loop-log.invariant in
     let same = c.in-Err.ensures.err.1 in
-    let made = inv.made in
-    let room = c.requires.slots in
-    let len : vec_len c.into_vec.result ≡ deque_len c.loop-log.shards = c.into_vec.ensures.len ∙ ap (λ d. deque_len d) same in
-    let slots : deque_len c.loop-log.slots ≡ deque_len c.args.slots.now = ap (λ d. deque_len d) inv.slots in
-    let capacity : deque_capacity c.loop-log.slots ≡ deque_capacity c.args.slots.now = ap (λ d. deque_capacity d) inv.slots in
-    (search rules, (omega arith, subst AreThere (sym (c.into_vec.ensures.items ∙ ap (λ d. d.items) same)) (made_there _ _ _ inv.partly.made).0))
+    let fit = back_fit (vec_len c.loop-log.logs) (c.into_vec.ensures.len ∙ ap (λ d. deque_len d) same) (ap (λ d. deque_len d) inv.slots) (ap (λ d. deque_capacity d) inv.slots) inv.made c.requires.slots in
+    (search rules, (shards_fit (vec_len c.loop-log.logs) fit, subst AreThere (sym (c.into_vec.ensures.items ∙ ap (λ d. d.items) same)) (made_there _ _ _ inv.partly.made).0))
 
 pub push_front_reserved-requires : goal.push_front_reserved-requires
 push_front_reserved-requires g c =
     let inv = c.loop-log.invariant in
     let same = c.in-Err.ensures.err.1 in
-    let made = inv.made in
-    let room = c.requires.slots in
-    let popped = c.in-Some.ensures.len in
-    let len : vec_len c.into_vec.result ≡ deque_len c.loop-log.shards = c.into_vec.ensures.len ∙ ap (λ d. deque_len d) same in
-    let slots : deque_len c.loop-log.slots ≡ deque_len c.args.slots.now = ap (λ d. deque_len d) inv.slots in
-    let capacity : deque_capacity c.loop-log.slots ≡ deque_capacity c.args.slots.now = ap (λ d. deque_capacity d) inv.slots in
-    let now = c.return_shards.ensures.len in
-    let now_capacity = c.return_shards.ensures.capacity in
-    omega arith
+    let fit = back_fit (vec_len c.loop-log.logs) (c.into_vec.ensures.len ∙ ap (λ d. deque_len d) same) (ap (λ d. deque_len d) inv.slots) (ap (λ d. deque_capacity d) inv.slots) inv.made c.requires.slots in
+    let back = c.return_shards.ensures in
+    log_fits (vec_len c.pop.new.self) c.in-Some.ensures.len back.len back.capacity fit
 
 pub give_back-requires : goal.give_back-requires
 give_back-requires g c =
     let inv = c.loop-log.invariant in
     let same = c.in-Err.ensures.err.1 in
-    let made = inv.made in
-    let room = c.requires.slots in
-    let popped = c.in-Some.ensures.len in
-    let len : vec_len c.into_vec.result ≡ deque_len c.loop-log.shards = c.into_vec.ensures.len ∙ ap (λ d. deque_len d) same in
-    let slots : deque_len c.loop-log.slots ≡ deque_len c.args.slots.now = ap (λ d. deque_len d) inv.slots in
-    let capacity : deque_capacity c.loop-log.slots ≡ deque_capacity c.args.slots.now = ap (λ d. deque_capacity d) inv.slots in
-    let now = c.return_shards.ensures.len in
-    let now_capacity = c.return_shards.ensures.capacity in
-    let front = c.push_front_reserved.ensures.len in
-    let front_capacity = c.push_front_reserved.ensures.capacity in
-    (search rules, omega arith)
+    let fit = back_fit (vec_len c.loop-log.logs) (c.into_vec.ensures.len ∙ ap (λ d. deque_len d) same) (ap (λ d. deque_len d) inv.slots) (ap (λ d. deque_capacity d) inv.slots) inv.made c.requires.slots in
+    let back = c.return_shards.ensures in
+    let front = c.push_front_reserved.ensures in
+    (search rules, logs_fit (vec_len c.pop.new.self) c.in-Some.ensures.len back.len front.len (front.capacity ∙ back.capacity) fit)
 
 pub returns-in-Err-clause-unmade : goal.returns-in-Err-clause-unmade
 returns-in-Err-clause-unmade g c =

@@ -1,12 +1,13 @@
-use Rattle.std.proofs.Common.{rules, ◌≡◌, ◌<◌, length, refl, sym, ap, ◌∙◌, inr, subst, arith, vec_len}
-use Rattle.std.specs.VecDeque.{deque_len}
+use Rattle.std.proofs.Common.{rules, ◌≡◌, ◌<◌, ◌≤◌, length, refl, sym, ap, ◌∙◌, inr, subst, arith, vec_len}
+use Rattle.std.specs.VecDeque.{deque_len, deque_capacity}
+use Rattle.labels.specs.Shards.{max_shards}
 use Rattle.history.specs.Handles.{Booked, about_of, fresh_book, fresh_books, fresh_passes}
 use Rattle.owners.specs.Openings.{Opening, home_of}
 use Rattle.owners.specs.Owners.{AreEnds}
 use Rattle.owners.specs.Places.{AreShardsOf}
 use Rattle.openings.specs.Findings.{AreOpenedFrom}
 use Rattle.ingester.specs.Openings.{AreFresh}
-use Rattle.ingester.proofs.Grounding.{length-fresh_books, first_fresh, like_first, grounded, returned_all, about_first, found_first, passes_first, made_fit}
+use Rattle.ingester.proofs.Grounding.{length-fresh_books, all_fit, first_fresh, like_first, grounded, returned_all, about_first, found_first, passes_first, made_fit}
 use Rattle.ingester.proofs.opened.open_all.Goals as goal
 
 pub returns-in_default-clause-unmade : goal.returns-in_default-clause-unmade
@@ -20,10 +21,8 @@ index-requires g c =
     let about = about_of images c.args.passes c.args.limits c.args.capacity in
     let are : c.in-Ok.books.items ≡ fresh_books c.in-Ok.history about (length images) = c.in-Ok.ensures.books ∙ ap (λ m. fresh_books c.in-Ok.history (about_of m c.args.passes c.args.limits c.args.capacity) (length m)) c.deref.ensures.value in
     let many : length c.in-Ok.books.items ≡ length images = ap length are ∙ length-fresh_books c.in-Ok.history about (length images) in
-    let lens = c.in_ok-logs.ensures.lens.1 in
-    let some = c.requires.slots.0 in
-    let count = c.len-count.ensures in
-    omega arith
+    let counted : length images ≡ deque_len c.args.slots.now = sym c.in_ok-logs.images.ok.0 ∙ c.in_ok-logs.ensures.lens.1 in
+    subst (λ n. 0 < n) (sym (c.in-Ok.books.ok.0 ∙ (many ∙ counted))) c.requires.slots.0
 
 pub make_plan-requires-clause-shards : goal.make_plan-requires-clause-shards
 make_plan-requires-clause-shards g c =
@@ -31,19 +30,11 @@ make_plan-requires-clause-shards g c =
     let logs = c.in_ok-logs.logs in
     let about = about_of images c.args.passes c.args.limits c.args.capacity in
     let are : c.in-Ok.books.items ≡ fresh_books c.in-Ok.history about (length images) = c.in-Ok.ensures.books ∙ ap (λ m. fresh_books c.in-Ok.history (about_of m c.args.passes c.args.limits c.args.capacity) (length m)) c.deref.ensures.value in
-    let lens = c.in_ok-logs.ensures.lens in
-    let logs_len = lens.0 in
-    let images_len = lens.1 in
-    let slots_len = lens.2 in
-    let some = c.requires.slots.0 in
-    let few = c.requires.slots.1 in
-    let room = c.requires.slots.2 in
-    let count = c.len-count.ensures in
-    let some_image : 0 < length images = omega (arith, c.in_ok-logs.images.ok.0) in
-    let counted : length images ≡ c.len-count.result = omega (arith, c.in_ok-logs.images.ok.0) in
-    let as_logs : length images ≡ vec_len logs = omega (arith, c.in_ok-logs.images.ok.0) in
+    let sized = c.in_ok-logs.ensures.lens in
+    let counted : length images ≡ deque_len c.args.slots.now = sym c.in_ok-logs.images.ok.0 ∙ sized.1 in
+    let some_image = subst (λ n. 0 < n) (sym counted) c.requires.slots.0 in
     let first : c.index.result.now ≡ fresh_book c.in-Ok.history about 0 = first_fresh c.in-Ok.history about (length images) c.in-Ok.books.items c.index.result.now are some_image c.index.ensures in
-    ap (λ (b : Booked). b.about.shards) first ∙ as_logs
+    ap (λ (b : Booked). b.about.shards) first ∙ (counted ∙ sym sized.0)
 
 pub make_plan-requires-clause-passes : goal.make_plan-requires-clause-passes
 make_plan-requires-clause-passes g c =
@@ -51,17 +42,9 @@ make_plan-requires-clause-passes g c =
     let logs = c.in_ok-logs.logs in
     let about = about_of images c.args.passes c.args.limits c.args.capacity in
     let are : c.in-Ok.books.items ≡ fresh_books c.in-Ok.history about (length images) = c.in-Ok.ensures.books ∙ ap (λ m. fresh_books c.in-Ok.history (about_of m c.args.passes c.args.limits c.args.capacity) (length m)) c.deref.ensures.value in
-    let lens = c.in_ok-logs.ensures.lens in
-    let logs_len = lens.0 in
-    let images_len = lens.1 in
-    let slots_len = lens.2 in
-    let some = c.requires.slots.0 in
-    let few = c.requires.slots.1 in
-    let room = c.requires.slots.2 in
-    let count = c.len-count.ensures in
-    let some_image : 0 < length images = omega (arith, c.in_ok-logs.images.ok.0) in
-    let counted : length images ≡ c.len-count.result = omega (arith, c.in_ok-logs.images.ok.0) in
-    let as_logs : length images ≡ vec_len logs = omega (arith, c.in_ok-logs.images.ok.0) in
+    let sized = c.in_ok-logs.ensures.lens in
+    let counted : length images ≡ deque_len c.args.slots.now = sym c.in_ok-logs.images.ok.0 ∙ sized.1 in
+    let some_image = subst (λ n. 0 < n) (sym counted) c.requires.slots.0 in
     let first : c.index.result.now ≡ fresh_book c.in-Ok.history about 0 = first_fresh c.in-Ok.history about (length images) c.in-Ok.books.items c.index.result.now are some_image c.index.ensures in
     ap (λ (b : Booked). b.about.passes) first
 
@@ -76,26 +59,19 @@ make_shards-requires g c =
     let logs = c.in_ok-logs.logs in
     let about = about_of images c.args.passes c.args.limits c.args.capacity in
     let are : c.in-Ok.books.items ≡ fresh_books c.in-Ok.history about (length images) = c.in-Ok.ensures.books ∙ ap (λ m. fresh_books c.in-Ok.history (about_of m c.args.passes c.args.limits c.args.capacity) (length m)) c.deref.ensures.value in
-    let lens = c.in_ok-logs.ensures.lens in
-    let logs_len = lens.0 in
-    let images_len = lens.1 in
-    let slots_len = lens.2 in
-    let some = c.requires.slots.0 in
-    let few = c.requires.slots.1 in
-    let room = c.requires.slots.2 in
-    let count = c.len-count.ensures in
-    let some_image : 0 < length images = omega (arith, c.in_ok-logs.images.ok.0) in
-    let counted : length images ≡ c.len-count.result = omega (arith, c.in_ok-logs.images.ok.0) in
-    let as_logs : length images ≡ vec_len logs = omega (arith, c.in_ok-logs.images.ok.0) in
+    let sized = c.in_ok-logs.ensures.lens in
+    let counted : length images ≡ deque_len c.args.slots.now = sym c.in_ok-logs.images.ok.0 ∙ sized.1 in
+    let some_image = subst (λ n. 0 < n) (sym counted) c.requires.slots.0 in
     let first : c.index.result.now ≡ fresh_book c.in-Ok.history about 0 = first_fresh c.in-Ok.history about (length images) c.in-Ok.books.items c.index.result.now are some_image c.index.ensures in
     let many : length c.in-Ok.books.items ≡ length images = ap length are ∙ length-fresh_books c.in-Ok.history about (length images) in
+    let alike = sized.1 ∙ sym sized.0 in
     let shards = c.in_ok-shards.ensures in
-    let shards_room = shards.capacity in
-    let capacity = c.in_ok-logs.ensures.room in (
+    let place = subst (λ n. n ≤ deque_capacity c.in_ok-shards.shards) (c.len-count.ensures ∙ sym sized.0) shards.capacity in
+    let room = all_fit _ _ _ _ _ sized.0 sized.2 c.in_ok-logs.ensures.room c.requires.slots.2 in (
       search rules,
       (
-        grounded g.D.Disk.sight g.D.Disk.follows c.in-Ok.history c.args.passes c.args.limits (deque_len c.args.slots.now) c.args.capacity c.args.slots.now.items c.in_ok-logs.logs.items images c.in-Ok.books.items c.in_ok-logs.ensures.opened.0 (counted ∙ count) c.requires.limits c.requires.capacity are,
-        ((omega arith, omega (arith, c.in-Ok.books.ok.0)), ((shards.items, shards.len, omega arith), omega arith)),
+        grounded g.D.Disk.sight g.D.Disk.follows c.in-Ok.history c.args.passes c.args.limits (deque_len c.args.slots.now) c.args.capacity c.args.slots.now.items c.in_ok-logs.logs.items images c.in-Ok.books.items c.in_ok-logs.ensures.opened.0 counted c.requires.limits c.requires.capacity are,
+        ((alike, c.in-Ok.books.ok.0 ∙ (many ∙ (sym c.in_ok-logs.images.ok.0 ∙ alike))), ((shards.items, shards.len, place), room)),
       ),
     )
 
@@ -117,26 +93,18 @@ opened_with-requires g c =
     let logs = c.in_ok-logs.logs in
     let about = about_of images c.args.passes c.args.limits c.args.capacity in
     let are : c.in-Ok.books.items ≡ fresh_books c.in-Ok.history about (length images) = c.in-Ok.ensures.books ∙ ap (λ m. fresh_books c.in-Ok.history (about_of m c.args.passes c.args.limits c.args.capacity) (length m)) c.deref.ensures.value in
-    let lens = c.in_ok-logs.ensures.lens in
-    let logs_len = lens.0 in
-    let images_len = lens.1 in
-    let slots_len = lens.2 in
-    let some = c.requires.slots.0 in
-    let few = c.requires.slots.1 in
-    let room = c.requires.slots.2 in
-    let count = c.len-count.ensures in
-    let some_image : 0 < length images = omega (arith, c.in_ok-logs.images.ok.0) in
-    let counted : length images ≡ c.len-count.result = omega (arith, c.in_ok-logs.images.ok.0) in
-    let as_logs : length images ≡ vec_len logs = omega (arith, c.in_ok-logs.images.ok.0) in
+    let sized = c.in_ok-logs.ensures.lens in
+    let counted : length images ≡ deque_len c.args.slots.now = sym c.in_ok-logs.images.ok.0 ∙ sized.1 in
+    let some_image = subst (λ n. 0 < n) (sym counted) c.requires.slots.0 in
     let first : c.index.result.now ≡ fresh_book c.in-Ok.history about 0 = first_fresh c.in-Ok.history about (length images) c.in-Ok.books.items c.index.result.now are some_image c.index.ensures in
     let plan = c.in-Ok-make_plan.ensures in
     let list = c.in_ok-room.ensures in
     record {
       is_opening = record {
         same_table = ap (λ (o : Opening g.row.D.Denot). o.table) plan.origin ∙ ap (λ (b : Booked). b.table) first;
-        shards = ap (λ (o : Opening g.row.D.Denot). o.about.shards) plan.origin ∙ (ap (λ (b : Booked). b.about.shards) first ∙ counted);
-        some_shard = omega arith;
-        few = omega arith;
+        shards = ap (λ (o : Opening g.row.D.Denot). o.about.shards) plan.origin ∙ (ap (λ (b : Booked). b.about.shards) first ∙ (counted ∙ sym c.len-count.ensures));
+        some_shard = subst (λ n. 0 < n) (sym c.len-count.ensures) c.requires.slots.0;
+        few = subst (λ n. n ≤ max_shards) (sym c.len-count.ensures) c.requires.slots.1;
       };
       home_is = plan.home ∙ ap home_of (sym plan.origin);
       rows_are = plan.rows;
@@ -153,17 +121,9 @@ returns-clause-found g c =
     let logs = c.in_ok-logs.logs in
     let about = about_of images c.args.passes c.args.limits c.args.capacity in
     let are : c.in-Ok.books.items ≡ fresh_books c.in-Ok.history about (length images) = c.in-Ok.ensures.books ∙ ap (λ m. fresh_books c.in-Ok.history (about_of m c.args.passes c.args.limits c.args.capacity) (length m)) c.deref.ensures.value in
-    let lens = c.in_ok-logs.ensures.lens in
-    let logs_len = lens.0 in
-    let images_len = lens.1 in
-    let slots_len = lens.2 in
-    let some = c.requires.slots.0 in
-    let few = c.requires.slots.1 in
-    let room = c.requires.slots.2 in
-    let count = c.len-count.ensures in
-    let some_image : 0 < length images = omega (arith, c.in_ok-logs.images.ok.0) in
-    let counted : length images ≡ c.len-count.result = omega (arith, c.in_ok-logs.images.ok.0) in
-    let as_logs : length images ≡ vec_len logs = omega (arith, c.in_ok-logs.images.ok.0) in
+    let sized = c.in_ok-logs.ensures.lens in
+    let counted : length images ≡ deque_len c.args.slots.now = sym c.in_ok-logs.images.ok.0 ∙ sized.1 in
+    let some_image = subst (λ n. 0 < n) (sym counted) c.requires.slots.0 in
     let first : c.index.result.now ≡ fresh_book c.in-Ok.history about 0 = first_fresh c.in-Ok.history about (length images) c.in-Ok.books.items c.index.result.now are some_image c.index.ensures in
     let plan = c.in-Ok-make_plan.ensures in
     let made = c.opened_with.ensures in
@@ -177,17 +137,9 @@ returns-clause-about g c =
     let logs = c.in_ok-logs.logs in
     let about = about_of images c.args.passes c.args.limits c.args.capacity in
     let are : c.in-Ok.books.items ≡ fresh_books c.in-Ok.history about (length images) = c.in-Ok.ensures.books ∙ ap (λ m. fresh_books c.in-Ok.history (about_of m c.args.passes c.args.limits c.args.capacity) (length m)) c.deref.ensures.value in
-    let lens = c.in_ok-logs.ensures.lens in
-    let logs_len = lens.0 in
-    let images_len = lens.1 in
-    let slots_len = lens.2 in
-    let some = c.requires.slots.0 in
-    let few = c.requires.slots.1 in
-    let room = c.requires.slots.2 in
-    let count = c.len-count.ensures in
-    let some_image : 0 < length images = omega (arith, c.in_ok-logs.images.ok.0) in
-    let counted : length images ≡ c.len-count.result = omega (arith, c.in_ok-logs.images.ok.0) in
-    let as_logs : length images ≡ vec_len logs = omega (arith, c.in_ok-logs.images.ok.0) in
+    let sized = c.in_ok-logs.ensures.lens in
+    let counted : length images ≡ deque_len c.args.slots.now = sym c.in_ok-logs.images.ok.0 ∙ sized.1 in
+    let some_image = subst (λ n. 0 < n) (sym counted) c.requires.slots.0 in
     let first : c.index.result.now ≡ fresh_book c.in-Ok.history about 0 = first_fresh c.in-Ok.history about (length images) c.in-Ok.books.items c.index.result.now are some_image c.index.ensures in
     let plan = c.in-Ok-make_plan.ensures in
     let made = c.opened_with.ensures in
@@ -200,22 +152,14 @@ returns-clause-shards g c =
     let logs = c.in_ok-logs.logs in
     let about = about_of images c.args.passes c.args.limits c.args.capacity in
     let are : c.in-Ok.books.items ≡ fresh_books c.in-Ok.history about (length images) = c.in-Ok.ensures.books ∙ ap (λ m. fresh_books c.in-Ok.history (about_of m c.args.passes c.args.limits c.args.capacity) (length m)) c.deref.ensures.value in
-    let lens = c.in_ok-logs.ensures.lens in
-    let logs_len = lens.0 in
-    let images_len = lens.1 in
-    let slots_len = lens.2 in
-    let some = c.requires.slots.0 in
-    let few = c.requires.slots.1 in
-    let room = c.requires.slots.2 in
-    let count = c.len-count.ensures in
-    let some_image : 0 < length images = omega (arith, c.in_ok-logs.images.ok.0) in
-    let counted : length images ≡ c.len-count.result = omega (arith, c.in_ok-logs.images.ok.0) in
-    let as_logs : length images ≡ vec_len logs = omega (arith, c.in_ok-logs.images.ok.0) in
+    let sized = c.in_ok-logs.ensures.lens in
+    let counted : length images ≡ deque_len c.args.slots.now = sym c.in_ok-logs.images.ok.0 ∙ sized.1 in
+    let some_image = subst (λ n. 0 < n) (sym counted) c.requires.slots.0 in
     let first : c.index.result.now ≡ fresh_book c.in-Ok.history about 0 = first_fresh c.in-Ok.history about (length images) c.in-Ok.books.items c.index.result.now are some_image c.index.ensures in
     let plan = c.in-Ok-make_plan.ensures in
     let made = c.opened_with.ensures in
     let here = made.ingester ∙ plan.origin in
-    ap (λ (o : Opening g.row.D.Denot). o.about.shards) here ∙ (ap (λ (b : Booked). b.about.shards) first ∙ (counted ∙ count))
+    ap (λ (o : Opening g.row.D.Denot). o.about.shards) here ∙ (ap (λ (b : Booked). b.about.shards) first ∙ counted)
 
 pub returns-clause-passes : goal.returns-clause-passes
 returns-clause-passes g c =
@@ -223,17 +167,9 @@ returns-clause-passes g c =
     let logs = c.in_ok-logs.logs in
     let about = about_of images c.args.passes c.args.limits c.args.capacity in
     let are : c.in-Ok.books.items ≡ fresh_books c.in-Ok.history about (length images) = c.in-Ok.ensures.books ∙ ap (λ m. fresh_books c.in-Ok.history (about_of m c.args.passes c.args.limits c.args.capacity) (length m)) c.deref.ensures.value in
-    let lens = c.in_ok-logs.ensures.lens in
-    let logs_len = lens.0 in
-    let images_len = lens.1 in
-    let slots_len = lens.2 in
-    let some = c.requires.slots.0 in
-    let few = c.requires.slots.1 in
-    let room = c.requires.slots.2 in
-    let count = c.len-count.ensures in
-    let some_image : 0 < length images = omega (arith, c.in_ok-logs.images.ok.0) in
-    let counted : length images ≡ c.len-count.result = omega (arith, c.in_ok-logs.images.ok.0) in
-    let as_logs : length images ≡ vec_len logs = omega (arith, c.in_ok-logs.images.ok.0) in
+    let sized = c.in_ok-logs.ensures.lens in
+    let counted : length images ≡ deque_len c.args.slots.now = sym c.in_ok-logs.images.ok.0 ∙ sized.1 in
+    let some_image = subst (λ n. 0 < n) (sym counted) c.requires.slots.0 in
     let first : c.index.result.now ≡ fresh_book c.in-Ok.history about 0 = first_fresh c.in-Ok.history about (length images) c.in-Ok.books.items c.index.result.now are some_image c.index.ensures in
     let plan = c.in-Ok-make_plan.ensures in
     let made = c.opened_with.ensures in
@@ -248,24 +184,16 @@ returns-clause-ready g c =
     let logs = c.in_ok-logs.logs in
     let about = about_of images c.args.passes c.args.limits c.args.capacity in
     let are : c.in-Ok.books.items ≡ fresh_books c.in-Ok.history about (length images) = c.in-Ok.ensures.books ∙ ap (λ m. fresh_books c.in-Ok.history (about_of m c.args.passes c.args.limits c.args.capacity) (length m)) c.deref.ensures.value in
-    let lens = c.in_ok-logs.ensures.lens in
-    let logs_len = lens.0 in
-    let images_len = lens.1 in
-    let slots_len = lens.2 in
-    let some = c.requires.slots.0 in
-    let few = c.requires.slots.1 in
-    let room = c.requires.slots.2 in
-    let count = c.len-count.ensures in
-    let some_image : 0 < length images = omega (arith, c.in_ok-logs.images.ok.0) in
-    let counted : length images ≡ c.len-count.result = omega (arith, c.in_ok-logs.images.ok.0) in
-    let as_logs : length images ≡ vec_len logs = omega (arith, c.in_ok-logs.images.ok.0) in
+    let sized = c.in_ok-logs.ensures.lens in
+    let counted : length images ≡ deque_len c.args.slots.now = sym c.in_ok-logs.images.ok.0 ∙ sized.1 in
+    let some_image = subst (λ n. 0 < n) (sym counted) c.requires.slots.0 in
     let first : c.index.result.now ≡ fresh_book c.in-Ok.history about 0 = first_fresh c.in-Ok.history about (length images) c.in-Ok.books.items c.index.result.now are some_image c.index.ensures in
     let plan = c.in-Ok-make_plan.ensures in
     let made = c.opened_with.ensures in
     let here = made.ingester ∙ plan.origin in
     let shards = c.in-Ok-make_shards in
-    let books = like_first c.in-Ok.history about (length images) (vec_len logs) c.in-Ok.books.items c.index.result.now are first as_logs in (
+    let books = like_first c.in-Ok.history about (length images) (vec_len logs) c.in-Ok.books.items c.index.result.now are first (counted ∙ sym sized.0) in (
       subst (λ v. AreShardsOf c.opened_with.result.ingester v.items) (sym made.shards) (subst (λ (o : Opening g.row.D.Denot). AreShardsOf o shards.shards.items) (sym here) (made_fit c.index.result.now logs.items logs.items shards.shards.items c.in-Ok.books.items (vec_len logs) refl books shards.ensures.made)),
       subst (λ v. AreEnds c.opened_with.result.ingester v.items) (sym made.ends) (subst (λ (o : Opening g.row.D.Denot). AreEnds o c.in-Ok-make_plan.plan.ends.items) (sym here) plan.ends),
-      ap deque_len made.ends ∙ (plan.count ∙ (ap (λ (b : Booked). b.about.shards) first ∙ (as_logs ∙ (sym shards.ensures.room.1 ∙ ap vec_len (sym made.shards))))),
+      ap deque_len made.ends ∙ (plan.count ∙ (ap (λ (b : Booked). b.about.shards) first ∙ ((counted ∙ sym sized.0) ∙ (sym shards.ensures.room.1 ∙ ap vec_len (sym made.shards))))),
     )
