@@ -130,12 +130,12 @@ fn ends_with<D: Disk + Drop>(
     desk: Desk,
 ) -> Ends<D>
     ensures { result ≡ record {
-        origin = origin;
-        home = home;
-        orders = seed.gets;
-        answers = seed.answers;
-        back = back;
-        desk = desk;
+      origin = origin;
+      home = home;
+      orders = seed.gets;
+      answers = seed.answers;
+      back = back;
+      desk = desk;
     } }
 {
     let Seed {
