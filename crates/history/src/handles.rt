@@ -9,7 +9,7 @@ use std::marker::Model;
 use thiserror::Error;
 
 /// A pass announces no more calls: it was closed, or it has used the last call number, 2^56 - 1.
-#[derive(Clone, Copy, Debug, PartialEq, Eq, Error)]
+#[derive(Clone, Copy, Debug, Error)]
 #[error("the pass is closed")]
 pub struct PassSpent;
 

@@ -2,6 +2,7 @@
 
 use accept::{Ask, Image, Item, Limits, Step};
 use std::collections::LinkedList;
+use std::marker::Model;
 
 /// What an opening is. It is the same for each book and each pass of a table.
 pub struct About {
@@ -71,13 +72,30 @@ pub enum Token {
 }
 
 /// What a seat knows.
-pub struct View {
+pub struct Knowledge {
     /// What it is for.
     pub role: Role,
     /// A pass that sits with it for a look.
     pub guest: Role,
     /// The call that it has in hand.
     pub hand: Token,
+}
+
+/// A seat's view of the table, as contracts see it: what the seat knows. It has no bytes.
+pub struct View;
+
+impl Model for View {
+    ghost use Rattle.std.specs.Coded.{codes};
+    ghost use Rattle.accept.specs.contracts.image.Image as image;
+    ghost use Rattle.history.specs.declared.views.Knowledge.{Knowledge};
+    ghost use Rattle.history.specs.declared.views.Role.TheVariants.{Nobody};
+    ghost use Rattle.history.specs.declared.views.Token.TheVariants.{Nothing};
+
+    ghost Value = { Knowledge };
+
+    ghost coded = { Prim.hlevel (codes, image.the_row.coded) };
+
+    ghost view = { λ _. record { role = Nobody; guest = Nobody; hand = Nothing } };
 }
 
 /// How many words the table has: one for each shard, and after them one for each pass.
