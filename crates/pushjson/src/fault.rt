@@ -1,8 +1,12 @@
+ghost use Rattle.std.specs.Prelude.{◌≡◌};
+ghost use Rattle.pushjson.specs.declared.fault.PushFault.TheVariants.{Memory};
+
+use std::alloc::{AllocError, AllocFailed};
 use thiserror::Error;
 
 /// Why a body is refused. A wrong shape anywhere is answered before a bad time, and a bad time before
 /// too many entries. `Memory` may come at any point.
-#[derive(Clone, Copy, Debug, PartialEq, Eq, Error)]
+#[derive(Clone, Copy, Debug, Error)]
 pub enum PushFault {
     /// The bytes are not UTF-8, are no JSON text, or nest arrays and objects deeper than 127.
     #[error("body is not JSON")]
@@ -20,4 +24,20 @@ pub enum PushFault {
     /// The allocator gave no memory.
     #[error("out of memory")]
     Memory,
+}
+
+impl From<AllocError> for PushFault {
+    ghost from_gives = { λ _ fault. fault ≡ Memory };
+
+    fn from(_refused: AllocError) -> PushFault {
+        PushFault::Memory
+    }
+}
+
+impl<T: Drop> From<AllocFailed<T>> for PushFault {
+    ghost from_gives = { λ _ fault. fault ≡ Memory };
+
+    fn from(_refused: AllocFailed<T>) -> PushFault {
+        PushFault::Memory
+    }
 }

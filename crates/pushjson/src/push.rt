@@ -13,7 +13,7 @@ use labels::{LabelPairs, Meta};
 use std::alloc::Global;
 
 /// A stream of a push body: its labels, not yet tested, and its entries.
-#[derive(Debug, Drop)]
+#[derive(Drop)]
 pub struct RawBatch {
     /// Names and values of the labels, in rising byte order of the names.
     pub pairs: LabelPairs,
@@ -50,14 +50,14 @@ pub fn read_push(alloc: Global, bytes: &[u8]) -> Result<Vec<RawBatch>, PushFault
 fn batches_of(alloc: Global, streams: Vec<StreamTexts>) -> Result<Vec<RawBatch>, PushFault>
     ensures { GivesBatches (map stream_texts_of streams.items) result }
 {
-    let mut batches = Vec::with_capacity(alloc, streams.len()).map_err(|_| PushFault::Memory)?;
+    let mut batches = Vec::with_capacity(alloc, streams.len())?;
     for StreamTexts { pairs, values } in streams {
         let entries = entries_of(alloc, batches.len(), values)?;
         let batch = RawBatch {
             pairs: LabelPairs::new(pairs),
             entries: EntryList::new(entries),
         };
-        batches.push(batch).map_err(|_| PushFault::Memory)?;
+        batches.push(batch)?;
     }
     Ok(batches)
 }
@@ -70,7 +70,7 @@ fn entries_of(
 ) -> Result<Vec<Entry>, PushFault>
     ensures { GivesEntries stream (map value_texts_of values.items) result }
 {
-    let mut entries = Vec::with_capacity(alloc, values.len()).map_err(|_| PushFault::Memory)?;
+    let mut entries = Vec::with_capacity(alloc, values.len())?;
     for ValueTexts { time, line, third } in values {
         let Some(time) = time_of(time.as_str()) else {
             let entry = entries.len();
@@ -78,9 +78,7 @@ fn entries_of(
         };
         let line = Line::new(line);
         let meta = third.unwrap_or_else(Meta::none);
-        entries
-            .push(Entry { time, line, meta })
-            .map_err(|_| PushFault::Memory)?;
+        entries.push(Entry { time, line, meta })?;
     }
     Ok(entries)
 }

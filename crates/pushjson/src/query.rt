@@ -10,7 +10,7 @@ use labels::LabelPairs;
 use std::alloc::Global;
 
 /// A query body: it asks for the entries of a stream with `from <= time < to`.
-#[derive(Debug, Drop)]
+#[derive(Drop)]
 pub struct RawRead {
     /// Names and values of the stream's labels, not yet tested, in rising byte order of the names.
     pub pairs: LabelPairs,
@@ -21,7 +21,7 @@ pub struct RawRead {
 }
 
 /// A trim body: the entries of a stream with `time < bound` are to be removed.
-#[derive(Debug, Drop)]
+#[derive(Drop)]
 pub struct RawTrim {
     /// Names and values of the stream's labels, not yet tested, in rising byte order of the names.
     pub pairs: LabelPairs,

@@ -158,10 +158,10 @@ fn label_texts(alloc: Global, value: Value) -> Result<Vec<(String, String)>, Pus
     let Value::Object(members) = value else {
         return Err(PushFault::WrongShape);
     };
-    let mut pairs = Vec::with_capacity(alloc, members.len()).map_err(|_| PushFault::Memory)?;
+    let mut pairs = Vec::with_capacity(alloc, members.len())?;
     for (name, value) in members {
         let text = text_of(value)?;
-        pairs.push((name, text)).map_err(|_| PushFault::Memory)?;
+        pairs.push((name, text))?;
     }
     Ok(pairs)
 }
@@ -209,11 +209,9 @@ fn values_texts(alloc: Global, value: Value) -> Result<Vec<ValueTexts>, PushFaul
         (view value) result }
 {
     let items = items_in(value)?;
-    let mut values = Vec::with_capacity(alloc, items.len()).map_err(|_| PushFault::Memory)?;
+    let mut values = Vec::with_capacity(alloc, items.len())?;
     for item in items {
-        values
-            .push(value_texts(alloc, item)?)
-            .map_err(|_| PushFault::Memory)?;
+        values.push(value_texts(alloc, item)?)?;
     }
     Ok(values)
 }
@@ -236,11 +234,9 @@ pub(crate) fn body_texts(alloc: Global, value: Value) -> Result<Vec<StreamTexts>
         (λ streams. All (λ s. HaveRisingNames s.pairs) (map stream_texts_of streams.items)) }
 {
     let items = items_in(only_member(value, "streams")?)?;
-    let mut streams = Vec::with_capacity(alloc, items.len()).map_err(|_| PushFault::Memory)?;
+    let mut streams = Vec::with_capacity(alloc, items.len())?;
     for item in items {
-        streams
-            .push(stream_texts(alloc, item)?)
-            .map_err(|_| PushFault::Memory)?;
+        streams.push(stream_texts(alloc, item)?)?;
     }
     Ok(streams)
 }
