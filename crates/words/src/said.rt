@@ -8,7 +8,7 @@ use requests::Route;
 use std::alloc::AllocError;
 
 /// A shard's number, and how many shards there are.
-#[derive(Clone, Copy, Debug)]
+#[derive(Clone, Copy)]
 pub struct ShardPlace {
     /// The shard's number, from 0 on.
     pub shard: u32,
@@ -20,7 +20,7 @@ pub struct ShardPlace {
 }
 
 /// The words of `ingesterd DIR PORT SHARDS WORKERS [CONNECTIONS]`.
-#[derive(Clone, Copy, Debug)]
+#[derive(Clone, Copy)]
 pub struct ServerWords<'a> {
     /// The folder of the slots.
     pub folder: &'a str,
