@@ -56,23 +56,15 @@ pub fn own<D: Disk + Drop, R: Wait>(rt: &R, owner: Owner<D>) {
         alloc,
         number,
         mut state,
-        ends,
+        mut ends,
     } = owner;
-    let Ends {
-        origin,
-        home,
-        mut orders,
-        mut answers,
-        mut back,
-        mut desk,
-    } = ends;
     for _ in rt.forever() {
-        let is_last = take_group(rt, &home, number, &mut orders, &mut desk);
-        make_all(alloc, &origin, &home, &mut state, &mut desk);
-        send_all(rt, &home, &mut desk.letters, &mut answers);
+        let is_last = take_group(rt, &ends.home, number, &mut ends.orders, &mut ends.desk);
+        make_all(alloc, &ends.origin, &ends.home, &mut state, &mut ends.desk);
+        send_all(rt, &ends.home, &mut ends.desk.letters, &mut ends.answers);
         if is_last {
             break;
         }
     }
-    drop(back.send(rt, state));
+    drop(ends.back.send(rt, state));
 }

@@ -1,13 +1,49 @@
-use Rattle.std.proofs.Common.{rules, ◌≡◌, ◌+◌, ◌≤◌, ◌∷◌, [], length, length-append, sym, ap, ◌∙◌, subst, arith}
-use Rattle.std.specs.VecDeque.{deque_len}
+use Rattle.std.proofs.Common.{◌≡◌, ℕ, ◌+◌, ◌<◌, ◌≤◌, ◌∷◌, [], length, length-append, sym, ap, ◌∙◌, subst, arith}
 use Rattle.keyed.specs.Queues.{receives_as}
 use Rattle.keyed.specs.declared.binding.Binding.TheVariants.{Bound}
-use Rattle.owners.specs.Homes.{home_with}
-use Rattle.owners.specs.Openings.{Opening, opening_of}
+use Rattle.owners.specs.Homes.{Homed, home_with}
+use Rattle.owners.specs.Openings.{Opening, opening_of, home_of}
 use Rattle.owners.specs.Owners.{HasEndsOf}
 use Rattle.owners.specs.Seeds.{IsSeed}
 use Rattle.owners.proofs.Each.{each_first, each_next}
 use Rattle.owners.proofs.plan.make_all_ends.Goals as goal
+
+none_left : (k n end : ℕ) → k + n ≡ end → k < end → n ≡ 0 → ⊥
+none_left k n end left under none = omega arith
+
+one_less : (k n fewer end : ℕ) → fewer + 1 ≡ n → k + n ≡ end → (k + 1) + fewer ≡ end
+one_less k n fewer end less left = omega arith
+
+has_room : (len k end room : ℕ) → len ≡ k → k < end → end ≤ room → len < room
+has_room len k end room same under much = omega arith
+
+at_end : (k n end : ℕ) → k + n ≡ end → end ≤ k → k ≡ end
+at_end k n end left over = omega arith
+
+pub unreachable-requires : goal.unreachable-requires
+unreachable-requires g c =
+    none_left _ _ _ c.loop-shard.invariant.left c.loop-shard-test.true c.in_default.ensures.cases.0
+
+pub make_ends-requires-clause-home : goal.make_ends-requires-clause-home
+make_ends-requires-clause-home g c =
+    c.of-home.ensures ∙ (ap (λ l. home_with c.args.first.now l) c.requires.generations ∙ sym (ap (λ (o : Opening g.row.D.Denot). home_of o) c.of.ensures))
+
+pub make_ends-requires-clause-seed : goal.make_ends-requires-clause-seed
+make_ends-requires-clause-seed g c =
+    let home = home_with c.args.first.now c.args.generations.now.items in
+    let k = c.loop-shard.shard in
+    let seed = (each_first (IsSeed home c.args.passes) k c.loop-shard.seeds.items c.pop_front.new.self.items c.in-Some.seed c.in-Some.ensures.items c.loop-shard.invariant.seeds).0 in
+    subst (λ (h : Homed). IsSeed h c.args.passes k c.in-Some.seed) (sym c.of-home.ensures) seed
+
+pub push_back_reserved-requires : goal.push_back_reserved-requires
+push_back_reserved-requires g c =
+    let inv = c.loop-shard.invariant in
+    has_room _ _ _ _ (c.loop-shard.all_ends.ok.0 ∙ inv.ends_len) c.loop-shard-test.true inv.ends_room
+
+pub push_reserved-requires : goal.push_reserved-requires
+push_reserved-requires g c =
+    let inv = c.loop-shard.invariant in
+    has_room _ _ _ _ (c.loop-shard.backs.ok.0 ∙ inv.backs_len) c.loop-shard-test.true inv.backs_room
 
 pub loop-shard-preserved : goal.loop-shard-preserved
 loop-shard-preserved g c =
@@ -19,11 +55,9 @@ loop-shard-preserved g c =
     let made = c.in_ok-ends.ensures in
     let ends = subst (λ (o : Opening g.row.D.Denot). HasEndsOf o k c.in_ok-ends.ends) c.of.ensures made.ends in
     let back = subst (λ (o : Opening g.row.D.Denot). receives_as c.in_ok-ends.back ≡ Bound o k) c.of.ensures made.back in
-    let had = inv.left in
-    let fewer : deque_len c.loop-shard.seeds ≡ deque_len c.pop_front.new.self + 1 = search rules in
     record {
       seeds = first.1;
-      left = omega arith;
+      left = one_less _ _ _ _ c.in-Some.ensures.cases inv.left;
       ends = each_next (HasEndsOf opening) c.loop-shard.all_ends.items c.push_back_reserved.new.self.items c.in_ok-ends.ends k inv.ends_len c.push_back_reserved.ensures.items inv.ends ends;
       ends_len = ap length c.push_back_reserved.ensures.items ∙ (length-append c.loop-shard.all_ends.items (c.in_ok-ends.ends ∷ []) ∙ ap (λ n. n + 1) inv.ends_len);
       ends_room = subst (λ n. c.len-shard-end.result ≤ n) (sym c.push_back_reserved.ensures.capacity) inv.ends_room;
@@ -31,3 +65,15 @@ loop-shard-preserved g c =
       backs_len = ap length c.push_reserved.ensures.items ∙ (length-append c.loop-shard.backs.items (c.in_ok-ends.back ∷ []) ∙ ap (λ n. n + 1) inv.backs_len);
       backs_room = subst (λ n. c.len-shard-end.result ≤ n) (sym c.push_reserved.ensures.capacity) inv.backs_room;
     }
+
+pub returns-clause-ends : goal.returns-clause-ends
+returns-clause-ends g c =
+    let inv = c.loop-shard.invariant in
+    let all = at_end _ _ _ inv.left c.loop-shard-test.false ∙ c.len-shard-end.ensures in
+    (inv.ends, c.loop-shard.all_ends.ok.0 ∙ (inv.ends_len ∙ all))
+
+pub returns-clause-backs : goal.returns-clause-backs
+returns-clause-backs g c =
+    let inv = c.loop-shard.invariant in
+    let all = at_end _ _ _ inv.left c.loop-shard-test.false ∙ c.len-shard-end.ensures in
+    (inv.backs, inv.backs_len ∙ all)

@@ -1,4 +1,4 @@
-use Rattle.std.proofs.Common.{rules, ◌≡◌, ◌+◌, ◌≤◌, ◌∷◌, [], length, length-append, sym, ap, ◌∙◌, subst}
+use Rattle.std.proofs.Common.{◌≡◌, ℕ, ◌+◌, ◌<◌, ◌≤◌, ◌∷◌, [], length, length-append, sym, ap, ◌∙◌, subst, arith}
 use Rattle.std.specs.Prelude.{Some}
 use Rattle.std.specs.VecDeque.{deque_len}
 use Rattle.keyed.proofs.Filling.{fit_more}
@@ -6,6 +6,19 @@ use Rattle.owners.specs.Homes.{Homed}
 use Rattle.owners.specs.Seeds.{IsSeed, IsRow, AreRows}
 use Rattle.owners.proofs.Each.{each_next}
 use Rattle.owners.proofs.rows.make_rows.Goals as goal
+
+has_room : (len k end room : ℕ) → len ≡ k → k < end → end ≤ room → len < room
+has_room len k end room same under much = omega arith
+
+pub push_back_reserved-requires : goal.push_back_reserved-requires
+push_back_reserved-requires c =
+    let inv = c.loop-shard.invariant in
+    has_room _ _ _ _ (c.loop-shard.seeds.ok.0 ∙ inv.len) c.loop-shard-test.true inv.room
+
+pub push_reserved-requires : goal.push_reserved-requires
+push_reserved-requires c =
+    let inv = c.loop-pass.invariant in
+    has_room _ _ _ _ (c.loop-pass.rows.ok.0 ∙ inv.count) c.loop-pass-test.true inv.room
 
 pub loop-shard-preserved : goal.loop-shard-preserved
 loop-shard-preserved c =
@@ -22,8 +35,8 @@ loop-pass-preserved c =
     let made = c.in_ok-make_row.ensures in
     let home = c.args.home.now in
     let old = inv.len in
-    let long-old : deque_len c.loop-pass.seeds ≡ c.args.shards = search (rules, old) in
-    let long : length c.make_row.new.seeds.items ≡ length c.loop-pass.seeds.items = search (rules, made.len) in
+    let long-old : deque_len c.loop-pass.seeds ≡ c.args.shards = c.loop-pass.seeds.ok.0 ∙ old in
+    let long : length c.make_row.new.seeds.items ≡ length c.loop-pass.seeds.items = sym c.make_row.new.seeds.ok.0 ∙ (made.len ∙ c.loop-pass.seeds.ok.0) in
     record {
       seeds = made.seeds;
       len = long ∙ inv.len;
