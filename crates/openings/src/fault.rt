@@ -5,7 +5,7 @@ ghost use Rattle.openings.specs.declared.fault.LogsFault.TheVariants as faults;
 use std::alloc::AllocError;
 
 /// Why the logs of shards are not opened. Nothing was written.
-#[derive(Clone, Copy, Debug, Drop, PartialEq, Eq)]
+#[derive(Clone, Copy, Drop)]
 pub enum LogsFault {
     /// The log of this shard was refused, the first by number that was.
     Refused {

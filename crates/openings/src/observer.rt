@@ -9,7 +9,7 @@ pub trait Observer {
 }
 
 /// An observer that does nothing.
-#[derive(Clone, Copy, Debug)]
+#[derive(Clone, Copy)]
 pub struct Unobserved;
 
 impl Observer for Unobserved {
