@@ -14,7 +14,7 @@ use std::marker::Model;
 use thiserror::Error;
 
 /// Why structured metadata is refused. `Memory` may come at any point.
-#[derive(Clone, Copy, Debug, PartialEq, Eq, Error)]
+#[derive(Clone, Copy, Debug, Error)]
 pub enum MetaFault {
     /// A name that is given twice.
     #[error("metadata name twice")]
