@@ -44,8 +44,8 @@ pub fn open_slots<R: Files<File = File>>(
     }
     let mut slots = Vec::new(alloc);
     for shard in 0..shards {
-        let first = Watched::new(open_slot(rt, alloc, folder, shard, 0)?, shard, errors);
-        let second = Watched::new(open_slot(rt, alloc, folder, shard, 1)?, shard, errors);
+        let first = open_slot(rt, alloc, folder, SlotName { shard, slot: 0 }, errors)?;
+        let second = open_slot(rt, alloc, folder, SlotName { shard, slot: 1 }, errors)?;
         if slots.push([first, second]).is_err() {
             return Err(SlotsFault::Memory);
         }
@@ -60,18 +60,28 @@ fn make_folder<R: Files<File = File>>(rt: &R, folder: &str) -> io::Result<()> {
     if folder.is_empty() {
         return Err(io::ErrorKind::NotFound.into());
     }
-    let missing = Path::new(folder)
-        .ancestors()
-        .take_while(|path| !is_folder(rt, name_of(*path)))
-        .count();
+    let mut missing = missing_folders(rt, folder);
     fs::create_dir_all(rt, folder)?;
-    for (place, path) in Path::new(folder).ancestors().skip(1).enumerate() {
+    for path in Path::new(folder).ancestors().skip(1) {
         let synced = sync_folder(rt, name_of(path));
-        if place < missing {
+        if missing > 0 {
             synced?;
+            missing -= 1;
         }
     }
     Ok(())
+}
+
+// How many folders are missing: a folder, and those above it up to the first that is there.
+fn missing_folders<R: Files>(rt: &R, folder: &str) -> usize {
+    let mut missing: usize = 0;
+    for path in Path::new(folder).ancestors() {
+        if is_folder(rt, name_of(path)) {
+            break;
+        }
+        missing = missing.saturating_add(1);
+    }
+    missing
 }
 
 fn sync_folder<R: Files<File = File>>(rt: &R, path: &str) -> io::Result<()> {
@@ -98,13 +108,12 @@ fn open_slot<R: Files<File = File>>(
     rt: &R,
     alloc: Global,
     folder: &str,
-    shard: u32,
-    slot: u32,
-) -> Result<FileDisk, SlotsFault> {
-    let name = SlotName { shard, slot };
+    name: SlotName,
+    errors: Option<Stderr>,
+) -> Result<Watched<FileDisk>, SlotsFault> {
     let path = format!(in alloc; "{folder}/{name}")?;
     match LockedFile::open(rt, path.as_str()) {
-        Ok(file) => Ok(FileDisk::new(file)),
+        Ok(file) => Ok(Watched::new(FileDisk::new(file), name.shard, errors)),
         Err(_) => Err(SlotsFault::Path(path)),
     }
 }
