@@ -1,7 +1,7 @@
 -- The lists of beginnings, one item on.
-use Rattle.std.proofs.Common.{◌≡◌, ◌<◌, ℕ, ◌+◌, List, [], ◌∷◌, ◌++◌, length, get_or, take, drop, Vec, refl, ap, sym, ◌∙◌, arith, append_assoc, add-zero, length-drop, set}
+use Rattle.std.proofs.Common.{◌≡◌, ◌<◌, ℕ, ◌+◌, List, [], ◌∷◌, ◌++◌, length, get_or, take, Vec, refl, ap, sym, ◌∙◌, append_assoc}
 use Rattle.std.specs.declared.alloc.Global.{Global}
-use Rattle.std.proofs.lemmas.List.{append-nil, map_more, map-append, take_more, take_more_set, get_or-drop, drop-set-lt, drop-drop}
+use Rattle.std.proofs.lemmas.List.{append-nil, map_more, map-append, take_more}
 use Rattle.disk.specs.Images.{contents}
 use Rattle.disk.specs.Beginnings.{extended, each_longer, all_beginnings}
 
@@ -14,6 +14,9 @@ longer-push [] f vs = append-nil (extended f vs)
 longer-push (g ∷ all) f vs =
     ap (λ (xs : List (List ℕ)). extended g vs ++ xs) (longer-push all f vs) ∙ sym (append_assoc (extended g vs) (each_longer all vs) (extended f vs))
 
+pub contents-append : (vs ws : List (Vec ℕ Global)) → contents (vs ++ ws) ≡ contents vs ++ contents ws
+contents-append vs ws = map-append (λ (w : Vec ℕ Global). w.items) vs ws
+
 contents-push : (vs : List (Vec ℕ Global)) (v : Vec ℕ Global) → contents (vs ++ v ∷ []) ≡ contents vs ++ v.items ∷ []
 contents-push vs v = map-append (λ (w : Vec ℕ Global). w.items) vs (v ∷ [])
 
@@ -21,18 +24,6 @@ contents-more : (vs : List (Vec ℕ Global)) (i : ℕ) (v : Vec ℕ Global) → 
     → contents (take (i + 1) vs) ≡ contents (take i vs) ++ v.items ∷ []
 contents-more vs i v h is =
     map_more (λ (w : Vec ℕ Global). w.items) vs i v h ∙ ap (λ (w : Vec ℕ Global). contents (take i vs) ++ w.items ∷ []) (sym is)
-
--- one more copy
-pub copied-more : (found found' all_beginnings : List (Vec ℕ Global)) (base : List (List ℕ)) (i : ℕ) (front copy : Vec ℕ Global)
-    → contents found ≡ base ++ contents (take i all_beginnings) → i < length all_beginnings → front ≡ get_or all_beginnings i front
-    → copy.items ≡ front.items → found' ≡ found ++ copy ∷ []
-    → contents found' ≡ base ++ contents (take (i + 1) all_beginnings)
-copied-more found found' all_beginnings base i front copy was h is same e =
-    let pushed : contents found' ≡ contents found ++ copy.items ∷ [] = ap contents e ∙ contents-push found copy in
-    let more : contents (take (i + 1) all_beginnings) ≡ contents (take i all_beginnings) ++ front.items ∷ [] = contents-more all_beginnings i front h is in
-    rw more (pushed ∙ ap (λ (xs : List (List ℕ)). xs ++ copy.items ∷ []) was
-    ∙ append_assoc base (contents (take i all_beginnings)) (copy.items ∷ [])
-    ∙ ap (λ (x : List ℕ). base ++ (contents (take i all_beginnings) ++ x ∷ [])) same)
 
 -- one more beginning with one of the values
 pub extended-more : (all all' : List (Vec ℕ Global)) (base : List (List ℕ)) (front next : Vec ℕ Global) (vs : List ℕ) (j v : ℕ)
@@ -56,32 +47,3 @@ pub longer-more : (all all' all_beginnings : List (Vec ℕ Global)) (vs : List �
 longer-more all all' all_beginnings vs i front was h is e =
     e ∙ ap (λ (xs : List (List ℕ)). xs ++ extended front.items vs) was
     ∙ sym (ap (λ (xs : List (List ℕ)). each_longer xs vs) (contents-more all_beginnings i front h is) ∙ longer-push (contents (take i all_beginnings)) front.items vs)
-
--- where the rest is as it was, so is the next item
-next-same : (items init : List (Vec ℕ Global)) (i : ℕ) (d : Vec ℕ Global) → drop i items ≡ drop i init → get_or init i d ≡ get_or items i d
-next-same items init i d rest =
-    let e : get_or init (i + 0) d ≡ get_or items (i + 0) d
-    = sym (get_or-drop i init 0 d) ∙ ap (λ (xs : List (Vec ℕ Global)). get_or xs 0 d) (sym rest) ∙ get_or-drop i items 0 d in
-    rw add-zero at e
-
--- one more beginning with a byte after it
-pub pushed-more : (items init : List (Vec ℕ Global)) (i b : ℕ) (d v : Vec ℕ Global)
-    → contents (take i items) ≡ each_longer (contents (take i init)) (b ∷ []) → drop i items ≡ drop i init → i < length items
-    → v.items ≡ (get_or items i d).items ++ b ∷ []
-    → contents (take (i + 1) (set items i v)) ≡ each_longer (contents (take (i + 1) init)) (b ∷ [])
-pushed-more items init i b d v was rest h e =
-    let before : i < length init = omega (arith, ap length rest, length-drop i items, length-drop i init) in
-    let now : contents (take (i + 1) (set items i v)) ≡ contents (take i items) ++ v.items ∷ []
-    = ap contents (take_more_set items i v h) ∙ contents-push (take i items) v in
-    let then_ : contents (take (i + 1) init) ≡ contents (take i init) ++ (get_or items i d).items ∷ []
-    = map_more (λ (w : Vec ℕ Global). w.items) init i d before
-    ∙ ap (λ (w : Vec ℕ Global). contents (take i init) ++ w.items ∷ []) (next-same items init i d rest) in
-    now ∙ ap (λ (xs : List (List ℕ)). xs ++ v.items ∷ []) was
-    ∙ ap (λ (x : List ℕ). each_longer (contents (take i init)) (b ∷ []) ++ x ∷ []) e
-    ∙ sym (ap (λ (xs : List (List ℕ)). each_longer xs (b ∷ [])) then_ ∙ longer-push (contents (take i init)) (get_or items i d).items (b ∷ []))
-
-pub pushed-rest : (items init : List (Vec ℕ Global)) (i : ℕ) (v : Vec ℕ Global) → drop i items ≡ drop i init
-    → drop (i + 1) (set items i v) ≡ drop (i + 1) init
-pushed-rest items init i v rest =
-    drop-set-lt (i + 1) items i v (omega arith) ∙ sym (drop-drop 1 i items)
-    ∙ ap (λ (xs : List (Vec ℕ Global)). drop 1 xs) rest ∙ drop-drop 1 i init

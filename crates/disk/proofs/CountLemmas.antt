@@ -11,6 +11,11 @@ of_lengths-suc options low i le =
     let back : low + (i - low) ≡ i = omega arith in
     ap (λ (n : ℕ). of_lengths options low n) k ∙ ap (λ (n : ℕ). of_lengths options low (i - low) ++ all_beginnings options n) back
 
+pub of_lengths-more : (options : ℕ → List ℕ) (low i : ℕ) (found found' fronts : List (List ℕ)) → low ≤ i → found ≡ of_lengths options low (i - low) → fronts ≡ all_beginnings options i
+    → found' ≡ found ++ fronts → found' ≡ of_lengths options low (i + 1 - low)
+of_lengths-more options low i found found' fronts le was is e =
+    e ∙ ap (λ (xs : List (List ℕ)). xs ++ fronts) was ∙ ap (λ (xs : List (List ℕ)). of_lengths options low (i - low) ++ xs) is ∙ sym (of_lengths-suc options low i le)
+
 -- before there is none
 pub of_lengths-before : (options : ℕ → List ℕ) (low i : ℕ) → i < low → of_lengths options low (i + 1 - low) ≡ of_lengths options low (i - low)
 of_lengths-before options low i less = let k : i + 1 - low ≡ i - low = omega arith in ap (λ (n : ℕ). of_lengths options low n) k
@@ -95,9 +100,6 @@ some-total None x total iff e = tt
 some-total (Some n) x total iff e = λ now. iff.1 ∙ e now
 
 -- the beginnings, one place on
-pub next-fronts : (mask : List Bool) (now values : List ℕ) (i : ℕ) (cur next : List (List ℕ)) (b : Bool) → cur ≡ all_beginnings (open_bytes mask now values) i
-    → get_or mask i false ≡ b → next ≡ each_longer cur (cond b values (get_or now i 0 ∷ [])) → next ≡ all_beginnings (open_bytes mask now values) (i + 1)
-next-fronts mask now values i cur next b e is en =
-    let options : List ℕ = cond b values (get_or now i 0 ∷ []) in
-    let same : options ≡ open_bytes mask now values i = sym (ap (λ (t : Bool). cond t values (get_or now i 0 ∷ [])) is) in
-    rw add-one (en ∙ ap (λ (xs : List (List ℕ)). each_longer xs options) e ∙ ap (λ (vs : List ℕ). each_longer (all_beginnings (open_bytes mask now values) i) vs) same)
+pub next-fronts : (options : ℕ → List ℕ) (i : ℕ) (cur next : List (List ℕ)) → cur ≡ all_beginnings options i
+    → next ≡ each_longer cur (options i) → next ≡ all_beginnings options (i + 1)
+next-fronts options i cur next e is = rw add-one (is ∙ ap (λ (xs : List (List ℕ)). each_longer xs (options i)) e)

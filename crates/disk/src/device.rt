@@ -4,7 +4,7 @@ ghost use Rattle.disk.specs.Sight.{Sight, Holds, Reads, IsSynced, Looks, Writes,
 use thiserror::Error;
 
 /// The device failed. A write that failed may have done any part of its work.
-#[derive(Clone, Copy, Debug, PartialEq, Eq, Error)]
+#[derive(Clone, Copy, Debug, Error)]
 #[error("device failed")]
 pub struct DeviceFault;
 

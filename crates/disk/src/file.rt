@@ -65,27 +65,38 @@ impl LockedFile {
     /// that a new file survives a crash. The lock is held until the file is dropped. It keeps out other programs that
     /// ask for the lock, and other calls of this function, in this process too.
     pub fn open<R: Files<File = File>>(rt: &R, path: &str) -> Result<LockedFile, FileFault> {
-        let mut file = OpenOptions::new()
-            .read(true)
-            .write(true)
-            .create(true)
-            .truncate(false)
-            .open(rt, path)?;
-        // What is meant for a closed standard stream must not land in the file.
-        if file.as_raw_fd() <= 2 {
-            file = file.try_clone()?;
-        }
-        if !file.metadata()?.is_file() {
-            return Err(FileFault::NotAFile);
-        }
-        match file.try_lock() {
-            Ok(()) => {}
-            Err(TryLockError::WouldBlock) => return Err(FileFault::InUse),
-            Err(TryLockError::Error(error)) => return Err(FileFault::Io(error)),
-        }
+        let file = open_file(rt, path)?;
+        lock(&file)?;
         file.sync_all()?;
         File::open(rt, folder_of(path))?.sync_all()?;
         Ok(LockedFile { file })
+    }
+}
+
+// Opens a file for reading and writing, and makes an empty one where there is none.
+fn open_file<R: Files<File = File>>(rt: &R, path: &str) -> io::Result<File> {
+    let file = OpenOptions::new()
+        .read(true)
+        .write(true)
+        .create(true)
+        .truncate(false)
+        .open(rt, path)?;
+    // What is meant for a closed standard stream must not land in the file.
+    if file.as_raw_fd() <= 2 {
+        return file.try_clone();
+    }
+    Ok(file)
+}
+
+// Locks a regular file that no other process and no other disk of this one has.
+fn lock(file: &File) -> Result<(), FileFault> {
+    if !file.metadata()?.is_file() {
+        return Err(FileFault::NotAFile);
+    }
+    match file.try_lock() {
+        Ok(()) => Ok(()),
+        Err(TryLockError::WouldBlock) => Err(FileFault::InUse),
+        Err(TryLockError::Error(error)) => Err(FileFault::Io(error)),
     }
 }
 

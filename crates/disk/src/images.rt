@@ -10,7 +10,7 @@ use std::alloc::{AllocError, Global};
 use thiserror::Error;
 
 /// Why the contents that a crash may leave are not listed.
-#[derive(Clone, Copy, Debug, PartialEq, Eq, Error)]
+#[derive(Clone, Copy, Debug, Error)]
 pub enum ImagesFault {
     #[error("too many contents")]
     TooMany,
@@ -119,16 +119,6 @@ pub(crate) fn within_cap(number: Option<usize>, cap: usize) -> Result<usize, Ima
     }
 }
 
-// Adds a byte to the end of each.
-fn push_to_each(fronts: &mut [Vec<u8>], byte: u8) -> Result<(), AllocError>
-    ensures { OnOk result (contents fronts.new ≡ each_longer (contents fronts.old) (byte ∷ [])) }
-{
-    for front in fronts.iter_mut() {
-        front.push(byte)?;
-    }
-    Ok(())
-}
-
 // Each of these, followed by each of the values.
 fn with_each(alloc: Global, fronts: &[Vec<u8>], values: &[u8]) -> Result<Vec<Vec<u8>>, AllocError>
     ensures { IfOk result (λ all. contents all.items
@@ -145,15 +135,13 @@ fn with_each(alloc: Global, fronts: &[Vec<u8>], values: &[u8]) -> Result<Vec<Vec
     Ok(all)
 }
 
-// Adds copies to the end of what was found.
-fn append_copies(found: &mut Vec<Vec<u8>>, fronts: &[Vec<u8>]) -> Result<(), AllocError>
-    ensures { OnOk result (contents found.new.items
-        ≡ contents found.old.items ++ contents fronts.now) }
+// What may stand at a place: each of the values where the byte is unsynced, and otherwise the byte alone.
+fn endings<'a>(now: &'a [u8], mask: &[bool], values: &'a [u8], i: usize) -> &'a [u8]
+    requires now { i < length now.now }
+    requires mask { i < length mask.now }
+    ensures { result.now ≡ open_bytes mask.now now.now values.now i }
 {
-    for front in fronts {
-        found.push(front.clone()?)?;
-    }
-    Ok(())
+    if mask[i] { values } else { &now[i..i + 1] }
 }
 
 // All contents of the lengths from `low` on, with these values where the mask says so. There are `number` of them.
@@ -170,18 +158,15 @@ pub(crate) fn all_contents(
     ensures { IfOk result (λ found. contents found.items
         ≡ of_lengths (open_bytes mask.now now.now values.now) low (length now.now - low + 1)) }
 {
+    let mut found = Vec::with_capacity(alloc, number)?;
     let mut fronts = Vec::new(alloc);
     fronts.push(Vec::new(alloc))?;
-    let mut found = Vec::with_capacity(alloc, number)?;
-    for (i, &byte) in now.iter().enumerate() {
+    for i in 0..now.len() {
+        let longer = with_each(alloc, &fronts, endings(now, mask, values, i))?;
         if i >= low {
-            append_copies(&mut found, &fronts)?;
+            found.append(&mut fronts)?;
         }
-        if mask[i] {
-            fronts = with_each(alloc, &fronts, values)?;
-        } else {
-            push_to_each(&mut fronts, byte)?;
-        }
+        fronts = longer;
     }
     found.append(&mut fronts)?;
     Ok(found)
