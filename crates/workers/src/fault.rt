@@ -4,7 +4,7 @@ use std::alloc::AllocError;
 use thiserror::Error;
 
 /// Why the connections of a listener cannot be served.
-#[derive(Clone, Copy, Debug, Drop, PartialEq, Eq, Error)]
+#[derive(Clone, Copy, Debug, Drop, Error)]
 pub enum WorkersFault {
     /// A thread could not be started.
     #[error("thread not started")]
