@@ -13,7 +13,7 @@ pub const MAX_ENTRIES: usize = 10_000;
 pub const END_OF_TIME: u64 = 1 << 63;
 
 /// A call on the stream of a key. Times are in nanoseconds.
-#[derive(Debug, Drop)]
+#[derive(Drop)]
 pub enum Call {
     /// Judges the entries in order, and stores the accepted ones.
     Push {
