@@ -1,11 +1,7 @@
-ghost use Rattle.std.specs.Prelude.{◌≡◌};
-ghost use Rattle.shard.specs.declared.fault.ApplyFault.TheVariants as faults;
-
-use std::alloc::AllocError;
 use thiserror::Error;
 
 /// Why a call has no step. History, streams and slots are then as they were, and no device call was made.
-#[derive(Clone, Copy, Debug, Drop, PartialEq, Eq, Error)]
+#[derive(Clone, Copy, Debug, Drop, Error)]
 pub enum ApplyFault {
     /// The allocator gave no memory.
     #[error("out of memory")]
@@ -13,12 +9,4 @@ pub enum ApplyFault {
     /// The generations are used up: the change does not fit after the segment in use, which has generation 2^63 - 1.
     #[error("generation spent")]
     GenerationSpent,
-}
-
-impl From<AllocError> for ApplyFault {
-    ghost from_gives = { λ _ e. e ≡ faults.Memory };
-
-    fn from(_refused: AllocError) -> ApplyFault {
-        ApplyFault::Memory
-    }
 }
