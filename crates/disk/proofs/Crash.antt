@@ -4,7 +4,7 @@ use Rattle.std.proofs.lemmas.List.{places, same_lists, get_or_default, take_all,
 use Rattle.disk.specs.Sight.{Looks, Writes, IsSynced, Torn}
 use Rattle.disk.specs.State.{Act, Write, Break, Sync, State, act, over, wrote, furthest, state_after, IsImage, sight_of}
 use Rattle.disk.specs.Laws.{always_sound, length-over}
-use Rattle.disk.proofs.Lists.{ltb_cases, within_or_not}
+use Rattle.disk.proofs.Ranges.{ltb_cases, within_or_not}
 use Rattle.disk.proofs.Acts.{state_after-push, elapses-push}
 
 -- the longest content that a crash may leave
@@ -115,12 +115,6 @@ writes-push start sound acts a at n bytes f f' one = record {
       );
 }
 
-pub write-push : (start : State) → IsImage start start.now → (acts : List Act) (at : ℕ) (bytes : List ℕ) (f f' : ℕ)
-    → at ≤ length (state_after start acts).now
-    → Writes at (length bytes) (sight_of start acts f) (sight_of start (acts ++ Write at bytes ∷ []) f')
-write-push start sound acts at bytes f f' le =
-    writes-push start sound acts (Write at bytes) at (length bytes) bytes f f' (is_write (state_after start acts) at bytes le)
-
 -- what a read gives after it
 pub seen-write : (start : State) (acts : List Act) (at : ℕ) (bytes : List ℕ) → at ≤ length (state_after start acts).now
     → (state_after start (acts ++ Write at bytes ∷ [])).now
@@ -145,12 +139,4 @@ looks-sync start sound acts f f' = record {
   crash = λ c image. subst (λ (b : List ℕ). IsImage (state_after start acts) b)
       (sym (only_base (state_after start acts) c (subst (λ (t : State). IsImage t c) (state_after-push start acts Sync) image)))
       (always_sound start sound acts);
-}
-
--- of a call that did nothing
-pub looks-same : (start : State) (acts : List Act) (f f' : ℕ) → Looks (sight_of start acts f) (sight_of start acts f')
-looks-same start acts f f' = record {
-  time = record { later = omega arith; nothing_else = λ t c le left. inl left; keeps = λ t c le left. left };
-  same = refl;
-  crash = λ c image. image;
 }

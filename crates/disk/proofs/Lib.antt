@@ -1,10 +1,4 @@
+pub mod Ranges
 pub mod Acts
 pub mod Crash
-pub mod Records
-pub mod Lists
-pub mod BeginningLemmas
-pub mod ImageLemmas
-pub mod CopyLemmas
-pub mod MaskLemmas
-pub mod CountLemmas
 pub mod FileLemmas

@@ -2,12 +2,6 @@ pub mod Sight
 pub mod Moments
 pub mod State
 pub mod Laws
-pub mod Images
-pub mod Beginnings
 pub mod Calls
 pub mod Record
 pub mod FileDisk
-pub mod GateDisk
-pub mod Plan
-pub mod Memory
-pub mod MemDisk

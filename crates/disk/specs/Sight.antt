@@ -57,14 +57,3 @@ Counts result old new = MatchResult result (λ _. new ≡ old) (λ _. new ≢ ol
 pub record Reads (file : List ℕ) (at n : ℕ) (old new : List ℕ) : Type 0 where
   pub number : n ≡ min (length old) (length file - at)
   pub bytes : take n new ≡ take n (drop at file)
-
--- the same disk with more failed calls
-abbrev pub more_failures : Sight → ℕ → Sight
-more_failures s n =
-    record {
-      seen = s.seen;
-      may_leave = s.may_leave;
-      moment = s.moment;
-      left_since = s.left_since;
-      failures = s.failures + n;
-    }

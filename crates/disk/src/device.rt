@@ -8,8 +8,8 @@ use thiserror::Error;
 #[error("device failed")]
 pub struct DeviceFault;
 
-// Counts a failure.
-pub(crate) fn failed(failures: &mut u64) -> DeviceFault
+/// Counts a failure of a disk, for the call that answers with this fault.
+pub fn failed(failures: &mut u64) -> DeviceFault
     ensures { failures.new ≢ failures.old }
 {
     *failures = failures.wrapping_add(1);

@@ -8,15 +8,8 @@
 mod calls;
 mod device;
 mod file;
-mod gate;
-mod images;
 mod laws;
-mod memory;
-mod plan;
 
-pub use device::{DeviceFault, Disk};
+pub use device::{DeviceFault, Disk, failed};
 pub use file::{FileDisk, FileFault, LockedFile};
-pub use gate::{Gate, GateDisk};
-pub use images::ImagesFault;
 pub use laws::failed_writes_leave_any;
-pub use memory::MemDisk;
