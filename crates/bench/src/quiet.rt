@@ -6,7 +6,7 @@ use crate::stream::{STEP, filled};
 use accept::{Limits, StreamState};
 use anyhow::{Result, bail};
 use bench_parts::START;
-use disk::MemDisk;
+use memory_disk::MemDisk;
 use wal::Wal;
 
 /// How many entries the stream has.

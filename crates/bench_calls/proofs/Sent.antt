@@ -5,9 +5,9 @@ use denote.Ref.{NamedLft}
 use denote.Struct.Declared as declared
 use denote.Struct.Struct.{Struct}
 use Rattle.std.proofs.Crossing.{crosses}
-use Rattle.disk.proofs.memory.MemDisk.TheSendSync as memory_moves
-use Rattle.disk.specs.contracts.memory.MemDisk as memory
-use Rattle.disk.specs.contracts.memory.MemDiskDisk.TheImpl as memory_disk
+use Rattle.memory_disk.proofs.memory.MemDisk.TheSendSync as memory_moves
+use Rattle.memory_disk.specs.contracts.memory.MemDisk as memory
+use Rattle.memory_disk.specs.contracts.memory.MemDiskDisk.TheImpl as memory_disk
 use Rattle.ingester.proofs.Sent.{ingester_sync}
 use Rattle.ingester.specs.contracts.opened.Ingester as ingester
 use Rattle.bench_calls.specs.contracts.calls.Course as course

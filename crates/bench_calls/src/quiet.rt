@@ -6,9 +6,9 @@ ghost use Rattle.ingester.specs.Calls.{IsPassOf};
 use crate::calls;
 use anyhow::{Result, bail};
 use bench_parts::{LINES, START, push_of};
-use disk::MemDisk;
 use history::Pass;
 use ingester::{Closed, Ingester};
+use memory_disk::MemDisk;
 use std::sync::Wait;
 use std::thread::Threads;
 

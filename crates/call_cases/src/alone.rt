@@ -3,8 +3,8 @@
 use accept::Call;
 use anyhow::Result;
 use call_words::{Counted, Gathered, Settings, call_of, write_outcome};
-use disk::MemDisk;
 use lone_shard::{Grouped, LoneShard, Turn};
+use memory_disk::MemDisk;
 use rows::Said;
 use shard::GroupEnd;
 use std::alloc::Global;

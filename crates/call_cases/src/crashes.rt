@@ -6,8 +6,8 @@ use call_words::{
     Contents, Counted, Gathered, Settings, Way, are_unavailable, calls_on, copy_of,
     fail_as_planned, hold_the_same, slots_of, streams_found,
 };
-use disk::MemDisk;
 use lone_shard::LoneShard;
+use memory_disk::MemDisk;
 use rows::Said;
 use std::alloc::Global;
 use wal::OpenFault;

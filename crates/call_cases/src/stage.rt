@@ -5,7 +5,7 @@ use crate::crashes::{Doing, Tries, say_contents, say_trials};
 use crate::together::Together;
 use anyhow::{Result, bail};
 use call_words::{Contents, Ended, Gathered, Settings, Shards, Way, number_of};
-use disk::MemDisk;
+use memory_disk::MemDisk;
 use rows::{Said, word_of};
 use std::alloc::Global;
 use std::mem;

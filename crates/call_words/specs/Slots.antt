@@ -1,8 +1,8 @@
 -- What a slot in memory holds, and when it fails.
 use Rattle.std.specs.Prelude.{◌≡◌, ◌≤◌, ◌<◌, ◌↔◌, ℕ, List, length}
 use Rattle.disk.specs.Sight.{Holds, IsSynced}
-use Rattle.disk.specs.MemDisk.{WillFail, memory_sight}
-use Rattle.disk.specs.declared.memory.MemDisk.{MemDisk}
+use Rattle.memory_disk.specs.MemDisk.{WillFail, memory_sight}
+use Rattle.memory_disk.specs.declared.memory.MemDisk.{MemDisk}
 use Rattle.call_words.specs.declared.slots.Way.{Way}
 use Rattle.call_words.specs.declared.slots.Way.TheVariants.{Fails, Stops}
 

@@ -2,7 +2,7 @@
 
 use crate::slots::bytes_of;
 use anyhow::Result;
-use disk::{ImagesFault, MemDisk};
+use memory_disk::{ImagesFault, MemDisk};
 use std::alloc::Global;
 
 /// The most contents of a slot that are looked at.

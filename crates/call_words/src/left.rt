@@ -2,7 +2,8 @@
 
 use crate::slots::{calls_on, copy_of};
 use anyhow::{Result, bail};
-use disk::{Disk, MemDisk};
+use disk::Disk;
+use memory_disk::MemDisk;
 use rows::Said;
 use std::alloc::Global;
 use wal::{OpenFault, Wal};

@@ -6,7 +6,7 @@ use crate::left::{Ended, state_of};
 use crate::pieces::{bytes_in_pieces, say_from};
 use crate::slots::{Way, bytes_of, calls_on, fail_as_planned, slot_of, slots_of, write_through};
 use anyhow::{Result, bail};
-use disk::MemDisk;
+use memory_disk::MemDisk;
 use rows::Said;
 use std::alloc::Global;
 use std::mem;

@@ -2,7 +2,8 @@ ghost use Rattle.std.specs.Prelude.{◌≡◌, IfOk, OnOk};
 ghost use Rattle.call_words.specs.Slots.{FailsAsPlanned, IsWritten, bytes_in};
 
 use anyhow::Result;
-use disk::{Disk, MemDisk};
+use disk::Disk;
+use memory_disk::MemDisk;
 use std::alloc::Global;
 
 /// What a device does at a call that is to fail.

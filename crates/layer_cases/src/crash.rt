@@ -4,7 +4,7 @@ use crate::drive::read_all;
 use crate::numbers::number_of;
 use crate::slots::{EXAMPLE, Slots, open};
 use anyhow::Result;
-use disk::MemDisk;
+use memory_disk::MemDisk;
 use rows::{Said, word_of};
 use std::alloc::Global;
 

@@ -2,7 +2,8 @@
 use crate::bytes::{bytes_of, write_bytes};
 use crate::numbers::number_of;
 use anyhow::{Context, Result, bail};
-use disk::{DeviceFault, Disk, FileDisk, MemDisk};
+use disk::{DeviceFault, Disk, FileDisk};
+use memory_disk::MemDisk;
 use rows::{Said, word_of};
 use std::alloc::Global;
 

@@ -2,7 +2,8 @@
 use crate::entry_words::write_image;
 use crate::numbers::{number_of, owner_of};
 use anyhow::{Result, bail};
-use disk::{Disk, MemDisk};
+use disk::Disk;
+use memory_disk::MemDisk;
 use rows::Said;
 use std::alloc::Global;
 use wal::Wal;

@@ -1,7 +1,7 @@
 //! What threads share, and what each of them does. It stands outside the tests, since a file of `proofs` names it.
 
-use disk::{Gate, GateDisk, MemDisk};
 use ingester::Ingester;
+use memory_disk::{Gate, GateDisk, MemDisk};
 use std::alloc::Global;
 use std::sync::Barrier;
 

@@ -5,9 +5,10 @@ ghost use Rattle.ingester.specs.Calls.{IsPassOf};
 
 use crate::course::Slot;
 use accept::Limits;
-use disk::{Disk, Gate, GateDisk, MemDisk};
+use disk::Disk;
 use history::Pass;
 use ingester::Ingester;
+use memory_disk::{Gate, GateDisk, MemDisk};
 use std::alloc::Global;
 use std::sync::Wait;
 use std::test::Fail;

@@ -1,6 +1,6 @@
 //! What a client asks, and what it is told.
 
-use disk::Gate;
+use memory_disk::Gate;
 use std::alloc::Global;
 use std::io::{self, ErrorKind, Write};
 use std::net::{IpAddr, Ipv4Addr, Net, Shutdown, SocketAddr, TcpListener, TcpStream};

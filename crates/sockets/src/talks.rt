@@ -5,10 +5,10 @@ ghost use Rattle.ingester.specs.Calls.{IsPassOf};
 
 use crate::client::{Client, NO_CONTENT, PUSH, READ, Request, Step, answers_of, listen};
 use accept::Limits;
-use disk::{Gate, GateDisk, MemDisk};
 use history::Pass;
 use ingester::Ingester;
 use ingesterd::Connections;
+use memory_disk::{Gate, GateDisk, MemDisk};
 use std::alloc::{AllocError, Global};
 use std::net::{Net, TcpListener, TcpStream};
 use std::rt::Clock;

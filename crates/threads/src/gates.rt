@@ -1,5 +1,6 @@
 //! Disks with a gate for their syncs, and disks that move from thread to thread.
-use disk::{DeviceFault, Disk, FileDisk, Gate, GateDisk, LockedFile, MemDisk};
+use disk::{DeviceFault, Disk, FileDisk, LockedFile};
+use memory_disk::{Gate, GateDisk, MemDisk};
 use std::alloc::Global;
 use std::fs::{self, File, Files};
 use std::test::*;

@@ -4,7 +4,7 @@ use Rattle.std.specs.Prelude.{Result, Ok, Err, OnOk, codes}
 use Rattle.std.specs.FinMap as finite
 use Rattle.std.specs.Io.KnownBytes.{Appends}
 use Rattle.std.proofs.KnownBytes.{Appends-trans}
-use Rattle.disk.specs.declared.memory.MemDisk.{MemDisk}
+use Rattle.memory_disk.specs.declared.memory.MemDisk.{MemDisk}
 use Rattle.requests.specs.declared.answer.Answer.{Answer}
 use Rattle.requests.specs.declared.route.Route.TheVariants.{Push}
 use Rattle.owners.specs.Openings.{Opening}

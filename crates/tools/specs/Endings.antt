@@ -3,7 +3,7 @@ use Rattle.std.specs.Prelude.{◌≡◌, ◌⊎◌, ◌≤◌, ℕ, List, [], �
 use Rattle.std.specs.FinMap as finite
 use Rattle.std.specs.Io.KnownBytes.{Appends}
 use Rattle.std.specs.declared.alloc.Global.{Global}
-use Rattle.disk.specs.declared.memory.MemDisk.{MemDisk}
+use Rattle.memory_disk.specs.declared.memory.MemDisk.{MemDisk}
 use Rattle.history.specs.Handles.{Passed}
 use Rattle.requests.specs.Answers.{code_of}
 use Rattle.requests.specs.Framings.{max_body}

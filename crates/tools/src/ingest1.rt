@@ -2,8 +2,8 @@
 ghost use Rattle.std.specs.Prelude.{◌≡◌, ◌↔◌, ◌<◌, ◌≤◌, ◌++◌, ◌∷◌, [], ℕ, List, None, Ok, IfOk, IfErr, OnOk, codes, vec_len};
 ghost use Rattle.std.specs.Io.KnownBytes.{Appends};
 ghost use Rattle.accept.specs.OneStream.{end_of_time};
-ghost use Rattle.disk.specs.MemDisk.{memory_sight};
-ghost use Rattle.disk.specs.declared.memory.MemDisk.{MemDisk};
+ghost use Rattle.memory_disk.specs.MemDisk.{memory_sight};
+ghost use Rattle.memory_disk.specs.declared.memory.MemDisk.{MemDisk};
 ghost use Rattle.requests.specs.declared.answer.Answer.{Answer};
 ghost use Rattle.answering.specs.Responses.{RequestIsAnswered};
 ghost use Rattle.front.specs.Calls.{CallGives};
@@ -17,12 +17,13 @@ ghost use Rattle.tools.specs.Endings.{PushEnds, IsAnswerDue, IsBodyOf, IsDueToPu
 use crate::body::{read_body, write_answer, write_bytes};
 use crate::one_pass::{close_for_one, open_for_one};
 use accept::{Call, END_OF_TIME};
-use disk::{Disk, MemDisk};
+use disk::Disk;
 use front::{Answer, Route, Status, answer, answer_of_read};
 use history::Pass;
 use ingester::Ingester;
 use ingesterd::Stopped;
 use labels::{LabelFault, LabelSet, StreamKey, Tenant};
+use memory_disk::MemDisk;
 use pushjson::{PushFault, RawBatch, read_push};
 use std::alloc::Global;
 use std::io::{Read, Write};

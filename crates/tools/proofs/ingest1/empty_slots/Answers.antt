@@ -1,5 +1,5 @@
 use Rattle.std.proofs.Common.{◌∙◌, ◌++◌, List, [], ◌∷◌, ap}
-use Rattle.disk.specs.declared.memory.MemDisk.{MemDisk}
+use Rattle.memory_disk.specs.declared.memory.MemDisk.{MemDisk}
 use Rattle.tools.proofs.ingest1.empty_slots.Goals as goal
 
 pub returns-clause-empty : goal.returns-clause-empty

@@ -1,5 +1,5 @@
 use Rattle.std.proofs.Common.{◌≡◌, ℕ, List, subst}
-use Rattle.disk.specs.MemDisk.{memory_sight}
+use Rattle.memory_disk.specs.MemDisk.{memory_sight}
 use Rattle.tools.specs.Endings.{IsBodyOf}
 use Rattle.tools.proofs.EmptySlots.{none_found}
 use Rattle.tools.proofs.Outputs.{on_empty}

@@ -1,12 +1,12 @@
 -- Workers share an ingester over slots in memory behind a gate.
 use denote.Param.Send.{IsSend, IsSync, sendable}
 use Rattle.std.proofs.Crossing.{crosses}
-use Rattle.disk.proofs.gate.GateDisk.TheSendSync as gate
-use Rattle.disk.proofs.memory.MemDisk.TheSendSync as memory_moves
-use Rattle.disk.specs.contracts.gate.GateDisk as slot
-use Rattle.disk.specs.contracts.gate.GateDiskDisk.TheImpl as slot_disk
-use Rattle.disk.specs.contracts.memory.MemDisk as memory
-use Rattle.disk.specs.contracts.memory.MemDiskDisk.TheImpl as memory_disk
+use Rattle.memory_disk.proofs.gate.GateDisk.TheSendSync as gate
+use Rattle.memory_disk.proofs.memory.MemDisk.TheSendSync as memory_moves
+use Rattle.memory_disk.specs.contracts.gate.GateDisk as slot
+use Rattle.memory_disk.specs.contracts.gate.GateDiskDisk.TheImpl as slot_disk
+use Rattle.memory_disk.specs.contracts.memory.MemDisk as memory
+use Rattle.memory_disk.specs.contracts.memory.MemDiskDisk.TheImpl as memory_disk
 use Rattle.disk.specs.declared.device.Disk as disk
 use Rattle.ingester.proofs.Sent.{ingester_sync}
 use Rattle.ingester.specs.contracts.opened.Ingester as ingester
