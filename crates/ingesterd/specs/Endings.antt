@@ -1,22 +1,12 @@
--- How the server ends, and with which exit status programs stop.
+-- How the server ends.
 use Rattle.std.specs.Prelude.{◌≡◌, ◌⊎◌, ℕ, List, ◌++◌, codes, decimal, Option, String}
 use Rattle.std.specs.Io.KnownBytes.{Appends}
 use Rattle.std.specs.declared.alloc.Global.{Global}
 use Rattle.words.specs.declared.said.ServerWords.{ServerWords}
 use Rattle.words.specs.Words.{SaysServer}
-use Rattle.ingesterd.specs.declared.stopped.Stopped.{Stopped}
-use Rattle.ingesterd.specs.declared.stopped.Stopped.TheVariants.{Body, Slots, Opening as Unopened, Listen, Serving, Call, Memory, Output}
-
--- what stops a program: 3 for a refused opening, else 1
-abbrev pub stop_status : Stopped → ℕ
-stop_status Body = 1
-stop_status (Slots fault) = 1
-stop_status (Unopened fault) = 3
-stop_status Listen = 1
-stop_status (Serving fault) = 1
-stop_status (Call fault) = 1
-stop_status Memory = 1
-stop_status Output = 1
+use Rattle.programs.specs.declared.stopped.Stopped.{Stopped}
+use Rattle.programs.specs.declared.stopped.Stopped.TheVariants.{Serving, Output}
+use Rattle.programs.specs.Stops.{stop_status}
 
 -- what a server says that listens on a port
 abbrev pub ready_line : ℕ → List ℕ

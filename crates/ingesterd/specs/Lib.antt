@@ -1,4 +1,1 @@
-pub mod Readings
-pub mod Clocks
-pub mod Openings
 pub mod Endings

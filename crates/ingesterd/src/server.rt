@@ -3,18 +3,17 @@ ghost use Rattle.std.specs.Prelude.{◌≡◌, ◌≢◌, ◌↔◌, ◌≤◌, 
 ghost use Rattle.history.specs.Handles.{Passed};
 ghost use Rattle.ingester.specs.Calls.{IsPassOf};
 ghost use Rattle.words.specs.Words.{GiveServer, GivesCapacity};
-ghost use Rattle.ingesterd.specs.Openings.{IsProfiled};
-ghost use Rattle.ingesterd.specs.Endings.{ServerEnds, HasSaidReady, HasSaidUntil, stop_status};
+ghost use Rattle.programs.specs.Openings.{IsProfiled};
+ghost use Rattle.programs.specs.Stops.{stop_status};
+ghost use Rattle.ingesterd.specs.Endings.{ServerEnds, HasSaidReady, HasSaidUntil};
 
-use crate::clock::SystemClock;
 use crate::connections::Connections;
-use crate::program_shards::{close_shards, open_shards};
-use crate::replayed::{Replaying, say_replayed};
-use crate::setting::capacity_by;
-use crate::stopped::Stopped;
 use disk::Disk;
 use history::Pass;
 use ingester::Ingester;
+use programs::{
+    Replaying, Stopped, SystemClock, capacity_by, close_shards, open_shards, say_replayed,
+};
 use slots::{open_slots, terminal_in};
 use std::alloc::Global;
 use std::fs::{File, Files};

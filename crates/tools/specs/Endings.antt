@@ -17,10 +17,10 @@ use Rattle.owners.specs.Openings.{Opening}
 use Rattle.front.specs.Calls.{CallGives}
 use Rattle.words.specs.declared.said.CallWords.{CallWords}
 use Rattle.words.specs.Words.{SaysCall, SaysClock, capacity_of}
-use Rattle.ingesterd.specs.declared.stopped.Stopped.{Stopped}
-use Rattle.ingesterd.specs.declared.stopped.Stopped.TheVariants.{Output}
-use Rattle.ingesterd.specs.Endings.{stop_status}
-use Rattle.ingesterd.specs.Openings.{IsProfiled}
+use Rattle.programs.specs.declared.stopped.Stopped.{Stopped}
+use Rattle.programs.specs.declared.stopped.Stopped.TheVariants.{Output}
+use Rattle.programs.specs.Stops.{stop_status}
+use Rattle.programs.specs.Openings.{IsProfiled}
 
 -- an answer that was written: 0 for 200 and 204, else 1
 abbrev pub answer_status : Status → ℕ

@@ -5,7 +5,7 @@ ghost use Rattle.requests.specs.Framings.{max_body};
 ghost use Rattle.tools.specs.Endings.{answer_lines};
 
 use front::Answer;
-use ingesterd::Stopped;
+use programs::Stopped;
 use requests::MAX_BODY;
 use std::alloc::Global;
 use std::io::{ErrorKind, Read, Write};

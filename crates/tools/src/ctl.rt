@@ -5,13 +5,13 @@ ghost use Rattle.requests.specs.declared.answer.Answer.{Answer};
 ghost use Rattle.disk.specs.declared.file.FileDisk.{FileDisk};
 ghost use Rattle.slots.specs.declared.watched.Watched.{Watched};
 ghost use Rattle.words.specs.Words.{GiveCall, GivesCapacity};
-ghost use Rattle.ingesterd.specs.Endings.{stop_status};
+ghost use Rattle.programs.specs.Stops.{stop_status};
 ghost use Rattle.tools.specs.Endings.{CallEnds, IsBodyOf, IsDueToCall, answer_lines, answer_status};
 
 use crate::body::{read_body, write_answer};
 use crate::one_pass::{close_for_one, open_for_one};
 use front::{Answer, Status, answer};
-use ingesterd::{Stopped, capacity_by};
+use programs::{Stopped, capacity_by};
 use slots::open_slots;
 use std::alloc::Global;
 use std::fs::{File, Files};

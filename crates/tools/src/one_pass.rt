@@ -5,13 +5,13 @@ ghost use Rattle.openings.specs.Findings.{AreOpenedFrom};
 ghost use Rattle.ingester.specs.Calls.{IsPassOf};
 ghost use Rattle.ingester.specs.declared.refusal.OpenFault.{OpenFault};
 ghost use Rattle.ingester.specs.Findings.{IsUnmade};
-ghost use Rattle.ingesterd.specs.Openings.{IsProfiled};
+ghost use Rattle.programs.specs.Openings.{IsProfiled};
 
 use disk::Disk;
 use history::Pass;
 use ingester::Ingester;
-use ingesterd::{Stopped, close_shards, open_shards};
 use openings::Unobserved;
+use programs::{Stopped, close_shards, open_shards};
 use std::alloc::Global;
 use std::sync::Wait;
 use std::thread::Threads;

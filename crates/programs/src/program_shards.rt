@@ -7,7 +7,7 @@ ghost use Rattle.ingester.specs.declared.refusal.OpenFault.{OpenFault};
 ghost use Rattle.openings.specs.Findings.{AreOpenedFrom};
 ghost use Rattle.history.specs.Histories.{max_passes};
 ghost use Rattle.ingester.specs.Findings.{IsUnmade};
-ghost use Rattle.ingesterd.specs.Openings.{IsProfiled};
+ghost use Rattle.programs.specs.Openings.{IsProfiled};
 
 use crate::stopped::Stopped;
 use accept::Limits;

@@ -21,12 +21,12 @@ use denote.Triple.Entry.{on_entry}
 use denote.Triple.Spec.{Meets, triple_of}
 use denote.Triple.Table.{entered}
 use denote.Triple.Walked.{says, ends_at, walked, walk_Meets}
-use Rattle.ingesterd.specs.declared.reading.Readings.{Readings}
-use Rattle.ingesterd.specs.contracts.reading.Readings as T
-use Rattle.ingesterd.specs.contracts.reading.Readings.new.Key.{name as #it}
-use Rattle.ingesterd.specs.contracts.reading.Readings.new as it
-use Rattle.ingesterd.proofs.reading.Readings.new.Statement as stated
-use Rattle.ingesterd.proofs.reading.Readings.new.Code as code
+use Rattle.programs.specs.declared.reading.Readings.{Readings}
+use Rattle.programs.specs.contracts.reading.Readings as T
+use Rattle.programs.specs.contracts.reading.Readings.new.Key.{name as #it}
+use Rattle.programs.specs.contracts.reading.Readings.new as it
+use Rattle.programs.proofs.reading.Readings.new.Statement as stated
+use Rattle.programs.proofs.reading.Readings.new.Code as code
 
 abbrev v : Val
 v = vstruct (vcons (vstruct vnil) vnil)

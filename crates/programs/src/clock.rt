@@ -2,7 +2,7 @@
 ghost use Rattle.std.specs.Prelude.{◌≡◌, ◌<◌, option_map};
 ghost use Rattle.std.specs.Time.{system_time_nanos};
 ghost use Rattle.accept.specs.OneStream.{end_of_time};
-ghost use Rattle.ingesterd.specs.Readings.{time_by};
+ghost use Rattle.programs.specs.Readings.{time_by};
 
 use crate::reading::{NotedClock, nanos_of};
 use accept::END_OF_TIME;
@@ -18,7 +18,7 @@ pub struct SystemClock<'a, R: rt::Clock> {
 }
 
 impl<'a, R: rt::Clock> SystemClock<'a, R> {
-    ghost use Rattle.ingesterd.specs.Clocks.{IsUnread};
+    ghost use Rattle.programs.specs.Clocks.{IsUnread};
 
     /// A clock that has given nothing yet.
     pub fn new(rt: &'a R) -> SystemClock<'a, R>
@@ -31,8 +31,8 @@ impl<'a, R: rt::Clock> SystemClock<'a, R> {
     }
 }
 
-impl<'a, R: rt::Clock> front::Clock for SystemClock<'a, R> {
-    ghost use Rattle.ingesterd.specs.Clocks.{IsTick};
+impl<'a, R: rt::Clock> answering::Clock for SystemClock<'a, R> {
+    ghost use Rattle.programs.specs.Clocks.{IsTick};
 
     ghost ticks = { IsTick };
 

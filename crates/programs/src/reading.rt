@@ -3,7 +3,7 @@
 ghost use Rattle.std.specs.Prelude.{◌≡◌, ℕ, List, [], ◌∷◌, Option, option_map};
 ghost use Rattle.std.specs.Borrow.{ftrue};
 ghost use Rattle.std.specs.Time.{system_time_nanos};
-ghost use Rattle.ingesterd.specs.Readings.{reading_of};
+ghost use Rattle.programs.specs.Readings.{reading_of};
 
 use std::marker::{Model, PhantomData};
 use std::rt;

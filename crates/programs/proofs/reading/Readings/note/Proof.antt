@@ -25,13 +25,13 @@ use denote.Triple.Entry.{on_entry}
 use denote.Triple.Spec.{Meets, triple_of}
 use denote.Triple.Table.{entered}
 use denote.Triple.Walked.{says, Stays, stay_ref, walk_of, AllGo, Goes-ref, Walks, ends_at, walked, walk_Meets}
-use Rattle.ingesterd.specs.declared.reading.Readings.{Readings}
-use Rattle.ingesterd.specs.Readings.{reading_of}
-use Rattle.ingesterd.specs.contracts.reading.Readings as T
-use Rattle.ingesterd.specs.contracts.reading.Readings.note.Key.{name as #it}
-use Rattle.ingesterd.specs.contracts.reading.Readings.note as it
-use Rattle.ingesterd.proofs.reading.Readings.note.Statement as stated
-use Rattle.ingesterd.proofs.reading.Readings.note.Code as code
+use Rattle.programs.specs.declared.reading.Readings.{Readings}
+use Rattle.programs.specs.Readings.{reading_of}
+use Rattle.programs.specs.contracts.reading.Readings as T
+use Rattle.programs.specs.contracts.reading.Readings.note.Key.{name as #it}
+use Rattle.programs.specs.contracts.reading.Readings.note as it
+use Rattle.programs.proofs.reading.Readings.note.Statement as stated
+use Rattle.programs.proofs.reading.Readings.note.Code as code
 use denote.Ref.{Bor}
 use denote.Builtin.{u128}
 use denote.Exit.{yes}

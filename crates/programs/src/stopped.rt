@@ -1,6 +1,6 @@
 //! What stops a program.
 ghost use Rattle.std.specs.Prelude.{◌≡◌, ◌≢◌, ◌≤◌};
-ghost use Rattle.ingesterd.specs.declared.stopped.Stopped.TheVariants as stops;
+ghost use Rattle.programs.specs.declared.stopped.Stopped.TheVariants as stops;
 
 use ingester::{CallFault, OpenFault};
 use slots::SlotsFault;
@@ -30,7 +30,7 @@ pub enum Stopped {
 }
 
 impl Stopped {
-    ghost use Rattle.ingesterd.specs.Endings.{stop_status};
+    ghost use Rattle.programs.specs.Stops.{stop_status};
 
     /// The exit status: 3 for a refused opening, else 1.
     pub fn status(&self) -> u8

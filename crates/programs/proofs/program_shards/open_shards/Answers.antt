@@ -1,5 +1,5 @@
 use Rattle.std.proofs.Common.{ap}
-use Rattle.ingesterd.proofs.program_shards.open_shards.Goals as goal
+use Rattle.programs.proofs.program_shards.open_shards.Goals as goal
 
 pub returns-in-Ok-clause-passes : goal.returns-in-Ok-clause-passes
 returns-in-Ok-clause-passes g c p pass found =

@@ -1,7 +1,7 @@
 -- What the programs' clock tells.
 use Rattle.std.specs.Prelude.{◌≡◌, ℕ, List, [], ◌∷◌, Option}
-use Rattle.ingesterd.specs.Readings.{time_by}
-use Rattle.ingesterd.specs.declared.clock.SystemClock.{SystemClock}
+use Rattle.programs.specs.Readings.{time_by}
+use Rattle.programs.specs.declared.clock.SystemClock.{SystemClock}
 
 module _ {R : Type 0} where
   -- what the system's clock gave at each reading so far, the last first

@@ -1,0 +1,4 @@
+pub mod Readings
+pub mod Clocks
+pub mod Openings
+pub mod Stops
