@@ -88,9 +88,8 @@ pub returns-clause-made : goal.returns-clause-made
 returns-clause-made g c =
     let inv = c.loop-log.invariant in
     let none = c.in_default.ensures.cases.0 in
-    let books_as = inv.books in
-    let no_logs : length c.loop-log.logs.items ≡ 0 = omega arith in
-    let no_books : length c.loop-log.books.items ≡ 0 = omega arith in
+    let no_logs : length c.loop-log.logs.items ≡ 0 = sym c.loop-log.logs.ok.0 ∙ none in
+    let no_books : length c.loop-log.books.items ≡ 0 = sym c.loop-log.books.ok.0 ∙ (inv.books ∙ none) in
     subst (λ s. AreShardsOfLogs s c.args.logs.items c.args.books.items) (sym c.into_vec-2.ensures.items)
     (partly_all c.loop-log.shards.items c.loop-log.logs.items c.args.logs.items c.loop-log.books.items c.args.books.items inv.partly (nil_from_length _ no_logs) (nil_from_length _ no_books))
 
@@ -109,3 +108,8 @@ returns-clause-room g c =
     let made = inv.made in
     let len = c.into_vec-2.ensures.len in
     (inv.slots, omega arith)
+
+pub loop-log-smaller : goal.loop-log-smaller
+loop-log-smaller g c =
+    let popped = c.in-Some.ensures.len in
+    omega arith

@@ -1,4 +1,4 @@
-use Rattle.std.proofs.Common.{◌≡◌, ◌≤◌, ◌<◌, length, vec_len, sym, subst, arith}
+use Rattle.std.proofs.Common.{◌≤◌, vec_len, sym, subst, arith}
 use Rattle.ingester.proofs.locking.sizes_of.Goals as goal
 
 pub loop-place-init : goal.loop-place-init
@@ -10,7 +10,8 @@ push_reserved-requires g c =
     let len = inv.len in
     let room = inv.room in
     let lt = c.loop-place-test.true in
-    omega (arith, c.args.shards.now.ok.0)
+    let all = c.args.shards.now.ok.0 in
+    omega arith
 
 pub loop-place-preserved : goal.loop-place-preserved
 loop-place-preserved g c =

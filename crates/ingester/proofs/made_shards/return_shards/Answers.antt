@@ -40,7 +40,7 @@ loop-last-preserved g c =
 pub returns-clause-items : goal.returns-clause-items
 returns-clause-items g c =
     let none = c.in_default.ensures.cases.0 in
-    let no_shards : length c.loop-last.shards.items ≡ 0 = omega arith in
+    let no_shards : length c.loop-last.shards.items ≡ 0 = sym c.loop-last.shards.ok.0 ∙ none in
     ap (λ s. map disks (logs_of_shards s) ++ c.loop-last.slots.items) (sym (nil_from_length _ no_shards)) ∙ c.loop-last.invariant.items
 
 pub returns-clause-capacity : goal.returns-clause-capacity
@@ -50,4 +50,9 @@ pub returns-clause-len : goal.returns-clause-len
 returns-clause-len g c =
     let none = c.in_default.ensures.cases.0 in
     let len = c.loop-last.invariant.len in
+    omega arith
+
+pub loop-last-smaller : goal.loop-last-smaller
+loop-last-smaller g c =
+    let popped = c.in-Some.ensures.len in
     omega arith

@@ -14,4 +14,4 @@ invariant-loop-last g l = record {
 }
 
 abbrev pub decreases-loop-last : goal.decreases-loop-last
-decreases-loop-last g l = goal.left-loop-last g l
+decreases-loop-last g l = vec_len l.shards

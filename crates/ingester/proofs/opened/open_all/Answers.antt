@@ -85,7 +85,14 @@ sizes_of-sizes-requires g c =
     let made = c.in-Ok-make_shards.ensures.room.1 in
     let lens = c.in_ok-logs.ensures.lens.0 in
     let room = c.in_ok-sizes.ensures.capacity in
+    let count = c.len-count.ensures in
     (c.in_ok-sizes.ensures.len, omega arith)
+
+pub overflow_cast-count : goal.overflow_cast-count
+overflow_cast-count g c =
+    let few : deque_len c.args.slots.now ≤ 64 = c.requires.slots.1 in
+    let count = c.len-count.ensures in
+    omega arith
 
 pub opened_with-requires : goal.opened_with-requires
 opened_with-requires g c =

@@ -1,4 +1,4 @@
-use Rattle.std.proofs.Common.{rules, ◌≡◌, ◌+◌, ◌<◌, ◌≤◌, List, [], ◌∷◌, length, length-set, length-append, refl, sym, ap, ◌∙◌, subst, arith}
+use Rattle.std.proofs.Common.{rules, ◌≡◌, ◌+◌, ◌<◌, ◌≤◌, List, [], ◌∷◌, length, length-set, length-append, refl, sym, ap, ◌∙◌, subst, arith, zero-add}
 use Rattle.std.specs.Prelude.{Some, slice_get}
 use Rattle.std.specs.Vec.{vec_capacity}
 use Rattle.std.proofs.lemmas.Option.{slice_get-get_or, slice_get_within}
@@ -19,7 +19,7 @@ pub take_out-ways-requires : goal.take_out-ways-requires
 take_out-ways-requires g c =
     let inv = c.self.invariant in
     let some = c.requires.some in
-    let lt : 0 < length c.args.passes.items = omega arith in
+    let lt : 0 < length c.args.passes.items = subst (λ n. 0 < n) c.args.passes.ok.0 some in
     let pass = c.requires.passes 0 c.index.result.now (slice_get-get_or c.args.passes.items 0 c.index.result.now lt ∙ ap Some (sym c.index.ensures)) in
     let here = subst (λ (a : About). c.number-pass.result < a.passes) pass.about c.number-pass.ensures.1 in
     subst (λ n. c.number-pass.result < n) (ap (λ (o : Opening g.row.D.Denot). o.about.passes) (sym c.self.view_is) ∙ sym inv.passes) here
@@ -33,7 +33,7 @@ loop-number-init g c =
     let inv = c.self.invariant in
     let held = c.take_out-backs.ensures in
     let list = c.take_out-shards.ensures in
-    let empty : length c.take_out-shards.result.items ≡ 0 = search rules in
+    let empty : length c.take_out-shards.result.items ≡ 0 = sym c.take_out-shards.result.ok.0 ∙ list.0 in
     record {
       backs = subst (λ (o : Opening g.row.D.Denot). ReceiveFrom o c.take_out-backs.result.items) inv.backs_are held.0;
       many = held.1 ∙ (ap (λ (o : Opening g.row.D.Denot). o.about.shards) inv.backs_are ∙ inv.is_opening.shards);
@@ -49,8 +49,8 @@ take_shard-shard-requires g c =
     let backs = c.loop-number.backs.items in
     let k = c.loop-number.number in
     let many = inv.many in
-    let lt : c.loop-number.number < length c.loop-number.backs.items = search rules in
-    let z : 0 + k ≡ k = omega arith in
+    let lt : c.loop-number.number < length c.loop-number.backs.items = subst (λ n. c.loop-number.number < n) (sym many) c.loop-number-test.true in
+    let z : 0 + k ≡ k = zero-add k in
     subst (λ n. receives_as c.index_mut.result.now ≡ Bound c.self.inside.origin n) z
     (subst (λ end. receives_as end ≡ Bound c.self.inside.origin (0 + k)) (sym c.index_mut.ensures.value) (each_get (λ n end. receives_as end ≡ Bound c.self.inside.origin n) 0 backs k c.index_mut.result.now inv.backs lt))
 
@@ -73,9 +73,8 @@ pub loop-number-preserved : goal.loop-number-preserved
 loop-number-preserved g c =
     let inv = c.loop-number.invariant in
     let backs = c.loop-number.backs.items in
-    let z : c.loop-number.number ≡ 0 + c.loop-number.number = omega arith in
     let many = inv.many in
-    let lt : c.loop-number.number < length c.loop-number.backs.items = search rules in
+    let lt : c.loop-number.number < length c.loop-number.backs.items = subst (λ n. c.loop-number.number < n) (sym many) c.loop-number-test.true in
     let bound : receives_as c.index_mut.result.now ≡ Bound c.self.inside.origin (0 + c.loop-number.number) =
     subst (λ end. receives_as end ≡ Bound c.self.inside.origin (0 + c.loop-number.number)) (sym c.index_mut.ensures.value) (each_get (λ n end. receives_as end ≡ Bound c.self.inside.origin n) 0 backs c.loop-number.number c.index_mut.result.now inv.backs lt) in
     let lent = c.as_mut_slice.ensures in
@@ -95,6 +94,21 @@ pub invariant_of-result : goal.invariant_of-result
 invariant_of-result g c =
     let inv = c.loop-number.invariant in
     let some = c.requires.some in
-    let some_pass : 0 < length c.args.passes.items = omega arith in
+    let some_pass : 0 < length c.args.passes.items = subst (λ n. 0 < n) c.args.passes.ok.0 some in
     subst (λ (z : Opening g.row.D.Denot × List Passed). AreLast z.0 z.1 c.loop-number.shards.items) (λ i. (sym c.self.view_is i, sym inv.passes i))
     (record { some_pass = some_pass; each = inv.last })
+
+pub index-requires : goal.index-requires
+index-requires g c = c.requires.some
+
+pub index_mut-requires : goal.index_mut-requires
+index_mut-requires g c = subst (λ n. c.loop-number.number < n) (sym (c.loop-number.backs.ok.0 ∙ c.loop-number.invariant.many)) c.loop-number-test.true
+
+pub push_reserved-requires : goal.push_reserved-requires
+push_reserved-requires g c =
+    let inv = c.loop-number.invariant in
+    let len = inv.len in
+    let room = inv.room in
+    let items = c.loop-number.shards.ok.0 in
+    let more = c.loop-number-test.true in
+    omega arith
