@@ -1,5 +1,5 @@
 -- From windows of streams to all of them.
-use Rattle.std.proofs.Common.{◌≡◌, ◌≢◌, ℕ, suc, ◌+◌, ◌<◌, ◌≤◌, Bool, false, All, List, [], ◌∷◌, ◌++◌, length, map, drop, get_or, Option, None, Some, Result, Ok, Err, refl, sym, ap, ◌∙◌, subst, append_assoc, add-one, drop-cons, arith}
+use Rattle.std.proofs.Common.{◌≡◌, ◌≢◌, ℕ, suc, ◌+◌, ◌<◌, ◌≤◌, Bool, true, false, All, List, [], ◌∷◌, ◌++◌, length, map, drop, get_or, Option, None, Some, is_some, Result, Ok, Err, refl, sym, ap, ◌∙◌, subst, append_assoc, add-one, drop-cons, arith}
 use Rattle.std.proofs.lemmas.List.{append-nil}
 use Rattle.std.proofs.lemmas.List.Elements.{All-nil, All-cons, All-head, All-tail}
 use Rattle.labels.specs.Faults.{first_fault}
@@ -99,6 +99,14 @@ module _ (places : List (Option LabelFault)) (k : ℕ) (within : k < length plac
   pub next_came : (outcome : Result Reply Failure) (outcomes : List (Result Reply Failure)) → get_or places k d ≡ None
       → (merged (drop k places) (outcome ∷ outcomes) ≡ came_of outcome ∷ merged (drop (k + 1) places) outcomes) × (called (drop k places) ≡ called (drop (k + 1) places) + 1)
   next_came outcome outcomes is = let at = cut None is in (ap (λ l. merged l (outcome ∷ outcomes)) at, ap called at)
+
+  pub next_called : (place : Option LabelFault) → get_or places k d ≡ place → is_some place ≡ false → called (drop k places) ≡ called (drop (k + 1) places) + 1
+  next_called None is none = ap called (cut None is)
+  next_called (Some fault) is none = absurd (cc)
+
+  pub next_uncalled : (place : Option LabelFault) → get_or places k d ≡ place → is_some place ≡ true → called (drop k places) ≡ called (drop (k + 1) places)
+  next_uncalled None is some = absurd (cc)
+  next_uncalled (Some fault) is some = ap called (cut (Some fault) is)
 
 few_behind : (cs : List Came) (failure : Failure) → first_failure cs ≡ Some failure → behind_failure cs < length cs
 few_behind [] failure is = absurd (cc)

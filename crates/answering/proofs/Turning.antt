@@ -1,25 +1,31 @@
 -- From one turn of a connection to all of them.
-use Rattle.std.proofs.Common.{◌≡◌, ℕ, Bool, true, false, List, [], ◌∷◌, ◌++◌, take, drop, slice_range, Option, None, Result, Ok, Err, refl, sym, ap, ◌∙◌, subst, inl, inr}
+use Rattle.std.proofs.Common.{◌≡◌, ℕ, Bool, true, false, List, [], ◌∷◌, ◌++◌, ◌||◌, take, drop, slice_range, Option, None, Some, Result, Ok, Err, refl, sym, ap, ap₂, ◌∙◌, subst, inl, inr}
 use Rattle.std.proofs.lemmas.List.{append-nil}
 use Rattle.std.proofs.lemmas.List.Concat.{flat_map-append}
 use Rattle.std.proofs.Math.Seq.{take-length}
 use Rattle.std.proofs.KnownBytes.{Appends-nil, Appends-trans, Consumes-nil, Consumes-trans}
 use Rattle.std.specs.List.{flat_map}
 use Rattle.std.specs.Io.KnownBytes.{Appends, Consumes}
-use Rattle.requests.specs.Answers.{fixed_text}
+use Rattle.requests.specs.Answers.{answer_text, fixed_text, failure_text}
 use Rattle.requests.specs.Streams.{Request, ReadsMessage, IsMessage, IsNext, BeginsRefused, Grows}
 use Rattle.requests.specs.Writing.{WritesBeginning}
+use Rattle.requests.specs.declared.answer.Answer.{Answer}
+use Rattle.requests.specs.declared.answer.Content.{Content}
+use Rattle.requests.specs.declared.failure.Failure.{Failure}
 use Rattle.requests.specs.declared.fault.ServeFault.{ServeFault}
 use Rattle.requests.specs.declared.fault.ServeFault.TheVariants.{Read, Write, Memory, CutShort}
 use Rattle.requests.specs.declared.fault.Served.{Served}
 use Rattle.requests.specs.declared.fault.Served.TheVariants as served
 use Rattle.requests.specs.declared.fixed.FixedAnswer.{FixedAnswer}
 use Rattle.requests.specs.declared.incoming.Message.{Message}
+use Rattle.requests.specs.declared.route.Route.{Route}
 use Rattle.requests.specs.declared.verdict.Verdict.{Verdict}
 use Rattle.requests.proofs.Unique.{keeps_request}
 use Rattle.answering.specs.Calls.{Giving}
 use Rattle.answering.specs.Courses.{Course}
-use Rattle.answering.specs.Serving.{Exchange, World, Io, response, closes, response_text, failure_at, ends_behind, VerdictGives, VerdictIsLeft, IsExchange, ConnectionGives, ConnectionEnds, ConnectionIsServed}
+use Rattle.answering.specs.Responses.{status_for, text_for, content_for, failure_in}
+use Rattle.answering.specs.Showing.{IsShown}
+use Rattle.answering.specs.Serving.{Exchange, World, Io, response, closes, called_text, is_failed, response_text, failure_at, ends_behind, VerdictGives, VerdictIsLeft, IsExchange, ConnectionGives, ConnectionEnds, ConnectionIsServed}
 use Rattle.answering.specs.Turns.{IsSameConnection, ResponseGives, ResponseIsWritten, ConnectionTurnIsAnswered, ConnectionTurnIsServed, ConnectionProgress}
 use Rattle.answering.specs.declared.serving.Connection.{Connection}
 use Rattle.answering.specs.declared.serving.Turn.{Turn}
@@ -40,6 +46,24 @@ same_trans a b c first more = record {
 pub not_memory : (fault : ServeFault) → fault ≡ Write → fault ≡ Memory → ⊥
 not_memory fault written none = cc
 
+-- what the response to a request with calls says
+module _ (route : Route) (close : Bool) (course : Course) where
+  pub answered : (answer : Answer) (content : Content) → failure_in course ≡ None → IsShown (status_for route course) (text_for route course) answer → content ≡ content_for answer.status
+      → answer_text answer.status content None close answer.body.items ≡ called_text route close course (failure_in course)
+  answered answer content none shows is =
+      ap (λ c. answer_text answer.status c None close answer.body.items) is
+      ∙ ap₂ (λ s b. answer_text s (content_for s) None close b) shows.status_is shows.text_is
+      ∙ ap (called_text route close course) (sym none)
+
+  pub said_failed : (failure : Failure) → failure_in course ≡ Some failure → failure_text failure ≡ called_text route close course (failure_in course)
+  said_failed failure fails = ap (called_text route close course) (sym fails)
+
+  pub ends_kept : failure_in course ≡ None → close ≡ (is_failed (failure_in course) || close)
+  ends_kept none = ap (λ f. is_failed f || close) (sym none)
+
+  pub ends_failed : (failure : Failure) → failure_in course ≡ Some failure → true ≡ (is_failed (failure_in course) || close)
+  ends_failed failure fails = ap (λ f. is_failed f || close) (sym fails)
+
 module _ {H : Type 0} (gives : Giving H) (now : ℕ) (body : List ℕ) (verdict : Verdict) (close : Bool) (course : Course) (h h' : H) (before after : Option (List ℕ))
     (handles : VerdictGives gives now body verdict h course h') where
   -- the response is out
@@ -56,6 +80,10 @@ module _ {H : Type 0} (gives : Giving H) (now : ℕ) (body : List ℕ) (verdict 
   not_out CutShort (n, appends, some) said = absurd some
   not_out Write (n, appends, some) said = record { text = take n (response_text verdict close course); appends = appends; replies = (course, handles, (n, refl)) }
   not_out Memory (n, appends, none) said = record { text = take n (response_text verdict close course); appends = appends; replies = (ap (λ k. take k (response_text verdict close course)) none, inl (course, handles, said refl)) }
+
+-- the calls were given up, and nothing is written
+pub left_out : {H : Type 0} (gives : Giving H) (now : ℕ) (body : List ℕ) (verdict : Verdict) (close : Bool) (h h' : H) (before : Option (List ℕ)) → VerdictIsLeft gives now body verdict h h' → ResponseIsWritten gives now body before before verdict close h h' (Err Memory)
+left_out gives now body verdict close h h' before left = record { text = []; appends = Appends-nil before; replies = (refl, inr left) }
 
 module _ {H C : Type 0} (gives : Giving H) (ticks : C → ℕ → C → Type 0) where
   -- what a turn read stands after what had come

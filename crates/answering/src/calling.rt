@@ -13,7 +13,7 @@ use pushjson::{PushFault, RawRead, RawTrim, read_query, read_trim};
 use std::alloc::Global;
 
 /// Why no call is made of a body that asks for one.
-#[derive(Clone, Copy, Debug)]
+#[derive(Clone, Copy)]
 pub(crate) enum Uncalled {
     /// It is refused at its form, or there was no memory for a call.
     Body(PushFault),

@@ -13,7 +13,7 @@ use std::io::Write;
 
 /// What is answered to a push while its streams are taken: a line for each refusal, in the order of the
 /// body, with streams and entries counted from 0.
-#[derive(Debug, Drop)]
+#[derive(Drop)]
 pub(crate) struct PushLines {
     /// How many streams were taken in.
     streams: usize,

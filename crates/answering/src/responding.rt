@@ -28,7 +28,7 @@ use std::sync::Wait;
 const LONGEST_FAILURE: usize = 13;
 
 /// Why a request has no answer of its own.
-#[derive(Clone, Copy, Debug)]
+#[derive(Clone, Copy)]
 pub(crate) enum Halt {
     /// Its calls ended at a failure, which is answered by a status 500.
     Failed(Failure),

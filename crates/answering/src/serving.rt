@@ -20,7 +20,7 @@ use std::io::{Read, Write};
 use std::sync::Wait;
 
 /// What came of a turn.
-#[derive(Clone, Copy, Debug, PartialEq, Eq)]
+#[derive(Clone, Copy)]
 pub(crate) enum Turn {
     /// A request was answered, and the connection goes on.
     Answered,

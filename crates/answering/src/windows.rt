@@ -145,7 +145,8 @@ impl<O: Drop> Windows<O> {
         }
     }
 
-    // Takes what came of the streams at these places into the lines, up to one that failed, or for which there is no memory.
+    // Takes what came of the streams at these places into the lines, up to one that failed, or for which there is no
+    // memory.
     fn note<S: Calls<Outcome = O>>(
         &mut self,
         places: &[Option<LabelFault>],

@@ -65,3 +65,29 @@ returns-in-Whole-clause-turns g c =
     let takes = subst (λ w. ConnectionTakesMessage (g.S.Calls.gives old.service.now) g.C.Clock.ticks (g.O.Write.contents w) (g.O.Write.contents new.ends.now.writer.now) c.in-Whole.message bytes new.incoming.now (world_of old) (world_of new) c.take_message.result) c.in_ok-next.ensures.writer c.take_message.ensures.takes in
     turn (g.S.Calls.gives old.service.now) g.C.Clock.ticks (ends_of g.I.Read.remaining g.O.Write.contents old) (ends_of g.I.Read.remaining g.O.Write.contents new) old.incoming.now bytes new.incoming.now (world_of old) (world_of new) c.take_message.result grows
     (takes r left is reads)
+
+pub returns-in_err-next-clause-told : goal.returns-in_err-next-clause-told
+returns-in_err-next-clause-told g c =
+    let p = err_from_is_err_and c.from_residual.result c.from_residual.ensures.1 in
+    rw (p.1, p.2) c.in_err-next.ensures.told
+
+pub returns-in_err-next-clause-short : goal.returns-in_err-next-clause-short
+returns-in_err-next-clause-short g c =
+    let p = err_from_is_err_and c.from_residual.result c.from_residual.ensures.1 in
+    rw (p.1, p.2) (λ is. absurd (cc))
+
+pub returns-in_err-fixed-in-Refused-clause-told : goal.returns-in_err-fixed-in-Refused-clause-told
+returns-in_err-fixed-in-Refused-clause-told g c =
+    let p = err_from_is_err_and c.from_residual-in_err-fixed-in-Refused.result c.from_residual-in_err-fixed-in-Refused.ensures.1 in
+    rw (p.1, p.2) c.in_err-fixed-in-Refused.ensures.told
+
+pub returns-in_err-fixed-in-Refused-clause-short : goal.returns-in_err-fixed-in-Refused-clause-short
+returns-in_err-fixed-in-Refused-clause-short g c =
+    let p = err_from_is_err_and c.from_residual-in_err-fixed-in-Refused.result c.from_residual-in_err-fixed-in-Refused.ensures.1 in
+    rw (p.1, p.2) (λ is. absurd (cc))
+
+pub returns-in-Ended-clause-short : goal.returns-in-Ended-clause-short
+returns-in-Ended-clause-short g c is = absurd (cc)
+
+pub returns-in_ok-fixed-in-Refused-clause-short : goal.returns-in_ok-fixed-in-Refused-clause-short
+returns-in_ok-fixed-in-Refused-clause-short g c is = absurd (cc)
