@@ -1,5 +1,6 @@
 pub mod Deciding
 pub mod Existence
+pub mod Members
 pub mod Beginnings
 pub mod OneAnswer
 pub mod OneQuery

@@ -1,7 +1,8 @@
 -- What the readers of a tree's parts answer; for private clauses.
-use Rattle.std.specs.Prelude.{◌≡◌, ◌≢◌, ⊤, ℕ, List, map, string_bytes, Result, Ok, Err}
-use Rattle.serde_json.specs.Data.{Data}
-use Rattle.serde_json.specs.View.{view}
+use Rattle.std.specs.Prelude.{◌≡◌, ◌≢◌, ⊤, ℕ, List, map, String, string_bytes, Result, Ok, Err, Option, Some, None}
+use Rattle.std.specs.declared.alloc.Global.{Global}
+use Rattle.serde_json.specs.Data.{Data, Members, member}
+use Rattle.serde_json.specs.View.{view, members_view}
 use Rattle.serde_json.specs.declared.value.Value.{Value}
 use Rattle.labels.specs.Labels.{label_of}
 use Rattle.pushjson.specs.Bodies.{Stream, TimedLine, IsJson}
@@ -25,6 +26,11 @@ IsFaultOf tree d TooManyEntries = ⊥
 abbrev pub ReadsTree : {X Y : Type 0} → (X → Y) → (Y → Data) → Data → Result X PushFault → Type 0
 ReadsTree of tree d (Ok x) = d ≡ tree (of x)
 ReadsTree of tree d (Err e) = IsFaultOf tree d e
+
+-- the first member has this key and goes, or there is none with it in front
+abbrev pub TakesValue : List ℕ → List (String Global × Value) → Option Value → List (String Global × Value) → Type 0
+TakesValue key before (Some v) after = members_view before ≡ member key (view v) (members_view after)
+TakesValue key before None after = (d : Data) (ms : Members) → members_view before ≢ member key d ms
 
 -- the tree of the bytes
 abbrev pub ReadsData : List ℕ → Result Value PushFault → Type 0

@@ -5,12 +5,13 @@ ghost use Rattle.serde_json.specs.Data.{Data, string, array, object, no_members,
 ghost use Rattle.serde_json.specs.View.{view, items_of};
 ghost use Rattle.pushjson.specs.Bodies.{labels_tree, value_tree, stream_tree, body_tree, HaveRisingNames};
 ghost use Rattle.pushjson.specs.Queries.{query_tree, trim_tree};
-ghost use Rattle.pushjson.specs.Shape.{ReadsTree, ReadsData, value_texts_of, stream_texts_of, query_texts_of, trim_texts_of};
+ghost use Rattle.pushjson.specs.Shape.{ReadsTree, ReadsData, TakesValue, value_texts_of, stream_texts_of, query_texts_of, trim_texts_of};
 
 use crate::fault::PushFault;
 use labels::Meta;
 use serde_json::Value;
 use std::alloc::Global;
+use std::collections::btree_map::IntoIter;
 
 // A stream whose times are not read yet.
 #[derive(Drop)]
@@ -76,6 +77,18 @@ fn items_in(value: Value) -> Result<Vec<Value>, PushFault>
     }
 }
 
+// The value of the next member, where this is its key.
+fn next_value(members: &mut IntoIter<String, Value>, key: &str) -> Option<Value>
+    ensures { TakesValue key.now members.old result members.new }
+{
+    let (name, value) = members.next()?;
+    if name.as_str() == key {
+        Some(value)
+    } else {
+        None
+    }
+}
+
 // The value of an object with this one key.
 fn only_member(value: Value, key: &str) -> Result<Value, PushFault>
     ensures { ReadsTree view (λ d. object (member key.now d no_members)) (view value) result }
@@ -84,10 +97,10 @@ fn only_member(value: Value, key: &str) -> Result<Value, PushFault>
         return Err(PushFault::WrongShape);
     };
     let mut members = members.into_iter();
-    let Some((name, inner)) = members.next() else {
+    let Some(inner) = next_value(&mut members, key) else {
         return Err(PushFault::WrongShape);
     };
-    if name.as_str() != key || members.next().is_some() {
+    if members.next().is_some() {
         return Err(PushFault::WrongShape);
     }
     Ok(inner)
@@ -103,16 +116,16 @@ fn two_members(value: Value, first: &str, second: &str) -> Result<(Value, Value)
         return Err(PushFault::WrongShape);
     };
     let mut members = members.into_iter();
-    let Some((first_name, first_value)) = members.next() else {
+    let Some(first) = next_value(&mut members, first) else {
         return Err(PushFault::WrongShape);
     };
-    let Some((second_name, second_value)) = members.next() else {
+    let Some(second) = next_value(&mut members, second) else {
         return Err(PushFault::WrongShape);
     };
-    if first_name.as_str() != first || second_name.as_str() != second || members.next().is_some() {
+    if members.next().is_some() {
         return Err(PushFault::WrongShape);
     }
-    Ok((first_value, second_value))
+    Ok((first, second))
 }
 
 // The values of an object with these three keys, which rise.
@@ -131,22 +144,19 @@ fn three_members(
         return Err(PushFault::WrongShape);
     };
     let mut members = members.into_iter();
-    let Some((first_name, first_value)) = members.next() else {
+    let Some(first) = next_value(&mut members, first) else {
         return Err(PushFault::WrongShape);
     };
-    let Some((second_name, second_value)) = members.next() else {
+    let Some(second) = next_value(&mut members, second) else {
         return Err(PushFault::WrongShape);
     };
-    let Some((third_name, third_value)) = members.next() else {
+    let Some(third) = next_value(&mut members, third) else {
         return Err(PushFault::WrongShape);
     };
-    if first_name.as_str() != first || second_name.as_str() != second {
+    if members.next().is_some() {
         return Err(PushFault::WrongShape);
     }
-    if third_name.as_str() != third || members.next().is_some() {
-        return Err(PushFault::WrongShape);
-    }
-    Ok((first_value, second_value, third_value))
+    Ok((first, second, third))
 }
 
 // The names and values of an object of texts.
