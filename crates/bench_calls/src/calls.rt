@@ -7,8 +7,7 @@ ghost use Rattle.ingester.specs.Calls.{IsPassOf};
 use accept::{Call, Limits};
 use anyhow::{Result, bail};
 use bench_parts::{LINES, Mode, START, Stopwatch, is_stored, pushes_of};
-use history::Pass;
-use ingester::Ingester;
+use ingester::{Ingester, Pass, Settings};
 use memory_disk::MemDisk;
 use std::alloc::Global;
 use std::rt::Clock;
@@ -61,7 +60,12 @@ where
     if slots.is_empty() || slots.len() > 64 || passes == 0 || passes > 64 {
         bail!("there are 1 to 64 shards and passes");
     }
-    match Ingester::open(rt, *rt, alloc, slots, passes, Limits::PROFILE, CAPACITY) {
+    let settings = Settings {
+        passes,
+        limits: Limits::PROFILE,
+        capacity: CAPACITY,
+    };
+    match Ingester::open(rt, *rt, alloc, slots, settings) {
         Ok(opened) => Ok(opened),
         Err(refusal) => Err(refusal.0.into()),
     }

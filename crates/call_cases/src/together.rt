@@ -8,8 +8,7 @@ ghost use Rattle.ingester.specs.Calls.{IsPassOf};
 use accept::Reply;
 use anyhow::{Result, bail};
 use call_words::{Counted, Ended, Gathered, Settings, call_of, number_of, write_outcome};
-use history::Pass;
-use ingester::{CallFault, Closed, Ingester, OpenFault};
+use ingester::{CallFault, Closed, Ingester, OpenFault, Pass};
 use memory_disk::MemDisk;
 use rows::{Said, word_of};
 use std::alloc::Global;
@@ -60,7 +59,12 @@ impl Together {
             bail!("a limit is out of its bounds");
         }
         let count = slots.len() as u32;
-        match Ingester::open(rt, *rt, alloc, slots, passes, limits, capacity) {
+        let settings = ingester::Settings {
+            passes,
+            limits,
+            capacity,
+        };
+        match Ingester::open(rt, *rt, alloc, slots, settings) {
             Ok((ingester, mut others)) => {
                 let Some(pass) = others.pop() else {
                     bail!("there is no pass");
@@ -91,7 +95,7 @@ impl Together {
             "look" => self.say_steps(rest, said),
             "turn" => self.turn(),
             "end_owners" => {
-                self.ingester.end_owners(rt, &self.pass);
+                self.ingester.end_owners(rt, &mut self.pass);
                 Ok(())
             }
             _ => {

@@ -9,8 +9,7 @@ use crate::visits::{Came, Ticking};
 use accept::Limits;
 use anyhow::{Result, bail};
 use front::serve;
-use history::Pass;
-use ingester::Ingester;
+use ingester::{Ingester, Pass, Settings};
 use memory_disk::MemDisk;
 use std::alloc::{AllocError, Global};
 use std::sync::Wait;
@@ -68,7 +67,12 @@ impl Opened {
         }
         let count = slots.len() as u32;
         let capacity = plan.capacity.min(1 << 30);
-        match Ingester::open(rt, *rt, alloc, slots, 1, Limits::PROFILE, capacity) {
+        let settings = Settings {
+            passes: 1,
+            limits: Limits::PROFILE,
+            capacity,
+        };
+        match Ingester::open(rt, *rt, alloc, slots, settings) {
             Ok((ingester, mut passes)) => {
                 let Some(pass) = passes.pop() else {
                     bail!("there is no pass");
@@ -93,8 +97,8 @@ impl Opened {
     }
 
     /// Ends the owner of each shard.
-    pub fn end_owners<R: Wait>(&self, rt: &R) {
-        self.ingester.end_owners(rt, &self.pass);
+    pub fn end_owners<R: Wait>(&mut self, rt: &R) {
+        self.ingester.end_owners(rt, &mut self.pass);
     }
 
     /// Serves a connection whose bytes come in this manner.

@@ -5,7 +5,6 @@ use Rattle.accept.specs.declared.call.Call.{Call}
 use Rattle.accept.specs.declared.call.Reply.{Reply}
 use Rattle.accept.specs.declared.history.Step.{Step}
 use Rattle.history.specs.Handles.{Passed}
-use Rattle.owners.specs.Openings.{Opening}
 use Rattle.ingester.specs.Calls.{next_step, IsRefused, IsGiven, with_next}
 use Rattle.ingester.specs.declared.fault.CallFault.{CallFault}
 use Rattle.ingester.specs.declared.fault.CallFault.TheVariants.{Memory, PassClosed, LogSpent, InDoubt}
@@ -31,32 +30,31 @@ both h m h' first others a b = b ∙ ap (λ l. l ++ others) a ∙ append_assoc h
 same_reply : (a b : Reply) → reply_told (Ok a) ≡ reply_told (Ok b) → a ≡ b
 same_reply a b same = cc
 
-module _ {D : Type 0} (opening : Opening D) where
-  one_by : (h h' : Passed) (call : Call) (reply : Reply) (outcome : Result Reply CallFault) → IsGiven opening h call outcome h' → reply_told (Ok reply) ≡ reply_told outcome
-      → (step : Step) × (step.ask.call ≡ call) × (step.reply ≡ reply) × Gains h (step ∷ []) h'
-  one_by h h' call reply (Ok other) is same = (next_step h.caller call other, refl, sym (same_reply reply other same), ap (λ p. p.caller.made) is.answered.pass)
-  one_by h h' call reply (Err fault) is same = absurd (cc)
+one_by : (h h' : Passed) (call : Call) (reply : Reply) (outcome : Result Reply CallFault) → IsGiven h call outcome h' → reply_told (Ok reply) ≡ reply_told outcome
+    → (step : Step) × (step.ask.call ≡ call) × (step.reply ≡ reply) × Gains h (step ∷ []) h'
+one_by h h' call reply (Ok other) is same = (next_step h.caller call other, refl, sym (same_reply reply other same), ap (λ p. p.caller.made) is.answered.pass)
+one_by h h' call reply (Err fault) is same = absurd (cc)
 
-  one : (doubt : Bool) (h h' : Passed) (call : Call) (reply : Reply) → CallGives opening doubt h call (Ok reply) h' → (step : Step) × (step.ask.call ≡ call) × (step.reply ≡ reply) × Gains h (step ∷ []) h'
-  one false h h' call reply (outcome, is, same) = one_by h h' call reply outcome is same
-  one true h h' call reply (outcome, inl is, same) = one_by h h' call reply outcome is same
-  one true h h' call reply (outcome, inr (lost, stays), same) = absurd (let never = ap reply_told lost in cc)
+one : (doubt : Bool) (h h' : Passed) (call : Call) (reply : Reply) → CallGives doubt h call (Ok reply) h' → (step : Step) × (step.ask.call ≡ call) × (step.reply ≡ reply) × Gains h (step ∷ []) h'
+one false h h' call reply (outcome, is, same) = one_by h h' call reply outcome is same
+one true h h' call reply (outcome, inl is, same) = one_by h h' call reply outcome is same
+one true h h' call reply (outcome, inr (lost, stays), same) = absurd (let never = ap reply_told lost in cc)
 
-  kept_by : (h h' : Passed) (call : Call) (failure : Failure) (outcome : Result Reply CallFault) → IsGiven opening h call outcome h' → Err failure ≡ reply_told outcome → Gains h [] h'
-  kept_by h h' call failure (Ok reply) is same = absurd (cc)
-  kept_by h h' call failure (Err fault) is same = made_kept h h' call fault is.refused ∙ sym (append-nil h.caller.made)
+kept_by : (h h' : Passed) (call : Call) (failure : Failure) (outcome : Result Reply CallFault) → IsGiven h call outcome h' → Err failure ≡ reply_told outcome → Gains h [] h'
+kept_by h h' call failure (Ok reply) is same = absurd (cc)
+kept_by h h' call failure (Err fault) is same = made_kept h h' call fault is.refused ∙ sym (append-nil h.caller.made)
 
-  kept : (doubt : Bool) (h h' : Passed) (call : Call) (failure : Failure) → CallGives opening doubt h call (Err failure) h' → Gains h [] h'
-  kept false h h' call failure (outcome, is, same) = kept_by h h' call failure outcome is same
-  kept true h h' call failure (outcome, inl is, same) = kept_by h h' call failure outcome is same
-  kept true h h' call failure (outcome, inr (lost, stays), same) = ap (λ p. p.caller.made) stays ∙ sym (append-nil h.caller.made)
+kept : (doubt : Bool) (h h' : Passed) (call : Call) (failure : Failure) → CallGives doubt h call (Err failure) h' → Gains h [] h'
+kept false h h' call failure (outcome, is, same) = kept_by h h' call failure outcome is same
+kept true h h' call failure (outcome, inl is, same) = kept_by h h' call failure outcome is same
+kept true h h' call failure (outcome, inr (lost, stays), same) = ap (λ p. p.caller.made) stays ∙ sym (append-nil h.caller.made)
 
-  module _ {C : Type 0} (ticks : C → ℕ → C → Type 0) where
-    pub its_calls : (bytes : List ℕ) (w : World Passed C) (e : Exchange) (rest : List ℕ) (w' : World Passed C) → MakesItsCalls opening ticks bytes w e rest w'
-    its_calls = stepping.its_calls (CallGives opening) Gains none one kept both ticks
+module _ {C : Type 0} (ticks : C → ℕ → C → Type 0) where
+  pub its_calls : (bytes : List ℕ) (w : World Passed C) (e : Exchange) (rest : List ℕ) (w' : World Passed C) → MakesItsCalls ticks bytes w e rest w'
+  its_calls = stepping.its_calls CallGives Gains none one kept both ticks
 
-    pub its_first_calls : (bytes : List ℕ) (w w' : World Passed C) → MakesItsFirstCalls opening ticks bytes w w'
-    its_first_calls = stepping.its_first_calls (CallGives opening) Gains none one kept both ticks
+  pub its_first_calls : (bytes : List ℕ) (w w' : World Passed C) → MakesItsFirstCalls ticks bytes w w'
+  its_first_calls = stepping.its_first_calls CallGives Gains none one kept both ticks
 
-    pub their_calls : (bytes : List ℕ) (w : World Passed C) (es : List Exchange) (rest : List ℕ) (w' : World Passed C) → MakesTheirCalls opening ticks bytes w es rest w'
-    their_calls = stepping.their_calls (CallGives opening) Gains none one kept both ticks
+  pub their_calls : (bytes : List ℕ) (w : World Passed C) (es : List Exchange) (rest : List ℕ) (w' : World Passed C) → MakesTheirCalls ticks bytes w es rest w'
+  their_calls = stepping.their_calls CallGives Gains none one kept both ticks

@@ -3,7 +3,6 @@ use Rattle.std.proofs.Common.{◌≡◌, Bool, List, [], ◌∷◌, map, Result,
 use Rattle.accept.specs.declared.call.Call.{Call}
 use Rattle.accept.specs.declared.call.Reply.{Reply}
 use Rattle.history.specs.Handles.{Passed}
-use Rattle.owners.specs.Openings.{Opening}
 use Rattle.ingester.specs.Calls.{AreGiven, AreGivenAfter, is_doubt}
 use Rattle.ingester.specs.declared.fault.CallFault.{CallFault}
 use Rattle.ingester.specs.declared.fault.CallFault.TheVariants.{Memory, PassClosed, LogSpent, InDoubt}
@@ -17,15 +16,14 @@ same_doubt (Err PassClosed) = refl
 same_doubt (Err LogSpent) = refl
 same_doubt (Err InDoubt) = refl
 
-module _ {D : Type 0} (opening : Opening D) where
-  all_after : (doubt : Bool) (old new : Passed) (asked : List Call) (outcomes : List (Result Reply CallFault)) → AreGivenAfter doubt opening old asked outcomes new
-      → CallsGiveAfter (CallGives opening) doubt old asked (map reply_told outcomes) new
-  all_after doubt old new [] [] given = given
-  all_after doubt old new [] (r ∷ rs) given = absurd given
-  all_after doubt old new (call ∷ asked) [] given = absurd given
-  all_after doubt old new (call ∷ asked) (r ∷ rs) (mid, is, given) =
-      (mid, (r, is, refl), subst (λ (b : Bool). CallsGiveAfter (CallGives opening) b mid asked (map reply_told rs) new) (same_doubt r) (all_after (is_doubt r) mid new asked rs given))
+all_after : (doubt : Bool) (old new : Passed) (asked : List Call) (outcomes : List (Result Reply CallFault)) → AreGivenAfter doubt old asked outcomes new
+    → CallsGiveAfter CallGives doubt old asked (map reply_told outcomes) new
+all_after doubt old new [] [] given = given
+all_after doubt old new [] (r ∷ rs) given = absurd given
+all_after doubt old new (call ∷ asked) [] given = absurd given
+all_after doubt old new (call ∷ asked) (r ∷ rs) (mid, is, given) =
+    (mid, (r, is, refl), subst (λ (b : Bool). CallsGiveAfter CallGives b mid asked (map reply_told rs) new) (same_doubt r) (all_after (is_doubt r) mid new asked rs given))
 
-pub all_told : {D : Type 0} (opening : Opening D) (old new : Passed) (asked : List Call) (outcomes : List (Result Reply CallFault)) → AreGiven opening old asked outcomes new
-    → CallsGive (CallGives opening) old asked (map reply_told outcomes) new
-all_told opening old new asked outcomes given = all_after opening false old new asked outcomes given
+pub all_told : (old new : Passed) (asked : List Call) (outcomes : List (Result Reply CallFault)) → AreGiven old asked outcomes new
+    → CallsGive CallGives old asked (map reply_told outcomes) new
+all_told old new asked outcomes given = all_after false old new asked outcomes given

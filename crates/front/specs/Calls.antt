@@ -2,7 +2,6 @@
 use Rattle.std.specs.Prelude.{◌≡◌, Result, Ok, Err}
 use Rattle.accept.specs.declared.call.Reply.{Reply}
 use Rattle.history.specs.Handles.{Passed}
-use Rattle.owners.specs.Openings.{Opening}
 use Rattle.ingester.specs.Calls.{IsGivenAfter}
 use Rattle.ingester.specs.declared.fault.CallFault.{CallFault}
 use Rattle.ingester.specs.declared.fault.CallFault.TheVariants as faults
@@ -23,7 +22,7 @@ reply_told (Err fault) = Err (failure_of fault)
 
 -- This came of the next call of a pass, and its request is told so. Where the call before it, made with it, is in
 -- doubt, it may be lost with that one.
-abbrev pub CallGives : {D : Type 0} → Opening D → Giving Passed
-CallGives opening doubt old call told new =
-    (outcome : Result Reply CallFault) × IsGivenAfter doubt opening old call outcome new
+abbrev pub CallGives : Giving Passed
+CallGives doubt old call told new =
+    (outcome : Result Reply CallFault) × IsGivenAfter doubt old call outcome new
     × (told ≡ reply_told outcome)

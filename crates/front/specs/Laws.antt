@@ -2,7 +2,6 @@
 use Rattle.std.specs.Prelude.{◌≡◌, ℕ, List, ◌++◌}
 use Rattle.accept.specs.declared.history.Step.{Step}
 use Rattle.history.specs.Handles.{Passed}
-use Rattle.owners.specs.Openings.{Opening}
 use Rattle.answering.specs.Serving.{Exchange, World, ConnectionGives, IsExchange, IsAbandoned}
 use Rattle.answering.specs.Steps.{AreStepsBy, AreFirstStepsBy, AreTheirSteps}
 use Rattle.front.specs.Calls.{CallGives}
@@ -12,27 +11,27 @@ abbrev pub Gains : Passed → List Step → Passed → Type 0
 Gains old steps new = new.caller.made ≡ old.caller.made ++ steps
 
 -- served so, a pass made just the calls of the requests, in their order
-abbrev pub MakesTheirCalls : {D C : Type 0} → Opening D → (C → ℕ → C → Type 0) → List ℕ
+abbrev pub MakesTheirCalls : {C : Type 0} → (C → ℕ → C → Type 0) → List ℕ
     → World Passed C → List Exchange
     → List ℕ → World Passed C → Type 0
-MakesTheirCalls opening ticks bytes w es rest w' =
-    ConnectionGives (CallGives opening) ticks bytes w es rest w'
+MakesTheirCalls ticks bytes w es rest w' =
+    ConnectionGives CallGives ticks bytes w es rest w'
     → (steps : List Step) × Gains w.knows steps w'.knows × AreTheirSteps es steps
 
 -- and so of one request, of whose streams a beginning may have been called, where a call failed
-abbrev pub MakesItsCalls : {D C : Type 0} → Opening D → (C → ℕ → C → Type 0) → List ℕ
+abbrev pub MakesItsCalls : {C : Type 0} → (C → ℕ → C → Type 0) → List ℕ
     → World Passed C → Exchange
     → List ℕ → World Passed C → Type 0
-MakesItsCalls opening ticks bytes w e rest w' =
-    IsExchange (CallGives opening) ticks bytes w e rest w'
+MakesItsCalls ticks bytes w e rest w' =
+    IsExchange CallGives ticks bytes w e rest w'
     → (steps : List Step) × Gains w.knows steps w'.knows
     × AreStepsBy e.now e.request.body e.verdict e.course steps
 
 -- and so of a request that was given up for want of memory: the calls of a beginning of its streams
-abbrev pub MakesItsFirstCalls : {D C : Type 0} → Opening D → (C → ℕ → C → Type 0) → List ℕ
+abbrev pub MakesItsFirstCalls : {C : Type 0} → (C → ℕ → C → Type 0) → List ℕ
     → World Passed C
     → World Passed C → Type 0
-MakesItsFirstCalls opening ticks bytes w w' =
-    (left : IsAbandoned (CallGives opening) ticks bytes w w')
+MakesItsFirstCalls ticks bytes w w' =
+    (left : IsAbandoned CallGives ticks bytes w w')
     → (steps : List Step) × Gains w.knows steps w'.knows
     × AreFirstStepsBy left.now left.request.body left.verdict steps

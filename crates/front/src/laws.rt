@@ -1,23 +1,21 @@
 ghost use Rattle.std.specs.Prelude.{ℕ, List};
 ghost use Rattle.history.specs.Handles.{Passed};
-ghost use Rattle.owners.specs.Openings.{Opening};
 ghost use Rattle.answering.specs.Serving.{Exchange, World};
 ghost use Rattle.front.specs.Laws.{MakesItsCalls, MakesItsFirstCalls, MakesTheirCalls};
 
 use answering::Clock;
-use disk::Disk;
 
 /// The law of steps: what a pass has made once requests were served is what it had made, and then a step
 /// for each of their calls that got a reply, in their order, with the reply that the answer was made of; of
 /// a request in which a call failed, or that was given up for want of memory, a step for each of its first
 /// streams that got one.
-pub fn one_step_a_call<D: Disk, C: Clock>()
-    ensures each { (opening : Opening D) (bytes : List ℕ) (w : World Passed C) (e : Exchange)
+pub fn one_step_a_call<C: Clock>()
+    ensures each { (bytes : List ℕ) (w : World Passed C) (e : Exchange)
         (rest : List ℕ)
-        (w' : World Passed C) → MakesItsCalls opening C.ticks bytes w e rest w' }
-    ensures left { (opening : Opening D) (bytes : List ℕ) (w w' : World Passed C)
-        → MakesItsFirstCalls opening C.ticks bytes w w' }
-    ensures all { (opening : Opening D) (bytes : List ℕ) (w : World Passed C) (es : List Exchange)
+        (w' : World Passed C) → MakesItsCalls C.ticks bytes w e rest w' }
+    ensures left { (bytes : List ℕ) (w w' : World Passed C)
+        → MakesItsFirstCalls C.ticks bytes w w' }
+    ensures all { (bytes : List ℕ) (w : World Passed C) (es : List Exchange)
         (rest : List ℕ)
-        (w' : World Passed C) → MakesTheirCalls opening C.ticks bytes w es rest w' }
+        (w' : World Passed C) → MakesTheirCalls C.ticks bytes w es rest w' }
 {}

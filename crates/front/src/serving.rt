@@ -9,8 +9,7 @@ ghost use Rattle.front.specs.Calls.{CallGives, failure_of, reply_told};
 use accept::{Call, Reply};
 use answering::{Answer, Calls, Clock, Ends, Failure, RequestBody, Route, ServeFault, Served};
 use disk::Disk;
-use history::Pass;
-use ingester::{CallFault, Ingester};
+use ingester::{CallFault, Ingester, Pass};
 use labels::Tenant;
 use std::alloc::Global;
 use std::collections::VecDeque;
@@ -41,7 +40,7 @@ impl<'a, D: Disk + Drop> Calls for Service<'a, D> {
 
     ghost is_ready = { λ service. IsPassOf service.ingester.now };
 
-    ghost gives = { λ service. CallGives service.ingester.now };
+    ghost gives = { λ _. CallGives };
 
     ghost told = { reply_told };
 
@@ -101,7 +100,7 @@ pub fn answer<D: Disk + Drop, R: Wait>(
     requires clock { now < end_of_time }
     ensures pass { IsPassOf ingester.now pass.new }
     ensures answers { RequestIsAnswered
-        (CallGives ingester.now) route now tenant.now body.now pass.old result
+        CallGives route now tenant.now body.now pass.old result
         pass.new }
 {
     let service = Service { ingester };
@@ -134,7 +133,7 @@ pub fn serve<D: Disk + Drop, R: Wait, C: Clock, I: Read, O: Write>(
 ) -> Result<Served, ServeFault>
     requires pass { IsPassOf ingester.now pass.old }
     ensures pass { IsPassOf ingester.now pass.new }
-    ensures serves { ConnectionIsServed (CallGives ingester.now) C.ticks
+    ensures serves { ConnectionIsServed CallGives C.ticks
         (io (I.remaining reader.old) (O.contents writer.old)) (world pass.old clock.old)
         (io (I.remaining reader.new) (O.contents writer.new)) (world pass.new clock.new) result }
 {

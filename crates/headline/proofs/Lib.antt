@@ -1,3 +1,4 @@
+pub mod Handing
 pub mod Among
 pub mod Counting
 pub mod Living

@@ -179,11 +179,11 @@ open_by b never = ⊎_elim (λ (e : b ≡ true). absurd (never e)) (λ (e : b �
     either false = inr refl
 
 module _ {D : Type 0} (opening : Opening D) where
-  given_up : (old new : Passed) (call : Call) (reply : Reply) → IsGiven opening old call (Ok reply) new → is_closed_pass old ≡ false
+  given_up : (old new : Passed) (call : Call) (reply : Reply) → IsGiven old call (Ok reply) new → is_closed_pass old ≡ false
   given_up old new call reply is = open_by (is_closed_pass old) (λ e. not_spent reply PassClosed (is.closed.1 e))
 
   -- an answered call was answered by its contract
-  pub given_answer : (lost : Bool) (old new : Passed) (call : Call) (reply : Reply) → IsGivenAfter lost opening old call (Ok reply) new → IsAnswered old new call reply × (is_closed_pass old ≡ false)
+  pub given_answer : (lost : Bool) (old new : Passed) (call : Call) (reply : Reply) → IsGivenAfter lost old call (Ok reply) new → IsAnswered old new call reply × (is_closed_pass old ≡ false)
   given_answer false old new call reply is = (is.answered, given_up old new call reply is)
   given_answer true old new call reply (inl is) = (is.answered, given_up old new call reply is)
   given_answer true old new call reply (inr is) = absurd (let never = is.0 in cc)
@@ -192,15 +192,15 @@ module _ {D : Type 0} (opening : Opening D) where
   abbrev pub ClosedIf : Bool → Passed → Type 0
   ClosedIf lost pass = lost ≡ true → pass.closed ≡ true
 
-  given_sound : (about : About) (old new : Passed) (call : Call) (outcome : Result Reply CallFault) → IsSound about old → IsGiven opening old call outcome new → IsSound about new
+  given_sound : (about : About) (old new : Passed) (call : Call) (outcome : Result Reply CallFault) → IsSound about old → IsGiven old call outcome new → IsSound about new
   given_sound about old new call (Ok reply) s is = answered_sound about old new call reply s (given_up old new call reply is) is.answered
   given_sound about old new call (Err fault) s is = refused_sound about old new call fault s is.refused
 
-  given_grows : (old new : Passed) (call : Call) (outcome : Result Reply CallFault) → IsGiven opening old call outcome new → Grows old new
+  given_grows : (old new : Passed) (call : Call) (outcome : Result Reply CallFault) → IsGiven old call outcome new → Grows old new
   given_grows old new call (Ok reply) is = answered_grows old new call reply is.answered
   given_grows old new call (Err fault) is = refused_grows old new call fault is.refused
 
-  given_closed : (old new : Passed) (call : Call) (outcome : Result Reply CallFault) → IsGiven opening old call outcome new → ClosedIf (leaves_call_in_doubt (Called call outcome)) new
+  given_closed : (old new : Passed) (call : Call) (outcome : Result Reply CallFault) → IsGiven old call outcome new → ClosedIf (leaves_call_in_doubt (Called call outcome)) new
   given_closed old new call (Ok reply) is e = absurd (false≢true e)
   given_closed old new call (Err Memory) is e = absurd (false≢true e)
   given_closed old new call (Err PassClosed) is e = absurd (false≢true e)
@@ -213,7 +213,7 @@ module _ {D : Type 0} (opening : Opening D) where
     pub grows : Grows old new
     pub closed : ClosedIf lost new
 
-  called : (lost : Bool) (old new : Passed) (call : Call) (outcome : Result Reply CallFault) → ClosedIf lost old → IsSound opening.about old → IsGivenAfter lost opening old call outcome new → Goes opening.about old new (leaves_call_in_doubt (Called call outcome))
+  called : (lost : Bool) (old new : Passed) (call : Call) (outcome : Result Reply CallFault) → ClosedIf lost old → IsSound opening.about old → IsGivenAfter lost old call outcome new → Goes opening.about old new (leaves_call_in_doubt (Called call outcome))
   called false old new call outcome up s is = record { sound = given_sound opening.about old new call outcome s is; grows = given_grows old new call outcome is; closed = given_closed old new call outcome is }
   called true old new call outcome up s (inl is) = record { sound = given_sound opening.about old new call outcome s is; grows = given_grows old new call outcome is; closed = given_closed old new call outcome is }
   called true old new call outcome up s (inr is) = record {

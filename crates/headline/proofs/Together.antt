@@ -10,7 +10,7 @@ use Rattle.ingester.specs.Calls.{AreGivenAfter}
 use Rattle.headline.specs.Threads.{Called, Happening, HappenAfter, calls_with}
 
 module _ {D : Type 0} (opening : Opening D) where
-  pub in_order : (lost : Bool) (old new : Passed) (calls : List Call) (outcomes : List (Result Reply CallFault)) → AreGivenAfter lost opening old calls outcomes new
+  pub in_order : (lost : Bool) (old new : Passed) (calls : List Call) (outcomes : List (Result Reply CallFault)) → AreGivenAfter lost old calls outcomes new
       → (hs : List Happening) × HappenAfter lost opening old hs new × (map (λ h. h.what) hs ≡ calls_with calls outcomes)
   in_order lost old new [] [] is = ([], is, refl)
   in_order lost old new [] (r ∷ rs) is = absurd is

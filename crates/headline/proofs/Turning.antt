@@ -30,7 +30,8 @@ use Rattle.shard.specs.Turns.{Turn, AreTogether, IsAlone, IsTurn}
 use Rattle.shard.proofs.Groups.{steps_mean, failed_means, step_written}
 use Rattle.owners.specs.Openings.{Opening}
 use Rattle.headline.specs.Threads.{Thread}
-use Rattle.headline.specs.Turns.{Moment, Between, Within, Stretch, shard_then, calls_with_steps, made_in, writing_then, IsMade, Lead, IsMoment, FollowThen, IsStretch, MayBeLeft, IsLeftThen}
+use Rattle.shard.specs.Leads.{IsMade, Lead}
+use Rattle.headline.specs.Turns.{Moment, Between, Within, Stretch, shard_then, calls_with_steps, made_in, writing_then, IsMoment, FollowThen, IsStretch, MayBeLeft, IsLeftThen}
 use Rattle.headline.proofs.Leaving.{IsOpenedAt}
 
 take_none : {A : Type 0} (j : ℕ) → take {A = A} j [] ≡ []

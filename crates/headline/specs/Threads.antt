@@ -44,7 +44,7 @@ pub record IsMet {D : Type 0} (opening : Opening D) (old : Passed) (other : Call
 
 -- This happened. Where the call before it is in doubt, a call may have been announced with that one.
 abbrev pub Happens : {D : Type 0} → Bool → Opening D → Passed → What → Passed → Type 0
-Happens lost opening old (Called call outcome) new = IsGivenAfter lost opening old call outcome new
+Happens lost opening old (Called call outcome) new = IsGivenAfter lost old call outcome new
 Happens lost opening old (Looked k) new = IsLooked opening old k new
 Happens lost opening old (Met other theirs) new = IsMet opening old other theirs new
 

@@ -8,12 +8,12 @@ use Rattle.wal.specs.declared.log.Wal.{Wal}
 use Rattle.wal.specs.Logs.{Follow, slots}
 use Rattle.wal.specs.Opening.{slots_of}
 use Rattle.history.specs.Histories.{IsLegalAt, IsByPasses, doubt_of, doubt_or}
-use Rattle.history.specs.Handles.{fresh_book}
 use Rattle.shard.specs.Groups.{changing_of}
-use Rattle.shard.specs.Keeping.{KeepsHistory}
 use Rattle.shard.specs.Shards.{Sharded}
-use Rattle.shard.specs.Turns.{Turn, IsTurn}
+use Rattle.shard.specs.Turns.{Turn}
+use Rattle.shard.specs.Leads.{IsMade, Lead}
 use Rattle.owners.specs.Openings.{Opening}
+use Rattle.owners.specs.Places.{opened_shard}
 use Rattle.ingester.specs.Closings.{IsTold}
 use Rattle.headline.specs.Threads.{Thread}
 use Rattle.headline.specs.Headline.{IsOneOf}
@@ -49,21 +49,10 @@ writing_then (Between s) = doubt_of s.book.items
 writing_then (Within t) = doubt_or t.old.book.items (changing_of t.old.book (made_in t))
 
 module _ {D : Type 0} (sight : D → Sight) (follows : D → Type 0) where
-  -- what `Shard::apply_group` says
-  pub record IsMade (t : Turn D) : Type 0 where
-    pub turn : IsTurn sight follows t
-    pub covered : Follow follows t.new.log
-        → KeepsHistory (slots sight t.new.log) t.new.book (doubt_of t.new.book.items)
-
-  -- these turns lead from one shard to another
-  abbrev pub Lead : Sharded D → List (Turn D) → Sharded D → Type 0
-  Lead start [] end = end ≡ start
-  Lead start (t ∷ ts) end = (t.old ≡ start) × IsMade t × Lead t.new ts end
-
   -- of a moment, what there is to say of the turn that it is in
   abbrev pub IsMoment : Moment D → Type 0
   IsMoment (Between s) = Unit {0}
-  IsMoment (Within t) = IsMade t
+  IsMoment (Within t) = IsMade sight follows t
 
   -- the disks have followed the model so far
   abbrev pub FollowThen : Moment D → Type 0
@@ -75,12 +64,7 @@ module _ {D : Type 0} (sight : D → Sight) (follows : D → Type 0) where
       (st : Stretch D) : Type 0 where
     pub opened : Wal D
     pub opened_as : slice_get opening.logs k ≡ Some opened
-    pub turned : Lead (record {
-      log = opened;
-      book = fresh_book opening.table opening.about k;
-      opened = opened;
-    })
-        st.turns (shard_then st.moment)
+    pub turned : Lead sight follows (opened_shard opening k opened) st.turns (shard_then st.moment)
     pub moment : IsMoment st.moment
     pub follow : FollowThen st.moment
     pub legal : IsLegalAt opening.about k (shard_then st.moment).book.items

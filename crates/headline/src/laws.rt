@@ -42,7 +42,7 @@ pub fn headline_of_openings<D: Disk>()
 pub fn calls_happen_in_order<D: Disk>()
     ensures { (opening : Opening D) (old new : Passed) (calls : List Call)
         (outcomes : List (Result Reply CallFault))
-        → AreGiven opening old calls outcomes new → (happened : List Happening)
+        → AreGiven old calls outcomes new → (happened : List Happening)
         × HappenAfter false opening old happened new
         × (map (λ h. h.what) happened ≡ calls_with calls outcomes) }
 {}

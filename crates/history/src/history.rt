@@ -31,7 +31,34 @@ impl Model for History {
     ghost view = { λ h. (arc_value h.table).shared.table_id };
 }
 
+/// The end of an opening's histories. Contracts see which table it was. Only `History::end` gives it, so whoever has
+/// no `History`, as the owner of a shard, has none.
+#[derive(Drop)]
+pub struct Ended {
+    pub(crate) table: Arc<Board>,
+}
+
+impl Model for Ended {
+    ghost use Rattle.atomic_table.specs.Seated.{TableId, table_id_coded};
+
+    ghost Value = { TableId };
+
+    ghost coded = { table_id_coded };
+
+    ghost use Rattle.std.specs.Arc.{arc_value};
+
+    ghost view = { λ e. (arc_value e.table).shared.table_id };
+}
+
 impl History {
+    /// Ends the histories: no call is announced, and no history looked at, after this.
+    pub fn end(self) -> Ended
+        ensures { result ≡ self }
+    {
+        let History { table } = self;
+        Ended { table }
+    }
+
     /// Announces a call under the next number of the pass. Its ticket names the earlier open calls of the pass on the
     /// same shard.
     pub fn announce(&self, pass: &mut Pass, call: &Call) -> Result<Ticket, PassSpent>

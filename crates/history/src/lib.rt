@@ -12,6 +12,6 @@ mod views;
 
 pub use book::{Book, Kept};
 pub use handles::{Pass, PassSpent, Receipt, Ticket};
-pub use history::History;
+pub use history::{Ended, History};
 pub use laws::refuse_both;
 pub use views::{About, Caller};

@@ -71,9 +71,9 @@ module _ (table : TableId) (about : About) where
   abbrev pub job_of : Caller → Call → Job
   job_of c call = record { ticket = record { table = table; ask = ask_of c (c.last + 1) call; doubted = false; before = before_of c (c.last + 1) call }; call = call }
 
-  batch_more : (c : Caller) (call : Call) (jobs now : List Job) → c.about ≡ about → c.pass < about.passes → AreNumbers call → IsBatchOf table about (shard_in about (ask_of c (c.last + 1) call)) c jobs → now ≡ jobs ++ job_of c call ∷ []
+  batch_more : (c : Caller) (call : Call) (jobs now : List Job) → c.about ≡ about → AreNumbers call → IsBatchOf table about (shard_in about (ask_of c (c.last + 1) call)) c jobs → now ≡ jobs ++ job_of c call ∷ []
       → IsBatchOf table about (shard_in about (ask_of c (c.last + 1) call)) (announce_to c (c.last + 1) call) now
-  batch_more c call jobs now at below numbers h is =
+  batch_more c call jobs now at numbers h is =
       let a : Ask = ask_of c (c.last + 1) call in
       let k : ℕ = shard_in about a in
       let job : Job = job_of c call in
@@ -81,7 +81,7 @@ module _ (table : TableId) (about : About) where
       let before : job.ticket.before ≡ asks_of ts = (λ i. asks_on (at i) (shard_in (at i) a) c.pending) ∙ sym h.asks in
       subst (IsBatchOf table about k (announce_to c (c.last + 1) call)) (sym is) (record {
         batch = record {
-          waiting = waiting_more k jobs job h.batch.waiting (record { ticket = record { same_table = refl; pass = below; sure = refl }; shard = refl; call = refl; numbers = numbers });
+          waiting = waiting_more k jobs job h.batch.waiting (record { ticket = record { same_table = refl; sure = refl }; shard = refl; call = refl; numbers = numbers });
           pass = subst (AreOfPass c.pass) (sym (tickets_more jobs job)) (of_pass_more c.pass ts job.ticket h.batch.pass refl);
           line = subst (AreInLine []) (sym (tickets_more jobs job)) (line_more [] ts job.ticket h.batch.line before);
         };
@@ -92,13 +92,13 @@ module _ (table : TableId) (about : About) where
   batch_same c call k jobs ne h = record { batch = h.batch; asks = h.asks ∙ sym (asks_elsewhere about k c.pending (ask_of c (c.last + 1) call) ne) }
 
   -- one call more, in the batch of its shard
-  pub batches_more : (c : Caller) (call : Call) (batches : List (Way)) (k : ℕ) (was now : Way) → c.about ≡ about → c.pass < about.passes → AreNumbers call → shard_in about (ask_of c (c.last + 1) call) ≡ k → k < length batches
+  pub batches_more : (c : Caller) (call : Call) (batches : List (Way)) (k : ℕ) (was now : Way) → c.about ≡ about → AreNumbers call → shard_in about (ask_of c (c.last + 1) call) ≡ k → k < length batches
       → was ≡ get_or batches k was → now.letter.jobs.items ≡ was.letter.jobs.items ++ job_of c call ∷ [] → AreBatchesOf table about c batches → AreBatchesOf table about (announce_to c (c.last + 1) call) (slice_set batches k now)
-  batches_more c call batches k was now at below numbers here lt there is all j jobs e = ⊎_elim
+  batches_more c call batches k was now at numbers here lt there is all j jobs e = ⊎_elim
       (λ (same : j ≡ k).
       let mine : jobs ≡ now = sym (get_or_from_slice_get (slice_set batches k now) j jobs now e) ∙ ap (λ (n : ℕ). get_or (slice_set batches k now) n now) same ∙ get_or-set_same batches k now now lt in
       let before : IsBatchOf table about k c was.letter.jobs.items = all k was (slice_get-get_or batches k was lt ∙ ap Some (sym there)) in
-      subst (λ (n : ℕ). IsBatchOf table about n (announce_to c (c.last + 1) call) jobs.letter.jobs.items) (here ∙ sym same) (batch_more c call was.letter.jobs.items jobs.letter.jobs.items at below numbers (subst (λ (n : ℕ). IsBatchOf table about n c was.letter.jobs.items) (sym here) before) (ap (λ (d : Way). d.letter.jobs.items) mine ∙ is)))
+      subst (λ (n : ℕ). IsBatchOf table about n (announce_to c (c.last + 1) call) jobs.letter.jobs.items) (here ∙ sym same) (batch_more c call was.letter.jobs.items jobs.letter.jobs.items at numbers (subst (λ (n : ℕ). IsBatchOf table about n c was.letter.jobs.items) (sym here) before) (ap (λ (d : Way). d.letter.jobs.items) mine ∙ is)))
       (λ (ne : j ≢ k).
       let long : length (slice_set batches k now) ≡ length batches = length-set batches k now in
       let within : j < length (slice_set batches k now) = slice_get_within (slice_set batches k now) j jobs e in
@@ -121,13 +121,13 @@ module _ (table : TableId) (about : About) where
       (cases_eq j k)
 
   -- one call more in the batch of its shard
-  pub batches_joined : (old new : Passed) (calls left : List Call) (batches : List (Way)) (k count number : ℕ) (was now : Way) (first : Call) → old.caller.about ≡ about → old.caller.pass < about.passes → about.shards ≡ count → first ≡ get_or calls 0 first → k ≡ shard (key_of first) count → k < length batches
+  pub batches_joined : (old new : Passed) (calls left : List Call) (batches : List (Way)) (k count number : ℕ) (was now : Way) (first : Call) → old.caller.about ≡ about → about.shards ≡ count → first ≡ get_or calls 0 first → k ≡ shard (key_of first) count → k < length batches
       → was ≡ get_or batches k was → AreBatchesOf table about old.caller batches → IsPutIntoLetter table old new calls left was.letter.jobs.items now.letter.jobs.items number → AreBatchesOf table about new.caller (slice_set batches k now)
-  batches_joined old new calls left batches k count number was now first at below shards is_first routes lt there all h =
+  batches_joined old new calls left batches k count number was now first at shards is_first routes lt there all h =
       let a : Ask = ask_of old.caller (old.caller.last + 1) h.call in
       let same : h.call ≡ first = sym (is_first ∙ ap (λ (l : List Call). get_or l 0 first) h.calls_are) in
       subst (λ (p : Passed). AreBatchesOf table about p.caller (slice_set batches k now)) (sym h.pass)
-      (batches_more old.caller h.call batches k was now at below h.numbers (routed about a first count k same shards routes) lt there h.jobs_are all)
+      (batches_more old.caller h.call batches k was now at h.numbers (routed about a first count k same shards routes) lt there h.jobs_are all)
 
   no_asks : (jobs : List Job) → asks_of (tickets_of jobs) ≡ [] → jobs ≡ []
   no_asks [] e = refl

@@ -18,7 +18,8 @@ use Rattle.shard.specs.Keeping.{KeepsHistory}
 use Rattle.shard.specs.Shards.{Sharded}
 use Rattle.openings.proofs.Ordered.{ordered}
 use Rattle.owners.specs.Openings.{Opening}
-use Rattle.ingester.specs.Closings.{IsComparedTo, AreComparedTo, IsHandedOut}
+use Rattle.owners.specs.Places.{IsOf}
+use Rattle.ingester.specs.Closings.{IsTold, IsComparedTo, AreComparedTo, IsHandedOut}
 
 pub one_more : (book : Booked) (passes : List Passed) (n : ℕ) (p : Passed) → AreComparedTo book passes n → slice_get passes n ≡ Some p → IsComparedTo book p → AreComparedTo book passes (n + 1)
 one_more book passes n p so_far at h i pass lt e = ⊎_elim
@@ -31,32 +32,39 @@ set_alike xs i x y e at = ap (slice_set xs i) (e ∙ at) ∙ set-get_or xs i x
 
 module _ {D : Type 0} (sight : D → Sight) (follows : D → Type 0) where
   -- a shard of the opening, compared with all passes, is handed out
-  pub handed : (opening : Opening D) (passes : List Passed) (shard : Sharded D) (out : List D) (marked : Bool) → 0 < length passes
+  pub handed : (opening : Opening D) (passes : List Passed) (k : ℕ) (shard : Sharded D) (out : List D) (marked : Bool) → 0 < length passes
       → AreComparedTo shard.book passes (length passes)
+      → IsOf sight follows opening k shard
       → out ≡ disks shard.log
       → (Follow follows shard.log → KeepsHistory (slots sight shard.log) shard.book (doubt_of shard.book.items))
       → (AllFollow follows out → Follow follows shard.opened)
       → (is_marked shard.book.items ≡ true → HasFailed (slots sight shard.opened) (slots sight shard.log))
       → (is_marked shard.book.items ≡ false → HasNoFailure (slots sight shard.opened) (slots sight shard.log))
       → marked ≡ is_marked shard.book.items
-      → shard.book.about ≡ opening.about → slice_get opening.logs shard.book.shard ≡ Some shard.opened
-      → IsHandedOut sight follows opening passes shard.book.shard (out, marked)
-  handed opening passes shard out marked some_pass compared is keeps before failed not_failed flag about opened =
+      → IsHandedOut sight follows opening passes k (out, marked)
+  handed opening passes k shard out marked some_pass compared is_of is keeps before failed not_failed flag =
       let there = first_of passes some_pass in
       let are = ordered sight follows shard.log out is in
+      let about = is_of.about in
+      let number = is_of.number in
       record {
         items = shard.book.items;
-        legal = subst (λ (a : About). IsLegalAt a shard.book.shard shard.book.items) about (compared 0 there.0 some_pass there.1).legal;
-        told = λ i pass e. (compared i pass (slice_get_within passes i pass e) e).told;
+        legal = subst (λ (z : About × ℕ). IsLegalAt z.0 z.1 shard.book.items) (λ i. (about i, number i)) (compared 0 there.0 some_pass there.1).legal;
+        told = λ i pass e. subst (λ (n : ℕ). IsTold n shard.book.items pass) number (compared i pass (slice_get_within passes i pass e) e).told;
         by_passes = subst (λ (a : About). IsByPasses a.passes shard.book.items) about (compared 0 there.0 some_pass there.1).by_passes;
         marked_is = flag;
-        covers = λ f. subst (λ (z : About). Covers (owner_of shard.book.shard z.shards) z.limits (slots_of sight out) (history_of z shard.book.shard shard.book.items) (doubt_of shard.book.items)) about
+        covers = λ f. subst (λ (z : About × ℕ). Covers (owner_of z.1 z.0.shards) z.0.limits (slots_of sight out) (history_of z.0 z.1 shard.book.items) (doubt_of shard.book.items)) (λ i. (about i, number i))
             (are.covers _ _ _ _ (keeps (are.both f)));
         opened = shard.opened;
-        opened_as = opened;
+        opened_as = is_of.opened;
         before = before;
         failed = λ e. are.failed shard.opened (failed (sym flag ∙ e));
         not_failed = λ e. are.not_failed shard.opened (not_failed (sym flag ∙ e));
+        shard = shard;
+        items_are = refl;
+        slots_are = is;
+        turns = is_of.turns;
+        turned = is_of.turned;
       }
     where
       first_of : (xs : List Passed) → 0 < length xs → (p : Passed) × (slice_get xs 0 ≡ Some p)

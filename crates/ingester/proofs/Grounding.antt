@@ -1,4 +1,4 @@
--- Shards that are made of opened logs with their books, and put under locks.
+-- Shards that are made of opened logs with their books.
 use Rattle.std.proofs.Common.{◌≡◌, ◌≢◌, ℕ, zero, suc, ◌+◌, ◌<◌, ◌≤◌, ◌^◌, List, [], ◌∷◌, ◌++◌, length, length-append, get_or, map, refl, sym, ap, ◌∙◌, subst, ⊎_elim, append_assoc, arith}
 use Rattle.std.specs.Prelude.{Option, Some, None, slice_get}
 use Rattle.std.proofs.lemmas.Option.{none-some, same_Some, slice_get_within, slice_get_read, get_or_from_slice_get}
@@ -27,7 +27,7 @@ use Rattle.owners.proofs.Each.{each_of}
 use Rattle.ingester.specs.Openings.{AreFresh}
 use Rattle.ingester.specs.Calls.{IsPassOf}
 use Rattle.shard.specs.Shards.{IsGround}
-use Rattle.ingester.specs.Makings.{AreGround, AreShardsOfLogs, AreThere, logs_of_shards}
+use Rattle.ingester.specs.Makings.{AreGround, AreShardsOfLogs, logs_of_shards}
 use Rattle.ingester.proofs.Lasting.{get_front}
 
 -- values that are dealt one after another
@@ -76,10 +76,6 @@ logs_fit fewer popped is more same fit = omega arith
 pub first_fresh : (table : TableId) (about : About) (n : ℕ) (books : List Booked) (book : Booked) → books ≡ fresh_books table about n → 0 < n → book ≡ get_or books 0 book → book ≡ fresh_book table about 0
 first_fresh table about n books book e some is =
     fresh_book_at table about n 0 book (ap (λ l. slice_get l 0) (sym e) ∙ slice_get_read books n 0 book (sym (ap length e ∙ length-fresh_books table about n)) some is)
-
--- books of the table and opening of the first
-pub like_first : (table : TableId) (about : About) (n k : ℕ) (books : List Booked) (first : Booked) → books ≡ fresh_books table about n → first ≡ fresh_book table about 0 → n ≡ k → books ≡ fresh_books first.table first.about k
-like_first table about n k books first e is same = e ∙ (λ i. fresh_books (sym is i).table (sym is i).about (same i))
 
 pub are_fresh : {D : Type 0} (opening : Opening D) (n : ℕ) (passes : List Passed) → passes ≡ fresh_passes opening.table opening.about n → AreFresh opening n passes
 are_fresh opening n passes e = record {
@@ -180,14 +176,14 @@ module _ {D : Type 0} where
   partly_all shards logs all_logs books all_books h e f =
       subst (λ (z : List (Wal D) × List Booked). AreShardsOfLogs shards z.0 z.1) (λ i. (sym (h.logs_are ∙ ap (λ l. l ++ h.made_logs) e) i, sym (h.books_are ∙ ap (λ l. l ++ h.made_books) f) i)) h.made
 
-  pub made_there : (shards : List (Option (Sharded D))) (logs : List (Wal D)) (books : List Booked) → AreShardsOfLogs shards logs books → AreThere shards × (logs_of_shards shards ≡ logs)
-  made_there [] [] [] h = (tt, refl)
-  made_there [] [] (b ∷ books) h = absurd h
-  made_there [] (l ∷ logs) books h = absurd h
-  made_there (None ∷ shards) logs books h = absurd h
-  made_there (Some s ∷ shards) [] books h = absurd h
-  made_there (Some s ∷ shards) (l ∷ logs) [] h = absurd h
-  made_there (Some s ∷ shards) (l ∷ logs) (b ∷ books) h = let r = made_there shards logs books h.1 in (r.0, λ i. (h.0 i).log ∷ r.1 i)
+  made_logs : (shards : List (Option (Sharded D))) (logs : List (Wal D)) (books : List Booked) → AreShardsOfLogs shards logs books → logs_of_shards shards ≡ logs
+  made_logs [] [] [] h = refl
+  made_logs [] [] (b ∷ books) h = absurd h
+  made_logs [] (l ∷ logs) books h = absurd h
+  made_logs (None ∷ shards) logs books h = absurd h
+  made_logs (Some s ∷ shards) [] books h = absurd h
+  made_logs (Some s ∷ shards) (l ∷ logs) [] h = absurd h
+  made_logs (Some s ∷ shards) (l ∷ logs) (b ∷ books) h = λ i. (h.0 i).log ∷ made_logs shards logs books h.1 i
 
   -- all slots, where the shards' go in front first, then this log's, then those of the logs that are left
   pub partly_back : (shards : List (Option (Sharded D))) (logs logs' all_logs : List (Wal D)) (books all_books : List Booked) (log back : Wal D) (slots one two three : List (List D))
@@ -195,7 +191,7 @@ module _ {D : Type 0} where
       → one ≡ map disks (logs_of_shards shards) ++ slots → two ≡ disks back ∷ one → three ≡ map disks logs' ++ two → three ≡ map disks all_logs ++ slots
   partly_back shards logs logs' all_logs books all_books log back slots one two three h e same a b c =
       let all : all_logs ≡ logs' ++ log ∷ h.made_logs = h.logs_are ∙ (ap (λ l. l ++ h.made_logs) e ∙ append_assoc logs' (log ∷ []) h.made_logs) in
-      let behind : one ≡ map disks h.made_logs ++ slots = a ∙ ap (λ l. map disks l ++ slots) (made_there shards h.made_logs h.made_books h.made).1 in
+      let behind : one ≡ map disks h.made_logs ++ slots = a ∙ ap (λ l. map disks l ++ slots) (made_logs shards h.made_logs h.made_books h.made) in
       c ∙ (ap (λ l. map disks logs' ++ l) (b ∙ (λ i. disks (same i) ∷ behind i)) ∙ (put logs' log h.made_logs ∙ ap (λ l. map disks l ++ slots) (sym all)))
     where
       put : (xs : List (Wal D)) (x : Wal D) (ys : List (Wal D)) → map disks xs ++ (disks x ∷ (map disks ys ++ slots)) ≡ map disks (xs ++ x ∷ ys) ++ slots
@@ -218,47 +214,29 @@ module _ {D : Type 0} where
   made_at (Some s ∷ shards) (l ∷ logs) (b ∷ books) zero h lt = record { log = l; book = b; shard_is = ap (λ x. Some (Some x)) h.0; log_is = refl; book_is = refl }
   made_at (Some s ∷ shards) (l ∷ logs) (b ∷ books) (suc k) h lt = let r = made_at shards logs books k h.1 (omega arith) in record { log = r.log; book = r.book; shard_is = r.shard_is; log_is = r.log_is; book_is = r.book_is }
 
-  -- each shard is the one of its number
-  pub made_fit : (first : Booked) (opened logs : List (Wal D)) (shards : List (Option (Sharded D))) (books : List Booked) (n : ℕ) → opened ≡ logs → books ≡ fresh_books first.table first.about n → AreShardsOfLogs shards logs books
-      → AreShardsOf (opening_of first opened) shards
-  made_fit first opened logs shards books n e is h = each_of (IsShardAt (opening_of first opened)) shards at
+  -- each shard is the one of its number, before any turn
+  pub made_fit : (sight : D → Sight) (follows : D → Type 0) (first : Booked) (opened logs : List (Wal D)) (shards : List (Option (Sharded D))) (books : List Booked) (n : ℕ) → opened ≡ logs → books ≡ fresh_books first.table first.about n → AreShardsOfLogs shards logs books
+      → AreShardsOf sight follows (opening_of first opened) shards
+  made_fit sight follows first opened logs shards books n e is h = each_of (IsShardAt sight follows (opening_of first opened)) shards at
     where
       some_inj : (a b : Option (Sharded D)) → Some a ≡ Some b → a ≡ b
       some_inj a b e = cc
 
-      at : (k : ℕ) (place : Option (Sharded D)) → slice_get shards k ≡ Some place → IsShardAt (opening_of first opened) k place
+      at : (k : ℕ) (place : Option (Sharded D)) → slice_get shards k ≡ Some place → IsShardAt sight follows (opening_of first opened) k place
       at k place found =
           let r = made_at shards logs books k h (slice_get_within shards k place found) in
           let fresh = fresh_book_at first.table first.about n k r.book (ap (λ l. slice_get l k) (sym is) ∙ r.book_is) in
-          subst (IsShardAt (opening_of first opened) k) (some_inj (Some (record { log = r.log; book = r.book; opened = r.log })) place (sym r.shard_is ∙ found)) (record {
+          subst (IsShardAt sight follows (opening_of first opened) k) (some_inj (Some (record { log = r.log; book = r.book; opened = r.log })) place (sym r.shard_is ∙ found)) (record {
             table = ap (λ (b : Booked). b.table) fresh;
             about = ap (λ (b : Booked). b.about) fresh;
             number = ap (λ (b : Booked). b.shard) fresh;
             opened = ap (λ l. slice_get l k) e ∙ r.log_is;
+            turns = [];
+            turned = λ i. record { log = r.log; book = fresh i; opened = r.log };
           })
-
--- the one value fits
-pub only_fits : {T : Type 0} (P : T → Type 0) (values : List (Option T)) (y : T) → values ≡ Some y ∷ [] → P y → (k : ℕ) → k < length values → (x : T) × (slice_get values k ≡ Some (Some x)) × P x
-only_fits {T} P values y e h k lt = here k (subst (λ vs. k < length vs) e lt)
-  where
-    here : (k : ℕ) → k < length (Some y ∷ []) → (x : T) × (slice_get values k ≡ Some (Some x)) × P x
-    here zero under = (y, ap (λ vs. slice_get vs 0) e, h)
-    here (suc k) under = absurd (omega arith)
 
 -- a fresh pass is of its opening
 pub fresh_are_of : {D : Type 0} (opening : Opening D) (n : ℕ) (passes : List Passed) → AreFresh opening n passes → (p : ℕ) (pass : Passed) → slice_get passes p ≡ Some pass → IsPassOf opening pass
 fresh_are_of opening n passes h p pass at =
     let e = h.fresh p pass at in
     record { table = ap (λ (x : Passed). x.table) e; about = ap (λ (x : Passed). x.caller.about) e; idle = λ _. ap (λ (x : Passed). x.caller.pending) e }
-
--- what the first book says of the opening
-pub about_first : (table : TableId) (ms : List Streams) (passes : ℕ) (limits : Limits) (capacity : ℕ) (first : Booked) → first ≡ fresh_book table (about_of ms passes limits capacity) 0 → first.about ≡ about_of first.about.bases passes limits capacity
-about_first table ms passes limits capacity first e = subst (λ (b : Booked). b.about ≡ about_of b.about.bases passes limits capacity) (sym e) refl
-
-pub found_first : {D : Type 0} (sight : D → Sight) (follows : D → Type 0) (table : TableId) (ms : List Streams) (passes : ℕ) (limits : Limits) (capacity count n : ℕ) (all : List (List D)) (logs kept : List (Wal D)) (first : Booked)
-    → first ≡ fresh_book table (about_of ms passes limits capacity) 0 → count ≡ n → kept ≡ logs → AreOpenedFrom sight follows count capacity 0 all logs ms → AreOpenedFrom sight follows n capacity 0 all kept first.about.bases
-found_first {D} sight follows table ms passes limits capacity count n all logs kept first e many same h =
-    subst (λ (z : ℕ × List (Wal D) × Booked). AreOpenedFrom sight follows z.0 capacity 0 all z.1 z.2.about.bases) (λ i. (many i, sym same i, sym e i)) h
-
-pub passes_first : {D : Type 0} (table : TableId) (about : About) (n : ℕ) (logs : List (Wal D)) (first : Booked) (passes : List Passed) → first ≡ fresh_book table about 0 → passes ≡ fresh_passes table about n → AreFresh (opening_of first logs) n passes
-passes_first table about n logs first passes e is = are_fresh (opening_of first logs) n passes (is ∙ (λ i. fresh_passes (sym e i).table (sym e i).about n))

@@ -30,38 +30,36 @@ get_front {A} xs s z k lt e = ⊎_elim
     (λ (t : (length xs ≤ k) × (slice_get xs k ≡ None)). absurd (omega arith))
     (slice_get_cases xs k).1
 
-module _ {D : Type 0} (opening : Opening D) (passes : List Passed) where
-  pub last_more : (xs : List (Sharded D)) (s : Sharded D) → ((k : ℕ) (z : Sharded D) → slice_get xs k ≡ Some z → IsLast opening passes k z) → IsLast opening passes (length xs) s
-      → (k : ℕ) (z : Sharded D) → slice_get (xs ++ s ∷ []) k ≡ Some z → IsLast opening passes k z
+module _ {D : Type 0} (sight : D → Sight) (follows : D → Type 0) (opening : Opening D) (passes : List Passed) where
+  pub last_more : (xs : List (Sharded D)) (s : Sharded D) → ((k : ℕ) (z : Sharded D) → slice_get xs k ≡ Some z → IsLast sight follows opening passes k z) → IsLast sight follows opening passes (length xs) s
+      → (k : ℕ) (z : Sharded D) → slice_get (xs ++ s ∷ []) k ≡ Some z → IsLast sight follows opening passes k z
   last_more xs s all last k z e = ⊎_elim
-      (λ (is : k ≡ length xs). let same : Some s ≡ Some z = sym (get_last xs s) ∙ (ap (slice_get (xs ++ s ∷ [])) (sym is) ∙ e) in let there : s ≡ z = cc in subst (λ (w : ℕ × Sharded D). IsLast opening passes w.0 w.1) (λ i. (sym is i, there i)) last)
+      (λ (is : k ≡ length xs). let same : Some s ≡ Some z = sym (get_last xs s) ∙ (ap (slice_get (xs ++ s ∷ [])) (sym is) ∙ e) in let there : s ≡ z = cc in subst (λ (w : ℕ × Sharded D). IsLast sight follows opening passes w.0 w.1) (λ i. (sym is i, there i)) last)
       (λ (not : k ≢ length xs). before xs s k z (under k not (slice_get_within (xs ++ s ∷ []) k z e)) e all)
       (cases_eq k (length xs))
     where
       under : (k : ℕ) → k ≢ length xs → k < length (xs ++ s ∷ []) → k < length xs
       under k not lt = let long = length-append xs (s ∷ []) in omega arith
 
-      before : (xs : List (Sharded D)) (s : Sharded D) (k : ℕ) (z : Sharded D) → k < length xs → slice_get (xs ++ s ∷ []) k ≡ Some z → ((k : ℕ) (z : Sharded D) → slice_get xs k ≡ Some z → IsLast opening passes k z) → IsLast opening passes k z
+      before : (xs : List (Sharded D)) (s : Sharded D) (k : ℕ) (z : Sharded D) → k < length xs → slice_get (xs ++ s ∷ []) k ≡ Some z → ((k : ℕ) (z : Sharded D) → slice_get xs k ≡ Some z → IsLast sight follows opening passes k z) → IsLast sight follows opening passes k z
       before xs s k z lt e all = all k z (get_front xs s z k lt e)
 
-  pub front_last : (shards front : List (Sharded D)) (s : Sharded D) → shards ≡ front ++ s ∷ [] → AreLast opening passes shards → AreLast opening passes front
+  pub front_last : (shards front : List (Sharded D)) (s : Sharded D) → shards ≡ front ++ s ∷ [] → AreLast sight follows opening passes shards → AreLast sight follows opening passes front
   front_last shards front s e h = record { some_pass = h.some_pass; each = λ k z at. h.each k z (ap (λ l. slice_get l k) e ∙ get_before front s z k (slice_get_within front k z at) at) }
 
-  pub the_last : (shards front : List (Sharded D)) (s : Sharded D) → shards ≡ front ++ s ∷ [] → AreLast opening passes shards → IsLast opening passes (length front) s
+  pub the_last : (shards front : List (Sharded D)) (s : Sharded D) → shards ≡ front ++ s ∷ [] → AreLast sight follows opening passes shards → IsLast sight follows opening passes (length front) s
   the_last shards front s e h = h.each (length front) s (ap (λ l. slice_get l (length front)) e ∙ get_last front s)
 
-  pub last_of : (compared : List Passed) (k : ℕ) (shard again : Sharded D) → IsOf opening k shard → again ≡ shard
-      → compared ≡ passes → AreComparedTo shard.book compared (length compared) → IsLast opening passes k again
-  last_of compared k shard again is same to h = subst (IsLast opening passes k) (sym same) (record {
-    about = is.about;
-    number = is.number;
-    opened = is.opened;
+  pub last_of : (compared : List Passed) (k : ℕ) (shard again : Sharded D) → IsOf sight follows opening k shard → again ≡ shard
+      → compared ≡ passes → AreComparedTo shard.book compared (length compared) → IsLast sight follows opening passes k again
+  last_of compared k shard again is same to h = subst (IsLast sight follows opening passes k) (sym same) (record {
+    is_of = is;
     compared = subst (λ l. AreComparedTo shard.book l (length l)) to h;
   })
 
 module _ {D : Type 0} (sight : D → Sight) (follows : D → Type 0) where
   pub last_handed : (opening : Opening D) (passes : List Passed) (shards front : List (Sharded D)) (shard : Sharded D) (out : List D) (marked : Bool)
-      → shards ≡ front ++ shard ∷ [] → AreLast opening passes shards
+      → shards ≡ front ++ shard ∷ [] → AreLast sight follows opening passes shards
       → out ≡ disks shard.log
       → (Follow follows shard.log → KeepsHistory (slots sight shard.log) shard.book (doubt_of shard.book.items))
       → (AllFollow follows out → Follow follows shard.opened)
@@ -69,7 +67,5 @@ module _ {D : Type 0} (sight : D → Sight) (follows : D → Type 0) where
       → (is_marked shard.book.items ≡ false → HasNoFailure (slots sight shard.opened) (slots sight shard.log))
       → marked ≡ is_marked shard.book.items → IsHandedOut sight follows opening passes (length front) (out, marked)
   last_handed opening passes shards front shard out marked e h is keeps before failed not_failed flag =
-      let last = the_last opening passes shards front shard e h in
-      let opened : slice_get opening.logs shard.book.shard ≡ Some shard.opened = ap (slice_get opening.logs) last.number ∙ last.opened in
-      subst (λ n. IsHandedOut sight follows opening passes n (out, marked)) last.number
-      (handed sight follows opening passes shard out marked h.some_pass last.compared is keeps before failed not_failed flag last.about opened)
+      let last = the_last sight follows opening passes shards front shard e h in
+      handed sight follows opening passes (length front) shard out marked h.some_pass last.compared last.is_of is keeps before failed not_failed flag

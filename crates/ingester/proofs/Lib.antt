@@ -6,6 +6,7 @@ pub mod Grounding
 pub mod Lasting
 pub mod Listing
 pub mod Making
+pub mod Passing
 pub mod Receiving
 pub mod Refusing
 pub mod Returning

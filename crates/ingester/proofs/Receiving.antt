@@ -52,7 +52,7 @@ doubts_more zero = refl
 doubts_more (suc n) = let e : suc n + 1 ≡ suc (n + 1) = omega arith in ap doubts e ∙ ap (λ (l : List (Result Reply CallFault)). Err InDoubt ∷ l) (doubts_more n)
 
 -- the table and the opening are as they were
-record IsBack (old new : Passed) : Type 0 where
+pub record IsBack (old new : Passed) : Type 0 where
   pub table : new.table ≡ old.table
   pub about : new.caller.about ≡ old.caller.about
   pub pass : new.caller.pass ≡ old.caller.pass
@@ -66,12 +66,12 @@ refused_pass old new call InDoubt (inl h) = ap (λ (p : Passed). p.caller.pass) 
 refused_pass old new call InDoubt (inr h) = ap (λ (p : Passed). p.caller.pass) h
 
 module _ {D : Type 0} (opening : Opening D) where
-  pub taken_behind : (old new : Passed) (r : Result Reply CallFault) → IsTaken opening old new r → IsBehind old new
+  pub taken_behind : (old new : Passed) (r : Result Reply CallFault) → IsTaken old new r → IsBehind old new
   taken_behind old new (Ok reply) h =
       let by : IsCollected old new h.first reply = h.by in
       subst (IsBehind old) (sym by.pass) (record { table = refl; about = refl; pass = refl; pending = refl; rested = λ (_ : IsRested old.caller). by.rested })
   taken_behind old new (Err fault) h =
-      let by : IsWithdrawn opening old new h.first fault = h.by in
+      let by : IsWithdrawn old new h.first fault = h.by in
       subst (IsBehind old) (sym by.pass) (record { table = refl; about = refl; pass = refl; pending = refl; rested = λ (r : IsRested old.caller). r })
 
   -- the state of a pass while this many of its open calls are taken in
@@ -91,7 +91,7 @@ module _ {D : Type 0} (opening : Opening D) where
       }
 
   -- one more came
-  pub received_more : (old mid new : Passed) (before so_far after : List (Result Reply CallFault)) (count : ℕ) (r : Result Reply CallFault) → AreReceived opening old mid before so_far count → after ≡ so_far ++ r ∷ [] → IsTaken opening mid new r → AreReceived opening old new before after (count + 1)
+  pub received_more : (old mid new : Passed) (before so_far after : List (Result Reply CallFault)) (count : ℕ) (r : Result Reply CallFault) → AreReceived old mid before so_far count → after ≡ so_far ++ r ∷ [] → IsTaken mid new r → AreReceived old new before after (count + 1)
   received_more old mid new before so_far after count r h is taken = record {
     came = h.came ++ r ∷ [];
     outcomes_are = is ∙ ap (λ (l : List (Result Reply CallFault)). l ++ r ∷ []) h.outcomes_are ∙ append_assoc before h.came (r ∷ []);
@@ -103,7 +103,7 @@ module _ {D : Type 0} (opening : Opening D) where
   pub record IsSoFar (start mid : Passed) (calls left : List Call) (outcomes : List (Result Reply CallFault)) : Type 0 where
     pub done : List Call
     pub calls_are : calls ≡ done ++ left
-    pub given : AreGiven opening start done outcomes mid
+    pub given : AreGiven start done outcomes mid
 
   -- and the pass waits for no answer
   pub record IsGoing (start mid : Passed) (calls left : List Call) (outcomes : List (Result Reply CallFault)) : Type 0 where
@@ -114,26 +114,26 @@ module _ {D : Type 0} (opening : Opening D) where
   none_left front done [] e n = refl
   none_left front done (c ∷ left) e n = let long : length front ≡ length done + length (c ∷ left) = ap length e ∙ length-append done (c ∷ left) in absurd (omega arith)
 
-  is_taken_back : (old new : Passed) → IsTakenBack old new → IsBack old new
+  pub is_taken_back : (old new : Passed) → IsTakenBack old new → IsBack old new
   is_taken_back old new (inl same) = subst (IsBack old) (sym same) (record { table = refl; about = refl; pass = refl })
   is_taken_back old new (inr taken) = subst (IsBack old) (sym taken.2) (record { table = refl; about = refl; pass = refl })
 
   -- what is lost of a round, and what came of the rest
-  lost_more : (mid now back new : Passed) (left : List Call) (taken count : ℕ) → IsPassOf opening mid → AreAnnounced mid left now → IsTakenBack now back → new ≡ closed_now back → length left ≡ count - taken → taken < count → AreGiven opening mid left (doubts (count - taken)) new × IsPassOf opening new
+  lost_more : (mid now back new : Passed) (left : List Call) (taken count : ℕ) → IsPassOf opening mid → AreAnnounced mid left now → IsTakenBack now back → new ≡ closed_now back → length left ≡ count - taken → taken < count → AreGiven mid left (doubts (count - taken)) new × IsPassOf opening new
   lost_more mid now back new [] taken count is a b closed n lt = absurd (omega arith)
   lost_more mid now back new (call ∷ calls) taken count is a b closed n lt =
       let ahead = announced_ahead mid now (call ∷ calls) a in
       let same = is_taken_back now back b in (
-        subst (λ (m : ℕ). AreGiven opening mid (call ∷ calls) (doubts m) new) n (all_lost opening mid now back new call calls is a b closed),
+        subst (λ (m : ℕ). AreGiven mid (call ∷ calls) (doubts m) new) n (all_lost opening mid now back new call calls is a b closed),
         subst (IsPassOf opening) (sym closed) (record { table = same.table ∙ (ahead.table ∙ is.table); about = same.about ∙ (ahead.about ∙ is.about); idle = λ (e : true ≡ false). absurd (false≢true (sym e)) }),
       )
 
-  taken_pass : (old new : Passed) (rs : List (Result Reply CallFault)) → AreTaken opening old rs new → new.caller.pass ≡ old.caller.pass
+  taken_pass : (old new : Passed) (rs : List (Result Reply CallFault)) → AreTaken old rs new → new.caller.pass ≡ old.caller.pass
   taken_pass old new [] t = ap (λ (p : Passed). p.caller.pass) t
   taken_pass old new (r ∷ rs) t = taken_pass t.0 new rs t.2 ∙ (taken_behind old t.0 r t.1).pass
 
   -- a round leaves the pass its number
-  pub ended_pass : (old new : Passed) (before after : List (Result Reply CallFault)) (count : ℕ) → AreEnded opening old new before after count → new.caller.pass ≡ old.caller.pass
+  pub ended_pass : (old new : Passed) (before after : List (Result Reply CallFault)) (count : ℕ) → AreEnded old new before after count → new.caller.pass ≡ old.caller.pass
   ended_pass old new before after count e = ⊎_elim
       (λ (t : (e.taken ≡ count) × (new ≡ e.mid) × (after ≡ e.between)). ap (λ (p : Passed). p.caller.pass) t.1)
       (λ (t : (e.taken < count) × AreLost e.mid new e.between after e.taken count). ap (λ (p : Passed). p.caller.pass) t.1.closed ∙ (is_taken_back e.mid t.1.mid t.1.back).pass)
@@ -143,10 +143,10 @@ module _ {D : Type 0} (opening : Opening D) where
   record IsRoundEnded (mid new : Passed) (front : List Call) (before after : List (Result Reply CallFault)) : Type 0 where
     pub came : List (Result Reply CallFault)
     pub outcomes_are : after ≡ before ++ came
-    pub given : AreGiven opening mid front came new
+    pub given : AreGiven mid front came new
     pub pass : IsPassOf opening new
 
-  round_ends : (mid now new : Passed) (front : List Call) (came before after : List (Result Reply CallFault)) (count : ℕ) (e : AreEnded opening now new before after count) (done : AreDone opening mid front came e.mid) (r : AreReceived opening now e.mid before e.between e.taken) → length front ≡ count → length came ≡ e.taken → e.between ≡ before ++ came → IsRoundEnded mid new front before after
+  round_ends : (mid now new : Passed) (front : List Call) (came before after : List (Result Reply CallFault)) (count : ℕ) (e : AreEnded now new before after count) (done : AreDone opening mid front came e.mid) (r : AreReceived now e.mid before e.between e.taken) → length front ≡ count → length came ≡ e.taken → e.between ≡ before ++ came → IsRoundEnded mid new front before after
   round_ends mid now new front came before after count e done r many taken are = ⊎_elim
       (λ (t : (e.taken ≡ count) × (new ≡ e.mid) × (after ≡ e.between)).
       let all : length done.done ≡ length front = done.counted ∙ (taken ∙ (t.0 ∙ sym many)) in
@@ -156,7 +156,7 @@ module _ {D : Type 0} (opening : Opening D) where
       record {
         came = came;
         outcomes_are = t.2 ∙ are;
-        given = subst (λ (z : List Call × Passed). AreGiven opening mid z.0 came z.1) (λ i. (fronts i, (sym same ∙ sym t.1) i)) done.given;
+        given = subst (λ (z : List Call × Passed). AreGiven mid z.0 came z.1) (λ i. (fronts i, (sym same ∙ sym t.1) i)) done.given;
         pass = subst (IsPassOf opening) (sym same ∙ sym t.1) done.pass;
       })
       (λ (t : (e.taken < count) × AreLost e.mid new e.between after e.taken count).
@@ -169,13 +169,13 @@ module _ {D : Type 0} (opening : Opening D) where
       record {
         came = came ++ doubts (count - e.taken);
         outcomes_are = l.outcomes_are ∙ (ap (λ (x : List (Result Reply CallFault)). x ++ doubts (count - e.taken)) are ∙ append_assoc before came (doubts (count - e.taken)));
-        given = subst (λ (x : List Call). AreGiven opening mid x (came ++ doubts (count - e.taken)) new) (sym done.calls_are) (given_append opening false mid done.mid new done.done done.left came (doubts (count - e.taken)) done.given lost.0);
+        given = subst (λ (x : List Call). AreGiven mid x (came ++ doubts (count - e.taken)) new) (sym done.calls_are) (given_append opening false mid done.mid new done.done done.left came (doubts (count - e.taken)) done.given lost.0);
         pass = lost.1;
       })
       e.ends
 
   -- some calls more at once
-  pub round_more : (start mid now new : Passed) (calls left rest : List Call) (first count : ℕ) (before after : List (Result Reply CallFault)) → IsSoFar start mid calls left before → IsPassOf opening mid → AreSomeOpen mid now left rest first count → AreEnded opening now new before after count → IsGoing start new calls rest after
+  pub round_more : (start mid now new : Passed) (calls left rest : List Call) (first count : ℕ) (before after : List (Result Reply CallFault)) → IsSoFar start mid calls left before → IsPassOf opening mid → AreSomeOpen mid now left rest first count → AreEnded now new before after count → IsGoing start new calls rest after
   round_more start mid now new calls left rest first count before after so_far is h e =
       let r = e.received in
       let few : length r.came ≤ length h.front = ⊎_elim
@@ -188,7 +188,7 @@ module _ {D : Type 0} (opening : Opening D) where
         so_far = record {
           done = so_far.done ++ h.front;
           calls_are = so_far.calls_are ∙ ap (λ (l : List Call). so_far.done ++ l) h.calls_are ∙ sym (append_assoc so_far.done h.front rest);
-          given = subst (λ (l : List (Result Reply CallFault)). AreGiven opening start (so_far.done ++ h.front) l new) (sym ended.outcomes_are) (given_append opening false start mid new so_far.done h.front before ended.came so_far.given ended.given);
+          given = subst (λ (l : List (Result Reply CallFault)). AreGiven start (so_far.done ++ h.front) l new) (sym ended.outcomes_are) (given_append opening false start mid new so_far.done h.front before ended.came so_far.given ended.given);
         };
         pass = ended.pass;
       }
@@ -199,7 +199,7 @@ module _ {D : Type 0} (opening : Opening D) where
     so_far = record {
       done = so_far.done ++ h.call ∷ [];
       calls_are = so_far.calls_are ∙ ap (λ (l : List Call). so_far.done ++ l) h.calls_are ∙ sym (append_assoc so_far.done (h.call ∷ []) rest);
-      given = subst (λ (l : List (Result Reply CallFault)). AreGiven opening start (so_far.done ++ h.call ∷ []) l new) (sym is) (given_append opening false start mid new so_far.done (h.call ∷ []) before (Err fault ∷ []) so_far.given (new, h.given, refl));
+      given = subst (λ (l : List (Result Reply CallFault)). AreGiven start (so_far.done ++ h.call ∷ []) l new) (sym is) (given_append opening false start mid new so_far.done (h.call ∷ []) before (Err fault ∷ []) so_far.given (new, h.given, refl));
     };
     pass = h.pass;
   }

@@ -8,16 +8,15 @@ use Rattle.accept.specs.declared.history.Ask.{Ask}
 use Rattle.accept.specs.declared.history.Item.{Item}
 use Rattle.history.specs.declared.views.About.{About}
 use Rattle.history.specs.declared.views.Caller.{Caller}
-use Rattle.history.specs.Histories.{IsFirst, asks_on, shard_in, step_of, max_open}
+use Rattle.history.specs.Histories.{IsFirst, asks_on, step_of, max_open}
 use Rattle.history.specs.Plays.{ask_of, before_of, withdraw_to, collect_to, HasSeenStep, IsRested}
 use Rattle.history.specs.Handles.{Passed, is_closed_pass, asks_of}
 use Rattle.shard.specs.declared.fault.ApplyFault.{ApplyFault}
-use Rattle.shard.specs.declared.fault.ApplyFault.TheVariants.{GenerationSpent}
 use Rattle.shard.specs.declared.first_jobs.Job.{Job}
 use Rattle.shard.specs.Jobs.{tickets_of}
 use Rattle.owners.specs.declared.ways.Way.{Way}
 use Rattle.owners.specs.Calls.{IsBatch}
-use Rattle.owners.specs.Openings.{Opening, HasSpentLog, home_of}
+use Rattle.owners.specs.Openings.{Opening, home_of}
 use Rattle.owners.specs.Ways.{AreReadyWays, AreIdleWays}
 use Rattle.ingester.specs.declared.announcing.Round.{Round}
 use Rattle.ingester.specs.declared.fault.CallFault.{CallFault}
@@ -132,41 +131,34 @@ pub record IsCollected (old new : Passed) (first : Ask) (reply : Reply) : Type 0
   pub rested : IsRested (collect_to old.caller (step_of first reply) upto)
 
 -- this open call was taken back
-pub record IsWithdrawn {D : Type 0} (opening : Opening D) (old new : Passed) (first : Ask)
-    (fault : CallFault) : Type 0 where
+pub record IsWithdrawn (old new : Passed) (first : Ask) (fault : CallFault) : Type 0 where
   pub cause : ApplyFault
   pub fault_is : fault ≡ fault_of cause
   pub pass : new ≡ record old { caller = withdraw_to old.caller first.number }
-  pub spent : cause ≡ GenerationSpent
-      → HasSpentLog opening (shard_in opening.about first) first.call
 
 -- this came of an open call
-abbrev pub IsTakenBy : {D : Type 0} → Opening D → Passed → Passed → Ask → Result Reply CallFault
-    → Type 0
-IsTakenBy opening old new first (Ok reply) = IsCollected old new first reply
-IsTakenBy opening old new first (Err fault) = IsWithdrawn opening old new first fault
+abbrev pub IsTakenBy : Passed → Passed → Ask → Result Reply CallFault → Type 0
+IsTakenBy old new first (Ok reply) = IsCollected old new first reply
+IsTakenBy old new first (Err fault) = IsWithdrawn old new first fault
 
 -- this came of the first open call
-pub record IsTaken {D : Type 0} (opening : Opening D) (old new : Passed)
-    (outcome : Result Reply CallFault) : Type 0 where
+pub record IsTaken (old new : Passed) (outcome : Result Reply CallFault) : Type 0 where
   pub first : Ask
   pub is_first : IsFirst first old.caller.pending
-  pub by : IsTakenBy opening old new first outcome
+  pub by : IsTakenBy old new first outcome
 
 -- this came of the open calls, from the first on
-abbrev pub AreTaken : {D : Type 0} → Opening D → Passed → List (Result Reply CallFault) → Passed
-    → Type 0
-AreTaken opening old [] new = new ≡ old
-AreTaken opening old (outcome ∷ outcomes) new = (mid : Passed) × IsTaken opening old mid outcome
-    × AreTaken opening mid outcomes new
+abbrev pub AreTaken : Passed → List (Result Reply CallFault) → Passed → Type 0
+AreTaken old [] new = new ≡ old
+AreTaken old (outcome ∷ outcomes) new = (mid : Passed) × IsTaken old mid outcome
+    × AreTaken mid outcomes new
 
 -- this number of open calls, from the first on, were taken in, and this came of them
-pub record AreReceived {D : Type 0} (opening : Opening D) (old new : Passed)
-    (before after : List (Result Reply CallFault)) (count : ℕ) : Type 0 where
+pub record AreReceived (old new : Passed) (before after : List (Result Reply CallFault)) (count : ℕ) : Type 0 where
   pub came : List (Result Reply CallFault)
   pub outcomes_are : after ≡ before ++ came
   pub counted : length came ≡ count
-  pub taken : AreTaken opening old came new
+  pub taken : AreTaken old came new
 
 -- the first open call was taken back, or none was
 abbrev pub IsTakenBack : Passed → Passed → Type 0
@@ -188,12 +180,11 @@ pub record AreLost (old new : Passed) (before after : List (Result Reply CallFau
   pub outcomes_are : after ≡ before ++ doubts (count - from)
 
 -- this came of the open calls of a round: all were taken in, or some, and the others were lost
-pub record AreEnded {D : Type 0} (opening : Opening D) (old new : Passed)
-    (before after : List (Result Reply CallFault)) (count : ℕ) : Type 0 where
+pub record AreEnded (old new : Passed) (before after : List (Result Reply CallFault)) (count : ℕ) : Type 0 where
   pub mid : Passed
   pub between : List (Result Reply CallFault)
   pub taken : ℕ
-  pub received : AreReceived opening old mid before between taken
+  pub received : AreReceived old mid before between taken
   pub ends : ((taken ≡ count) × (new ≡ mid) × (after ≡ between))
       ⊎ ((taken < count) × AreLost mid new between after taken count)
 
@@ -203,5 +194,5 @@ pub record IsNextRefused {D : Type 0} (opening : Opening D) (old new : Passed)
     (fault : CallFault) : Type 0 where
   pub call : Call
   pub calls_are : calls ≡ call ∷ left
-  pub given : IsGiven opening old call (Err fault) new
+  pub given : IsGiven old call (Err fault) new
   pub pass : IsPassOf opening new

@@ -10,7 +10,7 @@ use Rattle.history.specs.Plays.{seen_at, ask_of, announce_to, collect_to, Extend
 use Rattle.history.specs.Handles.{Passed, is_closed_pass}
 use Rattle.ingester.specs.declared.fault.CallFault.{CallFault}
 use Rattle.ingester.specs.declared.fault.CallFault.TheVariants.{Memory, PassClosed, LogSpent, InDoubt}
-use Rattle.owners.specs.Openings.{Opening, HasSpentLog}
+use Rattle.owners.specs.Openings.{Opening}
 
 -- The pass is of this opening, and waits for no answer. One that was closed may have calls whose answers are lost.
 pub record IsPassOf {D : Type 0} (opening : Opening D) (pass : Passed) : Type 0 where
@@ -77,13 +77,11 @@ IsRefused old call new PassClosed = new ≡ old
 IsRefused old call new InDoubt = IsLost old call new
 
 -- this came of the next call of a pass: from what the pass knew to what it knows then
-pub record IsGiven {D : Type 0} (opening : Opening D) (old : Passed) (call : Call)
-    (outcome : Result Reply CallFault)
+pub record IsGiven (old : Passed) (call : Call) (outcome : Result Reply CallFault)
     (new : Passed) : Type 0 where
   pub answered : IfOk outcome (λ reply. IsAnswered old new call reply)
   pub refused : IfErr outcome (λ fault. IsRefused old call new fault)
   pub closed : IsErrOf outcome PassClosed ↔ (is_closed_pass old ≡ true)
-  pub spent : IsErrOf outcome LogSpent → HasSpentLog opening (shard_for old.caller call) call
 
 -- whether the call is in doubt
 abbrev pub is_doubt : Result Reply CallFault → Bool
@@ -95,23 +93,20 @@ is_doubt (Err InDoubt) = true
 
 -- This came of a call of a pass. Where the one before it is in doubt, this one was announced too, and may be lost with
 -- it: then it stays open.
-abbrev pub IsGivenAfter : {D : Type 0} → Bool → Opening D → Passed → Call → Result Reply CallFault
-    → Passed → Type 0
-IsGivenAfter false opening old call outcome new = IsGiven opening old call outcome new
-IsGivenAfter true opening old call outcome new = IsGiven opening old call outcome new
+abbrev pub IsGivenAfter : Bool → Passed → Call → Result Reply CallFault → Passed → Type 0
+IsGivenAfter false old call outcome new = IsGiven old call outcome new
+IsGivenAfter true old call outcome new = IsGiven old call outcome new
     ⊎ ((outcome ≡ Err InDoubt) × (new ≡ with_next old call))
 
-abbrev pub AreGivenAfter : {D : Type 0} → Bool → Opening D → Passed → List Call
-    → List (Result Reply CallFault) → Passed
+abbrev pub AreGivenAfter : Bool → Passed → List Call → List (Result Reply CallFault) → Passed
     → Type 0
-AreGivenAfter lost opening old [] [] new = new ≡ old
-AreGivenAfter lost opening old [] (r ∷ rs) new = ⊥
-AreGivenAfter lost opening old (call ∷ calls) [] new = ⊥
-AreGivenAfter lost opening old (call ∷ calls) (r ∷ rs) new = (mid : Passed)
-    × IsGivenAfter lost opening old call r mid
-    × AreGivenAfter (is_doubt r) opening mid calls rs new
+AreGivenAfter lost old [] [] new = new ≡ old
+AreGivenAfter lost old [] (r ∷ rs) new = ⊥
+AreGivenAfter lost old (call ∷ calls) [] new = ⊥
+AreGivenAfter lost old (call ∷ calls) (r ∷ rs) new = (mid : Passed)
+    × IsGivenAfter lost old call r mid
+    × AreGivenAfter (is_doubt r) mid calls rs new
 
 -- this came of the calls, made one after another
-abbrev pub AreGiven : {D : Type 0} → Opening D → Passed → List Call → List (Result Reply CallFault)
-    → Passed → Type 0
-AreGiven opening old calls outcomes new = AreGivenAfter false opening old calls outcomes new
+abbrev pub AreGiven : Passed → List Call → List (Result Reply CallFault) → Passed → Type 0
+AreGiven old calls outcomes new = AreGivenAfter false old calls outcomes new

@@ -8,12 +8,15 @@ use Rattle.wal.specs.declared.log.Wal.{Wal}
 use Rattle.wal.specs.Moments.{HasFailed, HasNoFailure}
 use Rattle.wal.specs.Logs.{Follow, slots}
 use Rattle.wal.specs.Covers.{Covers}
-use Rattle.wal.specs.Opening.{slots_of, AllFollow}
+use Rattle.wal.specs.Opening.{slots_of, disks, AllFollow}
 use Rattle.history.specs.Histories.{IsBeginning, IsLegalAt, IsByPasses, doubt_of, history_of}
 use Rattle.history.specs.Plays.{seen_at, HasStepsOf}
 use Rattle.history.specs.Handles.{Booked, Passed}
 use Rattle.shard.specs.Shards.{Sharded}
+use Rattle.shard.specs.Turns.{Turn}
+use Rattle.shard.specs.Leads.{Lead}
 use Rattle.owners.specs.Openings.{Opening}
+use Rattle.owners.specs.Places.{IsOf, opened_shard}
 
 -- what close leaves: the opening, the passes that were handed in, and how many shards are left
 pub record Handed (D : Type 0) : Type 0 where
@@ -26,8 +29,9 @@ pub record IsTold (k : ℕ) (items : List Item) (pass : Passed) : Type 0 where
   pub begins : IsBeginning (seen_at pass.caller k) items
   pub steps : HasStepsOf pass.caller k items
 
--- one legal history of shard k over what its opening found, which the slots keep. It has no steps but those of the
--- opening's passes. What was opened followed the model where this does.
+-- One legal history of shard k over what its opening found, which the slots keep. It has no steps but those of the
+-- opening's passes, and turns lead to the shard that has it from what was opened. What was opened followed the model
+-- where this does.
 pub record IsHandedOut {D : Type 0} (sight : D → Sight) (follows : D → Type 0) (opening : Opening D)
     (passes : List Passed) (k : ℕ) (handed : List D × Bool) : Type 0 where
   pub items : List Item
@@ -43,6 +47,11 @@ pub record IsHandedOut {D : Type 0} (sight : D → Sight) (follows : D → Type 
   pub before : AllFollow follows handed.0 → Follow follows opened
   pub failed : handed.1 ≡ true → HasFailed (slots sight opened) (slots_of sight handed.0)
   pub not_failed : handed.1 ≡ false → HasNoFailure (slots sight opened) (slots_of sight handed.0)
+  pub shard : Sharded D
+  pub items_are : items ≡ shard.book.items
+  pub slots_are : handed.0 ≡ disks shard.log
+  pub turns : List (Turn D)
+  pub turned : Lead sight follows (opened_shard opening k opened) turns shard
 
 -- a book was compared with a pass
 pub record IsComparedTo (book : Booked) (pass : Passed) : Type 0 where
@@ -55,17 +64,16 @@ abbrev pub AreComparedTo : Booked → List Passed → ℕ → Type 0
 AreComparedTo book passes n = (i : ℕ) (pass : Passed) → i < n → slice_get passes i ≡ Some pass
     → IsComparedTo book pass
 
--- shard k of the opening, compared with all passes
-pub record IsLast {D : Type 0} (opening : Opening D) (passes : List Passed) (k : ℕ)
-    (shard : Sharded D) : Type 0 where
-  pub about : shard.book.about ≡ opening.about
-  pub number : shard.book.shard ≡ k
-  pub opened : slice_get opening.logs k ≡ Some shard.opened
-  pub compared : AreComparedTo shard.book passes (length passes)
+module _ {D : Type 0} (sight : D → Sight) (follows : D → Type 0) where
+  -- shard k of the opening, compared with all passes
+  pub record IsLast (opening : Opening D) (passes : List Passed) (k : ℕ)
+      (shard : Sharded D) : Type 0 where
+    pub is_of : IsOf sight follows opening k shard
+    pub compared : AreComparedTo shard.book passes (length passes)
 
--- so is each of these shards, and there is a pass
-pub record AreLast {D : Type 0} (opening : Opening D) (passes : List Passed)
-    (shards : List (Sharded D)) : Type 0 where
-  pub some_pass : 0 < length passes
-  pub each : (k : ℕ) (shard : Sharded D) → slice_get shards k ≡ Some shard
-      → IsLast opening passes k shard
+  -- so is each of these shards, and there is a pass
+  pub record AreLast (opening : Opening D) (passes : List Passed)
+      (shards : List (Sharded D)) : Type 0 where
+    pub some_pass : 0 < length passes
+    pub each : (k : ℕ) (shard : Sharded D) → slice_get shards k ≡ Some shard
+        → IsLast opening passes k shard

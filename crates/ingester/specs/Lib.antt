@@ -1,9 +1,11 @@
 pub mod Faults
 pub mod Openings
 pub mod Calls
+pub mod Passes
 pub mod Closings
 pub mod Findings
 pub mod Makings
 pub mod Batches
 pub mod Parts
+pub mod Planning
 pub mod Settling

@@ -1,5 +1,6 @@
 -- Shards that are made of opened logs.
 use Rattle.std.specs.Prelude.{◌≡◌, ℕ, List, [], ◌∷◌, Option, Some, None, slice_get}
+use Rattle.atomic_table.specs.Seated.{TableId}
 use Rattle.accept.specs.declared.limits.Limits.{Limits}
 use Rattle.accept.specs.Rooms.{Streams}
 use Rattle.disk.specs.Sight.{Sight}
@@ -25,11 +26,16 @@ AreShardsOfLogs (Some shard ∷ shards) (log ∷ logs) (book ∷ books) =
     × AreShardsOfLogs shards logs books
 AreShardsOfLogs shards logs books = ⊥
 
--- each shard is there
-abbrev pub AreThere : {D : Type 0} → List (Option (Sharded D)) → Type 0
-AreThere [] = Unit {0}
-AreThere (Some shard ∷ shards) = AreThere shards
-AreThere (None ∷ shards) = ⊥
+-- the books are of this table
+abbrev pub AreBooksIn : TableId → List Booked → Type 0
+AreBooksIn table [] = Unit {0}
+AreBooksIn table (book ∷ books) = (book.table ≡ table) × AreBooksIn table books
+
+-- each shard is there, with a book of this table
+abbrev pub AreShardsIn : {D : Type 0} → TableId → List (Option (Sharded D)) → Type 0
+AreShardsIn table [] = Unit {0}
+AreShardsIn table (Some shard ∷ shards) = (shard.book.table ≡ table) × AreShardsIn table shards
+AreShardsIn table (None ∷ shards) = ⊥
 
 -- the logs of shards
 abbrev pub logs_of_shards : {D : Type 0} → List (Option (Sharded D)) → List (Wal D)

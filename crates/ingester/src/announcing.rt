@@ -11,7 +11,7 @@ use crate::calls::shard_number;
 use crate::opened::Ingester;
 use accept::Call;
 use disk::Disk;
-use history::Pass;
+use history::Pass as Seat;
 use owners::Way;
 use shard::Job;
 use std::collections::VecDeque;
@@ -25,12 +25,12 @@ pub(crate) struct Round {
     pub(crate) first: u64,
     pub(crate) count: usize,
     // The shard of each, in their order.
-    pub(crate) shards: [usize; Pass::MAX_OPEN],
+    pub(crate) shards: [usize; Seat::MAX_OPEN],
 }
 
 impl<D: Disk + Drop> Ingester<D> {
     // Announces the first of the calls, and puts it into the letter of a way, if both can be. Says its number.
-    fn join(&self, pass: &mut Pass, calls: &mut VecDeque<Call>, way: &mut Way) -> Option<u64>
+    fn join(&self, pass: &mut Seat, calls: &mut VecDeque<Call>, way: &mut Way) -> Option<u64>
         requires table { pass.old.table ≡ self.now.table }
         requires few { length pass.old.caller.pending + deque_len calls.old ≤ max_open }
         requires numbers { All AreNumbers calls.old.items }
@@ -63,13 +63,12 @@ impl<D: Disk + Drop> Ingester<D> {
     // its shard.
     fn announce_next(
         &self,
-        pass: &mut Pass,
+        pass: &mut Seat,
         calls: &mut VecDeque<Call>,
         ways: &mut Vec<Way>,
     ) -> Option<(u64, usize)>
         requires pass { (pass.old.table ≡ self.now.table)
-            × (pass.old.caller.about ≡ self.now.about)
-            × (pass.old.caller.pass < self.now.about.passes) }
+            × (pass.old.caller.about ≡ self.now.about) }
         requires few { length pass.old.caller.pending + deque_len calls.old ≤ max_open }
         requires numbers { All AreNumbers calls.old.items }
         requires letters { HasLetters self.now pass.old.caller.pass pass.old.caller
@@ -92,7 +91,7 @@ impl<D: Disk + Drop> Ingester<D> {
     // where none could.
     fn announce_all(
         &self,
-        pass: &mut Pass,
+        pass: &mut Seat,
         calls: &mut VecDeque<Call>,
         ways: &mut Vec<Way>,
     ) -> Option<Round>
@@ -111,7 +110,7 @@ impl<D: Disk + Drop> Ingester<D> {
     {
         let own = pass.number();
         let (first, shard) = self.announce_next(pass, calls, ways)?;
-        let mut shards = [shard; Pass::MAX_OPEN];
+        let mut shards = [shard; Seat::MAX_OPEN];
         let mut count = 1;
         while let Some((_, shard)) = self.announce_next(pass, calls, ways) {
             shards[count] = shard;
@@ -129,7 +128,7 @@ impl<D: Disk + Drop> Ingester<D> {
     // where a call before them was refused.
     pub(crate) fn announce_some(
         &self,
-        pass: &mut Pass,
+        pass: &mut Seat,
         calls: &mut VecDeque<Call>,
         ways: &mut Vec<Way>,
         was_refused: bool,

@@ -1,5 +1,5 @@
 //! Many calls of a pass at once.
-ghost use Rattle.std.specs.Prelude.{◌≡◌, ◌+◌, ◌<◌, ◌≤◌, [], None, All, length, IfSome};
+ghost use Rattle.std.specs.Prelude.{◌≡◌, ◌+◌, ◌<◌, ◌≤◌, ℕ, [], None, Err, All, length, IfSome};
 ghost use Rattle.std.specs.VecDeque.{deque_len, deque_capacity};
 ghost use Rattle.accept.specs.Calls.{AreNumbers};
 ghost use Rattle.history.specs.Plays.{IsRested};
@@ -7,16 +7,17 @@ ghost use Rattle.history.specs.Histories.{IsFirstNumber, max_open};
 ghost use Rattle.owners.specs.Calls.{IsDue, number_of_settled};
 ghost use Rattle.owners.specs.Openings.{home_of};
 ghost use Rattle.owners.specs.Ways.{IsWay, AreWays};
-ghost use Rattle.ingester.specs.Calls.{IsPassOf, AreGiven};
+ghost use Rattle.ingester.specs.Calls.{IsPassOf, IsGiven, AreGiven};
 ghost use Rattle.ingester.specs.Batches.{HasLetters, HasIdleWays, IsUnderWay, IsTaken, IsTakenBack, AreReceived, AreLost, AreEnded, IsNextRefused};
 ghost use Rattle.ingester.specs.Settling.{told_of};
 
 use crate::announcing::Round;
 use crate::fault::CallFault;
 use crate::opened::Ingester;
+use crate::passes::Pass;
 use accept::{Call, Reply};
 use disk::Disk;
-use history::Pass;
+use history::Pass as Seat;
 use owners::{Way, clear_letters, receive_letters, send_letters};
 use shard::Settled;
 use std::alloc::Global;
@@ -25,35 +26,34 @@ use std::sync::Wait;
 
 impl<D: Disk + Drop> Ingester<D> {
     // Takes in what became of the first open call of a pass, which has this number, where that is next in the letter.
-    fn receive_next(
+    pub(crate) fn receive_next(
         &self,
-        pass: &mut Pass,
+        pass: &mut Seat,
         way: &mut Way,
-        shard: usize,
         number: u64,
     ) -> Option<Result<Reply, CallFault>>
         requires table { pass.old.table ≡ self.now.table }
         requires about { pass.old.caller.about ≡ self.now.about }
-        requires way { IsWay (home_of self.now) pass.old.caller.pass shard way.old }
+        requires way { (k : ℕ) × IsWay (home_of self.now) pass.old.caller.pass k way.old }
         requires number { IsFirstNumber number pass.old.caller.pending }
         requires rested { IsRested pass.old.caller }
-        ensures taken { IfSome result (IsTaken self.now pass.old pass.new) }
+        ensures taken { IfSome result (IsTaken pass.old pass.new) }
         ensures none { result ≡ None → pass.new ≡ pass.old }
-        ensures way { IsWay (home_of self.now) pass.old.caller.pass shard way.new }
+        ensures way { (k : ℕ) → IsWay (home_of self.now) pass.old.caller.pass k way.old
+            → IsWay (home_of self.now) pass.old.caller.pass k way.new }
     {
-        let own = pass.number();
-        let settled = way.take(&self.home, own, shard, number)?;
+        let settled = way.take(number)?;
         Some(self.take_in(pass, settled))
     }
 
     // Takes in what became of the first open call of a pass.
-    fn take_in(&self, pass: &mut Pass, settled: Settled) -> Result<Reply, CallFault>
+    fn take_in(&self, pass: &mut Seat, settled: Settled) -> Result<Reply, CallFault>
         requires table { pass.old.table ≡ self.now.table }
         requires about { pass.old.caller.about ≡ self.now.about }
         requires due { IsDue (home_of self.now) pass.old.caller.pass settled }
         requires number { IsFirstNumber (number_of_settled settled) pass.old.caller.pending }
         requires rested { IsRested pass.old.caller }
-        ensures taken { IsTaken self.now pass.old pass.new result }
+        ensures taken { IsTaken pass.old pass.new result }
         ensures told { result ≡ told_of settled }
     {
         match settled {
@@ -71,7 +71,7 @@ impl<D: Disk + Drop> Ingester<D> {
     // Takes in what became of the open calls of a pass, up to the first whose answer is lost. Says of how many.
     fn receive_all(
         &self,
-        pass: &mut Pass,
+        pass: &mut Seat,
         ways: &mut Vec<Way>,
         round: &Round,
         outcomes: &mut VecDeque<Result<Reply, CallFault>>,
@@ -80,7 +80,7 @@ impl<D: Disk + Drop> Ingester<D> {
         requires ways { AreWays (home_of self.now) round.now.pass ways.old.items
             × (length ways.old.items ≡ self.now.about.shards) }
         requires room { deque_len outcomes.old + round.now.count ≤ deque_capacity outcomes.old }
-        ensures received { AreReceived self.now pass.old pass.new outcomes.old.items
+        ensures received { AreReceived pass.old pass.new outcomes.old.items
             outcomes.new.items result }
         ensures round { IsUnderWay self.now pass.new round.now result }
         ensures ways { AreWays (home_of self.now) round.now.pass ways.new.items
@@ -90,7 +90,7 @@ impl<D: Disk + Drop> Ingester<D> {
     {
         for i in 0..round.count {
             let shard = round.shards[i];
-            match self.receive_next(pass, &mut ways[shard], shard, round.first + i as u64) {
+            match self.receive_next(pass, &mut ways[shard], round.first + i as u64) {
                 Some(came) => outcomes.push_back_reserved(came),
                 None => return i,
             }
@@ -99,16 +99,16 @@ impl<D: Disk + Drop> Ingester<D> {
     }
 
     // Takes back the first open call of a pass, which has this number, where it was not sent.
-    fn take_back(&self, pass: &mut Pass, way: &mut Way, shard: usize, number: u64)
+    pub(crate) fn take_back(&self, pass: &mut Seat, way: &mut Way, number: u64)
         requires table { pass.old.table ≡ self.now.table }
         requires about { pass.old.caller.about ≡ self.now.about }
-        requires way { IsWay (home_of self.now) pass.old.caller.pass shard way.old }
+        requires way { (k : ℕ) × IsWay (home_of self.now) pass.old.caller.pass k way.old }
         requires number { IsFirstNumber number pass.old.caller.pending }
         ensures back { IsTakenBack pass.old pass.new }
-        ensures way { IsWay (home_of self.now) pass.old.caller.pass shard way.new }
+        ensures way { (k : ℕ) → IsWay (home_of self.now) pass.old.caller.pass k way.old
+            → IsWay (home_of self.now) pass.old.caller.pass k way.new }
     {
-        let own = pass.number();
-        let Some(ticket) = way.take_back(&self.home, own, shard) else {
+        let Some(ticket) = way.take_back() else {
             return;
         };
         if ticket.number() == number {
@@ -119,7 +119,7 @@ impl<D: Disk + Drop> Ingester<D> {
     // The open calls of a pass from this one of a round on are lost: the pass is closed, and they are in doubt.
     fn lose(
         &self,
-        pass: &mut Pass,
+        pass: &mut Seat,
         ways: &mut Vec<Way>,
         round: &Round,
         from: usize,
@@ -139,7 +139,7 @@ impl<D: Disk + Drop> Ingester<D> {
         ensures capacity { deque_capacity outcomes.new ≡ deque_capacity outcomes.old }
     {
         let shard = round.shards[from];
-        self.take_back(pass, &mut ways[shard], shard, round.first + from as u64);
+        self.take_back(pass, &mut ways[shard], round.first + from as u64);
         pass.close();
         for _ in from..round.count {
             outcomes.push_back_reserved(Err(CallFault::InDoubt));
@@ -151,7 +151,7 @@ impl<D: Disk + Drop> Ingester<D> {
         &self,
         rt: &R,
         alloc: Global,
-        pass: &mut Pass,
+        pass: &mut Seat,
         ways: &mut Vec<Way>,
         round: Round,
         outcomes: &mut VecDeque<Result<Reply, CallFault>>,
@@ -159,23 +159,41 @@ impl<D: Disk + Drop> Ingester<D> {
         requires round { IsUnderWay self.now pass.old round 0 }
         requires letters { HasLetters self.now round.pass pass.old.caller ways.old.items }
         requires room { deque_len outcomes.old + round.count ≤ deque_capacity outcomes.old }
-        ensures ended { AreEnded self.now pass.old pass.new outcomes.old.items outcomes.new.items
+        ensures ended { AreEnded pass.old pass.new outcomes.old.items outcomes.new.items
             round.count }
         ensures ways { HasIdleWays self.now round.pass ways.new.items }
         ensures len { deque_len outcomes.new ≡ deque_len outcomes.old + round.count }
         ensures capacity { deque_capacity outcomes.new ≡ deque_capacity outcomes.old }
     {
-        send_letters(rt, alloc, &self.home, round.pass, ways);
-        receive_letters(rt, &self.home, round.pass, ways, &self.waiters);
+        send_letters(rt, alloc, ways);
+        receive_letters(rt, ways, &self.waiters);
         let received = self.receive_all(pass, ways, &round, outcomes);
         if received < round.count {
             self.lose(pass, ways, &round, received, outcomes);
         }
-        clear_letters(&self.home, round.pass, ways);
+        clear_letters(ways);
     }
 
-    // Refuses the first of the calls: for want of memory, or since the pass is closed.
-    fn refuse_next(&self, pass: &mut Pass, calls: &mut VecDeque<Call>) -> CallFault
+    // Refuses a call of a pass: for want of memory, or since the pass is closed.
+    pub(crate) fn refuse(&self, pass: &mut Seat, call: &Call) -> CallFault
+        requires pass { IsPassOf self.now pass.old }
+        ensures given { IsGiven pass.old call.now (Err result) pass.new }
+        ensures pass { IsPassOf self.now pass.new }
+    {
+        if pass.is_closed() {
+            return CallFault::PassClosed;
+        }
+        match self.history.announce(pass, call) {
+            Ok(ticket) => {
+                self.history.withdraw(pass, ticket);
+                CallFault::Memory
+            }
+            Err(spent) => CallFault::from(spent),
+        }
+    }
+
+    // Refuses the first of the calls.
+    fn refuse_next(&self, pass: &mut Seat, calls: &mut VecDeque<Call>) -> CallFault
         requires pass { IsPassOf self.now pass.old }
         requires some { 0 < deque_len calls.old }
         ensures refused { IsNextRefused self.now pass.old pass.new calls.old.items calls.new.items
@@ -186,16 +204,7 @@ impl<D: Disk + Drop> Ingester<D> {
         let Some(call) = calls.pop_front() else {
             unreachable!()
         };
-        if pass.is_closed() {
-            return CallFault::PassClosed;
-        }
-        match self.history.announce(pass, &call) {
-            Ok(ticket) => {
-                self.history.withdraw(pass, ticket);
-                CallFault::Memory
-            }
-            Err(spent) => CallFault::from(spent),
-        }
+        self.refuse(pass, &call)
     }
 
     // Makes calls of a pass by its ways to the owners.
@@ -203,7 +212,7 @@ impl<D: Disk + Drop> Ingester<D> {
         &self,
         rt: &R,
         alloc: Global,
-        pass: &mut Pass,
+        pass: &mut Seat,
         ways: &mut Vec<Way>,
         calls: &mut VecDeque<Call>,
         outcomes: &mut VecDeque<Result<Reply, CallFault>>,
@@ -214,8 +223,9 @@ impl<D: Disk + Drop> Ingester<D> {
         requires outcomes { (outcomes.old.items ≡ [])
             × (deque_len calls.old ≤ deque_capacity outcomes.old) }
         ensures pass { IsPassOf self.now pass.new }
+        ensures own { pass.new.caller.pass ≡ pass.old.caller.pass }
         ensures ways { HasIdleWays self.now pass.old.caller.pass ways.new.items }
-        ensures given { AreGiven self.now pass.old calls.old.items outcomes.new.items pass.new }
+        ensures given { AreGiven pass.old calls.old.items outcomes.new.items pass.new }
         ensures taken { (calls.new.items ≡ []) × (deque_len calls.new ≡ 0)
             × (deque_capacity calls.new ≡ deque_capacity calls.old) }
         ensures outcomes { (deque_len outcomes.new ≡ deque_len calls.old)
@@ -255,14 +265,12 @@ impl<D: Disk + Drop> Ingester<D> {
         requires empty { outcomes.old.items ≡ [] }
         requires room { deque_len calls.old ≤ deque_capacity outcomes.old }
         ensures pass { IsPassOf self.now pass.new }
-        ensures given { AreGiven self.now pass.old calls.old.items outcomes.new.items pass.new }
+        ensures given { AreGiven pass.old calls.old.items outcomes.new.items pass.new }
         ensures taken { calls.new.items ≡ [] }
         ensures lens { (deque_len calls.new ≡ 0) × (deque_len outcomes.new ≡ deque_len calls.old) }
         ensures capacities { (deque_capacity calls.new ≡ deque_capacity calls.old)
             × (deque_capacity outcomes.new ≡ deque_capacity outcomes.old) }
     {
-        let (mut ways, grip) = self.rows.take(rt, pass.number());
-        self.call_by(rt, alloc, pass, &mut ways, calls, outcomes);
-        self.rows.give(ways, grip);
+        self.call_by(rt, alloc, &mut pass.seat, &mut pass.ways, calls, outcomes);
     }
 }

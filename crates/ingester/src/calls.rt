@@ -4,26 +4,25 @@ ghost use Rattle.std.specs.Result.{IsErrOf};
 ghost use Rattle.labels.specs.Shards.{shard, max_shards};
 ghost use Rattle.accept.specs.Calls.{AreNumbers};
 ghost use Rattle.accept.specs.Histories.{key_of};
-ghost use Rattle.history.specs.Histories.{IsBeginning, IsLegalAt, IsByPasses, shard_in, step_of};
-ghost use Rattle.history.specs.Plays.{seen_at, look_to, HasStepsOf};
+ghost use Rattle.history.specs.Histories.{IsBeginning, IsLegalAt, IsByPasses, IsFirstNumber};
+ghost use Rattle.history.specs.Plays.{seen_at, look_to, HasStepsOf, IsRested};
 ghost use Rattle.history.specs.Handles.{is_closed_pass, with_seen, HaveMet};
-ghost use Rattle.owners.specs.Calls.{IsWaiting};
-ghost use Rattle.owners.specs.Openings.{HasSpentLog, home_of};
-ghost use Rattle.owners.specs.Ways.{IsCame};
-ghost use Rattle.ingester.specs.Calls.{IsPassOf, IsAnswered, IsRefused, shard_for};
-ghost use Rattle.ingester.specs.Settling.{IsOpenWith, IsCameOf, outcome_of};
+ghost use Rattle.owners.specs.Openings.{home_of};
+ghost use Rattle.owners.specs.Ways.{IsWay, IsLoaded, IsIdleWay};
+ghost use Rattle.ingester.specs.Calls.{IsPassOf, IsAnswered, IsRefused, IsGiven, shard_for};
+ghost use Rattle.ingester.specs.Settling.{IsSettled};
 ghost use Rattle.ingester.specs.declared.fault.CallFault.TheVariants as faults;
 
 use crate::fault::CallFault;
 use crate::opened::Ingester;
+use crate::passes::Pass;
 use accept::{Call, Reply};
 use disk::Disk;
-use history::Pass;
+use history::Pass as Seat;
 use labels::shard_of;
-use owners::Came;
-use shard::{Job, Settled};
+use owners::Way;
+use shard::Job;
 use std::alloc::Global;
-use std::snapshot::Snapshot;
 use std::sync::Wait;
 
 // The number of the shard that a call belongs to, among `shards`.
@@ -36,75 +35,91 @@ pub(crate) fn shard_number(call: &Call, shards: u32) -> usize
 }
 
 impl<D: Disk + Drop> Ingester<D> {
-    // Sends a call of a pass, its only open one, to the owner of its shard, and waits for what comes of it.
-    fn send<R: Wait>(&self, rt: &R, alloc: Global, pass: usize, shard: usize, job: Job) -> Came
-        requires shard { shard < self.now.about.shards }
-        requires job { IsWaiting self.now.table self.now.about shard job }
-        requires alone { job.ticket.before ≡ [] }
-        requires pass { job.ticket.ask.pass ≡ pass }
-        ensures { IsCame (home_of self.now) job result }
+    // Takes in what became of the only open call of a pass, which has this number. Where its answer is lost, the pass is
+    // closed.
+    fn settle(&self, pass: &mut Seat, way: &mut Way, number: u64) -> Result<Reply, CallFault>
+        requires table { pass.old.table ≡ self.now.table }
+        requires about { pass.old.caller.about ≡ self.now.about }
+        requires way { (k : ℕ) × IsWay (home_of self.now) pass.old.caller.pass k way.old }
+        requires number { IsFirstNumber number pass.old.caller.pending }
+        requires rested { IsRested pass.old.caller }
+        ensures settled { IsSettled pass.old pass.new result }
+        ensures way { (k : ℕ) → IsWay (home_of self.now) pass.old.caller.pass k way.old
+            → IsWay (home_of self.now) pass.old.caller.pass k way.new }
     {
-        let (mut ways, grip) = self.rows.take(rt, pass);
-        let came = ways[shard].call(rt, alloc, &self.home, pass, shard, job, &self.waiters);
-        self.rows.give(ways, grip);
-        came
-    }
-
-    // Takes in what came of the only open call of a pass. `before` is the pass before that was announced.
-    fn settle(
-        &self,
-        before: &Snapshot<Pass>,
-        call: &Snapshot<Call>,
-        pass: &mut Pass,
-        came: Came,
-    ) -> Result<Reply, CallFault>
-        requires pass { (pass.old.table ≡ self.now.table)
-            × (pass.old.caller.about ≡ self.now.about) }
-        requires opened { IsOpenWith before.now.value call.now.value pass.old }
-        requires came { IsCameOf (home_of self.now) pass.old came }
-        ensures pass { IsPassOf self.now pass.new }
-        ensures answered { IfOk result
-            (λ reply. IsAnswered before.now.value pass.new call.now.value reply) }
-        ensures refused { IfErr result
-            (λ fault. IsRefused before.now.value call.now.value pass.new fault) }
-        ensures outcome { result ≡ outcome_of came }
-        ensures not_closed { IsErrOf result faults.PassClosed → ⊥ }
-        ensures spent { IsErrOf result faults.LogSpent
-            → HasSpentLog self.now (shard_for before.now.value.caller call.now.value)
-            call.now.value }
-    {
-        let _ = before;
-        let _ = call;
-        let history = &self.history;
-        match came {
-            Came::Settled(Settled::Answered(reply, receipt)) => {
-                history.collect(pass, receipt);
-                Ok(reply)
-            }
-            Came::Settled(Settled::GivenBack(fault, ticket)) => {
-                history.withdraw(pass, ticket);
-                Err(CallFault::from(fault))
-            }
-            Came::SentBack(ticket) => {
-                history.withdraw(pass, ticket);
-                pass.close();
-                Err(CallFault::InDoubt)
-            }
-            Came::Lost => {
+        match self.receive_next(pass, way, number) {
+            Some(outcome) => outcome,
+            None => {
+                self.take_back(pass, way, number);
                 pass.close();
                 Err(CallFault::InDoubt)
             }
         }
     }
 
+    // Sends the only open call of a pass, which has this number and lies in the letter of the way, and waits for what
+    // comes of it.
+    fn make_call<R: Wait>(
+        &self,
+        rt: &R,
+        alloc: Global,
+        pass: &mut Seat,
+        way: &mut Way,
+        number: u64,
+    ) -> Result<Reply, CallFault>
+        requires table { pass.old.table ≡ self.now.table }
+        requires about { pass.old.caller.about ≡ self.now.about }
+        requires way { (k : ℕ) × IsLoaded (home_of self.now) pass.old.caller.pass k way.old }
+        requires number { IsFirstNumber number pass.old.caller.pending }
+        requires rested { IsRested pass.old.caller }
+        ensures settled { IsSettled pass.old pass.new result }
+        ensures way { (k : ℕ) → IsLoaded (home_of self.now) pass.old.caller.pass k way.old
+            → IsIdleWay (home_of self.now) pass.old.caller.pass k way.new }
+    {
+        way.exchange(rt, alloc, &self.waiters);
+        let outcome = self.settle(pass, way, number);
+        way.clear();
+        outcome
+    }
+
+    // Makes a call of a pass that isn't closed, by its way to the call's shard.
+    fn call_by_way<R: Wait>(
+        &self,
+        rt: &R,
+        alloc: Global,
+        pass: &mut Seat,
+        way: &mut Way,
+        call: Call,
+    ) -> Result<Reply, CallFault>
+        requires pass { IsPassOf self.now pass.old }
+        requires open { is_closed_pass pass.old ≡ false }
+        requires numbers { AreNumbers call }
+        requires way { IsIdleWay (home_of self.now) pass.old.caller.pass
+            (shard_for pass.old.caller call) way.old }
+        ensures given { IsGiven pass.old call result pass.new }
+        ensures pass { IsPassOf self.now pass.new }
+        ensures own { pass.new.caller.pass ≡ pass.old.caller.pass }
+        ensures way { IsIdleWay (home_of self.now) pass.old.caller.pass
+            (shard_for pass.old.caller call) way.new }
+    {
+        if !way.letter.make_room() {
+            return Err(self.refuse(pass, &call));
+        }
+        let Ok(ticket) = self.history.announce(pass, &call) else {
+            unreachable!()
+        };
+        let number = ticket.number();
+        way.letter.jobs.push_back_reserved(Job { ticket, call });
+        self.make_call(rt, alloc, pass, way, number)
+    }
+
     /// Makes a call. It waits for the owner of its key's shard alone, which writes the calls that have come to it
-    /// together at once. `call_all` of one call would give the same, but wants lists for calls and outcomes from its
-    /// caller: a lone call needs none.
+    /// together at once. It is `call_all` of one call, without lists.
     ///
     /// # Errors
     ///
-    /// `Memory`; `PassClosed` exactly for a pass that is closed; `LogSpent`, for a call that writes and a log that was
-    /// opened at generation 2^63 - 2 - 2^56 for each pass or later. Then the call has no step. `InDoubt`: the owner has
+    /// `Memory`; `PassClosed` exactly for a pass that is closed; `LogSpent`, for a call that writes and a log that has
+    /// used its last generation. Then the call has no step. `InDoubt`: the owner has
     /// ended, the call may have its step or not, and the pass is closed.
     pub fn call<R: Wait>(
         &self,
@@ -119,19 +134,12 @@ impl<D: Disk + Drop> Ingester<D> {
         ensures answered { IfOk result (λ reply. IsAnswered pass.old pass.new call reply) }
         ensures refused { IfErr result (λ fault. IsRefused pass.old call pass.new fault) }
         ensures closed { IsErrOf result faults.PassClosed ↔ (is_closed_pass pass.old ≡ true) }
-        ensures spent { IsErrOf result faults.LogSpent
-            → HasSpentLog self.now (shard_for pass.old.caller call) call }
     {
         if pass.is_closed() {
             return Err(CallFault::PassClosed);
         }
         let shard = shard_number(&call, self.count);
-        let own = pass.number();
-        let before = Snapshot::of(pass);
-        let asked = Snapshot::of(&call);
-        let ticket = self.history.announce(pass, &call)?;
-        let came = self.send(rt, alloc, own, shard, Job { ticket, call });
-        self.settle(&before, &asked, pass, came)
+        self.call_by_way(rt, alloc, &mut pass.seat, &mut pass.ways[shard], call)
     }
 
     /// How many shards there are.
@@ -160,7 +168,7 @@ impl<D: Disk + Drop> Ingester<D> {
             (seen_at pass.new.caller shard) }
         ensures steps { HasStepsOf pass.old.caller shard (seen_at pass.new.caller shard) }
     {
-        self.history.observe(pass, shard as usize)
+        self.history.observe(&mut pass.seat, shard as usize)
     }
 
     /// Two passes see the histories of all shards together: both then hold one and the same history of each. It waits
@@ -176,7 +184,7 @@ impl<D: Disk + Drop> Ingester<D> {
             one.new.caller.seen
             two.new.caller.seen }
     {
-        self.history.meet(one, two);
+        self.history.meet(&mut one.seat, &mut two.seat);
     }
 
     /// How many streams a shard had when it was opened. For people: nothing is claimed of it.

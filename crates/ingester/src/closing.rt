@@ -5,9 +5,10 @@ ghost use Rattle.ingester.specs.Calls.{IsPassOf};
 ghost use Rattle.ingester.specs.Closings.{IsHandedOut, AreComparedTo};
 
 use crate::opened::Ingester;
+use crate::passes::Pass;
 use disk::Disk;
-use history::Pass;
-use owners::{Origin, end_owners, take_shard};
+use history::Ended;
+use owners::{Closer, Origin, take_shard};
 use shard::Shard;
 use std::marker::Model;
 use std::sync::Wait;
@@ -18,6 +19,7 @@ pub struct Closed<D: Disk + Drop> {
     shards: Vec<Shard<D>>,
     passes: Vec<Pass>,
     origin: Origin<D>,
+    ended: Ended,
 }
 
 impl<D: Disk + Drop> Model for Closed<D> {
@@ -29,7 +31,7 @@ impl<D: Disk + Drop> Model for Closed<D> {
 
     ghost coded = { Prim.hlevel (codes, image.the_row.coded) };
 
-    ghost use Rattle.std.specs.Prelude.{length};
+    ghost use Rattle.std.specs.Prelude.{◌≡◌, length};
     ghost use Rattle.ingester.specs.Closings.{AreLast};
 
     ghost view = { λ c. record {
@@ -38,7 +40,8 @@ impl<D: Disk + Drop> Model for Closed<D> {
       left = length c.shards.items;
     } };
 
-    ghost invariant = { λ c. AreLast c.origin c.passes.items c.shards.items };
+    ghost invariant = { λ c. AreLast D.sight D.follows c.origin c.passes.items c.shards.items
+        × (c.ended ≡ c.origin.table) };
 }
 
 impl<D: Disk + Drop> Closed<D> {
@@ -52,7 +55,7 @@ impl<D: Disk + Drop> Closed<D> {
     {
         let shard = self.shards.pop()?;
         let marked = shard.is_marked();
-        Some((shard.into_slots(), marked))
+        Some((shard.into_slots(&self.ended), marked))
     }
 
     /// The passes that were handed in.
@@ -72,20 +75,18 @@ fn compare<D: Disk + Drop>(shard: &mut Shard<D>, passes: &mut [Pass])
     ensures compared { AreComparedTo shard.old.book passes.old (length passes.old) }
 {
     for i in 0..passes.len() {
-        shard.settle(&mut passes[i]);
+        passes[i].settle(shard);
     }
 }
 
 impl<D: Disk + Drop> Ingester<D> {
     /// Ends each owner, once it has answered all calls that came before. A later call is in doubt, and closes its pass.
     /// `close` takes the shards back.
-    pub fn end_owners<R: Wait>(&self, rt: &R, pass: &Pass)
-        requires { IsPassOf self.now pass.now }
+    pub fn end_owners<R: Wait>(&self, rt: &R, pass: &mut Pass)
+        requires { IsPassOf self.now pass.old }
+        ensures { pass.new ≡ pass.old }
     {
-        let number = pass.number();
-        let (mut ways, grip) = self.rows.take(rt, number);
-        end_owners(rt, &self.home, number, &mut ways);
-        self.rows.give(ways, grip);
+        pass.end_owners(rt);
     }
 
     /// Ends each owner, once it has answered all calls that came before, and takes its shard back.
@@ -101,24 +102,21 @@ impl<D: Disk + Drop> Ingester<D> {
         } }
     {
         let Ingester {
-            history: _history,
-            rows,
-            backs,
-            room,
+            history,
+            closing,
             sizes: _sizes,
             waiters: _waiters,
             count,
             origin,
-            home,
         } = self;
         let mut passes = passes;
-        let pass = passes[0].number();
-        let mut ways = rows.take_out(rt, pass);
-        end_owners(rt, &home, pass, &mut ways);
-        let mut backs = backs.take_out(rt, 0);
-        let mut shards = room.take_out(rt, 0);
+        passes[0].end_owners(rt);
+        let Closer {
+            mut backs,
+            room: mut shards,
+        } = closing.take_out();
         for number in 0..count as usize {
-            let mut shard = take_shard(rt, &origin, number, &mut backs[number]);
+            let mut shard = take_shard(rt, &mut backs[number]);
             compare(&mut shard, passes.as_mut_slice());
             shards.push_reserved(shard);
         }
@@ -126,6 +124,7 @@ impl<D: Disk + Drop> Ingester<D> {
             shards,
             passes,
             origin,
+            ended: history.end(),
         }
     }
 }

@@ -4,16 +4,20 @@
 
 mod announcing;
 mod batches;
+mod building;
 mod calls;
 mod closing;
 mod fault;
-mod locking;
 mod made_shards;
 mod opened;
-mod places;
+mod passes;
 mod refusal;
+mod settings;
+mod sizes;
 
 pub use closing::Closed;
 pub use fault::CallFault;
 pub use opened::Ingester;
+pub use passes::Pass;
 pub use refusal::OpenFault;
+pub use settings::Settings;

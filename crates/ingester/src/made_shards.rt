@@ -3,11 +3,11 @@ ghost use Rattle.std.specs.Prelude.{◌≡◌, ◌+◌, ◌<◌, ◌≤◌, ◌�
 ghost use Rattle.std.specs.VecDeque.{deque_len, deque_capacity};
 ghost use Rattle.wal.specs.Opening.{disks};
 ghost use Rattle.shard.specs.Shards.{IsGround};
-ghost use Rattle.ingester.specs.Makings.{AreThere, logs_of_shards};
+ghost use Rattle.ingester.specs.Makings.{AreShardsIn, logs_of_shards};
 
 use accept::{Image, Limits};
 use disk::Disk;
-use history::Book;
+use history::{Book, Ended};
 use shard::Shard;
 use std::alloc::Global;
 use std::collections::VecDeque;
@@ -17,16 +17,17 @@ use wal::Wal;
 pub(crate) fn return_shards<D: Disk + Drop>(
     slots: &mut VecDeque<[D; 2]>,
     mut shards: Vec<Option<Shard<D>>>,
+    ended: &Ended,
 )
     requires room { vec_len shards + deque_len slots.old ≤ deque_capacity slots.old }
-    requires there { AreThere shards.items }
+    requires shards { AreShardsIn ended.now shards.items }
     ensures items { slots.new.items ≡ map disks (logs_of_shards shards.items) ++ slots.old.items }
     ensures capacity { deque_capacity slots.new ≡ deque_capacity slots.old }
     ensures len { deque_len slots.new ≡ vec_len shards + deque_len slots.old }
 {
     while let Some(last) = shards.pop() {
         let Some(shard) = last else { unreachable!() };
-        slots.push_front_reserved(shard.into_slots());
+        slots.push_front_reserved(shard.into_slots(ended));
     }
 }
 

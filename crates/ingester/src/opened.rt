@@ -1,46 +1,46 @@
 //! An ingester, and how it is opened.
-ghost use Rattle.std.specs.Prelude.{◌≡◌, ◌<◌, ◌≤◌, ◌^◌, vec_len, IfOk, IfErr};
+ghost use Rattle.std.specs.Prelude.{◌≡◌, ◌<◌, ◌≤◌, vec_len, vec_capacity, IfOk, IfErr};
 ghost use Rattle.std.specs.VecDeque.{deque_len, deque_capacity};
 ghost use Rattle.labels.specs.Shards.{max_shards};
-ghost use Rattle.accept.specs.OneStream.{AreLimits};
-ghost use Rattle.history.specs.Handles.{about_of};
-ghost use Rattle.openings.specs.Findings.{AreOpenedFrom};
-ghost use Rattle.history.specs.Histories.{max_passes};
+ghost use Rattle.owners.specs.Lists.{AreEach};
+ghost use Rattle.owners.specs.Openings.{home_of};
 ghost use Rattle.owners.specs.Owners.{AreEnds};
 ghost use Rattle.owners.specs.Places.{AreShardsOf};
-ghost use Rattle.ingester.specs.Openings.{AreFresh};
+ghost use Rattle.owners.specs.Seeds.{AreRows, IsSeatAt};
+ghost use Rattle.ingester.specs.Openings.{AreSettings, IsOpenedAs};
 ghost use Rattle.ingester.specs.Parts.{HasParts};
 ghost use Rattle.ingester.specs.Findings.{IsUnmade};
+ghost use Rattle.ingester.specs.Planning.{IsPlannedOpening};
 
-use crate::locking::{make_shards, reserve_room, sizes_of};
-use crate::places::{ListLocks, Size};
+use crate::building::{Ground, make_shards, sizes_of};
+use crate::passes::{Pass, seat_passes};
 use crate::refusal::OpenFault;
-use accept::Limits;
+use crate::settings::Settings;
+use crate::sizes::Size;
+use accept::Image;
 use disk::Disk;
-use history::{History, Pass};
+use history::{Book, History, Pass as Seat};
 use keyed::Waiters;
 use openings::{Observer, Unobserved, give_back, open_logs};
-use owners::{Backs, Ends, Home, Origin, Plan, Rows, Team, hand_all, make_plan};
+use owners::{Closing, Ends, Origin, Plan, Team, hand_all, make_plan};
 use shard::Shard;
-use std::alloc::Global;
+use std::alloc::{AllocError, Global};
 use std::collections::VecDeque;
 use std::marker::Model;
 use std::sync::Wait;
 use std::thread::Threads;
+use wal::Wal;
 
 /// Up to 64 shards, each with its streams, its log and its history in a thread of its own. Contracts see the table of
 /// the histories, what was opened, and each shard's log as it was then.
 #[derive(Drop)]
 pub struct Ingester<D: Disk + Drop> {
     pub(crate) history: History,
-    pub(crate) rows: Rows,
-    pub(crate) backs: Backs<D>,
-    pub(crate) room: ListLocks<D>,
+    pub(crate) closing: Closing<D>,
     pub(crate) sizes: Vec<Size>,
     pub(crate) waiters: Waiters,
     pub(crate) count: u32,
     pub(crate) origin: Origin<D>,
-    pub(crate) home: Home,
 }
 
 impl<D: Disk + Drop> Model for Ingester<D> {
@@ -56,7 +56,7 @@ impl<D: Disk + Drop> Model for Ingester<D> {
 
     ghost view = { λ i. i.origin };
 
-    ghost invariant = { λ i. HasParts i.history i.rows i.backs i.room i.count i.origin i.home };
+    ghost invariant = { λ i. HasParts i.history i.closing i.count i.origin };
 }
 
 // What was opened, before its shards have owners.
@@ -68,10 +68,9 @@ pub(crate) struct Opened<D: Disk + Drop> {
 }
 
 impl<D: Disk + Drop> Ingester<D> {
-    /// Opens a shard over each pair of slots, with 1 to 64 passes, and starts a thread for each shard that owns it.
-    /// `handle` is what these threads wait by. `capacity` is how many bytes a segment may have, at most 2^30. What the
-    /// slots hold is the base of the shard's history; nothing is written. The slots of several shards are read side by
-    /// side, by as many threads as there are processors at most.
+    /// Opens a shard over each pair of slots, and starts a thread for each shard that owns it. `handle` is what these
+    /// threads wait by. What the slots hold is the base of the shard's history; nothing is written. The slots of several
+    /// shards are read side by side, by as many threads as there are processors at most.
     ///
     /// # Errors
     ///
@@ -82,38 +81,20 @@ impl<D: Disk + Drop> Ingester<D> {
         handle: H,
         alloc: Global,
         slots: Vec<[D; 2]>,
-        passes: u32,
-        limits: Limits,
-        capacity: u64,
+        settings: Settings,
     ) -> Result<(Ingester<D>, Vec<Pass>), (OpenFault, Vec<[D; 2]>)>
     where
         D: Send + 'static,
         R: Threads + Wait + Sync,
         H: Wait + Copy + Send + 'static,
         requires slots { (0 < vec_len slots) × (vec_len slots ≤ max_shards) }
-        requires passes { (0 < passes) × (passes ≤ max_passes) }
-        requires limits { AreLimits limits }
-        requires capacity { capacity ≤ 2 ^ 30 }
-        ensures found { IfOk result (λ it.
-            AreOpenedFrom D.sight D.follows
-            (vec_len slots) capacity 0 slots.items it.0.logs it.0.about.bases) }
-        ensures about { IfOk result (λ it. it.0.about
-            ≡ about_of it.0.about.bases passes limits capacity) }
-        ensures shards { IfOk result (λ it. it.0.about.shards ≡ vec_len slots) }
-        ensures passes { IfOk result (λ it. AreFresh it.0 passes it.1.items) }
+        requires settings { AreSettings settings }
+        ensures opened { IfOk result (λ it.
+            IsOpenedAs D.sight D.follows settings (vec_len slots) slots.items it.0 it.1.items) }
         ensures unmade { IfErr result
             (λ e. IsUnmade D.sight D.follows (vec_len slots) slots.items e.1.items e.0) }
     {
-        Ingester::open_observed(
-            rt,
-            handle,
-            alloc,
-            slots,
-            passes,
-            limits,
-            capacity,
-            &Unobserved,
-        )
+        Ingester::open_observed(rt, handle, alloc, slots, settings, &Unobserved)
     }
 
     /// Opens as `open` does, and tells `observer` of each shard as soon as it is replayed. The thread that replayed it
@@ -127,9 +108,7 @@ impl<D: Disk + Drop> Ingester<D> {
         handle: H,
         alloc: Global,
         slots: Vec<[D; 2]>,
-        passes: u32,
-        limits: Limits,
-        capacity: u64,
+        settings: Settings,
         observer: &O,
     ) -> Result<(Ingester<D>, Vec<Pass>), (OpenFault, Vec<[D; 2]>)>
     where
@@ -138,16 +117,9 @@ impl<D: Disk + Drop> Ingester<D> {
         H: Wait + Copy + Send + 'static,
         O: Observer + Sync,
         requires slots { (0 < vec_len slots) × (vec_len slots ≤ max_shards) }
-        requires passes { (0 < passes) × (passes ≤ max_passes) }
-        requires limits { AreLimits limits }
-        requires capacity { capacity ≤ 2 ^ 30 }
-        ensures found { IfOk result (λ it.
-            AreOpenedFrom D.sight D.follows
-            (vec_len slots) capacity 0 slots.items it.0.logs it.0.about.bases) }
-        ensures about { IfOk result (λ it. it.0.about
-            ≡ about_of it.0.about.bases passes limits capacity) }
-        ensures shards { IfOk result (λ it. it.0.about.shards ≡ vec_len slots) }
-        ensures passes { IfOk result (λ it. AreFresh it.0 passes it.1.items) }
+        requires settings { AreSettings settings }
+        ensures opened { IfOk result (λ it.
+            IsOpenedAs D.sight D.follows settings (vec_len slots) slots.items it.0 it.1.items) }
         ensures unmade { IfErr result
             (λ e. IsUnmade D.sight D.follows (vec_len slots) slots.items e.1.items e.0) }
     {
@@ -156,7 +128,7 @@ impl<D: Disk + Drop> Ingester<D> {
             Err(fault) => return Err((OpenFault::from(fault), slots)),
         };
         let mut slots = VecDeque::from_vec(slots);
-        match open_all(rt, alloc, &mut slots, passes, limits, capacity, observer) {
+        match open_all(rt, alloc, &mut slots, &settings, observer) {
             Ok(opened) => Ok(begin(rt, alloc, opened, team)),
             Err(fault) => {
                 team.end(rt);
@@ -173,7 +145,7 @@ fn begin<D: Disk + Drop, R: Wait>(
     opened: Opened<D>,
     team: Team<D>,
 ) -> (Ingester<D>, Vec<Pass>)
-    requires shards { AreShardsOf opened.ingester opened.shards.items }
+    requires shards { AreShardsOf D.sight D.follows opened.ingester opened.shards.items }
     requires ends { AreEnds opened.ingester opened.ends.items }
     requires count { deque_len opened.ends ≡ vec_len opened.shards }
     ensures ingester { result.0 ≡ opened.ingester }
@@ -185,8 +157,43 @@ fn begin<D: Disk + Drop, R: Wait>(
         shards,
         ends,
     } = opened;
-    hand_all(rt, alloc, team, &ingester.origin, shards, ends);
+    hand_all(rt, alloc, team, shards, ends);
     (ingester, passes)
+}
+
+// What an opening has of its logs before its shards are made.
+pub(crate) struct Planned<D: Disk + Drop> {
+    pub(crate) history: History,
+    pub(crate) books: Vec<Book>,
+    pub(crate) seats: Vec<Seat>,
+    pub(crate) plan: Plan<D>,
+}
+
+// Makes the histories over what was found, and plans their owners.
+fn plan_opening<D: Disk + Drop>(
+    alloc: Global,
+    images: &Vec<Image>,
+    logs: &Vec<Wal<D>>,
+    settings: &Settings,
+) -> Result<Planned<D>, AllocError>
+    requires some { (0 < vec_len logs.now) × (vec_len logs.now ≤ max_shards) }
+    requires same { vec_len images.now ≡ vec_len logs.now }
+    requires settings { AreSettings settings.now }
+    ensures { IfOk result (IsPlannedOpening settings.now images.now.items logs.now.items) }
+{
+    let Settings {
+        passes,
+        limits,
+        capacity,
+    } = *settings;
+    let (history, books, seats) = History::new(alloc, images, passes, limits, capacity)?;
+    let plan = make_plan(alloc, &books[0], logs, passes as usize)?;
+    Ok(Planned {
+        history,
+        books,
+        seats,
+        plan,
+    })
 }
 
 // Opens all slots. Where that is refused, they are put back.
@@ -194,90 +201,98 @@ fn open_all<D: Disk + Drop + Send, R: Threads + Sync, O: Observer + Sync>(
     rt: &R,
     alloc: Global,
     slots: &mut VecDeque<[D; 2]>,
-    passes: u32,
-    limits: Limits,
-    capacity: u64,
+    settings: &Settings,
     observer: &O,
 ) -> Result<Opened<D>, OpenFault>
     requires slots { (0 < deque_len slots.old) × (deque_len slots.old ≤ max_shards)
         × (deque_len slots.old ≤ deque_capacity slots.old) }
-    requires passes { (0 < passes) × (passes ≤ max_passes) }
-    requires limits { AreLimits limits }
-    requires capacity { capacity ≤ 2 ^ 30 }
-    ensures found { IfOk result (λ it.
-        AreOpenedFrom D.sight D.follows
-        (deque_len slots.old) capacity 0 slots.old.items it.ingester.logs
-        it.ingester.about.bases) }
-    ensures about { IfOk result (λ it. it.ingester.about
-        ≡ about_of it.ingester.about.bases passes limits capacity) }
-    ensures shards { IfOk result (λ it. it.ingester.about.shards ≡ deque_len slots.old) }
-    ensures passes { IfOk result (λ it. AreFresh it.ingester passes it.passes.items) }
-    ensures ready { IfOk result (λ it. AreShardsOf it.ingester it.shards.items
+    requires settings { AreSettings settings.now }
+    ensures opened { IfOk result (λ it.
+        IsOpenedAs D.sight D.follows settings.now (deque_len slots.old) slots.old.items it.ingester
+        it.passes.items) }
+    ensures ready { IfOk result (λ it. AreShardsOf D.sight D.follows it.ingester it.shards.items
         × AreEnds it.ingester it.ends.items × (deque_len it.ends ≡ vec_len it.shards)) }
     ensures unmade { IfErr result (λ fault.
         IsUnmade D.sight D.follows (deque_len slots.old) slots.old.items slots.new.items fault) }
 {
     let count = slots.len();
-    let room = reserve_room(alloc, count)?;
     let shards = VecDeque::with_capacity(alloc, count)?;
     let sizes = Vec::with_capacity(alloc, count)?;
-    let (mut logs, images) = open_logs(rt, alloc, slots, capacity, observer)?;
-    let Ok((history, books, dealt)) = History::new(alloc, &images, passes, limits, capacity) else {
+    let list = Vec::with_capacity(alloc, settings.passes as usize)?;
+    let (mut logs, images) = open_logs(rt, alloc, slots, settings.capacity, observer)?;
+    let Ok(planned) = plan_opening(alloc, &images, &logs, settings) else {
         give_back(slots, &mut logs);
         return Err(OpenFault::Memory);
     };
-    let Ok(plan) = make_plan(alloc, &books[0], &logs, passes as usize) else {
-        give_back(slots, &mut logs);
+    let Planned {
+        history,
+        books,
+        seats,
+        plan,
+    } = planned;
+    let ground = Ground {
+        logs,
+        images,
+        books,
+        limits: settings.limits,
+    };
+    let Ok((history, shards)) = make_shards(alloc, history, slots, shards, ground) else {
         return Err(OpenFault::Memory);
     };
-    let Ok(shards) = make_shards(alloc, slots, shards, logs, images, books, limits) else {
-        return Err(OpenFault::Memory);
+    let kept = Kept {
+        sizes: sizes_of(sizes, &shards),
+        count: count as u32,
+        list,
+        seats,
     };
-    let sizes = sizes_of(sizes, &shards);
-    let count = count as u32;
-    let kept = IngesterParts { room, sizes, count };
-    Ok(opened_with(plan, history, dealt, shards, kept))
+    Ok(opened_with(plan, history, shards, kept))
 }
 
-// What an ingester keeps of its shards beside what is planned.
-struct IngesterParts<D: Disk + Drop> {
-    room: ListLocks<D>,
+// What an ingester keeps of its shards beside what is planned, and the seats of its passes with a list for them.
+struct Kept {
     sizes: Vec<Size>,
     count: u32,
+    list: Vec<Pass>,
+    seats: Vec<Seat>,
 }
 
 // What was opened by this plan.
 fn opened_with<D: Disk + Drop>(
     plan: Plan<D>,
     history: History,
-    passes: Vec<Pass>,
     shards: Vec<Option<Shard<D>>>,
-    kept: IngesterParts<D>,
+    kept: Kept,
 ) -> Opened<D>
-    requires { HasParts history plan.rows plan.backs kept.room kept.count plan.origin plan.home }
+    requires parts { HasParts history plan.closing kept.count plan.origin }
+    requires room { (vec_len kept.list ≡ 0) × (vec_len kept.seats ≤ vec_capacity kept.list) }
+    requires seats { AreEach (IsSeatAt (home_of plan.origin)) 0 kept.seats.items }
+    requires rows { AreRows (home_of plan.origin) plan.origin.about.shards plan.rows.items
+        × (vec_len plan.rows ≡ vec_len kept.seats) }
     ensures ingester { result.ingester ≡ plan.origin }
-    ensures passes { result.passes ≡ passes }
+    ensures passes { result.passes.items ≡ kept.seats.items }
     ensures shards { result.shards ≡ shards }
     ensures ends { result.ends ≡ plan.ends }
 {
     let Plan {
         origin,
-        home,
         rows,
-        backs,
+        closing,
         ends,
     } = plan;
-    let IngesterParts { room, sizes, count } = kept;
+    let Kept {
+        sizes,
+        count,
+        list,
+        seats,
+    } = kept;
+    let passes = seat_passes(list, seats, rows);
     let ingester = Ingester {
         history,
-        rows,
-        backs,
-        room,
+        closing,
         sizes,
         waiters: Waiters::new(),
         count,
         origin,
-        home,
     };
     Opened {
         ingester,

@@ -5,8 +5,7 @@ ghost use Rattle.ingester.specs.Calls.{IsPassOf};
 
 use disk::Disk;
 use front::{Clock, serve};
-use history::Pass;
-use ingester::Ingester;
+use ingester::{Ingester, Pass};
 use std::alloc::Global;
 use std::net::TcpStream;
 use std::sync::Wait;

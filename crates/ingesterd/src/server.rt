@@ -9,8 +9,7 @@ ghost use Rattle.ingesterd.specs.Endings.{ServerEnds, HasSaidReady, HasSaidUntil
 
 use crate::connections::Connections;
 use disk::Disk;
-use history::Pass;
-use ingester::Ingester;
+use ingester::{Ingester, Pass};
 use programs::{
     Replaying, Stopped, SystemClock, capacity_by, close_shards, open_shards, say_replayed,
 };

@@ -1,4 +1,4 @@
-pub mod Rule
-pub mod Grips
 pub mod Bindings
 pub mod Queues
+pub mod Lying
+pub mod Asides

@@ -9,6 +9,13 @@ use std::alloc::AllocError;
 use std::sync::Wait;
 use std::thread;
 
+/// All sending ends of a queue are gone, and no message is left in it. Only a receiving end that has found it so gives
+/// this.
+#[derive(Drop)]
+pub struct Gone {
+    found: (),
+}
+
 /// The sending end of a queue.
 #[derive(Drop)]
 pub struct QueueSender<T: Drop, K, P: Fits<T, K>> {
@@ -67,12 +74,19 @@ impl<T: Drop, K, P: Fits<T, K>> QueueReceiver<T, K, P> {
     ghost use Rattle.keyed.specs.Bindings.{FitsBinding, IsBound};
     ghost use Rattle.keyed.specs.Queues.{sends_to, receives_as};
 
-    /// Waits for a message. `None` comes once all sending ends are gone and the queue is empty.
-    pub fn receive<R: Wait>(&mut self, rt: &R) -> Option<T>
+    /// Waits for a message.
+    ///
+    /// # Errors
+    ///
+    /// All sending ends are gone, and no message is left.
+    pub fn receive<R: Wait>(&mut self, rt: &R) -> Result<T, Gone>
         ensures same { receives_as self.new ≡ receives_as self.old }
-        ensures fits { IfSome result (FitsBinding P.fits (receives_as self.old)) }
+        ensures fits { IfOk result (FitsBinding P.fits (receives_as self.old)) }
     {
-        self.from.recv_as::<Gets<P>, R>(rt, &mut self.port).ok()
+        match self.from.recv_as::<Gets<P>, R>(rt, &mut self.port) {
+            Ok(message) => Ok(message),
+            Err(_) => Err(Gone { found: () }),
+        }
     }
 
     /// The next message, if one is there.

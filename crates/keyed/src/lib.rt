@@ -1,17 +1,17 @@
-//! One lock for each of a list of values, and queues between threads. Both have a key: what a value under lock `k`, or
-//! a message of the queue with number `k`, satisfies may speak of the key and of `k`.
+//! Queues between threads, and values that are set aside. Both have a key: what a message of the queue with number `k`,
+//! or the value, satisfies may speak of the key and of `k`.
 #![tactic(auto)]
 
+mod aside;
 mod binding;
 mod ends;
-mod locks;
 mod queues;
 mod rule;
 mod waiters;
 
+pub use aside::{Aside, Lies};
 pub use binding::{Binding, Binds};
-pub use ends::{QueueReceiver, QueueSender};
-pub use locks::{Grip, Locks};
+pub use ends::{Gone, QueueReceiver, QueueSender};
 pub use queues::queue;
-pub use rule::{Fits, Hold, Under};
+pub use rule::Fits;
 pub use waiters::Waiters;

@@ -41,7 +41,7 @@ impl Waiters {
         self.count.fetch_add(1, Ordering::Relaxed);
         let found = match self.look_alone(rt, from) {
             Some(message) => Some(message),
-            None => from.receive(rt),
+            None => from.receive(rt).ok(),
         };
         self.count.fetch_sub(1, Ordering::Relaxed);
         found

@@ -118,10 +118,10 @@ impl<D: Disk + Drop> LoneShard<D> {
         ensures { result ≡ disks self.shard.log }
     {
         let LoneShard {
-            history: _,
+            history,
             shard,
             pass: _,
         } = self;
-        shard.into_slots()
+        shard.into_slots(&history.end())
     }
 }

@@ -14,7 +14,7 @@ use Rattle.owners.specs.Openings.{Opening, opening_of}
 use Rattle.ingester.specs.Closings.{IsTold, IsComparedTo}
 use Rattle.headline.specs.Threads.{Thread}
 use Rattle.headline.specs.Headline.{IsOneOf}
-use Rattle.headline.specs.Turns.{IsMade}
+use Rattle.shard.specs.Leads.{IsMade}
 use Rattle.headline.proofs.Turning.{same_book}
 use Rattle.one_life.specs.Turned.{IsTurnedOnce}
 

@@ -6,7 +6,7 @@ ghost use Rattle.one_life.specs.Once.{IsLivedOnce};
 
 use accept::{Call, Limits, Reply};
 use disk::Disk;
-use ingester::{CallFault, Ingester};
+use ingester::{CallFault, Ingester, Settings};
 use std::alloc::Global;
 use std::sync::Wait;
 use std::thread::Threads;
@@ -35,8 +35,12 @@ where
     requires numbers { AreNumbers call }
     ensures { IfSome result (λ it. IsLivedOnce D.sight D.follows slots.items call it.1 it.0) }
 {
-    let Ok((ingester, mut passes)) = Ingester::open(rt, handle, alloc, slots, 1, limits, capacity)
-    else {
+    let settings = Settings {
+        passes: 1,
+        limits,
+        capacity,
+    };
+    let Ok((ingester, mut passes)) = Ingester::open(rt, handle, alloc, slots, settings) else {
         return None;
     };
     let outcome = ingester.call(rt, alloc, &mut passes[0], call);

@@ -4,8 +4,7 @@ ghost use Rattle.ingester.specs.Calls.{IsPassOf};
 ghost use Rattle.headline.specs.Threads.{IsLooked, IsMet};
 
 use disk::Disk;
-use history::Pass;
-use ingester::Ingester;
+use ingester::{Ingester, Pass};
 
 /// Looks at a shard, and answers the length of its history.
 pub fn look_once<D: Disk + Drop>(ingester: &Ingester<D>, pass: &mut Pass, shard: u32) -> u64

@@ -5,4 +5,3 @@ pub mod Desking
 pub mod Seeding
 pub mod Sent
 pub mod Loading
-pub mod Spent

@@ -25,15 +25,12 @@ ends_fields : (D : RattleType) (g : disk.Ghosts D.Denot) → IsSend D → AllSen
 ends_fields D g s = let one = shard_send D g s in (
   search sendable depth 20,
   (
-    search sendable depth 20,
+    search (sendable, crosses, order.the_send, queue_receiver.the_field_send) depth 40,
     (
-      search (sendable, crosses, order.the_send, queue_receiver.the_field_send) depth 40,
+      search (sendable, crosses, letter.the_send, queue_sender.the_field_send) depth 40,
       (
-        search (sendable, crosses, letter.the_send, queue_sender.the_field_send) depth 40,
-        (
-          search (sendable, crosses, one, queue_sender.the_field_send) depth 40,
-          (desk.the_field_send, tt),
-        ),
+        search (sendable, crosses, one, queue_sender.the_field_send) depth 40,
+        (desk.the_field_send, tt),
       ),
     ),
   ),

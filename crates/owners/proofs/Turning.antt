@@ -1,36 +1,37 @@
 -- What a turn leaves: the shard of its lock, what came of its calls, and calls for the next turn.
 use Rattle.std.proofs.Common.{◌≡◌, ℕ, suc, ◌+◌, ◌<◌, ◌≤◌, Bool, true, false, cond, ◌==◌, List, [], ◌∷◌, ◌++◌, length, length-append, inl, inr, refl, sym, ap, ◌∙◌, subst, eq-eqb, arith}
-use Rattle.std.specs.Prelude.{Some, slice_get}
+use Rattle.std.specs.Prelude.{Some}
 use Rattle.atomic_table.specs.Seated.{TableId}
 use Rattle.accept.specs.declared.history.Ask.{Ask}
 use Rattle.accept.specs.declared.call.Reply.{Reply}
 use Rattle.disk.specs.Sight.{Sight}
-use Rattle.wal.specs.Logs.{slots}
+use Rattle.wal.specs.declared.log.Wal.{Wal}
+use Rattle.wal.specs.Logs.{Follow, slots}
 use Rattle.history.specs.declared.views.About.{About}
-use Rattle.history.specs.Histories.{shard_in, step_of}
+use Rattle.history.specs.Histories.{doubt_of, shard_in, step_of}
 use Rattle.history.specs.Handles.{Announced, Booked, Received, AreOf, asks_of}
 use Rattle.shard.specs.declared.fault.ApplyFault.{ApplyFault}
-use Rattle.shard.specs.declared.fault.ApplyFault.TheVariants.{GenerationSpent}
 use Rattle.shard.specs.declared.first_jobs.Job.{Job}
 use Rattle.shard.specs.declared.group.Settled.{Settled}
 use Rattle.shard.specs.declared.group.Settled.TheVariants.{Answered}
-use Rattle.shard.specs.Calls.{IsSpent}
 use Rattle.shard.specs.Groups.{with_step, marked_by}
-use Rattle.shard.specs.Keeping.{moments}
+use Rattle.shard.specs.Keeping.{KeepsHistory, moments}
 use Rattle.shard.specs.Jobs.{tickets_of, jobs_by, jobs_but, AreLawful, AreInPassTurn}
 use Rattle.shard.specs.Parts.{IsApplied}
 use Rattle.shard.specs.Queues.{settled_of}
 use Rattle.shard.specs.Shards.{Sharded}
 use Rattle.shard.specs.Turns.{Turn, span_of, AreReady, AreStepped, IsAlone, IsGivenBack, IsTurn, given_back_of}
 use Rattle.shard.proofs.Turning.{pass_turn_more}
-use Rattle.owners.specs.Calls.{AreSureTickets, AreWaiting, AreOfCalls, AreTurned}
+use Rattle.owners.specs.Calls.{AreSureTickets, AreWaiting, AreOfCalls}
 use Rattle.owners.specs.Openings.{Opening}
-use Rattle.owners.specs.Places.{IsOf}
+use Rattle.shard.specs.Leads.{Lead}
+use Rattle.owners.specs.Places.{IsOf, opened_shard}
+use Rattle.shard.proofs.Leading.{lead_more}
 
 -- Before the first turn.
 
 module _ (table : TableId) (about : About) where
-  pub waiting_open : (k : ℕ) (jobs : List Job) → AreWaiting table about k jobs → AreSureTickets table about (tickets_of jobs)
+  pub waiting_open : (k : ℕ) (jobs : List Job) → AreWaiting table about k jobs → AreSureTickets table (tickets_of jobs)
   waiting_open k [] h = tt
   waiting_open k (j ∷ jobs) h = (h.0.ticket, waiting_open k jobs h.1)
 
@@ -49,27 +50,27 @@ module _ (table : TableId) (about : About) where
 
   -- Tickets among others.
 
-  open_front : (xs ys : List Announced) → AreSureTickets table about (xs ++ ys) → AreSureTickets table about xs
+  open_front : (xs ys : List Announced) → AreSureTickets table (xs ++ ys) → AreSureTickets table xs
   open_front [] ys h = tt
   open_front (x ∷ xs) ys h = (h.0, open_front xs ys h.1)
 
-  open_back : (xs ys : List Announced) → AreSureTickets table about (xs ++ ys) → AreSureTickets table about ys
+  open_back : (xs ys : List Announced) → AreSureTickets table (xs ++ ys) → AreSureTickets table ys
   open_back [] ys h = h
   open_back (x ∷ xs) ys h = open_back xs ys h.1
 
-  open_by : (p : ℕ) (jobs : List Job) → AreSureTickets table about (tickets_of jobs) → AreSureTickets table about (tickets_of (jobs_by p jobs))
+  open_by : (p : ℕ) (jobs : List Job) → AreSureTickets table (tickets_of jobs) → AreSureTickets table (tickets_of (jobs_by p jobs))
   open_by p [] h = tt
   open_by p (j ∷ jobs) h = pick (open_by p jobs h.1) (p == j.ticket.ask.pass)
     where
-      pick : AreSureTickets table about (tickets_of (jobs_by p jobs)) → (b : Bool) → AreSureTickets table about (tickets_of (cond b (j ∷ jobs_by p jobs) (jobs_by p jobs)))
+      pick : AreSureTickets table (tickets_of (jobs_by p jobs)) → (b : Bool) → AreSureTickets table (tickets_of (cond b (j ∷ jobs_by p jobs) (jobs_by p jobs)))
       pick behind true = (h.0, behind)
       pick behind false = behind
 
-  open_but : (p : ℕ) (jobs : List Job) → AreSureTickets table about (tickets_of jobs) → AreSureTickets table about (tickets_of (jobs_but p jobs))
+  open_but : (p : ℕ) (jobs : List Job) → AreSureTickets table (tickets_of jobs) → AreSureTickets table (tickets_of (jobs_but p jobs))
   open_but p [] h = tt
   open_but p (j ∷ jobs) h = pick (open_but p jobs h.1) (p == j.ticket.ask.pass)
     where
-      pick : AreSureTickets table about (tickets_of (jobs_but p jobs)) → (b : Bool) → AreSureTickets table about (tickets_of (cond b (jobs_but p jobs) (j ∷ jobs_but p jobs)))
+      pick : AreSureTickets table (tickets_of (jobs_but p jobs)) → (b : Bool) → AreSureTickets table (tickets_of (cond b (jobs_but p jobs) (j ∷ jobs_but p jobs)))
       pick behind true = behind
       pick behind false = (h.0, behind)
 
@@ -94,19 +95,19 @@ length_tickets (j ∷ jobs) = ap suc (length_tickets jobs)
 -- What came of calls.
 
 module _ {D : Type 0} (opening : Opening D) where
-  settled_calls : (ts : List Announced) (moment : ℕ × ℕ) → AreSureTickets opening.table opening.about ts → (book : Booked) → AreTurned opening (settled_of book ts moment)
-  settled_calls [] moment h book = (tt, tt)
-  settled_calls (t ∷ ts) moment h book = (((h.0.pass, (h.0.same_table, refl)), (settled_calls ts moment h.1 (with_step book t.ask)).0), tt)
+  settled_calls : (ts : List Announced) (moment : ℕ × ℕ) → AreSureTickets opening.table ts → (book : Booked) → AreOfCalls opening.table (settled_of book ts moment)
+  settled_calls [] moment h book = tt
+  settled_calls (t ∷ ts) moment h book = ((h.0.same_table, refl), settled_calls ts moment h.1 (with_step book t.ask))
 
-  refused_calls : (fault : ApplyFault) (ts : List Announced) → AreSureTickets opening.table opening.about ts → AreOfCalls opening (given_back_of fault ts)
+  refused_calls : (fault : ApplyFault) (ts : List Announced) → AreSureTickets opening.table ts → AreOfCalls opening.table (given_back_of fault ts)
   refused_calls fault [] h = tt
-  refused_calls fault (t ∷ ts) h = ((h.0.pass, (h.0.same_table, h.0.sure)), refused_calls fault ts h.1)
+  refused_calls fault (t ∷ ts) h = ((h.0.same_table, h.0.sure), refused_calls fault ts h.1)
 
 -- A turn.
 
 module _ {D : Type 0} (sight : D → Sight) (follows : D → Type 0) (opening : Opening D) (turn : Turn D) where
   abbrev Opens : List Job → Type 0
-  Opens l = AreSureTickets opening.table opening.about (tickets_of l)
+  Opens l = AreSureTickets opening.table (tickets_of l)
 
   record IsSame : Type 0 where
     pub table : turn.new.book.table ≡ turn.old.book.table
@@ -131,12 +132,22 @@ module _ {D : Type 0} (sight : D → Sight) (follows : D → Type 0) (opening : 
       record { table = ap (λ (s : Sharded D). s.book.table) e; about = ap (λ (s : Sharded D). s.book.about) e; shard = ap (λ (s : Sharded D). s.book.shard) e; opened = ap (λ (s : Sharded D). s.opened) e }
 
   -- the shard is that of its lock
-  pub turn_of : (k : ℕ) → IsTurn sight follows turn → IsOf opening k turn.old → IsOf opening k turn.new
-  turn_of k h is = let s = turn_same h in record { table = s.table ∙ is.table; about = s.about ∙ is.about; number = s.shard ∙ is.number; opened = is.opened ∙ ap Some (sym s.opened) }
+  pub turn_of : (k : ℕ) → IsTurn sight follows turn → (Follow follows turn.new.log → KeepsHistory (slots sight turn.new.log) turn.new.book (doubt_of turn.new.book.items)) → IsOf sight follows opening k turn.old → IsOf sight follows opening k turn.new
+  turn_of k h covered is =
+      let s = turn_same h in
+      record {
+        table = s.table ∙ is.table;
+        about = s.about ∙ is.about;
+        number = s.shard ∙ is.number;
+        opened = is.opened ∙ ap Some (sym s.opened);
+        turns = is.turns ++ turn ∷ [];
+        turned = subst (λ (log : Wal D). Lead sight follows (opened_shard opening k log) (is.turns ++ turn ∷ []) turn.new) (sym s.opened)
+            (lead_more sight follows (opened_shard opening k turn.old.opened) turn.old is.turns turn is.turned refl (record { turn = h; covered = covered }));
+      }
 
   -- the calls that are left are open
   pub turn_open : IsTurn sight follows turn → Opens turn.jobs → Opens turn.rest
-  turn_open (inl h) o = open_back opening.table opening.about h.front (tickets_of turn.rest) (subst (AreSureTickets opening.table opening.about) h.split o)
+  turn_open (inl h) o = open_back opening.table opening.about h.front (tickets_of turn.rest) (subst (AreSureTickets opening.table) h.split o)
   turn_open (inr (inl h)) o = (subst Opens h.split o).1
   turn_open (inr (inr h)) o = subst Opens (sym h.rest_is) (open_but opening.table opening.about h.job.ticket.ask.pass turn.jobs o)
 
@@ -154,47 +165,31 @@ module _ {D : Type 0} (sight : D → Sight) (follows : D → Type 0) (opening : 
       let all : length turn.jobs ≡ length (h.job ∷ h.others) = ap length h.split in
       omega arith
 
-  stepped_turned : (front : List Announced) → AreSureTickets opening.table opening.about front → turn.was ≡ [] → AreStepped sight (span_of turn) front → AreTurned opening turn.now
+  stepped_turned : (front : List Announced) → AreSureTickets opening.table front → turn.was ≡ [] → AreStepped sight (span_of turn) front → AreOfCalls opening.table turn.now
   stepped_turned front o none (inl made) = let more = settled_of turn.old.book front (moments (slots sight turn.new.log)) in
-      subst (AreTurned opening) (sym (made.2 ∙ ap (λ (l : List Settled). l ++ more) none)) (settled_calls opening front (moments (slots sight turn.new.log)) o turn.old.book)
+      subst (AreOfCalls opening.table) (sym (made.2 ∙ ap (λ (l : List Settled). l ++ more) none)) (settled_calls opening front (moments (slots sight turn.new.log)) o turn.old.book)
   stepped_turned front o none (inr lost) = let marked = marked_by turn.old.book (asks_of front) in let more = settled_of marked front (moments (slots sight turn.new.log)) in
-      subst (AreTurned opening) (sym (lost.2 ∙ ap (λ (l : List Settled). l ++ more) none)) (settled_calls opening front (moments (slots sight turn.new.log)) o marked)
+      subst (AreOfCalls opening.table) (sym (lost.2 ∙ ap (λ (l : List Settled). l ++ more) none)) (settled_calls opening front (moments (slots sight turn.new.log)) o marked)
 
-  alone_turned : Opens turn.jobs → turn.was ≡ [] → IsAlone sight follows turn → AreTurned opening turn.now
+  alone_turned : Opens turn.jobs → turn.was ≡ [] → IsAlone sight follows turn → AreOfCalls opening.table turn.now
   alone_turned o none h =
       let mine = (subst Opens h.split o).0 in
       let is = h.applied.receipt_is in
       let ask = ap (λ (r : Received). r.step.ask) is in
-      subst (AreTurned opening) (sym (h.settled ∙ ap (λ (l : List Settled). l ++ Answered h.reply h.receipt ∷ []) none)) (
-        (
-          (
-            subst (λ (a : Ask). a.pass < opening.about.passes) (sym ask) mine.pass,
-            (ap (λ (r : Received). r.table) is ∙ mine.same_table, ap (λ (r : Received). r.step) is ∙ ap (λ (a : Ask). step_of a h.reply) (sym ask)),
-          ),
-          tt,
-        ),
+      subst (AreOfCalls opening.table) (sym (h.settled ∙ ap (λ (l : List Settled). l ++ Answered h.reply h.receipt ∷ []) none)) (
+        (ap (λ (r : Received). r.table) is ∙ mine.same_table, ap (λ (r : Received). r.step) is ∙ ap (λ (a : Ask). step_of a h.reply) (sym ask)),
         tt,
       )
 
-  back_turned : (k : ℕ) → IsOf opening k turn.old → AreReady turn.old.book turn.jobs → Opens turn.jobs → turn.was ≡ [] → IsGivenBack turn → AreTurned opening turn.now
-  back_turned k is ready o none h =
+  back_turned : Opens turn.jobs → turn.was ≡ [] → IsGivenBack turn → AreOfCalls opening.table turn.now
+  back_turned o none h =
       let p = h.job.ticket.ask.pass in
       let by : jobs_by p turn.jobs ≡ h.job ∷ jobs_by p h.others = ap (jobs_by p) h.split ∙ by_first h.job h.others in
       let all = subst Opens by (open_by opening.table opening.about p turn.jobs o) in
-      let ready' = subst (AreReady turn.old.book) h.split ready in
-      subst (AreTurned opening) (sym (h.settled ∙ (λ i. none i ++ given_back_of h.fault (tickets_of (by i))))) (
-        refused_calls opening h.fault (tickets_of (h.job ∷ jobs_by p h.others)) all,
-        λ (cause : h.fault ≡ GenerationSpent). record {
-          shard = turn.old;
-          about = is.about;
-          number = sym ready'.of_book.1 ∙ ap (λ (a : About). shard_in a h.job.ticket.ask) is.about;
-          opened = subst (λ (n : ℕ). slice_get opening.logs n ≡ Some turn.old.opened) (sym is.number ∙ sym ready'.of_book.1 ∙ ap (λ (a : About). shard_in a h.job.ticket.ask) is.about) is.opened;
-          spent = subst (λ c. IsSpent turn.old.log turn.old.opened turn.old.book c) (sym ready'.lawful.1) (h.spent cause);
-        },
-      )
+      subst (AreOfCalls opening.table) (sym (h.settled ∙ (λ i. none i ++ given_back_of h.fault (tickets_of (by i))))) (refused_calls opening h.fault (tickets_of (h.job ∷ jobs_by p h.others)) all)
 
   -- what came of the calls
-  pub turn_turned : (k : ℕ) → IsTurn sight follows turn → IsOf opening k turn.old → AreReady turn.old.book turn.jobs → Opens turn.jobs → turn.was ≡ [] → AreTurned opening turn.now
-  turn_turned k (inl h) is ready o none = stepped_turned h.front (open_front opening.table opening.about h.front (tickets_of turn.rest) (subst (AreSureTickets opening.table opening.about) h.split o)) none h.applied.stepped
-  turn_turned k (inr (inl h)) is ready o none = alone_turned o none h
-  turn_turned k (inr (inr h)) is ready o none = back_turned k is ready o none h
+  pub turn_settled : IsTurn sight follows turn → Opens turn.jobs → turn.was ≡ [] → AreOfCalls opening.table turn.now
+  turn_settled (inl h) o none = stepped_turned h.front (open_front opening.table opening.about h.front (tickets_of turn.rest) (subst (AreSureTickets opening.table) h.split o)) none h.applied.stepped
+  turn_settled (inr (inl h)) o none = alone_turned o none h
+  turn_settled (inr (inr h)) o none = back_turned o none h

@@ -1,17 +1,16 @@
 -- Calls that are to be made at a shard, and what becomes of them.
-use Rattle.std.specs.Prelude.{◌≡◌, ℕ, ◌<◌, List, [], ◌∷◌, false}
+use Rattle.std.specs.Prelude.{◌≡◌, ℕ, List, [], ◌∷◌, false}
 use Rattle.accept.specs.Calls.{AreNumbers}
 use Rattle.atomic_table.specs.Seated.{TableId}
 use Rattle.history.specs.declared.views.About.{About}
 use Rattle.history.specs.Histories.{shard_in, step_of}
 use Rattle.history.specs.Handles.{Announced, AreInLine}
-use Rattle.shard.specs.declared.fault.ApplyFault.TheVariants.{Memory, GenerationSpent}
+use Rattle.shard.specs.declared.fault.ApplyFault.TheVariants.{Memory}
 use Rattle.shard.specs.declared.first_jobs.Job.{Job}
 use Rattle.shard.specs.declared.group.Settled.{Settled}
 use Rattle.shard.specs.declared.group.Settled.TheVariants.{Answered, GivenBack}
 use Rattle.shard.specs.Jobs.{tickets_of}
-use Rattle.owners.specs.Homes.{Homed, NeedsGeneration}
-use Rattle.owners.specs.Openings.{Opening, HasSpentLog}
+use Rattle.owners.specs.Homes.{Homed}
 
 -- whose call it was
 abbrev pub pass_in : Settled → ℕ
@@ -33,11 +32,10 @@ abbrev pub AreOfPass : ℕ → List Announced → Type 0
 AreOfPass p [] = Unit {0}
 AreOfPass p (t ∷ ts) = (t.ask.pass ≡ p) × AreOfPass p ts
 
-module _ (table : TableId) (about : About) where
-  -- the ticket is of a pass of the opening with this table, and in no doubt
+module _ (table : TableId) where
+  -- the ticket is of this table, and in no doubt
   pub record IsSureTicket (t : Announced) : Type 0 where
     pub same_table : t.table ≡ table
-    pub pass : t.ask.pass < about.passes
     pub sure : t.doubted ≡ false
 
   -- so is each
@@ -45,9 +43,21 @@ module _ (table : TableId) (about : About) where
   AreSureTickets [] = Unit {0}
   AreSureTickets (t ∷ ts) = IsSureTicket t × AreSureTickets ts
 
+  -- it came of a call on this table: the call's step has this reply, or the call has none
+  abbrev pub IsOfCall : Settled → Type 0
+  IsOfCall (Answered reply receipt) = (receipt.table ≡ table)
+      × (receipt.step ≡ step_of receipt.step.ask reply)
+  IsOfCall (GivenBack fault t) = (t.table ≡ table) × (t.doubted ≡ false)
+
+  -- so did each
+  abbrev pub AreOfCalls : List Settled → Type 0
+  AreOfCalls [] = Unit {0}
+  AreOfCalls (s ∷ ss) = IsOfCall s × AreOfCalls ss
+
+module _ (table : TableId) (about : About) where
   -- the call is to be made at shard k
   pub record IsWaiting (k : ℕ) (job : Job) : Type 0 where
-    pub ticket : IsSureTicket job.ticket
+    pub ticket : IsSureTicket table job.ticket
     pub shard : shard_in about job.ticket.ask ≡ k
     pub call : job.ticket.ask.call ≡ job.call
     pub numbers : AreNumbers job.call
@@ -64,57 +74,13 @@ module _ (table : TableId) (about : About) where
     pub pass : AreOfPass p (tickets_of jobs)
     pub line : AreInLine [] (tickets_of jobs)
 
--- it came of a call on this table: the call's step has this reply, or the call has none
-abbrev pub IsOfCall : TableId → Settled → Type 0
-IsOfCall table (Answered reply receipt) = (receipt.table ≡ table)
-    × (receipt.step ≡ step_of receipt.step.ask reply)
-IsOfCall table (GivenBack fault t) = (t.table ≡ table) × (t.doubted ≡ false)
-
--- What came of a call of pass p, as queues carry it: where the call needs another generation, the log of its shard is
--- spent.
+-- What came of calls of pass p, as queues carry it.
 module _ (home : Homed) where
-  abbrev pub IsSpentAt : Settled → Type 0
-  IsSpentAt (Answered reply receipt) = Unit {0}
-  IsSpentAt (GivenBack fault t) = fault ≡ GenerationSpent
-      → NeedsGeneration home (shard_in home.about t.ask) t.ask.call
-
   pub record IsDue (p : ℕ) (settled : Settled) : Type 0 where
     pub pass : pass_in settled ≡ p
     pub call : IsOfCall home.table settled
-    pub spent : IsSpentAt settled
 
   -- so is each
   abbrev pub AreDue : ℕ → List Settled → Type 0
   AreDue p [] = Unit {0}
   AreDue p (s ∷ ss) = IsDue p s × AreDue p ss
-
-  -- each came of a call
-  abbrev pub AreCalls : List Settled → Type 0
-  AreCalls [] = Unit {0}
-  AreCalls (s ∷ ss) = IsOfCall home.table s × AreCalls ss
-
-  -- What a turn makes of calls. Where some come back, only of the first is it known that the log is spent.
-  abbrev pub AreMade : List Settled → Type 0
-  AreMade [] = Unit {0}
-  AreMade (s ∷ ss) = IsOfCall home.table s × IsSpentAt s × AreCalls ss
-
--- the same, over an opening with its disks
-module _ {D : Type 0} (opening : Opening D) where
-  abbrev pub IsSpentAsSaid : Settled → Type 0
-  IsSpentAsSaid (Answered reply receipt) = Unit {0}
-  IsSpentAsSaid (GivenBack fault t) = fault ≡ GenerationSpent
-      → HasSpentLog opening (shard_in opening.about t.ask) t.ask.call
-
-  -- each came of a call of one of the opening's passes
-  abbrev pub AreOfCalls : List Settled → Type 0
-  AreOfCalls [] = Unit {0}
-  AreOfCalls (s ∷ ss) = ((pass_in s < opening.about.passes) × IsOfCall opening.table s)
-      × AreOfCalls ss
-
-  -- of the first the log is spent, where it says so
-  abbrev pub IsFirstSpent : List Settled → Type 0
-  IsFirstSpent [] = Unit {0}
-  IsFirstSpent (s ∷ ss) = IsSpentAsSaid s
-
-  abbrev pub AreTurned : List Settled → Type 0
-  AreTurned ss = AreOfCalls ss × IsFirstSpent ss

@@ -18,7 +18,7 @@ module _ (home : Homed) where
   -- an order for the owner of shard k
   abbrev pub IsOrderFor : ℕ → Order → Type 0
   IsOrderFor k (Make letter) = IsLetterTo k letter
-  IsOrderFor k End = Unit {0}
+  IsOrderFor k (End last) = Unit {0}
 
   -- what became of calls of pass p
   pub record IsAnswerTo (p : ℕ) (letter : Letter) : Type 0 where

@@ -1,6 +1,7 @@
 -- What the thread of a shard has.
 use Rattle.std.specs.Prelude.{◌≡◌, ℕ, List}
 use Rattle.std.specs.VecDeque.{deque_len}
+use Rattle.disk.specs.Sight.{Sight}
 use Rattle.keyed.specs.Queues.{sends_to, receives_as}
 use Rattle.keyed.specs.declared.binding.Binding.TheVariants.{Bound}
 use Rattle.shard.specs.Shards.{Sharded}
@@ -13,11 +14,10 @@ use Rattle.owners.specs.Bonds.{AreBoundFrom}
 
 -- the ends of shard k of the opening, and its desk, on which no call is
 pub record HasEnds {D : Type 0} (k : ℕ) (ends : Ends D) : Type 0 where
-  pub same_home : ends.home ≡ home_of ends.origin
-  pub gets : receives_as ends.orders ≡ Bound ends.home k
-  pub sends : AreBoundFrom ends.home ends.answers.items
+  pub gets : receives_as ends.orders ≡ Bound (home_of ends.origin) k
+  pub sends : AreBoundFrom (home_of ends.origin) ends.answers.items
   pub returns : sends_to ends.back ≡ Bound ends.origin k
-  pub at_desk : IsDesk ends.home k ends.desk
+  pub at_desk : IsDesk (home_of ends.origin) k ends.desk
   pub idle : deque_len ends.desk.jobs ≡ 0
 
 -- the same, of this opening
@@ -29,6 +29,6 @@ abbrev pub AreEnds : {D : Type 0} → Opening D → List (Ends D) → Type 0
 AreEnds opening = AreEach (HasEndsOf opening) 0
 
 -- the same, and the shard is that of the opening
-pub record IsOwner {D : Type 0} (k : ℕ) (state : Sharded D) (ends : Ends D) : Type 0 where
+pub record IsOwner {D : Type 0} (sight : D → Sight) (follows : D → Type 0) (k : ℕ) (state : Sharded D) (ends : Ends D) : Type 0 where
   pub has_ends : HasEnds k ends
-  pub is_of : IsOf ends.origin k state
+  pub is_of : IsOf sight follows ends.origin k state

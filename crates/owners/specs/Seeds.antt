@@ -1,15 +1,15 @@
 -- The ends of an opening's queues, before the owners and the passes have them.
-use Rattle.std.specs.Prelude.{◌≡◌, ℕ, List, Option, length}
+use Rattle.std.specs.Prelude.{◌≡◌, ℕ, List, length}
 use Rattle.std.specs.declared.alloc.Global.{Global}
 use Rattle.std.specs.declared.vec.Vec.{Vec}
 use Rattle.keyed.specs.Queues.{sends_to, receives_as}
 use Rattle.keyed.specs.declared.binding.Binding.TheVariants.{Bound}
-use Rattle.owners.specs.Homes.{Homed}
+use Rattle.history.specs.Handles.{Passed}
+use Rattle.owners.specs.Homes.{Homed, home_at}
 use Rattle.owners.specs.declared.rows.Seed.{Seed}
 use Rattle.owners.specs.declared.ways.Way.{Way}
 use Rattle.owners.specs.Lists.{AreEach}
 use Rattle.owners.specs.Bonds.{AreBoundFrom}
-use Rattle.keyed.specs.Grips.{AllFit}
 use Rattle.owners.specs.Ways.{AreIdleWays}
 
 -- the ends of shard k, with those of the first p passes
@@ -27,5 +27,10 @@ abbrev pub IsRow : Homed → ℕ → ℕ → List Way → Type 0
 IsRow home count p ways = AreIdleWays home p ways × (length ways ≡ count)
 
 -- the row of each pass
-abbrev pub AreRows : Homed → ℕ → List (Option (Vec Way Global)) → Type 0
-AreRows home count rows = AllFit {K = Homed} (λ h p row. IsRow h count p row.items) home rows
+abbrev pub AreRows : Homed → ℕ → List (Vec Way Global) → Type 0
+AreRows home count = AreEach (λ p row. IsRow home count p row.items) 0
+
+-- the seat of pass p at the histories
+pub record IsSeatAt (home : Homed) (p : ℕ) (seat : Passed) : Type 0 where
+  pub of : home_at seat ≡ home
+  pub number : seat.caller.pass ≡ p

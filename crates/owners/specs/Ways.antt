@@ -1,16 +1,13 @@
--- The ways of a pass to the shards and back, and what comes of a call.
+-- The ways of a pass to the shards and back.
 use Rattle.std.specs.Prelude.{◌≡◌, ℕ, ◌≤◌, List, [], Some, slice_get}
 use Rattle.std.specs.VecDeque.{deque_len}
-use Rattle.shard.specs.declared.first_jobs.Job.{Job}
 use Rattle.keyed.specs.Queues.{sends_to, receives_as}
 use Rattle.keyed.specs.declared.binding.Binding.TheVariants.{Bound}
 use Rattle.history.specs.Histories.{max_open}
 use Rattle.owners.specs.declared.letters.Letter.{Letter}
 use Rattle.owners.specs.declared.ways.Way.{Way}
-use Rattle.owners.specs.declared.ways.Came.{Came}
-use Rattle.owners.specs.declared.ways.Came.TheVariants.{Settled, SentBack, Lost}
 use Rattle.owners.specs.Homes.{Homed}
-use Rattle.owners.specs.Calls.{IsBatch, IsDue, AreDue}
+use Rattle.owners.specs.Calls.{IsBatch, AreDue}
 
 -- an empty letter of pass p
 pub record IsBlank (p : ℕ) (letter : Letter) : Type 0 where
@@ -66,9 +63,3 @@ pub record IsIdleWay (home : Homed) (p k : ℕ) (way : Way) : Type 0 where
 -- so it is on each
 abbrev pub AreIdleWays : Homed → ℕ → List Way → Type 0
 AreIdleWays home p ways = (k : ℕ) (way : Way) → slice_get ways k ≡ Some way → IsIdleWay home p k way
-
--- What came of a call: it is settled; or it came back, and was not made; or its answer is lost.
-abbrev pub IsCame : Homed → Job → Came → Type 0
-IsCame home job (Settled s) = IsDue home job.ticket.ask.pass s
-IsCame home job (SentBack t) = t ≡ job.ticket
-IsCame home job Lost = Unit {0}

@@ -1,11 +1,11 @@
 //! What an owner works with.
 ghost use Rattle.std.specs.Prelude.{◌≡◌, ◌+◌, ◌≤◌, ◌<◌, [], ◌++◌, Some, None, vec_len, slice_index_or, slice_set};
 ghost use Rattle.std.specs.VecDeque.{deque_len, deque_capacity};
+ghost use Rattle.owners.specs.Homes.{Homed};
 ghost use Rattle.owners.specs.Desks.{ArePlaces};
-ghost use Rattle.owners.specs.Calls.{IsDue, pass_in};
+ghost use Rattle.owners.specs.Calls.{IsOfCall, pass_in};
 
 use crate::letters::Letter;
-use crate::places::Home;
 use shard::{Job, Settled};
 use std::collections::VecDeque;
 use std::mem;
@@ -51,12 +51,10 @@ pub(crate) fn put_at(places: &mut Vec<Option<Letter>>, at: usize, letter: Letter
 }
 
 // Puts what became of a call into the letter of its pass. Where that is not there, or has no room, it is dropped.
-pub(crate) fn put(home: &Home, places: &mut Vec<Option<Letter>>, came: Settled)
-    requires places { ArePlaces home.now places.old.items }
-    requires due { IsDue home.now (pass_in came) came }
-    ensures { ArePlaces home.now places.new.items }
+pub(crate) fn put(places: &mut Vec<Option<Letter>>, came: Settled)
+    ensures { (home : Homed) → ArePlaces home places.old.items → IsOfCall home.table came
+        → ArePlaces home places.new.items }
 {
-    let _ = home;
     let pass = pass_of(&came);
     if pass >= places.len() {
         return;

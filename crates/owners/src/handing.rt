@@ -1,14 +1,14 @@
 //! How shards are handed to their owners, and given back.
-ghost use Rattle.std.specs.Prelude.{◌≡◌, ◌+◌, ◌<◌, vec_len};
+ghost use Rattle.std.specs.Prelude.{◌≡◌, ◌+◌, ◌<◌, ℕ, vec_len};
 ghost use Rattle.std.specs.VecDeque.{deque_len};
 ghost use Rattle.keyed.specs.Queues.{receives_as};
 ghost use Rattle.keyed.specs.declared.binding.Binding.TheVariants.{Bound};
+ghost use Rattle.owners.specs.Openings.{Opening};
 ghost use Rattle.owners.specs.Lists.{AreEach};
 ghost use Rattle.owners.specs.Owners.{AreEnds, HasEndsOf};
 ghost use Rattle.owners.specs.Places.{IsOf, IsShardAt, AreShardsOf};
 
 use crate::owning::{BackIn, Ends, Owner};
-use crate::places::Origin;
 use crate::team::Team;
 use disk::Disk;
 use shard::Shard;
@@ -19,21 +19,24 @@ use std::sync::Wait;
 // The owner of the next shard, which has this number.
 fn next_owner<D: Disk + Drop>(
     alloc: Global,
-    origin: &Origin<D>,
     number: usize,
     shards: &mut VecDeque<Option<Shard<D>>>,
     all_ends: &mut VecDeque<Ends<D>>,
 ) -> Owner<D>
-    requires shards { AreEach (IsShardAt origin.now) number shards.old.items }
-    requires ends { AreEach (HasEndsOf origin.now) number all_ends.old.items }
+    requires opening { (opening : Opening D)
+        × AreEach (IsShardAt D.sight D.follows opening) number shards.old.items
+        × AreEach (HasEndsOf opening) number all_ends.old.items }
     requires some { 0 < deque_len all_ends.old }
     requires same { deque_len shards.old ≡ deque_len all_ends.old }
-    ensures shards { AreEach (IsShardAt origin.now) (number + 1) shards.new.items }
-    ensures ends { AreEach (HasEndsOf origin.now) (number + 1) all_ends.new.items }
+    ensures shards { (opening : Opening D)
+        → AreEach (IsShardAt D.sight D.follows opening) number shards.old.items
+        → AreEach (IsShardAt D.sight D.follows opening) (number + 1) shards.new.items }
+    ensures ends { (opening : Opening D)
+        → AreEach (HasEndsOf opening) number all_ends.old.items
+        → AreEach (HasEndsOf opening) (number + 1) all_ends.new.items }
     ensures len { deque_len all_ends.new + 1 ≡ deque_len all_ends.old }
     ensures same { deque_len shards.new ≡ deque_len all_ends.new }
 {
-    let _ = origin;
     let Some(ends) = all_ends.pop_front() else {
         unreachable!()
     };
@@ -54,36 +57,28 @@ pub fn hand_all<D: Disk + Drop, R: Wait>(
     rt: &R,
     alloc: Global,
     mut team: Team<D>,
-    origin: &Origin<D>,
     shards: Vec<Option<Shard<D>>>,
     mut all_ends: VecDeque<Ends<D>>,
 )
-    requires shards { AreShardsOf origin.now shards.items }
-    requires ends { AreEnds origin.now all_ends.items }
+    requires opening { (opening : Opening D) × AreShardsOf D.sight D.follows opening shards.items
+        × AreEnds opening all_ends.items }
     requires count { deque_len all_ends ≡ vec_len shards }
 {
     let mut shards = VecDeque::from_vec(shards);
     for number in 0..all_ends.len() {
-        let owner = next_owner(alloc, origin, number, &mut shards, &mut all_ends);
+        let owner = next_owner(alloc, number, &mut shards, &mut all_ends);
         team.hand_over(rt, owner);
     }
 }
 
 /// Waits until the shard comes back by this end.
-pub fn take_shard<D: Disk + Drop, R: Wait>(
-    rt: &R,
-    origin: &Origin<D>,
-    number: usize,
-    back: &mut BackIn<D>,
-) -> Shard<D>
-    requires { receives_as back.old ≡ Bound origin.now number }
-    ensures shard { IsOf origin.now number result }
+pub fn take_shard<D: Disk + Drop, R: Wait>(rt: &R, back: &mut BackIn<D>) -> Shard<D>
+    ensures shard { (opening : Opening D) (k : ℕ) → receives_as back.old ≡ Bound opening k
+        → IsOf D.sight D.follows opening k result }
     ensures same { receives_as back.new ≡ receives_as back.old }
 {
-    let _ = origin;
-    let _ = number;
     for _ in rt.forever() {
-        if let Some(shard) = back.receive(rt) {
+        if let Ok(shard) = back.receive(rt) {
             return shard;
         }
     }

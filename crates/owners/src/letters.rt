@@ -3,7 +3,7 @@ ghost use Rattle.std.specs.Prelude.{◌≡◌, ◌<◌, true};
 ghost use Rattle.std.specs.VecDeque.{deque_len, deque_capacity};
 
 use crate::places::Home;
-use keyed::{Fits, QueueReceiver, QueueSender};
+use keyed::{Fits, Gone, QueueReceiver, QueueSender};
 use shard::{Job, Settled};
 use std::collections::VecDeque;
 
@@ -42,7 +42,28 @@ pub enum Order {
     /// Calls to make.
     Make(Letter),
     /// The last message.
-    End,
+    End(LastOrder),
+}
+
+/// That a pass wants the owners to end. Only `end_owners` makes one.
+#[derive(Drop)]
+pub struct LastOrder {
+    asked: (),
+}
+
+impl LastOrder {
+    pub(crate) fn new() -> LastOrder {
+        LastOrder { asked: () }
+    }
+}
+
+/// Why an owner ends: its last order has come, or nobody can send it any more.
+#[derive(Drop)]
+pub enum Ending {
+    /// The last order has come.
+    Ordered(LastOrder),
+    /// All who could send orders are gone.
+    Alone(Gone),
 }
 
 /// Each order is for the shard of its queue.

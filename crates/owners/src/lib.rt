@@ -19,10 +19,12 @@ mod team;
 mod ways;
 
 pub use handing::{hand_all, take_shard};
-pub use letters::{Answers, AnswersIn, ForPass, ForShard, Letter, Order, Orders, OrdersIn};
+pub use letters::{
+    Answers, AnswersIn, Ending, ForPass, ForShard, LastOrder, Letter, Order, Orders, OrdersIn,
+};
 pub use owning::{Back, BackIn, Ends, Owner, own};
 pub use places::{Home, OfOpening, Origin};
-pub use plan::{Backs, OfPass, OfShards, Plan, Rows, make_plan};
+pub use plan::{Closer, Closing, OfClosing, Plan, make_plan};
 pub use several::{clear_letters, end_owners, receive_letters, send_letters};
 pub use team::{StartFault, Team};
-pub use ways::{Came, Way};
+pub use ways::Way;

@@ -1,14 +1,14 @@
 //! How all calls of a desk are made at their shard.
 ghost use Rattle.std.specs.Prelude.{◌≡◌, ◌≤◌, [], vec_capacity};
 ghost use Rattle.std.specs.VecDeque.{deque_len};
-ghost use Rattle.owners.specs.Calls.{AreMade, with_memory};
+ghost use Rattle.owners.specs.Homes.{Homed};
+ghost use Rattle.owners.specs.Calls.{AreOfCalls, with_memory};
 ghost use Rattle.owners.specs.Places.{IsOf};
 ghost use Rattle.owners.specs.Desks.{max_desk, ArePlaces, IsDesk};
-ghost use Rattle.owners.specs.Openings.{home_of};
+ghost use Rattle.owners.specs.Openings.{Opening, home_of};
 
 use crate::desk::{Desk, put};
 use crate::letters::Letter;
-use crate::places::{Home, Origin};
 use disk::Disk;
 use shard::{ApplyFault, Settled, Shard};
 use std::alloc::Global;
@@ -27,10 +27,9 @@ fn after_another(settled: Settled) -> Settled
 }
 
 // Puts what a turn made of calls into the letters of their passes, and gives the list back.
-fn hand_out(home: &Home, settled: Vec<Settled>, places: &mut Vec<Option<Letter>>) -> Vec<Settled>
-    requires made { AreMade home.now settled.items }
-    requires places { ArePlaces home.now places.old.items }
-    ensures places { ArePlaces home.now places.new.items }
+fn hand_out(settled: Vec<Settled>, places: &mut Vec<Option<Letter>>) -> Vec<Settled>
+    ensures places { (home : Homed) → AreOfCalls home.table settled.items → ArePlaces home places.old.items
+        → ArePlaces home places.new.items }
     ensures none { result.items ≡ [] }
     ensures capacity { vec_capacity result ≡ vec_capacity settled }
 {
@@ -38,33 +37,32 @@ fn hand_out(home: &Home, settled: Vec<Settled>, places: &mut Vec<Option<Letter>>
     let Some(first) = came.pop_front() else {
         return came.into_vec();
     };
-    put(home, places, first);
+    put(places, first);
     while let Some(next) = came.pop_front() {
-        put(home, places, after_another(next));
+        put(places, after_another(next));
     }
     came.into_vec()
 }
 
 /// Makes all calls of the desk by turns, and puts what became of them into the letters of their passes.
-pub(crate) fn make_all<D: Disk + Drop>(
-    alloc: Global,
-    origin: &Origin<D>,
-    home: &Home,
-    state: &mut Shard<D>,
-    desk: &mut Desk,
-)
-    requires home { home.now ≡ home_of origin.now }
-    requires state { IsOf origin.now state.old.book.shard state.old }
-    requires desk { IsDesk home.now state.old.book.shard desk.old }
+pub(crate) fn make_all<D: Disk + Drop>(alloc: Global, state: &mut Shard<D>, desk: &mut Desk)
+    requires opening { (opening : Opening D)
+        × IsOf D.sight D.follows opening state.old.book.shard state.old
+        × IsDesk (home_of opening) state.old.book.shard desk.old }
     requires few { deque_len desk.old.jobs ≤ max_desk }
-    ensures state { IsOf origin.now state.old.book.shard state.new }
-    ensures desk { IsDesk home.now state.old.book.shard desk.new }
+    ensures state { (opening : Opening D)
+        → IsOf D.sight D.follows opening state.old.book.shard state.old
+        → IsDesk (home_of opening) state.old.book.shard desk.old
+        → IsOf D.sight D.follows opening state.old.book.shard state.new }
+    ensures desk { (opening : Opening D)
+        → IsOf D.sight D.follows opening state.old.book.shard state.old
+        → IsDesk (home_of opening) state.old.book.shard desk.old
+        → IsDesk (home_of opening) state.old.book.shard desk.new }
     ensures made { (desk.new.jobs.items ≡ []) × (deque_len desk.new.jobs ≡ 0) }
 {
-    let _ = origin;
     while !desk.jobs.is_empty() {
         state.apply_group(alloc, &mut desk.jobs, &mut desk.settled);
         let settled = mem::replace(&mut desk.settled, Vec::new(alloc));
-        desk.settled = hand_out(home, settled, &mut desk.letters);
+        desk.settled = hand_out(settled, &mut desk.letters);
     }
 }

@@ -1,8 +1,8 @@
 //! A thread that owns a shard.
 use crate::desk::Desk;
-use crate::letters::{Answers, OrdersIn};
+use crate::letters::{Answers, Ending, OrdersIn};
 use crate::making::make_all;
-use crate::places::{Home, OfOpening, Origin};
+use crate::places::{OfOpening, Origin};
 use crate::sending::send_all;
 use crate::taking::take_group;
 use disk::Disk;
@@ -22,7 +22,6 @@ pub type BackIn<D> = QueueReceiver<Shard<D>, Origin<D>, OfOpening>;
 #[derive(Drop)]
 pub struct Ends<D: Disk + Drop> {
     pub(crate) origin: Origin<D>,
-    pub(crate) home: Home,
     pub(crate) orders: OrdersIn,
     pub(crate) answers: Vec<Answers>,
     pub(crate) back: Back<D>,
@@ -46,12 +45,12 @@ impl<D: Disk + Drop> Model for Owner<D> {
 
     ghost view = { λ o. o.number };
 
-    ghost invariant = { λ o. IsOwner o.number o.state o.ends };
+    ghost invariant = { λ o. IsOwner D.sight D.follows o.number o.state o.ends };
 }
 
 /// Makes the calls that come, by groups, and sends the letters back, until the last order comes or nobody can send any
-/// more. Then it gives the shard back.
-pub fn own<D: Disk + Drop, R: Wait>(rt: &R, owner: Owner<D>) {
+/// more. Then it gives the shard back, and says which of both has come.
+pub fn own<D: Disk + Drop, R: Wait>(rt: &R, owner: Owner<D>) -> Ending {
     let Owner {
         alloc,
         number,
@@ -59,12 +58,13 @@ pub fn own<D: Disk + Drop, R: Wait>(rt: &R, owner: Owner<D>) {
         mut ends,
     } = owner;
     for _ in rt.forever() {
-        let is_last = take_group(rt, &ends.home, number, &mut ends.orders, &mut ends.desk);
-        make_all(alloc, &ends.origin, &ends.home, &mut state, &mut ends.desk);
-        send_all(rt, &ends.home, &mut ends.desk.letters, &mut ends.answers);
-        if is_last {
-            break;
+        let ending = take_group(rt, &mut ends.orders, &mut ends.desk);
+        make_all(alloc, &mut state, &mut ends.desk);
+        send_all(rt, &mut ends.desk.letters, &mut ends.answers);
+        if let Some(ending) = ending {
+            drop(ends.back.send(rt, state));
+            return ending;
         }
     }
-    drop(ends.back.send(rt, state));
+    unreachable!()
 }

@@ -34,8 +34,6 @@ impl<D: Disk> Model for Origin<D> {
 pub struct Home {
     /// The first shard's book, before any step.
     pub first: Snapshot<Book>,
-    /// The generation of each shard's log, as it was opened.
-    pub generations: Snapshot<Vec<u64>>,
 }
 
 impl Model for Home {
@@ -50,7 +48,6 @@ impl Model for Home {
     ghost view = { λ h. record {
       table = h.first.value.table;
       about = h.first.value.about;
-      generations = h.generations.value.items;
     } };
 }
 
@@ -60,5 +57,5 @@ pub struct OfOpening;
 impl<D: Disk> Fits<Shard<D>, Origin<D>> for OfOpening {
     ghost use Rattle.owners.specs.Places.{IsOf};
 
-    ghost fits = { λ opening k shard. IsOf opening k shard };
+    ghost fits = { λ opening k shard. IsOf D.sight D.follows opening k shard };
 }

@@ -1,14 +1,14 @@
 //! What an opening's owners and passes need beside threads and shards. All memory for it is taken before any shard is
 //! handed over.
-ghost use Rattle.std.specs.Prelude.{◌≡◌, ◌+◌, ◌≤◌, ◌<◌, vec_len, length, IfOk};
+ghost use Rattle.std.specs.Prelude.{◌≡◌, ◌+◌, ◌≤◌, ◌<◌, ℕ, vec_len, length, IfOk};
 ghost use Rattle.std.specs.VecDeque.{deque_len};
-ghost use Rattle.owners.specs.Homes.{home_with};
-ghost use Rattle.owners.specs.Openings.{opening_of, home_of, generations_of};
+ghost use Rattle.owners.specs.Homes.{Homed, home_with};
+ghost use Rattle.owners.specs.Openings.{opening_of, home_of};
 ghost use Rattle.owners.specs.Bonds.{ReceiveFrom};
 ghost use Rattle.owners.specs.Owners.{HasEndsOf, AreEnds};
 ghost use Rattle.owners.specs.Desks.{IsDesk};
-ghost use Rattle.owners.specs.Plans.{AreBacks, IsPlan};
-ghost use Rattle.owners.specs.Seeds.{IsSeed, AreSeeds, AreRows};
+ghost use Rattle.owners.specs.Plans.{IsPlan};
+ghost use Rattle.owners.specs.Seeds.{IsSeed, AreSeeds};
 ghost use Rattle.keyed.specs.Queues.{receives_as};
 ghost use Rattle.keyed.specs.declared.binding.Binding.TheVariants.{Bound};
 
@@ -19,48 +19,43 @@ use crate::rows::{Seed, make_rows};
 use crate::ways::Way;
 use disk::Disk;
 use history::{Book, Pass};
-use keyed::{Fits, Locks, queue};
-use shard::MAX_TURN;
+use keyed::{Aside, Fits, queue};
+use shard::{MAX_TURN, Shard};
 use std::alloc::{AllocError, Global};
 use std::collections::VecDeque;
 use std::snapshot::Snapshot;
 use wal::Wal;
 
-/// Under the lock of a pass's number lie its ways to all shards.
-pub struct OfPass;
-
-impl Fits<Vec<Way>, Home> for OfPass {
-    ghost use Rattle.owners.specs.Seeds.{IsRow};
-
-    ghost fits = { λ home p ways. IsRow home home.about.shards p ways.items };
+/// What closing needs: the ends by which the shards come back, in the order of their numbers, and room for the shards.
+#[derive(Drop)]
+pub struct Closer<D: Disk + Drop> {
+    /// The ends.
+    pub backs: Vec<BackIn<D>>,
+    /// The room.
+    pub room: Vec<Shard<D>>,
 }
 
-/// The ways of each pass to all shards. A pass's own calls alone take its lock, so nobody waits for it.
-pub type Rows = Locks<Vec<Way>, Home, OfPass>;
+/// It is that of the opening.
+pub struct OfClosing;
 
-/// Under the lock lie the ends by which the shards come back, in the order of their numbers.
-pub struct OfShards;
+impl<D: Disk + Drop> Fits<Closer<D>, Origin<D>> for OfClosing {
+    ghost use Rattle.owners.specs.Plans.{IsCloser};
 
-impl<D: Disk + Drop> Fits<Vec<BackIn<D>>, Origin<D>> for OfShards {
-    ghost use Rattle.owners.specs.Plans.{AreBacks};
-
-    ghost fits = { λ opening _ backs. AreBacks opening backs.items };
+    ghost fits = { λ opening _ closer. IsCloser opening closer };
 }
 
-/// The ends by which the shards come back.
-pub type Backs<D> = Locks<Vec<BackIn<D>>, Origin<D>, OfShards>;
+/// What closing needs, set aside until then.
+pub type Closing<D> = Aside<Closer<D>, Origin<D>, OfClosing>;
 
 /// What an opening's owners and passes need apart from threads and shards.
 #[derive(Drop)]
 pub struct Plan<D: Disk + Drop> {
     /// What was opened.
     pub origin: Origin<D>,
-    /// The same without its disks.
-    pub home: Home,
-    /// The ways of the passes.
-    pub rows: Rows,
-    /// The ends by which the shards come back.
-    pub backs: Backs<D>,
+    /// The ways of each pass to all shards.
+    pub rows: Vec<Vec<Way>>,
+    /// What closing needs.
+    pub closing: Closing<D>,
     /// What the owners work by, in the order of their shards.
     pub ends: VecDeque<Ends<D>>,
 }
@@ -81,35 +76,21 @@ impl<D: Disk + Drop> Origin<D> {
 }
 
 impl Home {
-    // The opening with this first book, and with logs of these generations.
-    fn of(first: &Book, generations: &Vec<u64>) -> Home
-        ensures { result ≡ home_with first.now generations.now.items }
+    // The opening with this first book.
+    fn of(first: &Book) -> Home
+        ensures { result ≡ home_with first.now }
     {
         Home {
             first: Snapshot::of(first),
-            generations: Snapshot::of(generations),
         }
     }
 }
 
-// The generations of logs.
-fn generations_in<D: Disk + Drop>(alloc: Global, logs: &Vec<Wal<D>>) -> Result<Vec<u64>, AllocError>
-    ensures { IfOk result (λ generations. generations.items ≡ generations_of logs.now.items) }
-{
-    let mut generations = Vec::with_capacity(alloc, logs.len())?;
-    for log in logs.iter() {
-        generations.push_reserved(log.generation());
-    }
-    Ok(generations)
-}
-
 // A desk with a place for each of `passes` passes, and nothing on it.
-fn make_desk(alloc: Global, home: &Home, shard: usize, passes: usize) -> Result<Desk, AllocError>
-    ensures desk { IfOk result (IsDesk home.now shard) }
+fn make_desk(alloc: Global, passes: usize) -> Result<Desk, AllocError>
+    ensures desk { IfOk result (λ desk. (home : Homed) (k : ℕ) → IsDesk home k desk) }
     ensures idle { IfOk result (λ desk. deque_len desk.jobs ≡ 0) }
 {
-    let _ = home;
-    let _ = shard;
     let mut letters = Vec::with_capacity(alloc, passes)?;
     for _ in 0..passes {
         letters.push_reserved(None);
@@ -122,16 +103,9 @@ fn make_desk(alloc: Global, home: &Home, shard: usize, passes: usize) -> Result<
 }
 
 // What an owner works by, of these parts.
-fn ends_with<D: Disk + Drop>(
-    origin: Origin<D>,
-    home: Home,
-    seed: Seed,
-    back: Back<D>,
-    desk: Desk,
-) -> Ends<D>
+fn ends_with<D: Disk + Drop>(origin: Origin<D>, seed: Seed, back: Back<D>, desk: Desk) -> Ends<D>
     ensures { result ≡ record {
       origin = origin;
-      home = home;
       orders = seed.gets;
       answers = seed.answers;
       back = back;
@@ -145,7 +119,6 @@ fn ends_with<D: Disk + Drop>(
     } = seed;
     Ends {
         origin,
-        home,
         orders: gets,
         answers,
         back,
@@ -157,32 +130,28 @@ fn ends_with<D: Disk + Drop>(
 fn make_ends<D: Disk + Drop>(
     alloc: Global,
     origin: Origin<D>,
-    home: Home,
     seed: Seed,
     shard: usize,
     passes: usize,
 ) -> Result<(Ends<D>, BackIn<D>), AllocError>
-    requires home { home ≡ home_of origin }
-    requires seed { IsSeed home passes shard seed }
+    requires seed { IsSeed (home_of origin) passes shard seed }
     ensures ends { IfOk result (λ made. HasEndsOf origin shard made.0) }
     ensures back { IfOk result (λ made. receives_as made.1 ≡ Bound origin shard) }
 {
-    let desk = make_desk(alloc, &home, shard, passes)?;
+    let desk = make_desk(alloc, passes)?;
     let (back, comes) = queue(alloc, 1, &origin, shard)?;
-    Ok((ends_with(origin, home, seed, back, desk), comes))
+    Ok((ends_with(origin, seed, back, desk), comes))
 }
 
 // What each owner works by, and the ends by which the shards come back, in the order of their numbers.
 fn make_all_ends<D: Disk + Drop>(
     alloc: Global,
     first: &Book,
-    generations: &Vec<u64>,
     logs: &Vec<Wal<D>>,
     mut seeds: VecDeque<Seed>,
     passes: usize,
 ) -> Result<(VecDeque<Ends<D>>, Vec<BackIn<D>>), AllocError>
-    requires generations { generations.now.items ≡ generations_of logs.now.items }
-    requires seeds { AreSeeds (home_with first.now generations.now.items) passes seeds.items
+    requires seeds { AreSeeds (home_with first.now) passes seeds.items
         × (deque_len seeds ≡ vec_len logs.now) }
     ensures ends { IfOk result (λ made. AreEnds (opening_of first.now logs.now.items) made.0.items
         × (deque_len made.0 ≡ vec_len logs.now)) }
@@ -196,8 +165,7 @@ fn make_all_ends<D: Disk + Drop>(
         let Some(seed) = seeds.pop_front() else {
             unreachable!()
         };
-        let home = Home::of(first, generations);
-        let (ends, back) = make_ends(alloc, Origin::of(first, logs), home, seed, shard, passes)?;
+        let (ends, back) = make_ends(alloc, Origin::of(first, logs), seed, shard, passes)?;
         all_ends.push_back_reserved(ends);
         backs.push_reserved(back);
     }
@@ -219,42 +187,16 @@ pub fn make_plan<D: Disk + Drop>(
     requires passes { first.now.about.passes ≡ passes }
     ensures { IfOk result (IsPlan (opening_of first.now logs.now.items)) }
 {
-    let generations = generations_in(alloc, logs)?;
-    let home = Home::of(first, &generations);
+    let home = Home::of(first);
     let (rows, seeds) = make_rows(alloc, &home, logs.len(), passes)?;
-    let (ends, backs) = make_all_ends(alloc, first, &generations, logs, seeds, passes)?;
-    finish_plan(alloc, Origin::of(first, logs), home, rows, backs, ends)
-}
-
-// Puts rows and ends under their locks.
-fn finish_plan<D: Disk + Drop>(
-    alloc: Global,
-    origin: Origin<D>,
-    home: Home,
-    rows: Vec<Option<Vec<Way>>>,
-    backs: Vec<BackIn<D>>,
-    ends: VecDeque<Ends<D>>,
-) -> Result<Plan<D>, AllocError>
-    requires home { home ≡ home_of origin }
-    requires rows { AreRows home origin.about.shards rows.items
-        × (vec_len rows ≡ origin.about.passes) }
-    requires backs { AreBacks origin backs.items }
-    requires ends { AreEnds origin ends.items × (deque_len ends ≡ origin.about.shards) }
-    ensures { IfOk result (IsPlan origin) }
-{
-    let mut lists = Vec::with_capacity(alloc, 1)?;
-    lists.push_reserved(Some(backs));
-    let Ok(rows) = Locks::new(alloc, rows, &home) else {
-        return Err(AllocError);
-    };
-    let Ok(backs) = Locks::new(alloc, lists, &origin) else {
-        return Err(AllocError);
-    };
+    let (ends, backs) = make_all_ends(alloc, first, logs, seeds, passes)?;
+    let room = Vec::with_capacity(alloc, logs.len())?;
+    let origin = Origin::of(first, logs);
+    let closing = Aside::new(alloc, Closer { backs, room }, &origin)?;
     Ok(Plan {
         origin,
-        home,
         rows,
-        backs,
+        closing,
         ends,
     })
 }

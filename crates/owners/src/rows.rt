@@ -96,7 +96,7 @@ pub fn make_rows(
     home: &Home,
     shards: usize,
     passes: usize,
-) -> Result<(Vec<Option<Vec<Way>>>, VecDeque<Seed>), AllocError>
+) -> Result<(Vec<Vec<Way>>, VecDeque<Seed>), AllocError>
     ensures rows { IfOk result (λ r. AreRows home.now shards r.0.items × (vec_len r.0 ≡ passes)) }
     ensures seeds { IfOk result (λ r. AreSeeds home.now passes r.1.items
         × (deque_len r.1 ≡ shards)) }
@@ -107,7 +107,7 @@ pub fn make_rows(
     }
     let mut rows = Vec::with_capacity(alloc, passes)?;
     for pass in 0..passes {
-        rows.push_reserved(Some(make_row(alloc, home, pass, &mut seeds)?));
+        rows.push_reserved(make_row(alloc, home, pass, &mut seeds)?);
     }
     Ok((rows, seeds))
 }

@@ -43,7 +43,7 @@ pub struct Team<D: Disk + Drop> {
 fn run<D: Disk + Drop, R: Wait + Drop>(start: Start<D, R>) {
     let Start { rt, comes } = start;
     if let Ok(owner) = comes.recv(&rt) {
-        own(&rt, owner);
+        drop(own(&rt, owner));
     }
 }
 

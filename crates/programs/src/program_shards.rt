@@ -12,8 +12,7 @@ ghost use Rattle.programs.specs.Openings.{IsProfiled};
 use crate::stopped::Stopped;
 use accept::Limits;
 use disk::Disk;
-use history::Pass;
-use ingester::Ingester;
+use ingester::{Ingester, Pass, Settings};
 use openings::Observer;
 use std::alloc::Global;
 use std::sync::Wait;
@@ -48,8 +47,12 @@ where
     ensures passes { IfOk result (λ it. (p : ℕ) (pass : Passed) → slice_get it.1.items p ≡ Some pass
         → IsPassOf it.0 pass) }
 {
-    let limits = Limits::PROFILE;
-    match Ingester::open_observed(rt, *rt, alloc, slots, passes, limits, capacity, observer) {
+    let settings = Settings {
+        passes,
+        limits: Limits::PROFILE,
+        capacity,
+    };
+    match Ingester::open_observed(rt, *rt, alloc, slots, settings, observer) {
         Ok(opened) => Ok(opened),
         Err(refusal) => Err(Stopped::Opening(refusal.0)),
     }

@@ -9,26 +9,24 @@ use Rattle.shard.specs.declared.first_jobs.GroupEnd.{GroupEnd}
 use Rattle.shard.specs.declared.first_jobs.GroupEnd.TheVariants.{Full}
 use Rattle.shard.specs.declared.first_jobs.Job.{Job}
 use Rattle.shard.specs.declared.group.Group.{Group}
-use Rattle.shard.specs.declared.group.Judged.{Judged}
-use Rattle.shard.specs.declared.group.Judged.TheVariants.{Quiet, Changing}
 use Rattle.shard.specs.declared.parts.Parts.{Parts}
-use Rattle.shard.specs.Queues.{waiting_in, AreMatched, tickets_in}
+use Rattle.shard.specs.Queues.{Waiting, waiting_in, AreMatched, tickets_in}
 use Rattle.streams.specs.declared.change.Rest.{Rest}
 use Rattle.streams.specs.Changes.{call_given}
 use Rattle.streams.specs.Mapped.{Mapped}
-use Rattle.shard.specs.Gathering.{IsGathering}
-use Rattle.shard.specs.Adding.{IsGroup, waiting_of, HasPlaces, HasJoinedGroup, IsFullFor}
+use Rattle.shard.specs.Adding.{IsGroup, waiting_of, HasPlaces, HasJoinedGroup}
 use Rattle.shard.specs.FirstJobs.{EndsGathering, HasGathered}
-use Rattle.shard.specs.Joinings.{IsTooLong}
+use Rattle.shard.specs.Judging.{IsTooLong, IsFullFor, IsUntouched}
 use Rattle.shard.specs.Jobs.{max_turn, tickets_of, AreLawful}
+use Rattle.shard.proofs.Joining.{none_joins}
 
 -- no more calls change something than are judged
-pub matched_fewer : (js : List Judged) (ts : List Announced) → AreMatched js ts → length ts ≤ length js
+pub matched_fewer : (js : List Waiting) (ts : List Announced) → AreMatched js ts → length ts ≤ length js
 matched_fewer [] [] m = omega arith
 matched_fewer [] (t ∷ ts) m = absurd m
-matched_fewer (Quiet t r ∷ js) ts m = let few = matched_fewer js ts m.1 in omega arith
-matched_fewer (Changing r ∷ js) [] m = absurd m
-matched_fewer (Changing r ∷ js) (t ∷ ts) m = let few = matched_fewer js ts m.1 in omega arith
+matched_fewer ((Some t, r) ∷ js) ts m = let few = matched_fewer js ts m.1 in omega arith
+matched_fewer ((None, r) ∷ js) [] m = absurd m
+matched_fewer ((None, r) ∷ js) (t ∷ ts) m = let few = matched_fewer js ts m.1 in omega arith
 
 tickets_more : (ws : List (Announced × Reply)) (t : Announced) (r : Reply) → tickets_in (ws ++ (t, r) ∷ []) ≡ tickets_in ws ++ t ∷ []
 tickets_more [] t r = refl
@@ -43,12 +41,12 @@ split_next ws new t r jobs rest all joined first is =
     ∙ (ap (λ (l : List Announced). tickets_in ws ++ l) (sym first)
     ∙ is)))
 
-pub waiting_length : (js : List Judged) (ts : List Announced) → AreMatched js ts → length (waiting_in js ts) ≡ length js
+pub waiting_length : (js : List Waiting) (ts : List Announced) → AreMatched js ts → length (waiting_in js ts) ≡ length js
 waiting_length [] [] m = refl
 waiting_length [] (t ∷ ts) m = absurd m
-waiting_length (Quiet t r ∷ js) ts m = ap suc (waiting_length js ts m.1)
-waiting_length (Changing r ∷ js) [] m = absurd m
-waiting_length (Changing r ∷ js) (t ∷ ts) m = ap suc (waiting_length js ts m.1)
+waiting_length ((Some t, r) ∷ js) ts m = ap suc (waiting_length js ts m.1)
+waiting_length ((None, r) ∷ js) [] m = absurd m
+waiting_length ((None, r) ∷ js) (t ∷ ts) m = ap suc (waiting_length js ts m.1)
 
 -- this many tickets as calls
 pub tickets_length : (ws : List (Announced × Reply)) → length (tickets_in ws) ≡ length ws
@@ -58,16 +56,10 @@ tickets_length (w ∷ ws) = ap suc (tickets_length ws)
 pub group_length : (group : Group) → AreMatched group.judged.items group.changing.items → length (tickets_in (waiting_of group)) ≡ deque_len group.judged
 group_length group m = omega (arith, tickets_length (waiting_of group), waiting_length group.judged.items group.changing.items m, group.judged.ok.0)
 
--- without a call there is none that changes something
-pub matched_none : (js : List Judged) (ts : List Announced) → AreMatched js ts → js ≡ [] → ts ≡ []
-matched_none [] [] m none = refl
-matched_none [] (t ∷ ts) m none = absurd m
-matched_none (j ∷ js) ts m none = absurd (cc)
-
 same_some : (a b : Call) → Some a ≡ Some b → a ≡ b
 same_some a b e = cc
 
-joined_one : (group behind : Group) (t : Announced) (r : Reply) → AreMatched group.judged.items group.changing.items → AreMatched behind.judged.items behind.changing.items
+pub joined_one : (group behind : Group) (t : Announced) (r : Reply) → AreMatched group.judged.items group.changing.items → AreMatched behind.judged.items behind.changing.items
     → waiting_of behind ≡ waiting_of group ++ (t, r) ∷ [] → deque_len behind.judged ≡ deque_len group.judged + 1
 joined_one group behind t r m n joined =
     omega (
@@ -124,13 +116,11 @@ module _ {D : Type 0} (sight : D → Sight) (follows : D → Type 0) (start : Pa
       record { group_is = is.group_is; frame = is.frame; places = is.places; no_fewer = is.no_fewer; split = is.split; ends = ends; lawful = is.lawful }
 
   -- a job that is taken away and put back as it was
-  pub put_back : (p new : Parts D) (group behind : Group) (jobs left : List Job) → IsGatheredFrom sight follows start first all p group jobs
-      → behind ≡ group → left ≡ jobs → new.states ≡ p.states → new.buffer.items ≡ p.buffer.items → new ≡ record p { states = new.states; buffer = new.buffer }
-      → IsGatheredFrom sight follows start first all new behind left
-  put_back p new group behind jobs left is same_group same_jobs same_states same_bytes frame =
-      subst (λ (z : Group × List Job). IsGatheredFrom sight follows start first all new z.0 z.1) (λ i. (sym same_group i, sym same_jobs i)) (record {
-        group_is = subst (λ (q : Parts D). IsGathering sight follows q.log.wal q.book q.opened.value q.limits new.states new.buffer.items group.judged.items group.changing.items) (sym frame)
-            (subst (λ (z : Mapped × List ℕ). IsGathering sight follows p.log.wal p.book p.opened.value p.limits z.0 z.1 group.judged.items group.changing.items) (λ i. (sym same_states i, sym same_bytes i)) is.group_is);
+  pub put_back : (p new : Parts D) (group : Group) (jobs left : List Job) → IsGatheredFrom sight follows start first all p group jobs
+      → left ≡ jobs → IsUntouched p new → new ≡ record p { states = new.states; buffer = new.buffer } → IsGatheredFrom sight follows start first all new group left
+  put_back p new group jobs left is same_jobs same frame =
+      subst (λ (l : List Job). IsGatheredFrom sight follows start first all new group l) (sym same_jobs) (record {
+        group_is = none_joins sight follows p new frame group is.group_is same;
         frame = frame ∙ ap (λ (q : Parts D). record q { states = new.states; buffer = new.buffer }) is.frame;
         places = is.places;
         no_fewer = is.no_fewer;
@@ -140,12 +130,11 @@ module _ {D : Type 0} (sight : D → Sight) (follows : D → Type 0) (start : Pa
       })
 
   -- a job whose change was prepared, and whose block does not fit, is taken back
-  pub full_back : (p mid new : Parts D) (group behind : Group) (j back : Job) (jobs rest left : List Job) (reply : Reply) (what : Rest) → IsGatheredFrom sight follows start first all p group jobs
-      → jobs ≡ j ∷ rest → IsFullFor p group j mid behind back.ticket reply what → mid ≡ record p { states = mid.states; buffer = mid.buffer }
+  pub full_back : (p mid new : Parts D) (group : Group) (j back : Job) (jobs rest left : List Job) (reply : Reply) (what : Rest) → IsGatheredFrom sight follows start first all p group jobs
+      → jobs ≡ j ∷ rest → IsFullFor p j mid back.ticket reply what → mid ≡ record p { states = mid.states; buffer = mid.buffer }
       → new ≡ record mid { states = new.states } → new.states ≡ record mid.states { change = None } → Some back.call ≡ call_given mid.states.change what → left ≡ back ∷ rest
-      → HasGathered sight follows first (record { old = start; new = new; group = behind; jobs = all; rest = left; ended = Full })
-      × (length left ≡ length jobs)
-  full_back p mid new group behind j back jobs rest left reply what is popped full frame taken forgot given put =
+      → HasGathered sight follows first (record { old = start; new = new; group = group; jobs = all; rest = left; ended = Full })
+  full_back p mid new group j back jobs rest left reply what is popped full frame taken forgot given put =
       let same_states : new.states ≡ p.states = forgot ∙ (λ i. record { owner = full.prepared.owner_is i; streams = full.prepared.streams_are i; change = sym is.group_is.no_change i }) in
       let same_call : back.call ≡ j.call = same_some back.call j.call (given ∙ full.prepared.rest_is) in
       let same_job : back ≡ j = λ i. record { ticket = full.ticket_is i; call = same_call i } in
@@ -153,10 +142,8 @@ module _ {D : Type 0} (sight : D → Sight) (follows : D → Type 0) (start : Pa
       let whole : new ≡ record p { states = new.states; buffer = new.buffer } =
       taken ∙ (ap (λ (q : Parts D). record q { states = new.states }) frame ∙ ap (λ (q : Parts D). record p { states = new.states; buffer = q.buffer }) (sym taken)) in
       let same_bytes : new.buffer.items ≡ p.buffer.items = ap (λ (q : Parts D). q.buffer.items) taken ∙ full.same_bytes in
-      let now = put_back p new group behind jobs left is full.same_group same_jobs same_states same_bytes whole in
-      let ends : EndsGathering new behind (j ∷ rest) Full =
+      let now = put_back p new group jobs left is same_jobs (same_states, same_bytes) whole in
+      let ends : EndsGathering new group (j ∷ rest) Full =
       subst (λ (q : Parts D). IsTooLong q.limits q.log.wal new.states.streams j.call new.buffer.items) (sym whole)
-      (subst (λ (z : Mapped × List ℕ). IsTooLong p.limits p.log.wal z.0.streams j.call z.1) (λ i. (sym same_states i, sym same_bytes i)) full.long) in (
-        gathered new behind left Full now (subst (λ (l : List Job). EndsGathering new behind l Full) (sym (same_jobs ∙ popped)) ends),
-        ap length same_jobs,
-      )
+      (subst (λ (z : Mapped × List ℕ). IsTooLong p.limits p.log.wal z.0.streams j.call z.1) (λ i. (sym same_states i, sym same_bytes i)) full.long) in
+      gathered new group left Full now (subst (λ (l : List Job). EndsGathering new group l Full) (sym (same_jobs ∙ popped)) ends)

@@ -8,7 +8,7 @@ use Rattle.shard.specs.declared.first_jobs.Job.{Job}
 use Rattle.shard.specs.declared.group.Group.{Group}
 use Rattle.shard.specs.declared.parts.Parts.{Parts}
 use Rattle.shard.specs.Adding.{IsGroup, waiting_of, HasPlaces}
-use Rattle.shard.specs.Joinings.{IsTooLong}
+use Rattle.shard.specs.Judging.{IsTooLong}
 use Rattle.shard.specs.Jobs.{max_turn, tickets_of, AreLawful}
 use Rattle.shard.specs.Queues.{tickets_in}
 

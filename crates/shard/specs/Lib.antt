@@ -4,7 +4,7 @@ pub mod Shards
 pub mod Readies
 pub mod Groups
 pub mod Queues
-pub mod Joinings
+pub mod Judging
 pub mod Gathered
 pub mod Gathering
 pub mod Adding
@@ -13,3 +13,4 @@ pub mod FirstJobs
 pub mod Parts
 pub mod Turns
 pub mod Taking
+pub mod Leads

@@ -1,5 +1,5 @@
 -- Judged calls on their way into the book.
-use Rattle.std.specs.Prelude.{◌≡◌, ℕ, Bool, List, [], ◌∷◌, true, false, if◌then◌else◌}
+use Rattle.std.specs.Prelude.{◌≡◌, ℕ, Bool, List, [], ◌∷◌, true, false, Option, Some, None, if◌then◌else◌}
 use Rattle.accept.specs.declared.call.Reply.{Reply}
 use Rattle.accept.specs.declared.call.Reply.TheVariants.{Unavailable}
 use Rattle.accept.specs.declared.history.Ask.{Ask}
@@ -12,29 +12,31 @@ use Rattle.wal.specs.Logs.{Follow, slots}
 use Rattle.history.specs.Histories.{doubt_of, step_of}
 use Rattle.history.specs.Handles.{Booked, Announced, Received, history_in}
 use Rattle.shard.specs.declared.group.Group.{Group}
-use Rattle.shard.specs.declared.group.Judged.{Judged}
-use Rattle.shard.specs.declared.group.Judged.TheVariants.{Quiet, Changing}
 use Rattle.shard.specs.declared.group.Settled.{Settled}
 use Rattle.shard.specs.declared.group.Settled.TheVariants as settled
 use Rattle.shard.specs.Keeping.{KeepsHistory}
 use Rattle.shard.specs.Calls.{reply_in}
 use Rattle.shard.specs.Groups.{with_step, with_steps, changing_of, marked_by, AreNext}
 
+-- a judged call: its reply, with its ticket where it changes nothing
+abbrev pub Waiting : Type 0
+Waiting = Option Announced × Reply
+
 -- the judged calls in their order, each with its ticket and its reply, where these are the tickets of those that change
 -- something
-abbrev pub waiting_in : List Judged → List Announced → List (Announced × Reply)
+abbrev pub waiting_in : List Waiting → List Announced → List (Announced × Reply)
 waiting_in [] ts = []
-waiting_in (Quiet t r ∷ js) ts = (t, r) ∷ waiting_in js ts
-waiting_in (Changing r ∷ js) [] = []
-waiting_in (Changing r ∷ js) (t ∷ ts) = (t, r) ∷ waiting_in js ts
+waiting_in ((Some t, r) ∷ js) ts = (t, r) ∷ waiting_in js ts
+waiting_in ((None, r) ∷ js) [] = []
+waiting_in ((None, r) ∷ js) (t ∷ ts) = (t, r) ∷ waiting_in js ts
 
 -- there is a ticket for each call that changes something, and for no other
-abbrev pub AreMatched : List Judged → List Announced → Type 0
+abbrev pub AreMatched : List Waiting → List Announced → Type 0
 AreMatched [] [] = Unit {0}
 AreMatched [] (t ∷ ts) = ⊥
-AreMatched (Quiet t r ∷ js) ts = (changes r ≡ false) × AreMatched js ts
-AreMatched (Changing r ∷ js) [] = ⊥
-AreMatched (Changing r ∷ js) (t ∷ ts) = (changes r ≡ true) × AreMatched js ts
+AreMatched ((Some t, r) ∷ js) ts = (changes r ≡ false) × AreMatched js ts
+AreMatched ((None, r) ∷ js) [] = ⊥
+AreMatched ((None, r) ∷ js) (t ∷ ts) = (changes r ≡ true) × AreMatched js ts
 
 abbrev pub tickets_in : List (Announced × Reply) → List Announced
 tickets_in [] = []

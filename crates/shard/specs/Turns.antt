@@ -1,5 +1,5 @@
 -- What a turn at some jobs makes of a shard: the first of them are written at once, or the first goes alone.
-use Rattle.std.specs.Prelude.{◌≡◌, ◌≢◌, ◌⊎◌, ◌≤◌, ℕ, List, [], ◌∷◌, ◌++◌, length, Result, Ok, Err}
+use Rattle.std.specs.Prelude.{◌≡◌, ◌≢◌, ◌⊎◌, ◌≤◌, ℕ, List, [], ◌∷◌, ◌++◌, length}
 use Rattle.accept.specs.declared.call.Reply.{Reply}
 use Rattle.disk.specs.Sight.{Sight}
 use Rattle.wal.specs.Moments.{PairLeavesOnly, HasFailed, HasNoFailure}
@@ -109,15 +109,6 @@ pub record IsComingBack {D : Type 0} (old new : Sharded D) (ticket : Announced) 
   pub fault_is : fault ≡ fault_alone old.log.generation ended
   pub spent : fault ≡ faults.GenerationSpent
       → IsSpent old.log old.opened old.book ticket.ask.call
-
--- a call goes alone: it has its step, or is refused
-abbrev pub IsMadeAlone : {D : Type 0} → (D → Sight) → (D → Type 0) → Sharded D → Sharded D
-    → Announced → GroupEnd
-    → Result (Reply × Received) (ApplyFault × Announced) → Type 0
-IsMadeAlone sight follows old new ticket ended (Ok it) =
-    IsApplied sight follows old new ticket it.0 it.1
-IsMadeAlone sight follows old new ticket ended (Err e) =
-    IsComingBack old new ticket ended e.0 e.1
 
 -- The first job goes alone: as a call that is made by itself.
 pub record IsAlone {D : Type 0} (sight : D → Sight) (follows : D → Type 0)

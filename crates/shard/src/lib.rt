@@ -4,11 +4,10 @@
 //! take.
 #![tactic(auto)]
 
-mod adding;
 mod fault;
 mod first_jobs;
 mod group;
-mod joining;
+mod judging;
 mod keeping;
 mod parts;
 mod ready;
@@ -16,6 +15,7 @@ mod refusing;
 mod shard;
 mod starting;
 mod turn;
+mod writing;
 
 pub use fault::ApplyFault;
 pub use first_jobs::{GroupEnd, Job, MAX_TURN};

@@ -6,8 +6,7 @@ ghost use Rattle.ingester.specs.Calls.{IsPassOf};
 use crate::course::Slot;
 use accept::Limits;
 use disk::Disk;
-use history::Pass;
-use ingester::Ingester;
+use ingester::{Ingester, Pass, Settings};
 use memory_disk::{Gate, GateDisk, MemDisk};
 use std::alloc::Global;
 use std::sync::Wait;
@@ -59,7 +58,12 @@ where
     if slots.is_empty() || slots.len() > 64 || passes == 0 || passes > 64 {
         return Err("there are 1 to 64 shards and passes".into());
     }
-    match Ingester::open(rt, *rt, alloc, slots, passes, Limits::PROFILE, CAPACITY) {
+    let settings = Settings {
+        passes,
+        limits: Limits::PROFILE,
+        capacity: CAPACITY,
+    };
+    match Ingester::open(rt, *rt, alloc, slots, settings) {
         Ok(opened) => Ok(opened),
         Err(_) => Err("slots are refused".into()),
     }

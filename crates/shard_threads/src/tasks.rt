@@ -5,8 +5,7 @@ ghost use Rattle.ingester.specs.Calls.{IsPassOf};
 
 use crate::course::{Course, Pushes, Task};
 use accept::{Call, Entry, EntryList, Line, Meta, Outcome, Reply};
-use history::Pass;
-use ingester::CallFault;
+use ingester::{CallFault, Pass};
 use labels::{LabelPairs, LabelSet, StreamKey, Tenant};
 use std::alloc::Global;
 use std::collections::VecDeque;

@@ -5,8 +5,7 @@ ghost use Rattle.ingester.specs.Calls.{IsPassOf};
 
 use crate::client::{Client, NO_CONTENT, PUSH, READ, Request, Step, answers_of, listen};
 use accept::Limits;
-use history::Pass;
-use ingester::Ingester;
+use ingester::{Ingester, Pass, Settings};
 use ingesterd::Connections;
 use memory_disk::{Gate, GateDisk, MemDisk};
 use std::alloc::{AllocError, Global};
@@ -158,7 +157,12 @@ where
     if slots.is_empty() || slots.len() > 64 || workers == 0 || workers > 64 {
         return Err("there are 1 to 64 shards and workers".into());
     }
-    match Ingester::open(rt, *rt, alloc, slots, workers, Limits::PROFILE, CAPACITY) {
+    let settings = Settings {
+        passes: workers,
+        limits: Limits::PROFILE,
+        capacity: CAPACITY,
+    };
+    match Ingester::open(rt, *rt, alloc, slots, settings) {
         Ok(opened) => Ok(opened),
         Err(_) => Err("slots are refused".into()),
     }

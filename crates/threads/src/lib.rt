@@ -1,10 +1,8 @@
-//! Tests over threads and gates: locks, queues, histories and disks, each called by several threads at once.
+//! Tests over threads and gates: queues, histories and disks, each called by several threads at once.
 #![tactic(auto)]
 
 #[cfg(test)]
 mod gates;
-#[cfg(test)]
-mod locks;
 #[cfg(test)]
 mod meetings;
 #[cfg(test)]

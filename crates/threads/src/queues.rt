@@ -87,7 +87,7 @@ fn receive_all<R: Wait>(rt: &R, mut receiver: Receives, count: u32) -> u32
     requires { receives_as receiver ≡ Bound 1000 1 }
 {
     for number in 0..count {
-        if receiver.receive(rt) != Some(FIRST + u64::from(number)) {
+        if receiver.receive(rt).ok() != Some(FIRST + u64::from(number)) {
             return number;
         }
     }

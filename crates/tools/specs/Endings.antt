@@ -44,7 +44,7 @@ pub record IsAnswerDue {D : Type 0} (opening : Opening D) (shards capacity : ℕ
   pub before : Passed
   pub after : Passed
   pub opened : IsProfiled shards 1 capacity opening (before ∷ [])
-  pub answers : RequestIsAnswered (CallGives opening) route now tenant body before
+  pub answers : RequestIsAnswered CallGives route now tenant body before
       (Ok answer) after
 
 -- what is due to a request with this body, as the words say it

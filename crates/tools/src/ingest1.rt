@@ -19,8 +19,7 @@ use crate::one_pass::{close_for_one, open_for_one};
 use accept::{Call, END_OF_TIME};
 use disk::Disk;
 use front::{Answer, Route, Status, answer, answer_of_read};
-use history::Pass;
-use ingester::Ingester;
+use ingester::{Ingester, Pass};
 use labels::{LabelFault, LabelSet, StreamKey, Tenant};
 use memory_disk::MemDisk;
 use programs::Stopped;
@@ -137,7 +136,7 @@ fn answer_push<D: Disk + Drop, R: Wait>(
     requires clock { now < end_of_time }
     ensures pass { IsPassOf ingester.now pass.new }
     ensures answers { IfOk result (λ pushed. RequestIsAnswered
-        (CallGives ingester.now) Route.Push now (codes "t") body.now pass.old (Ok pushed)
+        CallGives Route.Push now (codes "t") body.now pass.old (Ok pushed)
         pass.new) }
     ensures stopped { IfErr result (λ stop. stop ≡ Stopped.Memory) }
 {

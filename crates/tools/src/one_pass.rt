@@ -8,8 +8,7 @@ ghost use Rattle.ingester.specs.Findings.{IsUnmade};
 ghost use Rattle.programs.specs.Openings.{IsProfiled};
 
 use disk::Disk;
-use history::Pass;
-use ingester::Ingester;
+use ingester::{Ingester, Pass};
 use openings::Unobserved;
 use programs::{Stopped, close_shards, open_shards};
 use std::alloc::Global;

@@ -1,16 +1,22 @@
-use Rattle.std.proofs.Common.{◌≡◌, ◌++◌, [], ◌∷◌, map, length, refl, sym, ap, ◌∙◌, subst, arith}
+use Rattle.std.proofs.Common.{rules, ◌≡◌, ◌++◌, [], ◌∷◌, map, length, refl, sym, ap, ◌∙◌, subst, arith}
+use Rattle.std.specs.Prelude.{Some, None}
 use Rattle.std.proofs.lemmas.List.{nil_from_length}
 use Rattle.wal.specs.Opening.{disks}
-use Rattle.ingester.specs.Makings.{AreThere, logs_of_shards}
-use Rattle.ingester.proofs.Making.{there_front, there_last, moved_shard}
+use Rattle.ingester.specs.Makings.{AreShardsIn, logs_of_shards}
+use Rattle.ingester.proofs.Making.{in_front, in_last, moved_shard}
 use Rattle.ingester.proofs.made_shards.return_shards.Goals as goal
 
 pub loop-last-init : goal.loop-last-init
-loop-last-init g c = record { items = refl; there = c.requires.there; len = refl; capacity = refl }
+loop-last-init g c = record { items = refl; shards = c.requires.shards; len = refl; capacity = refl }
 
 pub unreachable-requires : goal.unreachable-requires
 unreachable-requires g c =
-    there_last c.pop.new.self.items (subst AreThere (c.in-Some.ensures.items ∙ ap (λ x. c.pop.new.self.items ++ x ∷ []) c.in_default-last.is) c.loop-last.invariant.there)
+    in_last c.args.ended.now c.pop.new.self.items None (subst (AreShardsIn c.args.ended.now) (c.in-Some.ensures.items ∙ ap (λ x. c.pop.new.self.items ++ x ∷ []) c.in_default-last.is) c.loop-last.invariant.shards)
+
+pub into_slots-requires : goal.into_slots-requires
+into_slots-requires g c =
+    let all = c.in-Some.ensures.items ∙ ap (λ x. c.pop.new.self.items ++ x ∷ []) c.in-Some-last.is in
+    (search rules, sym (in_last c.args.ended.now c.pop.new.self.items (Some c.in-Some-last.shard) (subst (AreShardsIn c.args.ended.now) all c.loop-last.invariant.shards)).0)
 
 pub push_front_reserved-requires : goal.push_front_reserved-requires
 push_front_reserved-requires g c =
@@ -32,7 +38,7 @@ loop-last-preserved g c =
     record {
       items = ap (λ l. map disks (logs_of_shards c.pop.new.self.items) ++ l) (front.items ∙ ap (λ x. x ∷ c.loop-last.slots.items) c.into_slots.ensures.slots)
           ∙ (moved_shard c.pop.new.self.items c.loop-last.shards.items shard c.loop-last.slots.items all ∙ inv.items);
-      there = there_front c.pop.new.self.items _ (subst AreThere all inv.there);
+      shards = in_front c.args.ended.now c.pop.new.self.items _ (subst (AreShardsIn c.args.ended.now) all inv.shards);
       len = omega arith;
       capacity = front.capacity ∙ inv.capacity;
     }

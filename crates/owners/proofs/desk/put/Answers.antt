@@ -8,13 +8,13 @@ use Rattle.owners.proofs.desk.put.Goals as goal
 
 pub returns : goal.returns
 returns c =
-    let h = c.args.home.now in
     let p = c.pass_of-pass.result in
     let places = c.args.places.now.items in
     let lt : p < length places = search rules in
-    let was = place_at h places p c.in-Some.letter c.requires.places lt (sym c.in-Some.is ∙ c.take_at.ensures.value) in
-    let gone = subst (ArePlaces h) (sym c.take_at.ensures.after) (place_gone h places p c.requires.places) in
-    let due = subst (λ n. IsDue h n c.args.came) (sym c.pass_of-pass.ensures) c.requires.due in
+    λ h are call.
+    let was = place_at h places p c.in-Some.letter are lt (sym c.in-Some.is ∙ c.take_at.ensures.value) in
+    let gone = subst (ArePlaces h) (sym c.take_at.ensures.after) (place_gone h places p are) in
+    let due = subst (λ n. IsDue h n c.args.came) (sym c.pass_of-pass.ensures) (record { pass = refl; call = call }) in
     let now : Letter = record { pass = c.in-Some.letter.pass; jobs = c.in-Some.letter.jobs; settled = c.push_back.new.self } in
     let more = letter_more h p c.in-Some.letter now c.args.came (is_ok c.push_back.result) was due refl refl c.push_back.ensures.items in
     subst (ArePlaces h) (sym c.put_at.ensures) (place_new h c.take_at.new.places.items p now gone more)

@@ -22,26 +22,26 @@ unreachable-requires-in_default-pop_front g c =
 
 pub unreachable-requires-in_default-place : goal.unreachable-requires-in_default-place
 unreachable-requires-in_default-place g c =
-    let there = each_first (IsShardAt c.args.origin.now) c.args.number c.args.shards.now.items c.pop_front-2.new.self.items c.in-Some-pop_front.place c.in-Some-pop_front.ensures.items c.requires.shards in
-    subst (λ (place : Option (Sharded g.row.D.Denot)). IsShardAt c.args.origin.now c.args.number place) c.in_default-place.is there.0
+    let there = each_first (IsShardAt g.D.Disk.sight g.D.Disk.follows c.requires.opening.0) c.args.number c.args.shards.now.items c.pop_front-2.new.self.items c.in-Some-pop_front.place c.in-Some-pop_front.ensures.items c.requires.opening.1 in
+    subst (λ (place : Option (Sharded g.row.D.Denot)). IsShardAt g.D.Disk.sight g.D.Disk.follows c.requires.opening.0 c.args.number place) c.in_default-place.is there.0
 
 pub invariant_of-result : goal.invariant_of-result
 invariant_of-result g c =
-    let there = each_first (IsShardAt c.args.origin.now) c.args.number c.args.shards.now.items c.pop_front-2.new.self.items c.in-Some-pop_front.place c.in-Some-pop_front.ensures.items c.requires.shards in
-    let is_of = subst (λ (place : Option (Sharded g.row.D.Denot)). IsShardAt c.args.origin.now c.args.number place) c.in-Some-place.is there.0 in
-    let has = (each_first (HasEndsOf c.args.origin.now) c.args.number c.args.all_ends.now.items c.pop_front.new.self.items c.in-Some.ends c.in-Some.ensures.items c.requires.ends).0 in
+    let there = each_first (IsShardAt g.D.Disk.sight g.D.Disk.follows c.requires.opening.0) c.args.number c.args.shards.now.items c.pop_front-2.new.self.items c.in-Some-pop_front.place c.in-Some-pop_front.ensures.items c.requires.opening.1 in
+    let is_of = subst (λ (place : Option (Sharded g.row.D.Denot)). IsShardAt g.D.Disk.sight g.D.Disk.follows c.requires.opening.0 c.args.number place) c.in-Some-place.is there.0 in
+    let has = (each_first (HasEndsOf c.requires.opening.0) c.args.number c.args.all_ends.now.items c.pop_front.new.self.items c.in-Some.ends c.in-Some.ensures.items c.requires.opening.2).0 in
     record {
       has_ends = has.0;
-      is_of = subst (λ (o : Opening g.row.D.Denot). IsOf o c.args.number c.in-Some-place.state) (sym has.1) is_of;
+      is_of = subst (λ (o : Opening g.row.D.Denot). IsOf g.D.Disk.sight g.D.Disk.follows o c.args.number c.in-Some-place.state) (sym has.1) is_of;
     }
 
 pub returns-clause-shards : goal.returns-clause-shards
-returns-clause-shards g c =
-    (each_first (IsShardAt c.args.origin.now) c.args.number c.args.shards.now.items c.pop_front-2.new.self.items c.in-Some-pop_front.place c.in-Some-pop_front.ensures.items c.requires.shards).1
+returns-clause-shards g c = λ o are.
+    (each_first (IsShardAt g.D.Disk.sight g.D.Disk.follows o) c.args.number c.args.shards.now.items c.pop_front-2.new.self.items c.in-Some-pop_front.place c.in-Some-pop_front.ensures.items are).1
 
 pub returns-clause-ends : goal.returns-clause-ends
-returns-clause-ends g c =
-    (each_first (HasEndsOf c.args.origin.now) c.args.number c.args.all_ends.now.items c.pop_front.new.self.items c.in-Some.ends c.in-Some.ensures.items c.requires.ends).1
+returns-clause-ends g c = λ o are.
+    (each_first (HasEndsOf o) c.args.number c.args.all_ends.now.items c.pop_front.new.self.items c.in-Some.ends c.in-Some.ensures.items are).1
 
 pub returns-clause-len : goal.returns-clause-len
 returns-clause-len g c = c.in-Some.ensures.cases

@@ -1,15 +1,12 @@
-use Rattle.std.proofs.Common.{sym, ◌∙◌}
-use Rattle.owners.proofs.Desking.{made_first}
+use Rattle.std.proofs.Common.{sym, subst, ◌∙◌}
+use Rattle.owners.specs.Calls.{AreOfCalls}
 use Rattle.owners.proofs.making.hand_out.Goals as goal
-
-pub put-requires-clause-due : goal.put-requires-clause-due
-put-requires-clause-due c =
-    (made_first c.args.home.now c.args.settled.items c.pop_front.new.self.items c.in-Some.first (sym c.from_vec-came.ensures.items ∙ c.in-Some.ensures.items) c.requires.made).0
 
 pub loop-next-init : goal.loop-next-init
 loop-next-init c =
     record {
-      calls = (made_first c.args.home.now c.args.settled.items c.pop_front.new.self.items c.in-Some.first (sym c.from_vec-came.ensures.items ∙ c.in-Some.ensures.items) c.requires.made).1;
-      places = c.put.ensures;
+      places = λ home calls places.
+          let all = subst (AreOfCalls home.table) (sym c.from_vec-came.ensures.items ∙ c.in-Some.ensures.items) calls in
+          (all.1, c.put.ensures home places all.0);
       capacity = c.in-Some.ensures.capacity ∙ c.from_vec-came.ensures.capacity;
     }

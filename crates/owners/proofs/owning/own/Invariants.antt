@@ -5,5 +5,5 @@ use Rattle.owners.proofs.owning.own.Given as goal
 abbrev pub invariant-loop : goal.invariant-loop
 invariant-loop g l = record {
   ends : HasEnds l.number l.ends;
-  state : IsOf l.ends.origin l.number l.state;
+  state : IsOf g.D.Disk.sight g.D.Disk.follows l.ends.origin l.number l.state;
 }

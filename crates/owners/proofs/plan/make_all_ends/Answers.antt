@@ -1,7 +1,7 @@
 use Rattle.std.proofs.Common.{◌≡◌, ℕ, ◌+◌, ◌<◌, ◌≤◌, ◌∷◌, [], length, length-append, sym, ap, ◌∙◌, subst, arith}
 use Rattle.keyed.specs.Queues.{receives_as}
 use Rattle.keyed.specs.declared.binding.Binding.TheVariants.{Bound}
-use Rattle.owners.specs.Homes.{Homed, home_with}
+use Rattle.owners.specs.Homes.{home_with}
 use Rattle.owners.specs.Openings.{Opening, opening_of, home_of}
 use Rattle.owners.specs.Owners.{HasEndsOf}
 use Rattle.owners.specs.Seeds.{IsSeed}
@@ -24,16 +24,12 @@ pub unreachable-requires : goal.unreachable-requires
 unreachable-requires g c =
     none_left _ _ _ c.loop-shard.invariant.left c.loop-shard-test.true c.in_default.ensures.cases.0
 
-pub make_ends-requires-clause-home : goal.make_ends-requires-clause-home
-make_ends-requires-clause-home g c =
-    c.of-home.ensures ∙ (ap (λ l. home_with c.args.first.now l) c.requires.generations ∙ sym (ap (λ (o : Opening g.row.D.Denot). home_of o) c.of.ensures))
-
-pub make_ends-requires-clause-seed : goal.make_ends-requires-clause-seed
-make_ends-requires-clause-seed g c =
-    let home = home_with c.args.first.now c.args.generations.now.items in
+pub make_ends-requires : goal.make_ends-requires
+make_ends-requires g c =
+    let home = home_with c.args.first.now in
     let k = c.loop-shard.shard in
     let seed = (each_first (IsSeed home c.args.passes) k c.loop-shard.seeds.items c.pop_front.new.self.items c.in-Some.seed c.in-Some.ensures.items c.loop-shard.invariant.seeds).0 in
-    subst (λ (h : Homed). IsSeed h c.args.passes k c.in-Some.seed) (sym c.of-home.ensures) seed
+    record { seed = subst (λ (o : Opening g.row.D.Denot). IsSeed (home_of o) c.args.passes k c.in-Some.seed) (sym c.of.ensures) seed }
 
 pub push_back_reserved-requires : goal.push_back_reserved-requires
 push_back_reserved-requires g c =
@@ -49,7 +45,7 @@ pub loop-shard-preserved : goal.loop-shard-preserved
 loop-shard-preserved g c =
     let inv = c.loop-shard.invariant in
     let k = c.loop-shard.shard in
-    let home = home_with c.args.first.now c.args.generations.now.items in
+    let home = home_with c.args.first.now in
     let opening = opening_of c.args.first.now c.args.logs.now.items in
     let first = each_first (IsSeed home c.args.passes) k c.loop-shard.seeds.items c.pop_front.new.self.items c.in-Some.seed c.in-Some.ensures.items inv.seeds in
     let made = c.in_ok-ends.ensures in

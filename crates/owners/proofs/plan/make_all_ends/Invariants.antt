@@ -11,7 +11,7 @@ use Rattle.owners.proofs.plan.make_all_ends.Given as goal
 
 abbrev pub invariant-loop-shard : goal.invariant-loop-shard
 invariant-loop-shard g l = let opening = opening_of l.first l.logs.items in record {
-  seeds : AreEach (IsSeed (home_with l.first l.generations.items) l.passes) l.shard l.seeds.items;
+  seeds : AreEach (IsSeed (home_with l.first) l.passes) l.shard l.seeds.items;
   left : l.shard + deque_len l.seeds ≡ l.shard-end;
   ends : AreEnds opening l.all_ends.items;
   ends_len : length l.all_ends.items ≡ l.shard;

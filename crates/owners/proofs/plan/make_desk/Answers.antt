@@ -10,5 +10,5 @@ loop-preserved c =
     record {
       len = ap length c.push_reserved.ensures.items ∙ (length-append c.loop.letters.items (None ∷ []) ∙ ap (λ n. n + 1) inv.len);
       room = subst (λ n. c.args.passes ≤ n) (sym c.push_reserved.ensures.capacity) inv.room;
-      places = each_next (IsPlace c.args.home.now) c.loop.letters.items c.push_reserved.new.self.items None c.loop.counter inv.len c.push_reserved.ensures.items inv.places tt;
+      places = λ home. each_next (IsPlace home) c.loop.letters.items c.push_reserved.new.self.items None c.loop.counter inv.len c.push_reserved.ensures.items (inv.places home) tt;
     }

@@ -1,4 +1,5 @@
 use Rattle.std.proofs.Common.{refl, sym, subst}
+use Rattle.owners.specs.Openings.{home_of}
 use Rattle.owners.specs.Owners.{HasEndsOf}
 use Rattle.owners.proofs.plan.make_ends.Goals as goal
 
@@ -6,11 +7,10 @@ pub returns-clause-ends : goal.returns-clause-ends
 returns-clause-ends g c =
     subst (HasEndsOf c.args.origin c.args.shard) (sym c.ends_with.ensures) (
       record {
-        same_home = c.requires.home;
         gets = c.requires.seed.gets;
         sends = c.requires.seed.answers;
         returns = c.in_ok-back.ensures.0;
-        at_desk = c.in_ok-desk.ensures.desk;
+        at_desk = c.in_ok-desk.ensures.desk (home_of c.args.origin) c.args.shard;
         idle = c.in_ok-desk.ensures.idle;
       },
       refl,

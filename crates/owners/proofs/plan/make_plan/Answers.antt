@@ -1,11 +1,17 @@
-use Rattle.std.proofs.Common.{ap, sym, ◌∙◌, subst}
-use Rattle.owners.specs.Openings.{Opening}
+use Rattle.std.proofs.Common.{ℕ, sym, ◌∙◌, subst}
+use Rattle.owners.specs.Homes.{Homed}
 use Rattle.owners.specs.Seeds.{AreRows}
 use Rattle.owners.proofs.plan.make_plan.Goals as goal
 
-pub finish_plan-requires-clause-rows : goal.finish_plan-requires-clause-rows
-finish_plan-requires-clause-rows g c =
-    let made = c.in_ok-rows.ensures.rows in
-    let shards = ap (λ (o : Opening g.row.D.Denot). o.about.shards) c.of.ensures ∙ (c.requires.shards ∙ sym c.len.ensures) in
-    let passes = ap (λ (o : Opening g.row.D.Denot). o.about.passes) c.of.ensures ∙ c.requires.passes in
-    (subst (λ n. AreRows c.of-home.result n c.in_ok-rows.rows.items) (sym shards) made.0, made.1 ∙ sym passes)
+pub returns : goal.returns
+returns g c =
+    let made = c.in_ok-rows.ensures in
+    let ends = c.in_ok-ends.ensures.ends in
+    record {
+      origin = c.of-origin.ensures;
+      rows = subst (λ (z : Homed × ℕ). AreRows z.0 z.1 c.in_ok-rows.rows.items) (λ i. (c.of-home.ensures i, (c.len.ensures ∙ sym c.requires.shards) i)) made.rows.0;
+      passes = made.rows.1 ∙ sym c.requires.passes;
+      closing = c.in_ok-closing.ensures;
+      ends = ends.0;
+      count = ends.1 ∙ sym c.requires.shards;
+    }

@@ -1,9 +1,6 @@
 use Rattle.std.proofs.Common.{◌≡◌, ℕ, ◌+◌, ◌<◌, ◌≤◌, ◌∷◌, [], length, length-append, sym, ap, ◌∙◌, subst, arith}
-use Rattle.std.specs.Prelude.{Some}
 use Rattle.std.specs.VecDeque.{deque_len}
-use Rattle.keyed.proofs.Filling.{fit_more}
-use Rattle.owners.specs.Homes.{Homed}
-use Rattle.owners.specs.Seeds.{IsSeed, IsRow, AreRows}
+use Rattle.owners.specs.Seeds.{IsSeed, IsRow}
 use Rattle.owners.proofs.Each.{each_next}
 use Rattle.owners.proofs.rows.make_rows.Goals as goal
 
@@ -40,9 +37,8 @@ loop-pass-preserved c =
     record {
       seeds = made.seeds;
       len = long ∙ inv.len;
-      rows = subst (AreRows home c.args.shards) (sym c.push_reserved.ensures.items)
-          (fit_more (λ (h : Homed) p row. IsRow h c.args.shards p row.items) home c.loop-pass.rows.items c.in_ok-make_row.field-0 inv.rows
-          (subst (λ n. IsRow home n (length c.loop-pass.rows.items) c.in_ok-make_row.field-0.items) long-old (subst (λ p. IsRow home (deque_len c.loop-pass.seeds) p c.in_ok-make_row.field-0.items) (sym inv.count) made.row)));
-      count = ap length c.push_reserved.ensures.items ∙ (length-append c.loop-pass.rows.items (Some c.in_ok-make_row.field-0 ∷ []) ∙ ap (λ n. n + 1) inv.count);
+      rows = each_next (λ p row. IsRow home c.args.shards p row.items) c.loop-pass.rows.items c.push_reserved.new.self.items c.in_ok-make_row.field-0 c.loop-pass.pass inv.count c.push_reserved.ensures.items inv.rows
+          (subst (λ n. IsRow home n c.loop-pass.pass c.in_ok-make_row.field-0.items) long-old made.row);
+      count = ap length c.push_reserved.ensures.items ∙ (length-append c.loop-pass.rows.items (c.in_ok-make_row.field-0 ∷ []) ∙ ap (λ n. n + 1) inv.count);
       room = subst (λ n. c.args.passes ≤ n) (sym c.push_reserved.ensures.capacity) inv.room;
     }

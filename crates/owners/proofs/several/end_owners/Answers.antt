@@ -10,14 +10,18 @@ end-requires g c =
     let items = c.loop-shard.ways.items in
     let k = c.loop-shard.shard in
     let lt : k < length items = search rules in
-    c.loop-shard.invariant.ways k c.index_mut.result.now (slice_get-get_or items k c.index_mut.result.now lt ∙ ap Some (sym c.index_mut.ensures.value))
+    let all = c.loop-shard.invariant.ways c.requires.0 c.requires.1 c.requires.2 in
+    (c.requires.0, k, (all k c.index_mut.result.now (slice_get-get_or items k c.index_mut.result.now lt ∙ ap Some (sym c.index_mut.ensures.value))).orders)
 
 pub loop-shard-preserved : goal.loop-shard-preserved
 loop-shard-preserved g c =
     let items = c.loop-shard.ways.items in
     let k = c.loop-shard.shard in
     let lt : k < length items = search rules in
+    let here = slice_get-get_or items k c.index_mut.result.now lt ∙ ap Some (sym c.index_mut.ensures.value) in
     record {
       len = c.loop-shard.invariant.len;
-      ways = ways_set (IsIdleWay c.args.home.now c.args.pass) items k c.end.new.self lt c.loop-shard.invariant.ways c.end.ensures;
+      ways = λ home p are.
+          let all = c.loop-shard.invariant.ways home p are in
+          ways_set (IsIdleWay home p) items k c.end.new.self lt all (c.end.ensures home p k (all k c.index_mut.result.now here));
     }

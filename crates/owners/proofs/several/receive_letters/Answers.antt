@@ -6,28 +6,23 @@ use Rattle.owners.proofs.Each.{ways_set}
 use Rattle.owners.proofs.several.receive_letters.Goals as goal
 use Rattle.owners.proofs.several.receive_letters.Goals.{then-index, else-index}
 
-pub receive-requires : goal.receive-requires
-receive-requires g c =
-    let items = c.loop-shard.ways.items in
-    let k = c.loop-shard.shard in
-    let lt : k < length items = search rules in
-    c.loop-shard.invariant.ways k c.index_mut.result.now (slice_get-get_or items k c.index_mut.result.now lt ∙ ap Some (sym c.index_mut.ensures.value))
-
 pub loop-shard-preserved : goal.loop-shard-preserved
 loop-shard-preserved g c =
     let inv = c.loop-shard.invariant in
     let items = c.loop-shard.ways.items in
     let k = c.loop-shard.shard in
     let lt : k < length items = search rules in
-    let home = c.args.home.now in
-    let p = c.args.pass in
     elim c.if-index.branch [
-      | then-index w ↦ record {
-        len = ap vec_len w.ways-is ∙ inv.len;
-        ways = subst (λ v. AreWays home p v.items) (sym w.ways-is) (ways_set (IsWay home p) items k w.receive.new.self lt inv.ways w.receive.ensures);
-      }
+      | then-index w ↦
+          let here = slice_get-get_or items k w.index_mut.result.now lt ∙ ap Some (sym w.index_mut.ensures.value) in
+          record {
+            len = ap vec_len w.ways-is ∙ inv.len;
+            ways = λ home p are.
+                let all = inv.ways home p are in
+                subst (λ v. AreWays home p v.items) (sym w.ways-is) (ways_set (IsWay home p) items k w.receive.new.self lt all (w.receive.ensures home p k (all k w.index_mut.result.now here)));
+          }
       | else-index w ↦ record {
         len = ap vec_len w.ways-is ∙ inv.len;
-        ways = subst (λ v. AreWays home p v.items) (sym w.ways-is) inv.ways;
+        ways = λ home p are. subst (λ v. AreWays home p v.items) (sym w.ways-is) (inv.ways home p are);
       }
     ]

@@ -1,9 +1,10 @@
-use Rattle.std.proofs.Common.{◌≡◌, vec_len}
+use Rattle.std.proofs.Common.{◌≡◌, ℕ, vec_len}
+use Rattle.owners.specs.Homes.{Homed}
 use Rattle.owners.specs.Ways.{AreWays}
 use Rattle.owners.proofs.several.receive_letters.Given as goal
 
 abbrev pub invariant-loop-shard : goal.invariant-loop-shard
 invariant-loop-shard g l = record {
   len : vec_len l.ways ≡ vec_len l.fn.ways;
-  ways : AreWays l.home l.pass l.ways.items;
+  ways : (home : Homed) (p : ℕ) → AreWays home p l.fn.ways.items → AreWays home p l.ways.items;
 }

@@ -1,11 +1,12 @@
 use Rattle.std.proofs.Common.{◌≡◌, ◌<◌, ◌≤◌, ℕ, vec_len}
 use Rattle.std.specs.Prelude.{Some, slice_get}
 use Rattle.owners.specs.declared.ways.Way.{Way}
-use Rattle.owners.specs.Ways.{IsWay, IsLoaded}
+use Rattle.owners.specs.Homes.{Homed}
+use Rattle.owners.specs.Ways.{IsWay, IsLoaded, AreLoaded}
 use Rattle.owners.proofs.several.send_letters.Given as goal
 
 abbrev pub invariant-loop-shard : goal.invariant-loop-shard
 invariant-loop-shard g l = record {
   len : vec_len l.ways ≡ vec_len l.fn.ways;
-  ways : (k : ℕ) (way : Way) → slice_get l.ways.items k ≡ Some way → (k < l.shard → IsWay l.home l.pass k way) × (l.shard ≤ k → IsLoaded l.home l.pass k way);
+  ways : (home : Homed) (p : ℕ) → AreLoaded home p l.fn.ways.items → (k : ℕ) (way : Way) → slice_get l.ways.items k ≡ Some way → (k < l.shard → IsWay home p k way) × (l.shard ≤ k → IsLoaded home p k way);
 }

@@ -7,15 +7,14 @@ use Rattle.owners.proofs.taking.take_letter.Goals as goal
 
 pub returns-then-pass-len-clause-desk : goal.returns-then-pass-len-clause-desk
 returns-then-pass-len-clause-desk c =
-    let h = c.args.home.now in
     let old : Desk = c.args.desk.now in
     let p = c.args.letter.pass in
     let came : Letter = record { pass = p; jobs = c.move_jobs.new.from; settled = c.args.letter.settled } in
-    let now = subst (ArePlaces h) (sym c.put_at.ensures) (place_new h c.args.desk.now.letters.items p came c.requires.desk.letters (letter_emptied h came c.move_jobs.ensures.none c.requires.letter.settled)) in
-    desk_more h c.args.shard p old _ c.args.letter.jobs.items c.requires.desk c.requires.letter.batch c.move_jobs.ensures.items refl now c.move_jobs.ensures.capacity
+    λ h k desk letter.
+    let now = subst (ArePlaces h) (sym c.put_at.ensures) (place_new h c.args.desk.now.letters.items p came desk.letters (letter_emptied h came c.move_jobs.ensures.none letter.settled)) in
+    desk_more h k p old _ c.args.letter.jobs.items desk letter.batch c.move_jobs.ensures.items refl now c.move_jobs.ensures.capacity
 
 pub returns-else-pass-len-clause-desk : goal.returns-else-pass-len-clause-desk
 returns-else-pass-len-clause-desk c =
-    let h = c.args.home.now in
     let old : Desk = c.args.desk.now in
-    desk_more h c.args.shard c.args.letter.pass old _ c.args.letter.jobs.items c.requires.desk c.requires.letter.batch c.move_jobs.ensures.items refl c.requires.desk.letters c.move_jobs.ensures.capacity
+    λ h k desk letter. desk_more h k c.args.letter.pass old _ c.args.letter.jobs.items desk letter.batch c.move_jobs.ensures.items refl desk.letters c.move_jobs.ensures.capacity

@@ -1,5 +1,5 @@
 use denote.Param.Send.{sendable, given_sync}
-use Rattle.history.proofs.handles.Pass.TheSendSync as pass
+use Rattle.ingester.proofs.passes.Pass.TheSendSync as pass
 use Rattle.shard_threads.proofs.Sent.{course_sync}
 use Rattle.shard_threads.proofs.plans.play_in_threads.Goals as goal
 

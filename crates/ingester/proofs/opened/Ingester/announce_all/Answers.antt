@@ -1,7 +1,6 @@
 use Rattle.std.proofs.Common.{◌≡◌, ◌+◌, ◌<◌, ℕ, List, length, length-set, add-zero, refl, ap, sym, ◌∙◌, subst, arith}
 use Rattle.std.specs.VecDeque.{deque_len}
 use Rattle.accept.specs.declared.call.Call.{Call}
-use Rattle.history.specs.declared.views.About.{About}
 use Rattle.history.specs.Handles.{Passed}
 use Rattle.owners.proofs.Each.{ways_set}
 use Rattle.ingester.specs.Batches.{HasLetters, HasBegunRound, AreCountedFrom}
@@ -27,7 +26,6 @@ loop-shard-init g c =
       table = ap (λ (p : Passed). p.table) next.pass ∙ c.requires.pass.table;
       about = ap (λ (p : Passed). p.caller.about) next.pass ∙ c.requires.pass.about;
       pass = ap (λ (p : Passed). p.caller.pass) next.pass;
-      number = subst (λ (p : Passed). p.caller.pass < c.args.self.now.about.passes) (sym next.pass) (subst (λ n. n < c.args.self.now.about.passes) c.number-own.ensures.0 (subst (λ (a : About). c.number-own.result < a.passes) c.requires.pass.about c.number-own.ensures.1));
       numbers = left_numbers c.args.calls.now.items next.call c.announce_next.new.calls.items next.calls_are c.requires.numbers;
       below = below_same c.args.self.now.about.shards c.in_ok-first.shard 64 first.2;
       places = refl;
@@ -58,7 +56,6 @@ loop-shard-preserved g c =
       table = ap (λ (p : Passed). p.table) next.pass ∙ inv.table;
       about = ap (λ (p : Passed). p.caller.about) next.pass ∙ inv.about;
       pass = ap (λ (p : Passed). p.caller.pass) next.pass ∙ inv.pass;
-      number = subst (λ (p : Passed). p.caller.pass < c.args.self.now.about.passes) (sym next.pass) inv.number;
       numbers = left_numbers c.loop-shard.calls.items next.call left.items next.calls_are inv.numbers;
       below = ways_set (λ _ shard. shard < c.args.self.now.about.shards) c.loop-shard.shards c.loop-shard.count c.in-Some.shard within inv.below came.2;
       places = length-set c.loop-shard.shards c.loop-shard.count c.in-Some.shard ∙ inv.places;

@@ -18,7 +18,6 @@ invariant-loop-shard g l = record {
   table : l.pass.table ≡ l.self.table;
   about : l.pass.caller.about ≡ l.self.about;
   pass : l.pass.caller.pass ≡ l.fn.pass.caller.pass;
-  number : l.pass.caller.pass < l.self.about.passes;
   numbers : All AreNumbers l.calls.items;
   below : AreBelow l.self.about.shards l.shards;
   places : length l.shards ≡ 64;

@@ -40,7 +40,7 @@ returns-clause-letters g c =
     let within : k < length items = omega arith in
     record {
       batches = batches_joined now.table now.about c.args.pass.now c.join.new.pass c.args.calls.now.items c.join.new.calls.items items k c.self.inside.count c.in_ok-number.number was c.join.new.way c.in_ok-front.field-0.now
-          c.requires.pass.1 c.requires.pass.2 shards c.in_ok-front.ensures.lookup routes within c.index_mut.ensures.value letters.batches c.in_ok-number.ensures.joined;
+          c.requires.pass.1 shards c.in_ok-front.ensures.lookup routes within c.index_mut.ensures.value letters.batches c.in_ok-number.ensures.joined;
       ready = ready_still (home_of now) c.args.pass.now.caller.pass items k was c.join.new.way within c.index_mut.ensures.value c.in_ok-number.ensures.rest letters.ready;
       count = length-set items k c.join.new.way ∙ long;
     }

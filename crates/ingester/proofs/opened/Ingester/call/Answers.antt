@@ -1,31 +1,48 @@
-use Rattle.std.proofs.Common.{◌≡◌, ◌<◌, sym, ap, ◌∙◌, subst}
-use Rattle.accept.specs.declared.call.Call.{Call}
+use Rattle.std.proofs.Common.{◌≡◌, ◌+◌, ◌<◌, length, length-set, refl, sym, ap, ◌∙◌, subst, arith}
+use Rattle.std.specs.Prelude.{Some, slice_set}
+use Rattle.std.proofs.lemmas.Option.{slice_get-get_or}
 use Rattle.history.specs.declared.views.About.{About}
-use Rattle.history.specs.Handles.{Passed}
-use Rattle.owners.specs.Openings.{HasSpentLog}
-use Rattle.ingester.specs.Calls.{shard_for}
+use Rattle.history.specs.Plays.{ask_of}
+use Rattle.owners.specs.Openings.{home_of}
+use Rattle.owners.specs.Ways.{IsIdleWay}
+use Rattle.owners.proofs.Each.{ways_set}
+use Rattle.ingester.specs.Calls.{IsPassOf, shard_for}
+use Rattle.ingester.proofs.Passing.{idle_ways, ways_back}
 use Rattle.ingester.proofs.Routing.{routed}
 use Rattle.ingester.proofs.opened.Ingester.call.Goals as goal
 
-pub send-came-requires-clause-job : goal.send-came-requires-clause-job
-send-came-requires-clause-job g c =
+pub call_by_way-requires-clause-way : goal.call_by_way-requires-clause-way
+call_by_way-requires-clause-way g c =
     let now = c.args.self.now in
-    let k = c.args.pass.now.caller in
-    let ticket = c.in_ok-ticket.ensures.ticket in
-    let own = c.number-own.ensures in
+    let seat = c.pass.inside.seat in
+    let is = subst (IsPassOf now) (sym c.pass.view_is) c.requires.pass in
+    let row = idle_ways now seat c.pass.inside.ways.items is c.pass.invariant in
+    let items = c.pass.inside.ways.items in
+    let k = c.shard_number-shard.result in
     let shards : now.about.shards ≡ c.self.inside.count = ap (λ o. o.about.shards) (sym c.self.view_is) ∙ c.self.invariant.is_opening.shards in
-    let table = sym c.self.invariant.is_opening.same_table ∙ ap (λ o. o.table) c.self.view_is in
-    record {
-      ticket = record {
-        same_table = ap (λ t. t.table) ticket ∙ table;
-        pass = subst (λ (a : About). c.in_ok-ticket.ticket.ask.pass < a.passes) c.requires.pass.about (subst (λ n. n < k.about.passes) (own.0 ∙ ap (λ t. t.ask.pass) (sym ticket)) own.1);
-        sure = ap (λ t. t.doubted) ticket;
-      };
-      shard = routed now.about c.in_ok-ticket.ticket.ask c.args.call c.self.inside.count c.shard_number-shard.result (ap (λ t. t.ask.call) ticket) shards c.shard_number-shard.ensures;
-      call = ap (λ t. t.ask.call) ticket;
-      numbers = c.requires.numbers;
-    }
+    let some = c.self.invariant.is_opening.some_shard in
+    let long = row.count in
+    let routes = c.shard_number-shard.ensures in
+    let within : k < length items = omega arith in
+    let here : k ≡ shard_for seat.caller c.args.call = sym (routed seat.caller.about (ask_of seat.caller (seat.caller.last + 1) c.args.call) c.args.call c.self.inside.count k refl (ap (λ (a : About). a.shards) is.about ∙ shards) c.shard_number-shard.ensures) in
+    subst (λ n. IsIdleWay (home_of now) seat.caller.pass n c.index_mut.result.now) here (row.idle k c.index_mut.result.now (slice_get-get_or items k c.index_mut.result.now within ∙ ap Some (sym c.index_mut.ensures.value)))
 
-pub returns-clause-spent : goal.returns-clause-spent
-returns-clause-spent g c = λ is.
-    subst (λ (z : Passed × Call). HasSpentLog c.args.self.now (shard_for z.0.caller z.1) z.1) (λ i. (c.of-before.ensures i, c.of-asked.ensures i)) (c.settle.ensures.spent is)
+pub invariant_of-pass : goal.invariant_of-pass
+invariant_of-pass g c =
+    let now = c.args.self.now in
+    let seat = c.pass.inside.seat in
+    let is = subst (IsPassOf now) (sym c.pass.view_is) c.requires.pass in
+    let row = idle_ways now seat c.pass.inside.ways.items is c.pass.invariant in
+    let items = c.pass.inside.ways.items in
+    let k = c.shard_number-shard.result in
+    let shards : now.about.shards ≡ c.self.inside.count = ap (λ o. o.about.shards) (sym c.self.view_is) ∙ c.self.invariant.is_opening.shards in
+    let some = c.self.invariant.is_opening.some_shard in
+    let long = row.count in
+    let routes = c.shard_number-shard.ensures in
+    let within : k < length items = omega arith in
+    let here : k ≡ shard_for seat.caller c.args.call = sym (routed seat.caller.about (ask_of seat.caller (seat.caller.last + 1) c.args.call) c.args.call c.self.inside.count k refl (ap (λ (a : About). a.shards) is.about ∙ shards) c.shard_number-shard.ensures) in
+    let made = c.call_by_way.ensures in
+    ways_back now c.call_by_way.new.pass seat.caller.pass (slice_set items k c.call_by_way.new.way) made.pass made.own (record {
+      idle = ways_set (IsIdleWay (home_of now) seat.caller.pass) items k c.call_by_way.new.way within row.idle (subst (λ n. IsIdleWay (home_of now) seat.caller.pass n c.call_by_way.new.way) (sym here) made.way);
+      count = length-set items k c.call_by_way.new.way ∙ row.count;
+    })

@@ -13,5 +13,5 @@ invariant-loop-number g l = record {
   passes : l.passes.items ≡ l.fn.passes.items;
   room : l.count ≤ vec_capacity l.shards;
   len : length l.shards.items ≡ l.number;
-  last : (k : ℕ) (shard : Sharded g.row.D.Denot) → slice_get l.shards.items k ≡ Some shard → IsLast l.fn.self l.fn.passes.items k shard;
+  last : (k : ℕ) (shard : Sharded g.row.D.Denot) → slice_get l.shards.items k ≡ Some shard → IsLast g.D.Disk.sight g.D.Disk.follows l.fn.self l.fn.passes.items k shard;
 }

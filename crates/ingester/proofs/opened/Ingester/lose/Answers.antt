@@ -17,7 +17,7 @@ take_back-requires-clause-way g c =
     let within : c.args.from < length c.args.round.now.shards = search rules in
     let low = below_at c.args.self.now.about.shards c.args.round.now.shards c.args.from c.requires.round.below within in
     let lt : k < length items = subst (λ n. k < n) (sym c.requires.ways.1) low in
-    subst (λ p. IsWay (home_of c.args.self.now) p k c.index_mut.result.now) c.requires.round.own (c.requires.ways.0 k c.index_mut.result.now (slice_get-get_or items k c.index_mut.result.now lt ∙ ap Some (sym c.index_mut.ensures.value)))
+    (k, subst (λ p. IsWay (home_of c.args.self.now) p k c.index_mut.result.now) c.requires.round.own (c.requires.ways.0 k c.index_mut.result.now (slice_get-get_or items k c.index_mut.result.now lt ∙ ap Some (sym c.index_mut.ensures.value))))
 
 pub loop-preserved : goal.loop-preserved
 loop-preserved g c =
@@ -39,6 +39,6 @@ returns-clause-ways g c =
     let within : c.args.from < length c.args.round.now.shards = search rules in
     let low = below_at c.args.self.now.about.shards c.args.round.now.shards c.args.from c.requires.round.below within in
     let lt : k < length items = subst (λ n. k < n) (sym c.requires.ways.1) low in (
-      ways_set (IsWay (home_of c.args.self.now) c.args.round.now.pass) items k c.take_back.new.way lt c.requires.ways.0 (subst (λ p. IsWay (home_of c.args.self.now) p k c.take_back.new.way) (sym c.requires.round.own) c.take_back.ensures.way),
+      ways_set (IsWay (home_of c.args.self.now) c.args.round.now.pass) items k c.take_back.new.way lt c.requires.ways.0 (subst (λ p. IsWay (home_of c.args.self.now) p k c.take_back.new.way) (sym c.requires.round.own) (c.take_back.ensures.way k (subst (λ p. IsWay (home_of c.args.self.now) p k c.index_mut.result.now) c.requires.round.own (c.requires.ways.0 k c.index_mut.result.now (slice_get-get_or items k c.index_mut.result.now lt ∙ ap Some (sym c.index_mut.ensures.value)))))),
       length-set items k c.take_back.new.way ∙ c.requires.ways.1,
     )

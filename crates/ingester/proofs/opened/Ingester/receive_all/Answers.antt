@@ -17,7 +17,7 @@ receive_next-requires-clause-way g c =
     let within : c.loop-i.i < length c.args.round.now.shards = search rules in
     let low = below_at c.args.self.now.about.shards c.args.round.now.shards c.loop-i.i inv.round.below within in
     let lt : k < length items = subst (λ n. k < n) (sym inv.long) low in
-    subst (λ p. IsWay home p k c.index_mut.result.now) inv.round.own (inv.ways k c.index_mut.result.now (slice_get-get_or items k c.index_mut.result.now lt ∙ ap Some (sym c.index_mut.ensures.value)))
+    (k, subst (λ p. IsWay home p k c.index_mut.result.now) inv.round.own (inv.ways k c.index_mut.result.now (slice_get-get_or items k c.index_mut.result.now lt ∙ ap Some (sym c.index_mut.ensures.value))))
 
 pub returns-in-None-clause-ways : goal.returns-in-None-clause-ways
 returns-in-None-clause-ways g c =
@@ -28,7 +28,7 @@ returns-in-None-clause-ways g c =
     let within : c.loop-i.i < length c.args.round.now.shards = search rules in
     let low = below_at c.args.self.now.about.shards c.args.round.now.shards c.loop-i.i inv.round.below within in
     let lt : k < length items = subst (λ n. k < n) (sym inv.long) low in (
-      ways_set (IsWay home c.args.round.now.pass) items k c.receive_next.new.way lt inv.ways (subst (λ p. IsWay home p k c.receive_next.new.way) (sym inv.round.own) c.in-None.ensures.way),
+      ways_set (IsWay home c.args.round.now.pass) items k c.receive_next.new.way lt inv.ways (subst (λ p. IsWay home p k c.receive_next.new.way) (sym inv.round.own) (c.in-None.ensures.way k (subst (λ p. IsWay home p k c.index_mut.result.now) inv.round.own (inv.ways k c.index_mut.result.now (slice_get-get_or items k c.index_mut.result.now lt ∙ ap Some (sym c.index_mut.ensures.value)))))),
       length-set items k c.receive_next.new.way ∙ inv.long,
     )
 
@@ -60,7 +60,7 @@ loop-i-preserved g c =
         fits = inv.round.fits;
         below = inv.round.below;
       };
-      ways = ways_set (IsWay home c.args.round.now.pass) items k c.receive_next.new.way lt inv.ways (subst (λ p. IsWay home p k c.receive_next.new.way) (sym inv.round.own) c.in-Some.ensures.way);
+      ways = ways_set (IsWay home c.args.round.now.pass) items k c.receive_next.new.way lt inv.ways (subst (λ p. IsWay home p k c.receive_next.new.way) (sym inv.round.own) (c.in-Some.ensures.way k (subst (λ p. IsWay home p k c.index_mut.result.now) inv.round.own (inv.ways k c.index_mut.result.now (slice_get-get_or items k c.index_mut.result.now lt ∙ ap Some (sym c.index_mut.ensures.value))))));
       long = length-set items k c.receive_next.new.way ∙ inv.long;
       len = let had = inv.len in let long = c.push_back_reserved.ensures.len in omega arith;
       capacity = c.push_back_reserved.ensures.capacity ∙ inv.capacity;

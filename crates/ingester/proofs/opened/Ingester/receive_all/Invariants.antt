@@ -7,7 +7,7 @@ use Rattle.ingester.proofs.opened.Ingester.receive_all.Given as goal
 
 abbrev pub invariant-loop-i : goal.invariant-loop-i
 invariant-loop-i g l = record {
-  received : AreReceived l.self l.fn.pass l.pass l.fn.outcomes.items l.outcomes.items l.i;
+  received : AreReceived l.fn.pass l.pass l.fn.outcomes.items l.outcomes.items l.i;
   round : IsUnderWay l.self l.pass l.round l.i;
   ways : AreWays (home_of l.self) l.round.pass l.ways.items;
   long : length l.ways.items ≡ l.self.about.shards;

@@ -1,0 +1,25 @@
+-- Slots that were handed out end a stretch: nobody has to say which turns were made.
+use Rattle.std.proofs.Common.{◌≡◌, ℕ, List, Bool, subst}
+use Rattle.disk.specs.Sight.{Sight}
+use Rattle.wal.specs.Opening.{AllFollow}
+use Rattle.history.specs.Histories.{IsLegalAt, IsByPasses}
+use Rattle.openings.proofs.Ordered.{ordered}
+use Rattle.owners.specs.Openings.{Opening}
+use Rattle.ingester.specs.Closings.{IsTold, IsHandedOut}
+use Rattle.headline.specs.Threads.{Thread, last_passes}
+use Rattle.headline.specs.Turns.{Between, IsStretch}
+use Rattle.headline.proofs.Saying.{end_among}
+
+module _ {D : Type 0} (sight : D → Sight) (follows : D → Type 0) where
+  pub handed_stretch : (opening : Opening D) (threads : List Thread) (k : ℕ) (it : List D × Bool) (h : IsHandedOut sight follows opening (last_passes threads) k it) → AllFollow follows it.0
+      → IsStretch sight follows opening threads k (record { turns = h.turns; moment = Between h.shard })
+  handed_stretch opening threads k it h f = record {
+    opened = h.opened;
+    opened_as = h.opened_as;
+    turned = h.turned;
+    moment = tt;
+    follow = (ordered sight follows h.shard.log it.0 h.slots_are).both f;
+    legal = subst (IsLegalAt opening.about k) h.items_are h.legal;
+    by_passes = subst (IsByPasses opening.about.passes) h.items_are h.by_passes;
+    told = λ t one. let i = end_among t threads one in subst (λ l. IsTold k l t.end) h.items_are (h.told i.0 t.end i.1);
+  }
