@@ -1,5 +1,6 @@
 pub mod Bodies
 pub mod Going
+pub mod Joining
 pub mod Noting
 pub mod Objects
 pub mod Pushing

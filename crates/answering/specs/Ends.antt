@@ -1,8 +1,13 @@
 -- The two ends of a connection, and which of them failed.
-use Rattle.std.specs.Prelude.{◌≡◌, true}
+use Rattle.std.specs.Prelude.{◌≡◌, ◌⊎◌, ℕ, Bool, true, List, [], Option, None, Some, Result, Ok, Err}
+use Rattle.std.specs.Io.KnownBytes.{IsAtEnd}
+use Rattle.requests.specs.Streams.{IsCut}
 use Rattle.requests.specs.declared.fault.ServeFault.{ServeFault}
 use Rattle.requests.specs.declared.fault.ServeFault.TheVariants.{Read, Write, Memory, CutShort}
+use Rattle.requests.specs.declared.fault.Served.{Served}
+use Rattle.requests.specs.declared.fault.Served.TheVariants.{Ended, Closed}
 use Rattle.answering.specs.declared.ends.Ends.{Ends}
+use Rattle.answering.specs.declared.ends.WriteEnd.{WriteEnd}
 
 module _ {I O : Type 0} where
   -- they are of the same reader and writer, which may have changed
@@ -16,3 +21,34 @@ module _ {I O : Type 0} where
   IsOfItsEnd ends Write = ends.writer_failed ≡ true
   IsOfItsEnd ends Memory = Unit {0}
   IsOfItsEnd ends CutShort = Unit {0}
+
+-- for private clauses: the same, by whether the reader failed, and the writer
+abbrev pub IsOfOneEnd : Bool → Bool → ServeFault → Type 0
+IsOfOneEnd reads writes Read = reads ≡ true
+IsOfOneEnd reads writes Write = writes ≡ true
+IsOfOneEnd reads writes Memory = Unit {0}
+IsOfOneEnd reads writes CutShort = Unit {0}
+
+module _ {O : Type 0} where
+  -- for private clauses: it is of the same writer, which goes through the same reference
+  pub record IsSameEnd (through : O → ℕ) (old new : WriteEnd O) : Type 0 where
+    pub writer : new.writer.ghost_name ≡ old.writer.ghost_name
+    pub same : through new.writer.now ≡ through old.writer.now
+
+  -- for private clauses: the fault is of the writer, or of memory
+  abbrev pub IsOfAnswer : WriteEnd O → ServeFault → Type 0
+  IsOfAnswer end Read = ⊥
+  IsOfAnswer end Write = end.failed ≡ true
+  IsOfAnswer end Memory = Unit {0}
+  IsOfAnswer end CutShort = ⊥
+
+-- for private clauses: more was read, or the stream ended, or reading failed; these bytes have come, and are no whole
+-- request unless more was read
+abbrev pub IsReadOn : List ℕ → Option (List ℕ) → Result (Option Served) ServeFault → Type 0
+IsReadOn bytes left (Ok None) = Unit {0}
+IsReadOn bytes left (Ok (Some Ended)) = (bytes ≡ []) × IsAtEnd left
+IsReadOn bytes left (Ok (Some Closed)) = ⊥
+IsReadOn bytes left (Err CutShort) = IsCut bytes × IsAtEnd left
+IsReadOn bytes left (Err Read) = (bytes ≡ []) ⊎ IsCut bytes
+IsReadOn bytes left (Err Memory) = (bytes ≡ []) ⊎ IsCut bytes
+IsReadOn bytes left (Err Write) = ⊥

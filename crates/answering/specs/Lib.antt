@@ -1,7 +1,9 @@
 pub mod Asking
 pub mod Calls
 pub mod Courses
+pub mod Due
 pub mod Ends
+pub mod Joining
 pub mod Lines
 pub mod Parts
 pub mod Replies
@@ -11,4 +13,5 @@ pub mod Showing
 pub mod Steps
 pub mod Telling
 pub mod Turns
+pub mod Visits
 pub mod Windows

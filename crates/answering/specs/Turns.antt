@@ -1,8 +1,8 @@
 -- What one turn of a connection says; for private clauses.
-use Rattle.std.specs.Prelude.{◌≡◌, ◌⊎◌, ℕ, Bool, false, List, [], ◌++◌, take, drop, Option, None, Result, Ok, Err}
-use Rattle.std.specs.List.{flat_map}
+use Rattle.std.specs.Prelude.{◌≡◌, ◌⊎◌, ℕ, ◌<◌, Bool, false, List, [], take, drop, Option, None, Result, Ok, Err, OnOk}
 use Rattle.std.specs.Io.KnownBytes.{Appends, Consumes}
-use Rattle.requests.specs.Streams.{Request, ReadsMessage, IsMessage}
+use Rattle.requests.specs.Streams.{Request, ReadsMessage, IsMessage, IsUnread, MayGrow}
+use Rattle.requests.specs.Writing.{Dues, Follows}
 use Rattle.requests.specs.declared.incoming.Message.{Message}
 use Rattle.requests.specs.declared.fault.ServeFault.{ServeFault}
 use Rattle.requests.specs.declared.fault.ServeFault.TheVariants as faults
@@ -10,35 +10,50 @@ use Rattle.requests.specs.declared.fault.Served.TheVariants as served
 use Rattle.requests.specs.declared.verdict.Verdict.{Verdict}
 use Rattle.answering.specs.Calls.{Giving}
 use Rattle.answering.specs.Courses.{Course}
-use Rattle.answering.specs.Ends.{AreSameEnds}
-use Rattle.answering.specs.Serving.{Exchange, World, world, Io, io, response, closes, response_text, failure_at, ends_behind, VerdictGives, VerdictIsLeft, IsExchange, ConnectionGives, ConnectionEnds}
-use Rattle.answering.specs.declared.serving.Connection.{Connection}
-use Rattle.answering.specs.declared.serving.Turn.{Turn}
-use Rattle.answering.specs.declared.serving.Turn.TheVariants as turns
+use Rattle.answering.specs.Ends.{IsSameEnd}
+use Rattle.answering.specs.Serving.{Exchange, World, world, Io, response, closes, response_text, failure_at, ends_behind, VerdictGives, VerdictIsLeft, IsExchange, ConnectionEnds, IsSilent, IsUnbegun}
+use Rattle.answering.specs.Visits.{GoesOn}
+use Rattle.answering.specs.declared.visiting.Visit.{Visit}
+use Rattle.answering.specs.declared.visiting.Turn.{Turn}
+use Rattle.answering.specs.declared.visiting.Turn.TheVariants as turns
 
-module _ {S P C I O : Type 0} where
+module _ {S P C O : Type 0} where
   -- it holds what it held, which may have changed
-  pub record IsSameConnection (old new : Connection S P C I O) : Type 0 where
+  pub record IsSameVisit (through : O → ℕ) (old new : Visit S P C O) : Type 0 where
     pub service : new.service ≡ old.service
     pub pass : new.pass.ghost_name ≡ old.pass.ghost_name
     pub clock : new.clock.ghost_name ≡ old.clock.ghost_name
-    pub ends : new.ends.ghost_name ≡ old.ends.ghost_name
-    pub of : AreSameEnds old.ends.now new.ends.now
+    pub end : new.end.ghost_name ≡ old.end.ghost_name
+    pub of : IsSameEnd through old.end.now new.end.now
     pub incoming : new.incoming.ghost_name ≡ old.incoming.ghost_name
     pub outgoing : new.outgoing.ghost_name ≡ old.outgoing.ghost_name
 
-  -- nothing more has come
-  pub record KeepsInput (old new : Connection S P C I O) : Type 0 where
+  -- no request was dropped, and the clock was not read
+  pub record KeepsInput (old new : Visit S P C O) : Type 0 where
     pub clock : new.clock.now ≡ old.clock.now
-    pub reader : new.ends.now.reader.now ≡ old.ends.now.reader.now
     pub incoming : new.incoming.now ≡ old.incoming.now
 
-  abbrev pub world_of : Connection S P C I O → World P C
-  world_of connection = world connection.pass.now connection.clock.now
+  abbrev pub world_of : Visit S P C O → World P C
+  world_of visit = world visit.pass.now visit.clock.now
 
-  abbrev pub ends_of : (I → Option (List ℕ)) → (O → Option (List ℕ)) → Connection S P C I O → Io
-  ends_of remaining contents connection =
-      io (remaining connection.ends.now.reader.now) (contents connection.ends.now.writer.now)
+  abbrev pub due_of : (O → Dues P) → Visit S P C O → Dues P
+  due_of due visit = due visit.end.now.writer.now
+
+  abbrev pub taken_of : (O → Option (List ℕ)) → Visit S P C O → Option (List ℕ)
+  taken_of contents visit = contents visit.end.now.writer.now
+
+-- so it is where the turn lets the connection go on
+abbrev pub OnKept : Result Turn ServeFault → Type 0 → Type 0
+OnKept (Ok turns.Answered) t = t
+OnKept (Ok (turns.Unfinished n)) t = t
+OnKept (Ok turns.Closed) t = Unit {0}
+OnKept (Err fault) t = Unit {0}
+
+-- what may stand there when it is looked at next: no more than before; or this many bytes more
+abbrev pub MayComeAfter : Turn → List ℕ → Type 0
+MayComeAfter turns.Answered rest = IsUnread rest
+MayComeAfter (turns.Unfinished n) rest = (0 < n) × MayGrow rest n
+MayComeAfter turns.Closed rest = Unit {0}
 
 module _ {H : Type 0} (gives : Giving H) (now : ℕ) (body : List ℕ) where
   -- the response to a whole request is out, or a beginning of it, or nothing
@@ -56,54 +71,58 @@ module _ {H : Type 0} (gives : Giving H) (now : ℕ) (body : List ℕ) where
   ResponseGives verdict close h text h' (Err faults.Read) = ⊥
   ResponseGives verdict close h text h' (Err faults.CutShort) = ⊥
 
-  pub record ResponseIsWritten (before after : Option (List ℕ)) (verdict : Verdict) (close : Bool)
+  pub record ResponseIsWritten (due due' : Dues H) (before after : Option (List ℕ))
+      (verdict : Verdict) (close : Bool)
       (h h' : H)
       (result : Result Bool ServeFault) : Type 0 where
     pub text : List ℕ
     pub appends : Appends before after text
     pub replies : ResponseGives verdict close h text h' result
+    pub follows : OnOk result (Follows due text due')
 
 module _ {H C : Type 0} (gives : Giving H) (ticks : C → ℕ → C → Type 0) where
-  -- a turn from these bytes leaves these
-  abbrev pub ConnectionTurnIsAnswered : List ℕ → Option (List ℕ) → World H C → List ℕ → List ℕ
-      → World H C
+  -- a turn over these bytes leaves these
+  abbrev pub ConnectionTurnIsAnswered : List ℕ → World H C → List ℕ → List ℕ → World H C
       → Result Turn ServeFault → Type 0
-  ConnectionTurnIsAnswered bytes left w text rest w' (Ok turns.Answered) =
+  ConnectionTurnIsAnswered bytes w text rest w' (Ok turns.Answered) =
       (e : Exchange) × IsExchange gives ticks bytes w e rest w' × (closes e ≡ false)
       × (text ≡ response e)
-  ConnectionTurnIsAnswered bytes left w text rest w' (Ok turns.Closed) =
-      ConnectionEnds gives ticks bytes left w text w' (Ok served.Closed)
-  ConnectionTurnIsAnswered bytes left w text rest w' (Ok turns.Ended) =
-      ConnectionEnds gives ticks bytes left w text w' (Ok served.Ended)
-  ConnectionTurnIsAnswered bytes left w text rest w' (Err fault) =
-      ConnectionEnds gives ticks bytes left w text w' (Err fault)
+  ConnectionTurnIsAnswered bytes w text rest w' (Ok turns.Closed) =
+      ConnectionEnds gives ticks bytes None w text w' (Ok served.Closed)
+  ConnectionTurnIsAnswered bytes w text rest w' (Ok (turns.Unfinished n)) =
+      IsUnbegun bytes × (rest ≡ bytes) × IsSilent gives ticks w text w'
+  ConnectionTurnIsAnswered bytes w text rest w' (Err faults.Write) =
+      ConnectionEnds gives ticks bytes None w text w' (Err faults.Write)
+  ConnectionTurnIsAnswered bytes w text rest w' (Err faults.Memory) =
+      ConnectionEnds gives ticks bytes None w text w' (Err faults.Memory)
+  ConnectionTurnIsAnswered bytes w text rest w' (Err faults.Read) = ⊥
+  ConnectionTurnIsAnswered bytes w text rest w' (Err faults.CutShort) = ⊥
 
-  -- the turn read more bytes and wrote a text
-  pub record ConnectionTurnIsServed (ends : Io) (old : List ℕ) (w : World H C) (ends' : Io)
-      (rest : List ℕ)
-      (w' : World H C) (result : Result Turn ServeFault) : Type 0 where
-    pub bytes : List ℕ
+  -- and its text was put where answers go
+  pub record ConnectionTurnIsServed (due due' : Dues H) (before after : Option (List ℕ))
+      (bytes : List ℕ)
+      (w : World H C) (rest : List ℕ) (w' : World H C) (result : Result Turn ServeFault)
+      : Type 0 where
     pub text : List ℕ
-    pub consumes : Consumes ends.unread ends'.unread bytes
-    pub appends : Appends ends.written ends'.written text
-    pub gives_next : ConnectionTurnIsAnswered (old ++ bytes) ends'.unread w text rest w' result
+    pub appends : Appends before after text
+    pub gives_next : ConnectionTurnIsAnswered bytes w text rest w' result
+    pub follows : OnKept result (Follows due text due')
 
-  -- these requests were answered so far, and the connection is kept
-  pub record ConnectionProgress (ends : Io) (w : World H C) (ends' : Io) (rest : List ℕ)
+  -- these bytes were read, the requests among them were answered so far, and the connection is kept
+  pub record ConnectionProgress (due due' : Dues H) (ends : Io) (w : World H C) (ends' : Io)
+      (rest : List ℕ)
       (w' : World H C)
       : Type 0 where
     pub bytes : List ℕ
-    pub exchanges : List Exchange
     pub consumes : Consumes ends.unread ends'.unread bytes
-    pub appends : Appends ends.written ends'.written (flat_map response exchanges)
-    pub serves : ConnectionGives gives ticks bytes w exchanges rest w'
+    pub goes : GoesOn gives ticks due due' ends.written ends'.written bytes w rest w'
 
   -- the message, whichever request of these bytes it is, was answered and dropped
-  abbrev pub ConnectionTakesMessage : Option (List ℕ) → Option (List ℕ) → Message → List ℕ → List ℕ
+  abbrev pub ConnectionTakesMessage : Dues H → Dues H → Option (List ℕ) → Option (List ℕ) → Message
+      → List ℕ → List ℕ
       → World H C
       → World H C → Result Turn ServeFault → Type 0
-  ConnectionTakesMessage before after m old new w w' result =
-      (r : Request) (left : Option (List ℕ)) → IsMessage old r m
+  ConnectionTakesMessage due due' before after m old new w w' result =
+      (r : Request) → IsMessage old r m
       → ReadsMessage old r (drop m.end old)
-      → (text : List ℕ) × Appends before after text
-      × ConnectionTurnIsAnswered old left w text new w' result
+      → ConnectionTurnIsServed due due' before after old w new w' result

@@ -1,29 +1,27 @@
 //! The two ends of a connection.
-ghost use Rattle.std.specs.Prelude.{◌≡◌, ◌≤◌, None, length, IfErr};
+ghost use Rattle.std.specs.Prelude.{◌≡◌, ◌⊎◌, ◌<◌, true, [], None, IfErr, OnOk};
 ghost use Rattle.requests.specs.Answers.{answer_text, fixed_text, failure_text};
-ghost use Rattle.requests.specs.Streams.{Grows, IsNext, Fits};
-ghost use Rattle.requests.specs.Writing.{WritesBeginning};
-ghost use Rattle.answering.specs.Ends.{AreSameEnds, IsOfItsEnd};
+ghost use Rattle.requests.specs.Streams.{Grows, IsCut, IsUnread, MayGrow};
+ghost use Rattle.requests.specs.Writing.{WritesBeginning, Follows};
+ghost use Rattle.answering.specs.Ends.{IsOfAnswer, IsReadOn, IsSameEnd};
 
 use requests::{
-    Answer, Content, Failure, FixedAnswer, Incoming, MAX_HEAD, Next, Outgoing, ServeFault,
-    write_failure,
+    Answer, Answers, Content, Failure, FixedAnswer, Incoming, Outgoing, ServeFault, Served,
 };
-use std::alloc::Global;
-use std::io::{Read, Write};
+use std::io::Read;
 
 /// The two ends of a connection, and of each whether it failed when it was asked last.
 #[derive(Drop)]
-pub struct Ends<'a, I, O> {
-    reader: &'a mut I,
-    writer: &'a mut O,
-    reader_failed: bool,
-    writer_failed: bool,
+pub struct Ends<'a, 'b, I, O> {
+    pub(crate) reader: &'a mut I,
+    pub(crate) writer: &'b mut O,
+    pub(crate) reader_failed: bool,
+    pub(crate) writer_failed: bool,
 }
 
-impl<'a, I: Read, O: Write> Ends<'a, I, O> {
+impl<'a, 'b, I, O> Ends<'a, 'b, I, O> {
     /// None was asked yet.
-    pub fn new(reader: &'a mut I, writer: &'a mut O) -> Ends<'a, I, O>
+    pub fn new(reader: &'a mut I, writer: &'b mut O) -> Ends<'a, 'b, I, O>
         ensures reader { (result.reader.ghost_name ≡ reader.entry.ghost_name)
             × (result.reader.now ≡ reader.old) }
         ensures writer { (result.writer.ghost_name ≡ writer.entry.ghost_name)
@@ -36,79 +34,131 @@ impl<'a, I: Read, O: Write> Ends<'a, I, O> {
             writer_failed: false,
         }
     }
+}
 
-    /// Reads what stands at the front of what has come.
-    pub(crate) fn next(
+/// The end that requests come from, and whether it failed when it was asked last.
+#[derive(Drop)]
+pub(crate) struct ReadEnd<'a, I> {
+    pub(crate) reader: &'a mut I,
+    pub(crate) failed: bool,
+}
+
+impl<'a, I: Read> ReadEnd<'a, I> {
+    /// Reads on, at most this many bytes, where no whole request has come. It gives how the connection ended, where the
+    /// stream did.
+    pub(crate) fn read_on(
         &mut self,
-        alloc: Global,
         incoming: &mut Incoming,
-    ) -> Result<Next, ServeFault>
-        requires { length incoming.old ≤ MAX_HEAD }
-        ensures same { AreSameEnds self.old self.new }
-        ensures writer { self.new.writer.now ≡ self.old.writer.now }
+        most: usize,
+    ) -> Result<Option<Served>, ServeFault>
+        requires some { 0 < most }
+        requires unbegun { (incoming.old ≡ []) ⊎ IsCut incoming.old }
+        requires room { MayGrow incoming.old most }
+        ensures same { self.new.reader.ghost_name ≡ self.old.reader.ghost_name }
         ensures grows { Grows (I.remaining self.old.reader.now)
             (I.remaining self.new.reader.now) incoming.old
             incoming.new }
-        ensures next { IsNext incoming.new (I.remaining self.new.reader.now) result }
-        ensures fits { Fits incoming.new result }
-        ensures told { IfErr result (λ fault. IsOfItsEnd self.new fault) }
+        ensures unread { IsUnread incoming.new }
+        ensures reads { IsReadOn incoming.new (I.remaining self.new.reader.now) result }
+        ensures told { IfErr result (λ fault. fault ≡ ServeFault.Read → self.new.failed ≡ true) }
     {
-        let next = incoming.next(alloc, self.reader);
-        self.reader_failed = matches!(next, Err(ServeFault::Read));
-        next
+        match incoming.fill(self.reader, most) {
+            Ok(0) => {
+                if incoming.len() == 0 {
+                    Ok(Some(Served::Ended))
+                } else {
+                    Err(ServeFault::CutShort)
+                }
+            }
+            Ok(_) => Ok(None),
+            Err(fault) => {
+                self.failed = true;
+                Err(fault)
+            }
+        }
     }
+}
 
-    /// Writes an answer.
+/// The end that answers go to, and whether it failed when it was asked last.
+#[derive(Drop)]
+pub(crate) struct WriteEnd<'a, O> {
+    pub(crate) writer: &'a mut O,
+    pub(crate) failed: bool,
+}
+
+impl<'a, O: Answers> WriteEnd<'a, O> {
+    /// Puts an answer there. Only where it is taken whole may what follows it be put there.
     pub(crate) fn answer(
         &mut self,
+        knows: &O::Knows,
         outgoing: &mut Outgoing,
         answer: &Answer,
         content: Content,
         closes: bool,
     ) -> Result<(), ServeFault>
-        ensures same { AreSameEnds self.old self.new }
-        ensures reader { self.new.reader.now ≡ self.old.reader.now }
+        requires due { O.due self.old.writer.now knows.now
+            (answer_text answer.now.status content None closes answer.now.body.items) }
+        ensures same { IsSameEnd O.through self.old self.new }
         ensures writes { WritesBeginning (O.contents self.old.writer.now)
             (O.contents self.new.writer.now)
             (answer_text answer.now.status content None closes answer.now.body.items) result }
-        ensures told { IfErr result (λ fault. IsOfItsEnd self.new fault) }
+        ensures told { IfErr result (λ fault. IsOfAnswer self.new fault) }
+        ensures follows { OnOk result (Follows (O.due self.old.writer.now)
+            (answer_text answer.now.status content None closes answer.now.body.items)
+            (O.due self.new.writer.now)) }
     {
-        let written = outgoing.answer(self.writer, answer, content, closes);
-        self.writer_failed = matches!(written, Err(ServeFault::Write));
-        written
+        outgoing.answer(answer, content, closes)?;
+        self.say(knows, outgoing.text())
     }
 
-    /// Writes a fixed answer.
+    /// Puts a fixed answer there.
     pub(crate) fn fixed(
         &mut self,
+        knows: &O::Knows,
         outgoing: &mut Outgoing,
         answer: FixedAnswer,
         closes: bool,
     ) -> Result<(), ServeFault>
-        ensures same { AreSameEnds self.old self.new }
-        ensures reader { self.new.reader.now ≡ self.old.reader.now }
+        requires due { O.due self.old.writer.now knows.now (fixed_text answer closes) }
+        ensures same { IsSameEnd O.through self.old self.new }
         ensures writes { WritesBeginning (O.contents self.old.writer.now)
             (O.contents self.new.writer.now)
             (fixed_text answer closes) result }
-        ensures told { IfErr result (λ fault. IsOfItsEnd self.new fault) }
+        ensures told { IfErr result (λ fault. IsOfAnswer self.new fault) }
+        ensures follows { OnOk result (Follows (O.due self.old.writer.now)
+            (fixed_text answer closes) (O.due self.new.writer.now)) }
     {
-        let written = outgoing.fixed(self.writer, answer, closes);
-        self.writer_failed = matches!(written, Err(ServeFault::Write));
-        written
+        outgoing.fixed(answer, closes)?;
+        self.say(knows, outgoing.text())
     }
 
-    /// Writes the answer of a failure. Takes no memory.
-    pub(crate) fn failure(&mut self, failure: Failure) -> Result<(), ServeFault>
-        ensures same { AreSameEnds self.old self.new }
-        ensures reader { self.new.reader.now ≡ self.old.reader.now }
+    /// Puts the answer of a failure there. Takes no memory of its own.
+    pub(crate) fn failure(&mut self, knows: &O::Knows, failure: Failure) -> Result<(), ServeFault>
+        requires due { O.due self.old.writer.now knows.now (failure_text failure) }
+        ensures same { IsSameEnd O.through self.old self.new }
         ensures writes { WritesBeginning (O.contents self.old.writer.now)
             (O.contents self.new.writer.now)
             (failure_text failure) result }
         ensures fault { IfErr result (λ e. e ≡ ServeFault.Write) }
-        ensures told { IfErr result (λ fault. IsOfItsEnd self.new fault) }
+        ensures told { IfErr result (λ fault. IsOfAnswer self.new fault) }
+        ensures follows { OnOk result (Follows (O.due self.old.writer.now)
+            (failure_text failure) (O.due self.new.writer.now)) }
     {
-        let written = write_failure(self.writer, failure);
-        self.writer_failed = matches!(written, Err(ServeFault::Write));
-        written
+        self.say(knows, failure.text())
+    }
+
+    fn say(&mut self, knows: &O::Knows, text: &[u8]) -> Result<(), ServeFault>
+        requires due { O.due self.old.writer.now knows.now text.now }
+        ensures same { IsSameEnd O.through self.old self.new }
+        ensures writes { WritesBeginning (O.contents self.old.writer.now)
+            (O.contents self.new.writer.now) text.now result }
+        ensures fault { IfErr result (λ e. e ≡ ServeFault.Write) }
+        ensures told { IfErr result (λ fault. IsOfAnswer self.new fault) }
+        ensures follows { OnOk result (Follows (O.due self.old.writer.now) text.now
+            (O.due self.new.writer.now)) }
+    {
+        let said = self.writer.say(knows, text);
+        self.failed = said.is_err();
+        said
     }
 }

@@ -1,214 +1,204 @@
-//! A connection: its requests read, their calls made, and the answers written.
-ghost use Rattle.std.specs.Prelude.{◌≡◌, ◌<◌, ◌≤◌, length, drop, slice_range, Ok, [], IfErr};
-ghost use Rattle.accept.specs.OneStream.{end_of_time};
-ghost use Rattle.answering.specs.Ends.{AreSameEnds, IsOfItsEnd};
-ghost use Rattle.answering.specs.Responses.{content_for};
+//! A connection from its reader to its writer: what has come is answered, and where no whole request is left, more is
+//! read.
+ghost use Rattle.std.specs.Prelude.{◌≡◌, IfErr, []};
+ghost use Rattle.answering.specs.Due.{AreDueTexts};
+ghost use Rattle.answering.specs.Ends.{AreSameEnds, IsOfItsEnd, IsOfOneEnd, IsSameEnd};
 ghost use Rattle.answering.specs.Serving.{ConnectionIsServed, world, io};
-ghost use Rattle.answering.specs.Turns.{KeepsInput, IsSameConnection, ResponseIsWritten, ConnectionTurnIsServed, ConnectionTakesMessage, ends_of, world_of};
+ghost use Rattle.answering.specs.Turns.{IsSameVisit, world_of, due_of, taken_of};
 
 use crate::calls::Calls;
 use crate::clock::Clock;
-use crate::ends::Ends;
-use crate::responding::{Halt, RequestBody, respond};
-use labels::Tenant;
-use requests::{
-    Content, Failure, Incoming, MAX_HEAD, Message, Next, Outgoing, Route, ServeFault, Served,
-    Status, Verdict,
-};
+use crate::ends::{Ends, ReadEnd, WriteEnd};
+use crate::visiting::{Turn, Visit};
+use requests::{Answers, Incoming, Outgoing, Sent, ServeFault, Served};
 use std::alloc::Global;
 use std::io::{Read, Write};
 use std::sync::Wait;
 
-/// What came of a turn.
-#[derive(Clone, Copy)]
-pub(crate) enum Turn {
-    /// A request was answered, and the connection goes on.
-    Answered,
-    /// An answer closed it.
-    Closed,
-    /// The stream ended after the last request.
-    Ended,
-}
-
-fn content_for(status: Status) -> Content
-    ensures { result ≡ content_for status }
-{
-    if status == Status::Ok {
-        Content::Json
-    } else {
-        Content::Text
-    }
-}
-
-/// A connection: what makes its calls, its clock, its two ends, what has come, and where answers are put together.
-#[derive(Drop)]
-struct Connection<'a, 'b, S, P, C, I, O> {
-    service: &'a S,
-    pass: &'a mut P,
-    clock: &'a mut C,
-    ends: &'a mut Ends<'b, I, O>,
-    incoming: &'a mut Incoming,
-    outgoing: &'a mut Outgoing,
-}
-
-impl<'a, 'b, S: Calls<Pass = P>, P, C: Clock, I: Read, O: Write> Connection<'a, 'b, S, P, C, I, O> {
-    // Makes the calls of a request and writes its answer. Whether the connection ends after it.
-    fn reply_to_call<R: Wait>(
+impl<'a, 'b, S: Calls<Pass = P>, P, C: Clock, O: Answers<Knows = P>> Visit<'a, 'b, S, P, C, O> {
+    // Turn after turn, and a read where no whole request is left, until the connection ends.
+    fn serve_all<'c, R: Wait, I: Read>(
         &mut self,
         rt: &R,
         alloc: Global,
-        now: u64,
-        route: Route,
-        tenant: &Tenant,
-        message: &Message,
-    ) -> Result<bool, ServeFault>
-        requires ready { S.is_ready self.old.service.now self.old.pass.now }
-        requires clock { now < end_of_time }
-        requires ordered { message.now.start ≤ message.now.end }
-        requires within { message.now.end ≤ length self.old.incoming.now }
-        ensures same { IsSameConnection self.old self.new }
-        ensures told { IfErr result (λ fault. IsOfItsEnd self.new.ends.now fault) }
-        ensures kept { KeepsInput self.old self.new }
-        ensures ready { S.is_ready self.new.service.now self.new.pass.now }
-        ensures replies { ResponseIsWritten (S.gives self.old.service.now) now
-            (slice_range self.old.incoming.now message.now.start message.now.end)
-            (O.contents self.old.ends.now.writer.now) (O.contents self.new.ends.now.writer.now)
-            (Verdict.Call route tenant.now) message.now.closes self.old.pass.now self.new.pass.now
-            result }
-    {
-        let body = self.incoming.body(message);
-        let request = RequestBody {
-            time: now,
-            route,
-            tenant,
-            body,
-        };
-        match respond(rt, alloc, self.service, self.pass, &request) {
-            Ok(answer) => {
-                let content = content_for(answer.status);
-                self.ends
-                    .answer(self.outgoing, &answer, content, message.closes)?;
-                Ok(message.closes)
-            }
-            Err(Halt::Failed(failure)) => {
-                self.ends.failure(failure)?;
-                Ok(true)
-            }
-            Err(Halt::GivenUp) => Err(ServeFault::Memory),
-        }
-    }
-
-    // Answers a whole request. Whether the connection ends after it.
-    fn reply_to<R: Wait>(
-        &mut self,
-        rt: &R,
-        alloc: Global,
-        now: u64,
-        message: &Message,
-    ) -> Result<bool, ServeFault>
-        requires ready { S.is_ready self.old.service.now self.old.pass.now }
-        requires clock { now < end_of_time }
-        requires ordered { message.now.start ≤ message.now.end }
-        requires within { message.now.end ≤ length self.old.incoming.now }
-        ensures same { IsSameConnection self.old self.new }
-        ensures told { IfErr result (λ fault. IsOfItsEnd self.new.ends.now fault) }
-        ensures kept { KeepsInput self.old self.new }
-        ensures ready { S.is_ready self.new.service.now self.new.pass.now }
-        ensures replies { ResponseIsWritten (S.gives self.old.service.now) now
-            (slice_range self.old.incoming.now message.now.start message.now.end)
-            (O.contents self.old.ends.now.writer.now) (O.contents self.new.ends.now.writer.now)
-            message.now.verdict message.now.closes self.old.pass.now self.new.pass.now result }
-    {
-        match &message.verdict {
-            Verdict::Fixed(answer) => {
-                self.ends.fixed(self.outgoing, *answer, message.closes)?;
-                Ok(answer.always_closes() | message.closes)
-            }
-            Verdict::Call(route, tenant) => {
-                self.reply_to_call(rt, alloc, now, *route, tenant, message)
-            }
-            Verdict::NoMemory => {
-                self.ends.failure(Failure::OutOfMemory)?;
-                Ok(true)
-            }
-        }
-    }
-
-    // Answers a whole request that stands at the front, and drops it.
-    fn take_message<R: Wait>(
-        &mut self,
-        rt: &R,
-        alloc: Global,
-        message: &Message,
-    ) -> Result<Turn, ServeFault>
-        requires ready { S.is_ready self.old.service.now self.old.pass.now }
-        requires ordered { message.now.start ≤ message.now.end }
-        requires within { message.now.end ≤ length self.old.incoming.now }
-        ensures same { IsSameConnection self.old self.new }
-        ensures told { IfErr result (λ fault. IsOfItsEnd self.new.ends.now fault) }
-        ensures reader { self.new.ends.now.reader.now ≡ self.old.ends.now.reader.now }
-        ensures ready { S.is_ready self.new.service.now self.new.pass.now }
-        ensures drops { result ≡ Ok Turn.Answered
-            → self.new.incoming.now ≡ drop message.now.end self.old.incoming.now }
-        ensures takes { ConnectionTakesMessage (S.gives self.old.service.now) C.ticks
-            (O.contents self.old.ends.now.writer.now)
-            (O.contents self.new.ends.now.writer.now) message.now
-            self.old.incoming.now self.new.incoming.now (world_of self.old)
-            (world_of self.new) result }
-    {
-        let now = self.clock.now();
-        let closes = self.reply_to(rt, alloc, now, message)?;
-        self.incoming.finish(message);
-        if closes {
-            Ok(Turn::Closed)
-        } else {
-            Ok(Turn::Answered)
-        }
-    }
-
-    // Reads and answers what stands at the front.
-    fn take_turn<R: Wait>(&mut self, rt: &R, alloc: Global) -> Result<Turn, ServeFault>
-        requires ready { S.is_ready self.old.service.now self.old.pass.now }
-        requires short { length self.old.incoming.now ≤ MAX_HEAD }
-        ensures same { IsSameConnection self.old self.new }
-        ensures told { IfErr result (λ fault. IsOfItsEnd self.new.ends.now fault) }
-        ensures ready { S.is_ready self.new.service.now self.new.pass.now }
-        ensures short { result ≡ Ok Turn.Answered → length self.new.incoming.now ≤ MAX_HEAD }
-        ensures turns { ConnectionTurnIsServed (S.gives self.old.service.now) C.ticks
-            (ends_of I.remaining O.contents self.old) self.old.incoming.now (world_of self.old)
-            (ends_of I.remaining O.contents self.new) self.new.incoming.now
-            (world_of self.new) result }
-    {
-        match self.ends.next(alloc, self.incoming)? {
-            Next::Ended => Ok(Turn::Ended),
-            Next::Refused(why) => {
-                self.ends.fixed(self.outgoing, why, true)?;
-                Ok(Turn::Closed)
-            }
-            Next::Whole(message) => self.take_message(rt, alloc, &message),
-        }
-    }
-
-    // Turn after turn, until the connection ends.
-    fn take_turns<R: Wait>(&mut self, rt: &R, alloc: Global) -> Result<Served, ServeFault>
+        source: &mut ReadEnd<'c, I>,
+    ) -> Result<Served, ServeFault>
         requires ready { S.is_ready self.old.service.now self.old.pass.now }
         requires fresh { self.old.incoming.now ≡ [] }
-        ensures same { IsSameConnection self.old self.new }
-        ensures told { IfErr result (λ fault. IsOfItsEnd self.new.ends.now fault) }
+        requires due { AreDueTexts (S.gives self.old.service.now) C.ticks
+            (I.remaining source.old.reader.now) (world_of self.old) (due_of O.due self.old) }
+        ensures same { IsSameVisit O.through self.old self.new }
+        ensures reader { source.new.reader.ghost_name ≡ source.old.reader.ghost_name }
+        ensures told { IfErr result (λ fault. IsOfOneEnd source.new.failed self.new.end.now.failed fault) }
         ensures ready { S.is_ready self.new.service.now self.new.pass.now }
         ensures serves { ConnectionIsServed (S.gives self.old.service.now) C.ticks
-            (ends_of I.remaining O.contents self.old) (world_of self.old)
-            (ends_of I.remaining O.contents self.new) (world_of self.new) result }
+            (io (I.remaining source.old.reader.now) (taken_of O.contents self.old))
+            (world_of self.old)
+            (io (I.remaining source.new.reader.now) (taken_of O.contents self.new))
+            (world_of self.new) result }
     {
         for _turn in rt.forever() {
             match self.take_turn(rt, alloc)? {
                 Turn::Answered => {}
                 Turn::Closed => return Ok(Served::Closed),
-                Turn::Ended => return Ok(Served::Ended),
+                Turn::Unfinished(most) => {
+                    if let Some(served) = source.read_on(self.incoming, most)? {
+                        return Ok(served);
+                    }
+                }
             }
         }
         unreachable!()
     }
+}
+
+// A connection whose two ends stand apart, from its first byte on.
+fn serve_ends<'a, 'b, 'c, S, P, R: Wait, C: Clock, I: Read, O: Answers<Knows = P>>(
+    rt: &R,
+    alloc: Global,
+    service: &'a S,
+    pass: &'a mut P,
+    clock: &'a mut C,
+    source: &mut ReadEnd<'c, I>,
+    end: &'a mut WriteEnd<'b, O>,
+) -> Result<Served, ServeFault>
+where
+    S: Calls<Pass = P>,
+    requires pass { S.is_ready service.now pass.old }
+    requires due { AreDueTexts (S.gives service.now) C.ticks (I.remaining source.old.reader.now)
+        (world pass.old clock.old) (O.due end.old.writer.now) }
+    ensures pass { S.is_ready service.now pass.new }
+    ensures reader { source.new.reader.ghost_name ≡ source.old.reader.ghost_name }
+    ensures writer { IsSameEnd O.through end.old end.new }
+    ensures told { IfErr result (λ fault. IsOfOneEnd source.new.failed end.new.failed fault) }
+    ensures serves { ConnectionIsServed (S.gives service.now) C.ticks
+        (io (I.remaining source.old.reader.now) (O.contents end.old.writer.now))
+        (world pass.old clock.old)
+        (io (I.remaining source.new.reader.now) (O.contents end.new.writer.now))
+        (world pass.new clock.new) result }
+{
+    let mut incoming = Incoming::new(alloc);
+    let mut outgoing = Outgoing::new(alloc);
+    let mut visit = Visit {
+        service,
+        pass,
+        clock,
+        end,
+        incoming: &mut incoming,
+        outgoing: &mut outgoing,
+    };
+    visit.serve_all(rt, alloc, source)
+}
+
+// The same, with what answers are put into. Whether that failed is told beside.
+fn serve_answers<S, P, R: Wait, C: Clock, I: Read, O: Answers<Knows = P>>(
+    rt: &R,
+    alloc: Global,
+    service: &S,
+    pass: &mut P,
+    clock: &mut C,
+    source: &mut ReadEnd<'_, I>,
+    answers: &mut O,
+    failed: &mut bool,
+) -> Result<Served, ServeFault>
+where
+    S: Calls<Pass = P>,
+    requires pass { S.is_ready service.now pass.old }
+    requires due { AreDueTexts (S.gives service.now) C.ticks (I.remaining source.old.reader.now)
+        (world pass.old clock.old) (O.due answers.old) }
+    ensures pass { S.is_ready service.now pass.new }
+    ensures reader { source.new.reader.ghost_name ≡ source.old.reader.ghost_name }
+    ensures through { O.through answers.new ≡ O.through answers.old }
+    ensures told { IfErr result (λ fault. IsOfOneEnd source.new.failed failed.new fault) }
+    ensures serves { ConnectionIsServed (S.gives service.now) C.ticks
+        (io (I.remaining source.old.reader.now) (O.contents answers.old))
+        (world pass.old clock.old)
+        (io (I.remaining source.new.reader.now) (O.contents answers.new))
+        (world pass.new clock.new) result }
+{
+    let mut end = WriteEnd {
+        writer: answers,
+        failed: false,
+    };
+    let served = serve_ends(rt, alloc, &*service, pass, clock, source, &mut end);
+    *failed = end.failed;
+    served
+}
+
+/// Answers the requests of a connection, one after another, until its bytes end between two requests or
+/// an answer closes it. The clock is read once for each whole request. No call is made of a request that was
+/// cut. Nothing is put where answers go but by `say`, and only what is due then: the responses to whole requests that have
+/// come, once their calls have come back.
+///
+/// # Errors
+///
+/// As `serve`.
+pub fn serve_to<'a, 'b, 'c, 'd, S, P, R: Wait, C: Clock, I: Read, O: Answers<Knows = P>>(
+    rt: &R,
+    alloc: Global,
+    service: &'a S,
+    pass: &'a mut P,
+    clock: &'a mut C,
+    ends: &'b mut Ends<'c, 'd, I, O>,
+) -> Result<Served, ServeFault>
+where
+    S: Calls<Pass = P>,
+    requires pass { S.is_ready service.now pass.old }
+    requires due { AreDueTexts (S.gives service.now) C.ticks (I.remaining ends.old.reader.now)
+        (world pass.old clock.old) (O.due ends.old.writer.now) }
+    ensures pass { S.is_ready service.now pass.new }
+    ensures same { AreSameEnds ends.old ends.new }
+    ensures through { O.through ends.new.writer.now ≡ O.through ends.old.writer.now }
+    ensures told { IfErr result (λ fault. IsOfItsEnd ends.new fault) }
+    ensures serves { ConnectionIsServed (S.gives service.now) C.ticks
+        (io (I.remaining ends.old.reader.now) (O.contents ends.old.writer.now))
+        (world pass.old clock.old)
+        (io (I.remaining ends.new.reader.now) (O.contents ends.new.writer.now))
+        (world pass.new clock.new) result }
+{
+    let mut source = ReadEnd {
+        reader: ends.reader,
+        failed: false,
+    };
+    let mut failed = false;
+    let served = serve_answers(
+        rt,
+        alloc,
+        &*service,
+        pass,
+        clock,
+        &mut source,
+        ends.writer,
+        &mut failed,
+    );
+    ends.reader_failed = source.failed;
+    ends.writer_failed = failed;
+    served
+}
+
+// The same, with a writer, to which any text may be sent.
+fn serve_writer<S: Calls, R: Wait, C: Clock, I: Read, O: Write>(
+    rt: &R,
+    alloc: Global,
+    service: &S,
+    pass: &mut S::Pass,
+    clock: &mut C,
+    source: &mut ReadEnd<'_, I>,
+    writer: &mut O,
+    failed: &mut bool,
+) -> Result<Served, ServeFault>
+    requires pass { S.is_ready service.now pass.old }
+    ensures pass { S.is_ready service.now pass.new }
+    ensures reader { source.new.reader.ghost_name ≡ source.old.reader.ghost_name }
+    ensures told { IfErr result (λ fault. IsOfOneEnd source.new.failed failed.new fault) }
+    ensures serves { ConnectionIsServed (S.gives service.now) C.ticks
+        (io (I.remaining source.old.reader.now) (O.contents writer.old))
+        (world pass.old clock.old)
+        (io (I.remaining source.new.reader.now) (O.contents writer.new))
+        (world pass.new clock.new) result }
+{
+    let mut sent = Sent::new(writer);
+    serve_answers(rt, alloc, service, pass, clock, source, &mut sent, failed)
 }
 
 /// Answers the requests of a connection, one after another, until its bytes end between two requests or
@@ -221,13 +211,13 @@ impl<'a, 'b, S: Calls<Pass = P>, P, C: Clock, I: Read, O: Write> Connection<'a, 
 /// `Memory` never comes in place of an answer of status 500.
 /// `Write`: a beginning of the answers is written. Calls made before stand.
 /// `Read` and `Write` come only where the reader or the writer failed.
-pub fn serve<'a, 'b, S: Calls, R: Wait, C: Clock, I: Read, O: Write>(
+pub fn serve<'a, 'b, 'c, 'd, S: Calls, R: Wait, C: Clock, I: Read, O: Write>(
     rt: &R,
     alloc: Global,
     service: &'a S,
     pass: &'a mut S::Pass,
     clock: &'a mut C,
-    ends: &'a mut Ends<'b, I, O>,
+    ends: &'b mut Ends<'c, 'd, I, O>,
 ) -> Result<Served, ServeFault>
     requires pass { S.is_ready service.now pass.old }
     ensures pass { S.is_ready service.now pass.new }
@@ -239,15 +229,22 @@ pub fn serve<'a, 'b, S: Calls, R: Wait, C: Clock, I: Read, O: Write>(
         (io (I.remaining ends.new.reader.now) (O.contents ends.new.writer.now))
         (world pass.new clock.new) result }
 {
-    let mut incoming = Incoming::new(alloc);
-    let mut outgoing = Outgoing::new(alloc);
-    let mut connection = Connection {
-        service,
+    let mut source = ReadEnd {
+        reader: ends.reader,
+        failed: false,
+    };
+    let mut failed = false;
+    let served = serve_writer(
+        rt,
+        alloc,
+        &*service,
         pass,
         clock,
-        ends,
-        incoming: &mut incoming,
-        outgoing: &mut outgoing,
-    };
-    connection.take_turns(rt, alloc)
+        &mut source,
+        ends.writer,
+        &mut failed,
+    );
+    ends.reader_failed = source.failed;
+    ends.writer_failed = failed;
+    served
 }

@@ -1,33 +1,30 @@
 -- From the spans of a head to the request that stands in the buffer.
-use Rattle.std.proofs.Common.{◌≡◌, ◌⊎◌, ℕ, ◌+◌, ◌-◌, ◌<◌, ◌≤◌, max, Option, Ok, Err, List, ◌++◌, length, take, drop, slice_range, sym, ap, ◌∙◌, subst, arith, inl, inr, length-append, length-drop, take-append-drop}
-use Rattle.std.proofs.lemmas.List.{length-map, length-take, length-take-le, drop-append-le, drop-drop}
-use Rattle.httparse.specs.Grammar.{RequestHead, ReadsRequest}
+use Rattle.std.proofs.Common.{◌≡◌, ◌⊎◌, ℕ, ◌+◌, ◌-◌, ◌<◌, ◌≤◌, max, List, ◌++◌, length, take, drop, slice_range, sym, ap, ◌∙◌, subst, arith, inl, inr, length-append, length-drop, take-append-drop}
+use Rattle.std.proofs.lemmas.List.{length-map, length-take, length-take-le, drop-drop}
+use Rattle.httparse.specs.Grammar.{RequestHead}
 use Rattle.httparse.specs.Spans.{IsRequestAt, IsRequestWithin, AreFieldsAt, header_bytes, name_and_value}
 use Rattle.httparse.specs.declared.spans.HeaderSpan.{HeaderSpan}
 use Rattle.httparse.specs.declared.spans.RequestSpans.{RequestSpans}
-use Rattle.httparse.proofs.GrammarLemmas.{ReadsRequest-append}
 use Rattle.requests.specs.Fields.{fields_of}
 use Rattle.requests.specs.Framings.{framing_of}
 use Rattle.requests.specs.Judging.{SaysHead}
-use Rattle.requests.specs.Streams.{ReadsHead, ReadsMessage, IsCut, IsNext}
+use Rattle.requests.specs.Streams.{ReadsHead, ReadsMessage, IsCut, IsHeld, IsNext, IsUnread, MayGrow, body_length}
 use Rattle.requests.specs.declared.framing.Framing.TheVariants.{Length}
 use Rattle.requests.specs.declared.incoming.Message.{Message}
-use Rattle.requests.specs.declared.incoming.Next.TheVariants.{Whole}
-use Rattle.requests.specs.declared.fault.ServeFault.{ServeFault}
-use Rattle.requests.specs.declared.fault.ServeFault.TheVariants.{Read, Memory, CutShort}
-use Rattle.std.specs.Io.KnownBytes.{IsAtEnd}
+use Rattle.requests.specs.declared.incoming.Next.TheVariants.{Whole, Unfinished}
+use Rattle.requests.proofs.Unique.{head_kept, held}
 
 few_fields : (buffer : List ℕ) (hs : List HeaderSpan) (spans : RequestSpans) (h : RequestHead) → AreFieldsAt buffer hs spans.headers h.fields → length h.fields ≤ length hs
 few_fields buffer hs spans h are =
     let count = sym (length-map h.fields name_and_value) ∙ ap length (sym are) ∙ length-map (take spans.headers hs) (header_bytes buffer) in omega (arith, count, length-take spans.headers hs)
 
--- the head stands at the front, whatever comes after the buffer
-pub reads_head : (buffer more : List ℕ) (hs : List HeaderSpan) (spans : RequestSpans) (h : RequestHead) → IsRequestAt buffer hs spans h → IsRequestWithin buffer hs spans
-    → length hs ≡ 64 → length buffer ≤ 16384 → ReadsHead (buffer ++ more) h (drop spans.len (buffer ++ more))
-reads_head buffer more hs spans h at within room short = record {
-  reads = subst (λ rest. ReadsRequest (buffer ++ more) h rest) (sym (drop-append-le spans.len buffer more within.section.len_fits)) (ReadsRequest-append buffer h (drop spans.len buffer) more at.reads);
+-- the head stands at the front
+reads_head : (buffer : List ℕ) (hs : List HeaderSpan) (spans : RequestSpans) (h : RequestHead) → IsRequestAt buffer hs spans h → IsRequestWithin buffer hs spans
+    → length hs ≡ 64 → spans.len ≤ 16384 → ReadsHead buffer h (drop spans.len buffer)
+reads_head buffer hs spans h at within room short = record {
+  reads = at.reads;
   few = omega (arith, few_fields buffer hs spans h at.fields);
-  short = omega (arith, at.len, within.section.len_fits);
+  short = omega (arith, at.len, short);
 }
 
 -- the body that the head announces is there
@@ -49,33 +46,52 @@ pub cut_in_body : (buffer : List ℕ) (h : RequestHead) (len end : ℕ) → Read
     → IsCut buffer
 cut_in_body buffer h len end reads ordered framing within short = inr (h, drop len buffer, end - len, reads, framing, omega (arith, length-drop len buffer))
 
-module _ (old new bytes : List ℕ) (hs : List HeaderSpan) (spans : RequestSpans) (h : RequestHead) (at : IsRequestAt old hs spans h) (within : IsRequestWithin old hs spans)
-    (room : length hs ≡ 64) (short : length old ≤ 16384) (grown : new ≡ old ++ bytes) where
-  still_head : ReadsHead new h (drop spans.len new)
-  still_head = subst (λ l. ReadsHead l h (drop spans.len l)) (sym grown) (reads_head old bytes hs spans h at within room short)
+le_or_lt : (a b : ℕ) → (a ≤ b) ⊎ (b < a)
+le_or_lt a b = grind arith
 
-  pub next_whole : (left : Option (List ℕ)) (m : Message) → SaysHead h spans.len m → length new ≡ max (length old) m.end → IsNext new left (Ok (Whole m))
-  next_whole left m says long =
-      let framing = says.framing ∙ ap (λ k. Length (m.end - k)) says.start_is in (
-        record { head = h; body = slice_range new spans.len m.end },
-        whole new h spans.len m.end still_head (omega (arith, says.ordered, says.start_is)) framing (omega (arith, long)),
-        record {
-          verdict = says.verdict;
-          closes = says.closes;
-          body = ap (λ k. slice_range new k m.end) says.start_is;
-          ordered = says.ordered;
-          within = omega (arith, long);
-        },
-        omega (arith, length-drop m.end new, long),
-      )
+module _ (buffer : List ℕ) (hs : List HeaderSpan) (spans : RequestSpans) (h : RequestHead) (at : IsRequestAt buffer hs spans h) (within : IsRequestWithin buffer hs spans)
+    (room : length hs ≡ 64) (short : spans.len ≤ 16384) (unread : IsUnread buffer) (m : Message) (says : SaysHead h spans.len m) where
+  head : ReadsHead buffer h (drop spans.len buffer)
+  head = reads_head buffer hs spans h at within room short
 
-  pub next_cut : (m : Message) → SaysHead h spans.len m → length new < m.end → IsCut new
-  next_cut m says short_body =
-      cut_in_body new h spans.len m.end still_head (omega (arith, says.ordered, says.start_is)) (says.framing ∙ ap (λ k. Length (m.end - k)) says.start_is)
-      (omega (arith, within.section.len_fits, ap length grown, length-append old bytes)) short_body
+  framing : framing_of h.method (fields_of h) ≡ Length (m.end - spans.len)
+  framing = says.framing ∙ ap (λ k. Length (m.end - k)) says.start_is
 
--- the body did not come
-pub next_err : (buffer : List ℕ) (left : Option (List ℕ)) (fault : ServeFault) → IsCut buffer → (fault ≡ Read) ⊎ (fault ≡ Memory) ⊎ ((fault ≡ CutShort) × IsAtEnd left) → IsNext buffer left (Err fault)
-next_err buffer left fault cut (inl e) = rw e (inr cut)
-next_err buffer left fault cut (inr (inl e)) = rw e (inr cut)
-next_err buffer left fault cut (inr (inr e)) = rw e.0 (cut, e.1)
+  ordered : spans.len ≤ m.end
+  ordered = omega (arith, says.ordered, says.start_is)
+
+  -- where more is there than a head may have, it is no more than the message
+  at_most : IsHeld buffer → length buffer ≤ m.end
+  at_most held =
+      let few = held.few h (drop spans.len buffer) at.reads in
+      let lengths = ap body_length framing in
+      omega (arith, lengths, few, length-drop spans.len buffer, ordered, within.section.len_fits)
+
+  pub leaves_little : length (drop m.end buffer) ≤ 16384
+  leaves_little = elim (le_or_lt (length buffer) 16384) [ inl few ↦ omega (arith, few, length-drop m.end buffer) | inr many ↦ omega (arith, at_most (unread many), length-drop m.end buffer) ]
+
+  pub next_whole : m.end ≤ length buffer → IsNext buffer (Whole m)
+  next_whole here = (
+    record { head = h; body = slice_range buffer spans.len m.end },
+    whole buffer h spans.len m.end head ordered framing here,
+    record {
+      verdict = says.verdict;
+      closes = says.closes;
+      body = ap (λ k. slice_range buffer k m.end) says.start_is;
+      ordered = says.ordered;
+      within = here;
+    },
+    leaves_little,
+  )
+
+  grows_body : (n : ℕ) → length buffer < m.end → n ≡ max m.end 16384 - length buffer → MayGrow buffer n
+  grows_body n cut most more few long =
+      held (buffer ++ more) h (drop spans.len buffer ++ more) (m.end - spans.len) (head_kept buffer more h (drop spans.len buffer) head) framing
+      (omega (arith, cut, most, few, long, length-append buffer more, length-append (drop spans.len buffer) more, length-drop spans.len buffer, ordered, within.section.len_fits))
+
+  pub next_unfinished : (n : ℕ) → length buffer < m.end → n ≡ max m.end 16384 - length buffer → IsNext buffer (Unfinished n)
+  next_unfinished n cut most = (
+    inr (cut_in_body buffer h spans.len m.end head ordered framing within.section.len_fits cut),
+    omega (arith, cut, most),
+    grows_body n cut most,
+  )

@@ -1,12 +1,12 @@
 -- What stands at the front of bytes is one thing.
-use Rattle.std.proofs.Common.{◌≡◌, ℕ, List, [], ◌∷◌, ◌++◌, length, take, drop, refl, sym, ap, ap₂, ◌∙◌, subst, arith, inl, inr, append_assoc, length-append}
+use Rattle.std.proofs.Common.{◌≡◌, ℕ, List, [], ◌∷◌, ◌++◌, length, take, drop, refl, sym, ap, ap₂, ◌∙◌, subst, arith, inl, inr, append_assoc, append-nil, ◌≤◌, length-append}
 use Rattle.std.proofs.lemmas.List.{take-append-le, take-append-drop}
 use Rattle.std.proofs.Math.Seq.{take-append_seam, drop-append_seam}
 use Rattle.httparse.specs.Grammar.{RequestHead, print_request, ReadsRequest}
 use Rattle.httparse.proofs.GrammarLemmas.{request_unique, ReadsRequest-append}
 use Rattle.requests.specs.Fields.{fields_of}
 use Rattle.requests.specs.Framings.{framing_of}
-use Rattle.requests.specs.Streams.{Request, ReadsHead, ReadsMessage, ReadsRequests, HoldsNone}
+use Rattle.requests.specs.Streams.{Request, ReadsHead, ReadsMessage, ReadsRequests, HoldsNone, IsHeld, body_length}
 use Rattle.requests.specs.Laws.{HaveOneRequest, KeepsRequest, RefusesForGood, HoldsNoneIfCut, HaveOneSplit, GoOn}
 use Rattle.requests.specs.declared.fixed.FixedAnswer.{FixedAnswer}
 use Rattle.requests.specs.declared.framing.Framing.{Framing}
@@ -42,7 +42,7 @@ one_request bytes r s x y first second =
     let (body, rest) = same_parts r.body s.body x y behind lengths in
     (ap₂ (λ h b. let r : Request = record { head = h; body = b } in r) head body, rest)
 
-head_kept : (bytes more : List ℕ) (h : RequestHead) (rest : List ℕ) → ReadsHead bytes h rest → ReadsHead (bytes ++ more) h (rest ++ more)
+pub head_kept : (bytes more : List ℕ) (h : RequestHead) (rest : List ℕ) → ReadsHead bytes h rest → ReadsHead (bytes ++ more) h (rest ++ more)
 head_kept bytes more h rest reads = record { reads = ReadsRequest-append bytes h rest more reads.reads; few = reads.few; short = reads.short }
 
 pub keeps_request : (bytes more : List ℕ) → KeepsRequest bytes more
@@ -85,3 +85,15 @@ one_split bytes (r ∷ rs) (s ∷ ss) x y ((mid, here, more), none) ((other, the
 pub go_on : (bytes : List ℕ) → GoOn bytes
 go_on bytes [] mid r rest before here = (rest, subst (λ l. ReadsMessage l r rest) before here, refl)
 go_on bytes (s ∷ ss) mid r rest (next, first, others) here = (next, first, go_on next ss mid r rest others here)
+
+-- a head and no more than its body
+pub held : (bytes : List ℕ) (h : RequestHead) (behind : List ℕ) (n : ℕ) → ReadsHead bytes h behind → framing_of h.method (fields_of h) ≡ Length n → length behind ≤ n → IsHeld bytes
+held bytes h behind n head framing few = record {
+  some = (λ none. none h behind head.reads);
+  lawful = (λ over. absurd (omega (arith, over [] h behind (subst (λ b. ReadsRequest b h behind) (sym (append-nil bytes)) head.reads), head.few)));
+  short = (λ k rest reads. let (same, _) = request_unique bytes h k behind rest head.reads reads in subst (λ x. length (print_request x) ≤ 16384) same head.short);
+  few = (λ k rest reads.
+      let (same, rests) = request_unique bytes h k behind rest head.reads reads in
+      let lengths = ap (λ x. body_length (framing_of x.method (fields_of x))) (sym same) ∙ ap body_length framing in
+      omega (arith, lengths, ap length rests, few));
+}

@@ -1,19 +1,15 @@
 -- Which request stands at the front of the bytes of a connection, and what else may stand there.
-use Rattle.std.specs.Prelude.{◌≡◌, ◌≢◌, ◌⊎◌, ⊤, ℕ, ◌<◌, ◌≤◌, List, [], ◌∷◌, ◌++◌, length, drop, slice_range, Option, Result, Ok, Err}
-use Rattle.std.specs.Io.KnownBytes.{Consumes, IsAtEnd}
+use Rattle.std.specs.Prelude.{◌≡◌, ◌≢◌, ◌⊎◌, ⊤, ℕ, ◌<◌, ◌≤◌, List, [], ◌∷◌, ◌++◌, length, drop, slice_range, Option}
+use Rattle.std.specs.Io.KnownBytes.{Consumes}
 use Rattle.httparse.specs.Grammar.{RequestHead, print_request, ReadsRequest, HasNoRequest, MayBecomeRequest}
-use Rattle.httparse.specs.Spans.{RequestOverflows, IsRequestOf, IsRequestWithin}
-use Rattle.httparse.specs.declared.spans.HeaderSpan.{HeaderSpan}
+use Rattle.httparse.specs.Spans.{RequestOverflows}
 use Rattle.requests.specs.Fields.{fields_of}
 use Rattle.requests.specs.Framings.{framing_of}
 use Rattle.requests.specs.Verdicts.{IsVerdict, asks_close}
+use Rattle.requests.specs.declared.framing.Framing.{Framing}
 use Rattle.requests.specs.declared.framing.Framing.TheVariants.{Length, Refused}
-use Rattle.requests.specs.declared.fault.ServeFault.{ServeFault}
-use Rattle.requests.specs.declared.fault.ServeFault.TheVariants as Fault
 use Rattle.requests.specs.declared.fixed.FixedAnswer.{FixedAnswer}
 use Rattle.requests.specs.declared.fixed.FixedAnswer.TheVariants.{BadRequest, HeadTooLarge}
-use Rattle.requests.specs.declared.heads.Head.{Head}
-use Rattle.requests.specs.declared.heads.Head.TheVariants as Came
 use Rattle.requests.specs.declared.incoming.Message.{Message}
 use Rattle.requests.specs.declared.incoming.Next.{Next}
 use Rattle.requests.specs.declared.incoming.Next.TheVariants as Is
@@ -72,6 +68,27 @@ BeginsRefused bytes why =
 abbrev pub Grows : Option (List ℕ) → Option (List ℕ) → List ℕ → List ℕ → Type 0
 Grows known left old new = (bytes : List ℕ) × Consumes known left bytes × (new ≡ old ++ bytes)
 
+abbrev pub body_length : Framing → ℕ
+body_length (Length n) = n
+body_length (Refused why) = 0
+
+-- a whole head of lawful length is there, and no more after it than its body: said so that it has one proof at most
+pub record IsHeld (bytes : List ℕ) : Type 0 where
+  pub some : ¬ HasNoRequest bytes
+  pub lawful : ¬ RequestOverflows max_fields bytes
+  pub short : (h : RequestHead) (rest : List ℕ) → ReadsRequest bytes h rest
+      → length (print_request h) ≤ max_head
+  pub few : (h : RequestHead) (rest : List ℕ) → ReadsRequest bytes h rest
+      → length rest ≤ body_length (framing_of h.method (fields_of h))
+
+-- what may stand in the buffer when it is looked at: no more than a head may have, or a head and no more than its body
+abbrev pub IsUnread : List ℕ → Type 0
+IsUnread bytes = max_head < length bytes → IsHeld bytes
+
+-- this many bytes may come before it is looked at
+abbrev pub MayGrow : List ℕ → ℕ → Type 0
+MayGrow bytes n = (more : List ℕ) → length more ≤ n → IsUnread (bytes ++ more)
+
 -- the message is this request, whose text stands at the front of the buffer
 pub record IsMessage (buffer : List ℕ) (r : Request) (m : Message) : Type 0 where
   pub verdict : IsVerdict r.head.method r.head.target (fields_of r.head) m.verdict
@@ -80,39 +97,20 @@ pub record IsMessage (buffer : List ℕ) (r : Request) (m : Message) : Type 0 wh
   pub ordered : m.start ≤ m.end
   pub within : m.end ≤ length buffer
 
--- what an answer says of the bytes that the buffer then has, where left is what the reader may still give
-abbrev pub IsNext : List ℕ → Option (List ℕ) → Result Next ServeFault → Type 0
-IsNext buffer left (Ok (Is.Whole m)) =
-    (r : Request) × ReadsMessage buffer r (drop m.end buffer) × IsMessage buffer r m
-    × (length (drop m.end buffer) ≤ max_head)
-IsNext buffer left (Ok (Is.Refused why)) = BeginsRefused buffer why
-IsNext buffer left (Ok Is.Ended) = (buffer ≡ []) × IsAtEnd left
-IsNext buffer left (Err Fault.CutShort) = IsCut buffer × IsAtEnd left
-IsNext buffer left (Err Fault.Read) = (buffer ≡ []) ⊎ IsCut buffer
-IsNext buffer left (Err Fault.Memory) = (buffer ≡ []) ⊎ IsCut buffer
-IsNext buffer left (Err Fault.Write) = ⊥
+-- what is found at the front of the bytes that have come
+abbrev pub IsNext : List ℕ → Next → Type 0
+IsNext bytes (Is.Whole m) =
+    (r : Request) × ReadsMessage bytes r (drop m.end bytes) × IsMessage bytes r m
+    × (length (drop m.end bytes) ≤ max_head)
+IsNext bytes (Is.Refused why) = BeginsRefused bytes why
+IsNext bytes (Is.Unfinished n) = ((bytes ≡ []) ⊎ IsCut bytes) × (0 < n) × MayGrow bytes n
 
 -- a whole request lies in the buffer, and little after it; what `body`, `finish` and the next `next` ask for
-abbrev pub Fits : List ℕ → Result Next ServeFault → Type 0
-Fits buffer (Ok (Is.Whole m)) = (m.start ≤ m.end) × (m.end ≤ length buffer)
-    × (length (drop m.end buffer) ≤ max_head)
-Fits buffer (Ok (Is.Refused why)) = ⊤
-Fits buffer (Ok Is.Ended) = ⊤
-Fits buffer (Err fault) = ⊤
-
--- for private clauses: what reading a head says of the bytes that the buffer then has
-abbrev pub StopsAt : List ℕ → Option (List ℕ) → List HeaderSpan → Result Head ServeFault → Type 0
-StopsAt buffer left headers (Ok (Came.Whole spans)) = IsRequestOf buffer headers spans
-    × IsRequestWithin buffer headers spans
-StopsAt buffer left headers (Ok Came.Refused) = RequestOverflows max_fields buffer
-StopsAt buffer left headers (Ok Came.TooLarge) = (length buffer ≡ max_head) × IsUnfinished buffer
-StopsAt buffer left headers (Ok Came.Ended) = (buffer ≡ []) × IsAtEnd left
-StopsAt buffer left headers (Err Fault.CutShort) = (buffer ≢ []) × (length buffer < max_head)
-    × IsUnfinished buffer
-    × IsAtEnd left
-StopsAt buffer left headers (Err Fault.Read) = (length buffer < max_head) × IsUnfinished buffer
-StopsAt buffer left headers (Err Fault.Memory) = (length buffer < max_head) × IsUnfinished buffer
-StopsAt buffer left headers (Err Fault.Write) = ⊥
+abbrev pub Fits : List ℕ → Next → Type 0
+Fits bytes (Is.Whole m) = (m.start ≤ m.end) × (m.end ≤ length bytes)
+    × (length (drop m.end bytes) ≤ max_head)
+Fits bytes (Is.Refused why) = ⊤
+Fits bytes (Is.Unfinished n) = ⊤
 
 -- the bytes are these requests, one after another, and then rest
 abbrev pub ReadsRequests : List ℕ → List Request → List ℕ → Type 0

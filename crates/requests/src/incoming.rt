@@ -1,20 +1,27 @@
-//! The bytes of a connection, as requests.
-ghost use Rattle.std.specs.Prelude.{◌≡◌, ◌≤◌, [], length, drop, slice_range, vec_len, All, take};
+//! The bytes that have come of a connection, as requests.
+ghost use Rattle.std.specs.Prelude.{◌≡◌, ◌⊎◌, ◌<◌, ◌≤◌, ◌++◌, [], length, drop, slice_range, All, take, IfOk, OnOk, OnErr, IfErr};
+ghost use Rattle.std.specs.Io.KnownBytes.{IsAtEnd};
 ghost use Rattle.httparse.specs.Grammar.{RequestHead};
 ghost use Rattle.httparse.specs.Spans.{IsRequestAt, IsRequestOf, IsRequestWithin};
 ghost use Rattle.requests.specs.Judging.{IsJudged};
-ghost use Rattle.requests.specs.Streams.{Grows, IsNext, Fits};
+ghost use Rattle.requests.specs.Streams.{Grows, IsNext, Fits, IsHeld, IsUnfinished, IsUnread, MayGrow};
 
 use crate::fault::ServeFault;
 use crate::fixed::FixedAnswer;
 use crate::framing::{Framing, framing_of};
-use crate::heads::{Head, MAX_FIELDS, MAX_HEAD, read_head};
-use crate::reading::fill_to;
+use crate::reading::{CHUNK, fill};
 use crate::verdict::{Verdict, asks_close, verdict_of};
-use httparse::spans::{EMPTY_HEADER_SPAN, HeaderSpan, RequestSpans};
+use httparse::Status;
+use httparse::spans::{EMPTY_HEADER_SPAN, HeaderSpan, RequestSpans, parse_request};
 use std::alloc::Global;
 use std::io::Read;
 use std::marker::Model;
+
+/// The longest head, in bytes: this project's profile.
+pub const MAX_HEAD: usize = 16_384;
+
+/// The most fields of a head: this project's profile.
+pub const MAX_FIELDS: usize = 64;
 
 /// A whole request at the front of the buffer.
 #[derive(Drop)]
@@ -29,15 +36,16 @@ pub struct Message {
     pub end: usize,
 }
 
-/// What is at the front of a connection's bytes.
+/// What is at the front of the bytes that have come.
 #[derive(Drop)]
 pub enum Next {
     /// A whole request.
     Whole(Message),
     /// A request that is refused before its body is read, by an answer that closes.
     Refused(FixedAnswer),
-    /// Nothing: the stream ended.
-    Ended,
+    /// Nothing, or a request that has not come whole. At most this many bytes may be taken in before the next look, at
+    /// least one.
+    Unfinished(usize),
 }
 
 /// What a head says of its request.
@@ -48,7 +56,7 @@ fn judge(
     spans: RequestSpans,
 ) -> Result<Message, FixedAnswer>
     requires within { IsRequestWithin bytes.now fields.now spans }
-    requires short { length bytes.now ≤ MAX_HEAD }
+    requires short { spans.len ≤ MAX_HEAD }
     ensures { (h : RequestHead) → IsRequestAt bytes.now fields.now spans h
         → IsJudged h spans.len result }
 {
@@ -65,35 +73,77 @@ fn judge(
     }
 }
 
-/// Reads the body of the request whose head is at the front of the buffer.
-fn read_message<R: Read>(
-    alloc: Global,
-    buffer: &mut Vec<u8>,
-    reader: &mut R,
-    fields: &[HeaderSpan],
-    spans: RequestSpans,
-) -> Result<Next, ServeFault>
-    requires head { IsRequestOf buffer.old.items fields.now spans }
-    requires within { IsRequestWithin buffer.old.items fields.now spans }
+/// The request whose head is at the front of the bytes.
+fn request_of(alloc: Global, bytes: &[u8], fields: &[HeaderSpan], spans: RequestSpans) -> Next
+    requires head { IsRequestOf bytes.now fields.now spans }
+    requires within { IsRequestWithin bytes.now fields.now spans }
     requires room { length fields.now ≡ MAX_FIELDS }
-    requires short { vec_len buffer.old ≤ MAX_HEAD }
-    ensures grows { Grows (R.remaining reader.old)
-        (R.remaining reader.new) buffer.old.items buffer.new.items }
-    ensures next { IsNext buffer.new.items (R.remaining reader.new) result }
-    ensures fits { Fits buffer.new.items result }
+    requires short { spans.len ≤ MAX_HEAD }
+    requires unread { IsUnread bytes.now }
+    ensures next { IsNext bytes.now result }
+    ensures fits { Fits bytes.now result }
 {
-    let message = match judge(alloc, buffer.as_slice(), fields, spans) {
+    let message = match judge(alloc, bytes, fields, spans) {
         Ok(message) => message,
-        Err(why) => return Ok(Next::Refused(why)),
+        Err(why) => return Next::Refused(why),
     };
-    match fill_to(buffer, reader, message.end) {
-        Ok(()) => Ok(Next::Whole(message)),
-        Err(fault) => Err(fault),
+    let length = bytes.len();
+    if length < message.end {
+        return Next::Unfinished(message.end.max(MAX_HEAD) - length);
+    }
+    Next::Whole(message)
+}
+
+/// The head that is at the front of the bytes, which is whole.
+fn head_of(bytes: &[u8], fields: &mut [HeaderSpan]) -> RequestSpans
+    requires held { IsHeld bytes.now }
+    requires room { length fields.old ≡ MAX_FIELDS }
+    ensures head { IsRequestOf bytes.now fields.new result }
+    ensures within { IsRequestWithin bytes.now fields.new result }
+    ensures room { length fields.new ≡ MAX_FIELDS }
+    ensures short { result.len ≤ MAX_HEAD }
+{
+    match parse_request(bytes, fields) {
+        Ok(Status::Complete(spans)) => spans,
+        Ok(Status::Partial) => unreachable!(),
+        Err(_) => unreachable!(),
     }
 }
 
-/// What was read of a connection and is not yet answered. It keeps its memory from request to request. Contracts see
-/// the bytes.
+/// What is at the front of bytes of which no head is whole yet.
+fn begun(bytes: &[u8]) -> Next
+    requires few { length bytes.now ≤ MAX_HEAD }
+    requires unfinished { IsUnfinished bytes.now }
+    ensures next { IsNext bytes.now result }
+    ensures fits { Fits bytes.now result }
+{
+    let length = bytes.len();
+    if length == MAX_HEAD {
+        return Next::Refused(FixedAnswer::HeadTooLarge);
+    }
+    Next::Unfinished(MAX_HEAD - length)
+}
+
+/// What is at the front of these bytes.
+fn next_of(alloc: Global, bytes: &[u8]) -> Next
+    requires { IsUnread bytes.now }
+    ensures next { IsNext bytes.now result }
+    ensures fits { Fits bytes.now result }
+{
+    let mut fields = [EMPTY_HEADER_SPAN; MAX_FIELDS];
+    if bytes.len() > MAX_HEAD {
+        let spans = head_of(bytes, &mut fields);
+        return request_of(alloc, bytes, &fields, spans);
+    }
+    match parse_request(bytes, &mut fields) {
+        Ok(Status::Complete(spans)) => request_of(alloc, bytes, &fields, spans),
+        Ok(Status::Partial) => begun(bytes),
+        Err(_) => Next::Refused(FixedAnswer::BadRequest),
+    }
+}
+
+/// The bytes that have come of a connection and are not yet answered. It keeps its memory from request to request.
+/// Contracts see the bytes.
 #[derive(Drop)]
 pub struct Incoming {
     buffer: Vec<u8>,
@@ -117,27 +167,53 @@ impl Incoming {
         }
     }
 
-    /// Reads until a whole request is at the front, or none can be. A body of 4 MiB takes one buffer of that size, and
-    /// is read straight into it.
+    /// How many bytes have come and are not yet answered.
+    pub fn len(&self) -> usize
+        ensures { result ≡ length self.now }
+    {
+        self.buffer.len()
+    }
+
+    /// Takes in bytes that have come, after those that are there.
     ///
     /// # Errors
     ///
-    /// `CutShort` where the stream ends inside a request, `Read` where the reader fails, `Memory`. In each case no
-    /// whole request has come.
-    pub fn next<R: Read>(&mut self, alloc: Global, reader: &mut R) -> Result<Next, ServeFault>
-        requires { length self.old ≤ MAX_HEAD }
-        ensures grows { Grows (R.remaining reader.old) (R.remaining reader.new) self.old self.new }
-        ensures next { IsNext self.new (R.remaining reader.new) result }
-        ensures fits { Fits self.new result }
+    /// `Memory`: nothing was taken in.
+    pub fn take_in(&mut self, bytes: &[u8]) -> Result<(), ServeFault>
+        ensures ok { OnOk result (self.new ≡ self.old ++ bytes.now) }
+        ensures err { OnErr result (self.new ≡ self.old) }
+        ensures cause { IfErr result (λ e. e ≡ ServeFault.Memory) }
     {
-        let mut fields = [EMPTY_HEADER_SPAN; MAX_FIELDS];
-        match read_head(&mut self.buffer, reader, &mut fields) {
-            Ok(Head::Whole(spans)) => read_message(alloc, &mut self.buffer, reader, &fields, spans),
-            Ok(Head::Refused) => Ok(Next::Refused(FixedAnswer::BadRequest)),
-            Ok(Head::TooLarge) => Ok(Next::Refused(FixedAnswer::HeadTooLarge)),
-            Ok(Head::Ended) => Ok(Next::Ended),
-            Err(fault) => Err(fault),
-        }
+        self.buffer.extend_from_slice(bytes)?;
+        Ok(())
+    }
+
+    /// Takes in what one read gives, of at most this many bytes. Returns how many came: none only at the end of the
+    /// stream. It grows by what comes, and not by what is announced.
+    ///
+    /// # Errors
+    ///
+    /// `Read` where the reader fails, `Memory`. In both cases nothing was read.
+    pub fn fill<R: Read>(&mut self, reader: &mut R, most: usize) -> Result<usize, ServeFault>
+        requires some { 0 < most }
+        requires room { MayGrow self.old most }
+        ensures grows { Grows (R.remaining reader.old) (R.remaining reader.new) self.old self.new }
+        ensures unread { IsUnread self.new }
+        ensures none { IfOk result (λ n. n ≡ 0 → IsAtEnd (R.remaining reader.new)
+            × (self.new ≡ self.old)) }
+        ensures err { OnErr result (self.new ≡ self.old) }
+        ensures cause { IfErr result (λ e. (e ≡ ServeFault.Read) ⊎ (e ≡ ServeFault.Memory)) }
+    {
+        fill(&mut self.buffer, reader, most.min(CHUNK))
+    }
+
+    /// What is at the front of what has come.
+    pub fn next(&self, alloc: Global) -> Next
+        requires { IsUnread self.now }
+        ensures next { IsNext self.now result }
+        ensures fits { Fits self.now result }
+    {
+        next_of(alloc, self.buffer.as_slice())
     }
 
     /// The body of a request that is at the front.

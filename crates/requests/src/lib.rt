@@ -6,12 +6,12 @@
 #![tactic(auto)]
 
 mod answer;
+mod answers;
 mod failure;
 mod fault;
 mod fields;
 mod fixed;
 mod framing;
-mod heads;
 mod incoming;
 mod laws;
 mod outgoing;
@@ -22,12 +22,12 @@ mod verdict;
 mod writing;
 
 pub use answer::{Answer, Content};
-pub use failure::{Failure, write_failure};
+pub use answers::{Answers, Sent};
+pub use failure::Failure;
 pub use fault::{ServeFault, Served};
 pub use fixed::{FixedAnswer, Method};
 pub use framing::MAX_BODY;
-pub use heads::{MAX_FIELDS, MAX_HEAD};
-pub use incoming::{Incoming, Message, Next};
+pub use incoming::{Incoming, MAX_FIELDS, MAX_HEAD, Message, Next};
 pub use laws::{one_request, one_split};
 pub use outgoing::Outgoing;
 pub use route::Route;

@@ -1,15 +1,14 @@
 //! Answers as bytes.
-ghost use Rattle.std.specs.Prelude.{◌≡◌, ◌++◌, length, decimal, None, OnOk};
+ghost use Rattle.std.specs.Prelude.{◌≡◌, ◌++◌, length, decimal, None, OnOk, IfErr};
 ghost use Rattle.requests.specs.Answers.{status_line, type_line, length_line, allow_line, last_lines, answer_text, fixed_text};
-ghost use Rattle.requests.specs.Writing.{WritesBeginning};
 
 use crate::answer::{Answer, Content};
 use crate::fault::ServeFault;
 use crate::fixed::{FixedAnswer, Method};
 use crate::status::Status;
-use crate::writing::write_text;
 use std::alloc::{AllocError, Global};
 use std::io::Write;
+use std::marker::Model;
 
 fn push_number(text: &mut Vec<u8>, number: u64) -> Result<(), AllocError>
     ensures { OnOk result (text.new.items ≡ text.old.items ++ decimal number) }
@@ -91,10 +90,19 @@ fn push_answer(
     text.extend_from_slice(body)
 }
 
-/// Where answers are put together, so that each is sent in one write. It keeps its memory from answer to answer.
+/// Where an answer is put together, so that it is sent in one write. It keeps its memory from answer to answer.
+/// Contracts see its text.
 #[derive(Drop)]
 pub struct Outgoing {
     text: Vec<u8>,
+}
+
+impl Model for Outgoing {
+    ghost use Rattle.std.specs.Prelude.{List, ℕ};
+
+    ghost Value = { List ℕ };
+
+    ghost view = { λ o. o.text.items };
 }
 
 impl Outgoing {
@@ -105,20 +113,27 @@ impl Outgoing {
         }
     }
 
-    /// Writes an answer: its head and its body, or with status 204 its head alone.
+    /// The text that was put together last.
+    pub fn text(&self) -> &[u8]
+        ensures { result.now ≡ self.now }
+    {
+        self.text.as_slice()
+    }
+
+    /// Puts an answer together: its head and its body, or with status 204 its head alone.
     ///
     /// # Errors
     ///
-    /// `Write`: a beginning of the text was written. `Memory`: nothing was written.
-    pub fn answer<W: Write>(
+    /// `Memory`.
+    pub fn answer(
         &mut self,
-        writer: &mut W,
         answer: &Answer,
         content: Content,
         closes: bool,
     ) -> Result<(), ServeFault>
-        ensures { WritesBeginning (W.contents writer.old) (W.contents writer.new)
-            (answer_text answer.now.status content None closes answer.now.body.items) result }
+        ensures text { OnOk result (self.new
+            ≡ answer_text answer.now.status content None closes answer.now.body.items) }
+        ensures fault { IfErr result (λ e. e ≡ ServeFault.Memory) }
     {
         self.text.clear();
         push_answer(
@@ -129,22 +144,17 @@ impl Outgoing {
             closes,
             answer.body.as_slice(),
         )?;
-        write_text(writer, self.text.as_slice())
+        Ok(())
     }
 
-    /// Writes a fixed answer, to a request that asks that the connection ends or to one that does not.
+    /// Puts a fixed answer together, to a request that asks that the connection ends or to one that does not.
     ///
     /// # Errors
     ///
-    /// As `answer`.
-    pub fn fixed<W: Write>(
-        &mut self,
-        writer: &mut W,
-        answer: FixedAnswer,
-        closes: bool,
-    ) -> Result<(), ServeFault>
-        ensures { WritesBeginning (W.contents writer.old) (W.contents writer.new)
-            (fixed_text answer closes) result }
+    /// `Memory`.
+    pub fn fixed(&mut self, answer: FixedAnswer, closes: bool) -> Result<(), ServeFault>
+        ensures text { OnOk result (self.new ≡ fixed_text answer closes) }
+        ensures fault { IfErr result (λ e. e ≡ ServeFault.Memory) }
     {
         self.text.clear();
         push_answer(
@@ -155,6 +165,6 @@ impl Outgoing {
             answer.always_closes() || closes,
             answer.body(),
         )?;
-        write_text(writer, self.text.as_slice())
+        Ok(())
     }
 }

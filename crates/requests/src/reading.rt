@@ -1,5 +1,5 @@
 //! Bytes from a reader into the buffer.
-ghost use Rattle.std.specs.Prelude.{◌≡◌, ◌⊎◌, ◌+◌, ◌<◌, ◌≤◌, length, max, take, vec_len, IfOk, OnOk, OnErr, IfErr};
+ghost use Rattle.std.specs.Prelude.{◌≡◌, ◌⊎◌, ◌+◌, ◌<◌, ◌≤◌, vec_len, IfOk, OnErr, IfErr};
 ghost use Rattle.std.specs.Io.{ReadsAtMost};
 ghost use Rattle.std.specs.Io.KnownBytes.{IsAtEnd, ReadConsumes};
 ghost use Rattle.requests.specs.Streams.{Grows};
@@ -7,8 +7,8 @@ ghost use Rattle.requests.specs.Streams.{Grows};
 use crate::fault::ServeFault;
 use std::io::{ErrorKind, Read};
 
-/// The most bytes that are read at once while a head is read.
-pub(crate) const CHUNK: usize = 4_096;
+/// The most bytes that are read at once.
+pub(crate) const CHUNK: usize = 16_384;
 
 /// One read, tried again where it is interrupted.
 fn read_some<R: Read>(reader: &mut R, space: &mut [u8]) -> Result<usize, ServeFault>
@@ -50,53 +50,4 @@ pub(crate) fn fill<R: Read>(
     let count = read_some(reader, &mut chunk[..most])?;
     buffer.extend_from_slice(&chunk[..count])?;
     Ok(count)
-}
-
-/// Fills the space from this place to its end. Returns how far it came.
-fn fill_rest<R: Read>(
-    reader: &mut R,
-    space: &mut [u8],
-    from: usize,
-) -> (usize, Result<(), ServeFault>)
-    requires { from ≤ length space.old }
-    ensures within { result.0 ≤ length space.new }
-    ensures grows { Grows (R.remaining reader.old) (R.remaining reader.new) (take from space.old)
-        (take result.0 space.new) }
-    ensures ok { OnOk result.1 (result.0 ≡ length space.new) }
-    ensures err { OnErr result.1 (result.0 < length space.new) }
-    ensures cause { IfErr result.1 (λ e. (e ≡ ServeFault.Read)
-        ⊎ ((e ≡ ServeFault.CutShort) × IsAtEnd (R.remaining reader.new))) }
-{
-    let mut at = from;
-    while at < space.len() {
-        match read_some(reader, &mut space[at..]) {
-            Ok(0) => return (at, Err(ServeFault::CutShort)),
-            Ok(count) => at += count,
-            Err(fault) => return (at, Err(fault)),
-        }
-    }
-    (at, Ok(()))
-}
-
-/// Reads straight into the buffer until it has this many bytes.
-pub(crate) fn fill_to<R: Read>(
-    buffer: &mut Vec<u8>,
-    reader: &mut R,
-    end: usize,
-) -> Result<(), ServeFault>
-    ensures grows { Grows (R.remaining reader.old)
-        (R.remaining reader.new) buffer.old.items buffer.new.items }
-    ensures ok { OnOk result (vec_len buffer.new ≡ max (vec_len buffer.old) end) }
-    ensures err { OnErr result (vec_len buffer.new < end) }
-    ensures cause { IfErr result (λ e. (e ≡ ServeFault.Read) ⊎ (e ≡ ServeFault.Memory)
-        ⊎ ((e ≡ ServeFault.CutShort) × IsAtEnd (R.remaining reader.new))) }
-{
-    let from = buffer.len();
-    if end <= from {
-        return Ok(());
-    }
-    buffer.resize(end, 0)?;
-    let (filled, result) = fill_rest(reader, buffer.as_mut_slice(), from);
-    buffer.truncate(filled);
-    result
 }

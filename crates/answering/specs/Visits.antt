@@ -1,0 +1,53 @@
+-- What a visit of a connection says: some of the requests that have come are answered and it is kept, or it ends.
+use Rattle.std.specs.Prelude.{ℕ, ◌<◌, List, Option, None, Result, Ok, Err}
+use Rattle.std.specs.List.{flat_map}
+use Rattle.std.specs.Io.KnownBytes.{Appends}
+use Rattle.requests.specs.Streams.{IsUnread, MayGrow}
+use Rattle.requests.specs.Writing.{Dues, Follows}
+use Rattle.requests.specs.declared.fault.ServeFault.{ServeFault}
+use Rattle.requests.specs.declared.fault.ServeFault.TheVariants as faults
+use Rattle.requests.specs.declared.fault.Served.{Served}
+use Rattle.requests.specs.declared.fault.Served.TheVariants as served
+use Rattle.answering.specs.Calls.{Giving}
+use Rattle.answering.specs.Serving.{Exchange, World, response, IsUnbegun, ConnectionGives, ConnectionIsAnswered}
+use Rattle.answering.specs.declared.visiting.Visited.{Visited}
+use Rattle.answering.specs.declared.visiting.Visited.TheVariants as visited
+
+-- what may stand there at the next visit: no more than is left; or this many bytes more
+abbrev pub LeavesRoom : Visited → List ℕ → Type 0
+LeavesRoom visited.More rest = IsUnread rest
+LeavesRoom (visited.Unfinished n) rest = (0 < n) × MayGrow rest n
+LeavesRoom visited.Closed rest = Unit {0}
+
+module _ {H C : Type 0} (gives : Giving H) (ticks : C → ℕ → C → Type 0) where
+  -- of these bytes some requests were answered, none of which closes, and this is left
+  pub record GoesOn (due due' : Dues H) (before after : Option (List ℕ)) (bytes : List ℕ)
+      (w : World H C) (rest : List ℕ) (w' : World H C) : Type 0 where
+    pub exchanges : List Exchange
+    pub appends : Appends before after (flat_map response exchanges)
+    pub serves : ConnectionGives gives ticks bytes w exchanges rest w'
+    pub follows : Follows due (flat_map response exchanges) due'
+
+  -- the connection of these bytes was served to its end
+  pub record IsOver (before after : Option (List ℕ)) (bytes : List ℕ) (left : Option (List ℕ))
+      (w w' : World H C) (result : Result Served ServeFault) : Type 0 where
+    pub text : List ℕ
+    pub appends : Appends before after text
+    pub served : ConnectionIsAnswered gives ticks bytes left w text w' result
+
+  -- a visit in which these bytes were there, and nothing was read
+  abbrev pub IsVisit : Dues H → Dues H → Option (List ℕ) → Option (List ℕ) → List ℕ → World H C
+      → List ℕ → World H C
+      → Result Visited ServeFault → Type 0
+  IsVisit due due' before after bytes w rest w' (Ok visited.More) =
+      GoesOn due due' before after bytes w rest w'
+  IsVisit due due' before after bytes w rest w' (Ok (visited.Unfinished n)) =
+      GoesOn due due' before after bytes w rest w' × IsUnbegun rest
+  IsVisit due due' before after bytes w rest w' (Ok visited.Closed) =
+      IsOver before after bytes None w w' (Ok served.Closed)
+  IsVisit due due' before after bytes w rest w' (Err faults.Write) =
+      IsOver before after bytes None w w' (Err faults.Write)
+  IsVisit due due' before after bytes w rest w' (Err faults.Memory) =
+      IsOver before after bytes None w w' (Err faults.Memory)
+  IsVisit due due' before after bytes w rest w' (Err faults.Read) = ⊥
+  IsVisit due due' before after bytes w rest w' (Err faults.CutShort) = ⊥

@@ -1,0 +1,72 @@
+//! Where answers are put.
+ghost use Rattle.std.specs.Prelude.{◌≡◌, IfErr, OnOk};
+ghost use Rattle.requests.specs.Writing.{WritesBeginning, Follows};
+
+use crate::fault::ServeFault;
+use crate::writing::write_text;
+use std::io::Write;
+use std::marker::PhantomData;
+
+/// Where answers are put: a writer, or a text that will be sent. What may be put there is a matter of what is known of
+/// the calls at that moment, so code that is generic over this trait puts nothing there without a proof that it is due.
+pub trait Answers {
+    /// What is known of the calls: the pass by which they are made, as it is lent with each text.
+    type Knows;
+
+    ghost use Rattle.std.specs.Prelude.{ℕ, List, Option};
+
+    /// What it has taken, where that can be told.
+    ghost contents: { Self → Option (List ℕ) };
+
+    /// The reference that it goes through, where there is one.
+    ghost through: { Self → ℕ };
+
+    /// With this known of the calls, this text may be put there next.
+    ghost due: { Self → Self.Knows → List ℕ → Type 0 };
+
+    /// Puts a text there that is due.
+    ///
+    /// # Errors
+    ///
+    /// `Write`: a beginning of it was taken.
+    fn say(&mut self, knows: &Self::Knows, text: &[u8]) -> Result<(), ServeFault>
+        requires due { due self.old knows.now text.now }
+        ensures same { through self.new ≡ through self.old }
+        ensures writes { WritesBeginning (contents self.old) (contents self.new) text.now result }
+        ensures fault { IfErr result (λ e. e ≡ ServeFault.Write) }
+        ensures follows { OnOk result (Follows (due self.old) text.now (due self.new)) };
+}
+
+/// A writer, to which any text may be sent at any time. `P` is what is known of the calls.
+#[derive(Drop)]
+pub struct Sent<'a, O, P> {
+    writer: &'a mut O,
+    of: PhantomData<P>,
+}
+
+impl<'a, O, P> Sent<'a, O, P> {
+    /// Sends to this writer.
+    pub fn new(writer: &'a mut O) -> Sent<'a, O, P>
+        ensures writer { (result.writer.ghost_name ≡ writer.entry.ghost_name)
+            × (result.writer.now ≡ writer.old) }
+    {
+        Sent {
+            writer,
+            of: PhantomData,
+        }
+    }
+}
+
+impl<'a, O: Write, P> Answers for Sent<'a, O, P> {
+    type Knows = P;
+
+    ghost contents = { λ sent. O.contents sent.writer.now };
+
+    ghost through = { λ sent. sent.writer.ghost_name };
+
+    ghost due = { λ _ _ _. Unit {0} };
+
+    fn say(&mut self, _knows: &P, text: &[u8]) -> Result<(), ServeFault> {
+        write_text(self.writer, text)
+    }
+}
