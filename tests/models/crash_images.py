@@ -1,4 +1,4 @@
-"""What a loss of power may leave of slots, by the disk model (docs/DEFINITIONS.md): from the notes of record_calls.c.
+"""What a loss of power may leave of slots, by the disk model (docs/DEFINITIONS.md): from the notes of preload.c.
 
 Between two syncs that answered well, each written range and all past the length at the first may hold any bytes, and the
 length is any from that one to the greatest since. A write that failed counts as written. A sync that failed changes nothing.

@@ -42,10 +42,10 @@ def need(is_so, what):
         hold(is_so, what)
 
 
-def build_library(folder, name):
-    """The library of tests/server/NAME.c, to be preloaded."""
-    path = f"{folder}/{name}.so"
-    subprocess.run(["cc", "-shared", "-fPIC", "-O1", "-o", path, f"{TOP}/tests/server/{name}.c", "-ldl", "-lpthread"], check=True)
+def build_library(folder, name="preload"):
+    """The library of preload.c, which is preloaded. Two names are two libraries."""
+    path, source = f"{folder}/{name}.so", f"{TOP}/tests/server/preload.c"
+    subprocess.run(["cc", "-shared", "-fPIC", "-O1", "-o", path, source, "-ldl", "-lpthread"], check=True)
     return path
 
 
@@ -72,7 +72,7 @@ def breaking_library():
 
 
 def broken(settings):
-    """The settings of a server, which is broken where this run's environment has variables of break_server.c."""
+    """The settings of a server, which is broken where this run's environment has variables of preload.c."""
     ways = {name: value for name, value in os.environ.items() if name.startswith("BREAK_")}
     if not ways:
         return settings

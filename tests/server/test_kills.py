@@ -1,25 +1,16 @@
-#!/usr/bin/env python3
-"""kill_in_the_middle [CYCLES]: kills a server by SIGKILL over and over, in the middle of pushes, reads and trims.
-
-All cycles (3 where none are given) run over one folder. In each the server is started, every stream is read back, eight
-clients push, read and trim over a connection each, and after a moment drawn at random the server is killed. What is read back
-has to be what was answered, each line once and in its order, and of each client at most the one call that was under
-way. One push in six has lines of 200,000 bytes, so that logs roll too. Ends with 1 on a line that is lost,
-doubled or invented, on an answer that isn't the one due, and where nothing was answered.
-"""
+"""Kills of a server under load: no line that was answered is lost, doubled or invented."""
 import os
 import random
-import sys
 import tempfile
 import threading
 import time
 
-sys.dont_write_bytecode = True
-sys.path.append(f"{sys.path[0]}/../models")
+import pytest
 import servers
 from segments import generation_of
 
 SHARDS, CLIENTS = 4, 8
+CYCLES = int(os.environ.get("CYCLES", 5))
 MINUTE = 60 * 10**9
 # (from one push of a stream to the next; a trim is refused within the last hour of its stream)
 STEP = 15 * MINUTE
@@ -127,7 +118,7 @@ class Client:
 def cycle(folder, clients, moment):
     """Returns what was wrong between a start and a kill."""
     found, stops = [], threading.Event()
-    with servers.Server(folder, SHARDS, CLIENTS, dict(os.environ), stderr=None) as server:
+    with servers.Server(folder, SHARDS, CLIENTS) as server:
         for client in clients:
             client.connection = servers.Client(server.port, "kill")
             client.check()
@@ -146,28 +137,34 @@ def generation(folder, shard):
     return max(generation_of(servers.bytes_of(f"{folder}/shard-{shard:02}-{slot}.wal", 21)) for slot in range(2))
 
 
-def main():
-    cycles = int(sys.argv[1]) if len(sys.argv) > 1 else 3
-    clients = [Client(number) for number in range(CLIENTS)]
-    seed = random.randrange(2**32)
-    moments, wrong = random.Random(seed), []
+def test_kills_under_load():
+    """Eight clients push, read and trim over a connection each while the server is killed, CYCLES times (5). What is read
+    back is what was answered, each line once and in its order, and of each client at most the one call under way."""
+    clients, seed = [Client(number) for number in range(CLIENTS)], random.randrange(2**32)
+    moments = random.Random(seed)
     with tempfile.TemporaryDirectory(prefix="needleazure-kill-", dir=os.environ.get("KILL_DIR")) as folder:
-        for number in range(cycles):
-            try:
-                wrong += cycle(folder, clients, moments.uniform(0.02, 1.0))
-            except (Wrong, OSError, servers.NotStarted) as error:
-                wrong.append(str(error) or repr(error))
-            if wrong:
-                print(f"cycle {number + 1}:", *wrong, sep="\n  ")
-                break
-        else:
-            number = cycles
-        rolls = sum(max(generation(folder, shard) - 1, 0) for shard in range(SHARDS)) if not wrong else 0
+        for _ in range(CYCLES):
+            assert cycle(folder, clients, moments.uniform(0.02, 1.0)) == []
+        rolls = sum(max(generation(folder, shard) - 1, 0) for shard in range(SHARDS))
     counts = {name: sum(it.counts[name] for it in clients) for name in clients[0].counts}
-    said = ", ".join(f"{count} {name}" for name, count in counts.items())
-    print(f"{number} kills (seed {seed}), {rolls} rolls, answered and in doubt: {said}; {len(wrong)} wrong")
-    return 0 if not wrong and counts["pushes"] else 1
+    print(f"{CYCLES} kills (seed {seed}), {rolls} rolls:", ", ".join(f"{count} {name}" for name, count in counts.items()))
+    assert counts["pushes"] > 0
 
 
-if __name__ == "__main__":
-    sys.exit(main())
+@pytest.mark.parametrize("moment", [None, 0.1, 0.3, 0.6])
+def test_kill_in_a_push_of_3_mb(serve, preload, folder, moment):
+    """Each write and sync takes 0.1 s, and the server is killed at its answer, or at a moment before. Lines that were
+    answered are there, and of each stream all lines or none."""
+    now, streams = time.time_ns(), [{"a": str(it)} for it in range(4)]
+    lines = [(now + at, f"{at} ".ljust(250_000, "x"), ()) for at in range(3)]
+    server = serve("log", 4, settings={"LD_PRELOAD": preload, "RECORD_UNDER": folder, "RECORD_SLOW": "100000"})
+    with servers.Client(server.port) as client:
+        client.send(servers.PUSH, servers.push_body([(it, lines) for it in streams]))
+        if moment is None:
+            assert client.answer() == (204, b"")
+        else:
+            time.sleep(moment)
+        server.end()
+    with servers.Client(serve("log", 4).port) as client:
+        found = client.read_all(streams)
+    assert all(it in ([lines] if moment is None else [lines, []]) for it in found)
