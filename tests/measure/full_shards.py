@@ -4,13 +4,10 @@ import mmap
 import os
 import random
 import shutil
-import signal
 import string
 import subprocess
-import sys
 import time
 
-sys.dont_write_bytecode = True
 import servers
 from order_of_calls import generation_of
 
@@ -25,12 +22,6 @@ SECOND = "##########"
 def settings_for(mib):
     """The environment of a server whose shards have this room, with the allocator that `make run` gives it."""
     return {"NEEDLEAZURE_CAPACITY": str(mib << 20), **servers.allocator()}
-
-
-def end_by_term(number, _):
-    """Ends the run so that its server and folder go, and lets no second signal stop that (`timeout` sends two)."""
-    signal.signal(number, signal.SIG_IGN)
-    sys.exit(128 + number)
 
 
 # ---- pushes --------------------------------------------------------------------------------------------------------

@@ -62,14 +62,14 @@ def test_a_start_over_a_block_above_100_mb(serve, folder):
 
 
 def test_many_turns(serve):
-    """2,100 calls on each of two shards, all of one pass, each a turn of its owner."""
-    with servers.Client(serve("log", 2, 1).port) as client:
-        labels = [next(servers.labels_in(it, 2)) for it in range(2)]
+    """2,100 calls of one pass, each a turn of the one owner."""
+    with servers.Client(serve("log", 1, 1).port) as client:
         lines = lines_from(time.time_ns(), 2_100, 10)
-        for number, line in enumerate(lines):
-            for it in labels:
-                assert client.push(it, [line]) == (204, ""), number
-        assert client.read_all(labels) == [lines] * 2
+        for at in range(0, 2_100, 100):
+            for line in lines[at:at + 100]:
+                client.send(servers.PUSH, servers.push_body([({"a": "1"}, [line])]))
+            assert [client.answer() for _ in range(100)] == [(204, b"")] * 100, at
+        assert client.read({"a": "1"}) == lines
 
 
 def roll(client, path, stamp):

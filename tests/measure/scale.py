@@ -1,26 +1,20 @@
-#!/usr/bin/env python3
-"""scale_check [--try-faults]: once at a scale that no row has, over the built server, walcat and deploy/drain.
+"""scale: once at a scale that no row has, over the built server, walcat and deploy/drain.
 
 A shard gets 120,000 lines in one stream, by pushes of 10,000, and 25,000 streams, by pushes of 900. Another one, with room
 for 224 MiB, gets ten streams of 12 MB of long lines, which are read whole, each by one answer of more than 10 MB; it goes
 on until its log rolls, which makes a segment of more than 100 MB, and drain takes away all but the last hour. Of both the
 server is killed and started again, and walcat lists the slot in use. Each line is there once after each of these.
 
-It needs curl and jq, 1 GB of memory, and as much of temporary files, in SCALE_DIR where it is named. Ends with 1 where it
-isn't so. With --try-faults it is run over servers that have no memory for what is large (preload.c), and has to fail.
+It needs curl and jq, 1 GB of memory, and as much of temporary files.
 """
 import gzip
 import json
 import os
 import re
-import signal
 import subprocess
-import sys
 import tempfile
 import time
 
-sys.dont_write_bytecode = True
-sys.path += [f"{sys.path[0]}/../models", f"{sys.path[0]}/../server"]
 import servers
 from order_of_calls import generation_of
 from servers import hold, need
@@ -201,17 +195,7 @@ def check_large(work, now):
         check_drain(work, shard)
 
 
-def main():
-    signal.signal(signal.SIGTERM, lambda number, _: sys.exit(128 + number))
-    if sys.argv[1:] == ["--try-faults"]:
-        sys.exit(servers.try_faults(FAULTS))
-    with tempfile.TemporaryDirectory(prefix="needleazure-scale-", dir=os.environ.get("SCALE_DIR")) as work:
-        try:
-            check_many(work, time.time_ns())
-            check_large(work, time.time_ns())
-        except (OSError, servers.NotStarted) as error:
-            hold(False, f"the server answers and starts: {error!r}")
-
-
-if __name__ == "__main__":
-    main()
+def main(words):
+    with tempfile.TemporaryDirectory(prefix="needleazure-scale-", dir=os.environ.get("MEASURE_DIR")) as work:
+        check_many(work, time.time_ns())
+        check_large(work, time.time_ns())

@@ -1,4 +1,3 @@
-#!/usr/bin/env python3
 """default_shards [SERVER]: what the number of shards costs where all of them together have room for 1 GiB.
 
 16 shards of 64 MiB, 8 of 128 MiB and 4 of 256 MiB are measured in turn, ROUNDS times: the server of SERVER, else of
@@ -9,20 +8,16 @@ crates/server/out/server, with the allocator that `make run` gives it and slots 
 
 At last it is killed and started over the full shards, with their files in the system's cache. Prints a table of the
 medians; of the pushes that began a segment, of the longest in a round. It takes five minutes at most on a quiet machine,
-and 6 GiB in a folder of SHARDS_DIR, else of the system's temporary files: name a folder on the disk that counts. Ends
-with 1 where an answer isn't the one due.
+and 6 GiB of temporary files.
 """
 import os
 import re
-import signal
 import statistics
 import subprocess
 import sys
 import tempfile
 import time
 
-sys.dont_write_bytecode = True
-sys.path += [f"{sys.path[0]}/../models", f"{sys.path[0]}/../server"]
 import full_shards
 import servers
 
@@ -117,7 +112,7 @@ def table(sharings):
 
 def run(how):
     began = time.monotonic()
-    with tempfile.TemporaryDirectory(prefix="needleazure-shards-", dir=os.environ.get("SHARDS_DIR")) as above:
+    with tempfile.TemporaryDirectory(prefix="needleazure-shards-", dir=os.environ.get("MEASURE_DIR")) as above:
         sharings = [Sharing(above, count, mib, how) for count, mib in SHARINGS]
         for number in range(ROUNDS):
             for it in sharings:
@@ -128,12 +123,4 @@ def run(how):
 
 
 def main(words):
-    signal.signal(signal.SIGTERM, full_shards.end_by_term)
-    try:
-        run({"executable": os.path.abspath(words[0]) if words else servers.program("server")})
-    except (OSError, servers.NotStarted) as error:
-        servers.hold(False, f"the server answers and starts: {error!r}")
-
-
-if __name__ == "__main__":
-    main(sys.argv[1:])
+    run({"executable": os.path.abspath(words[0]) if words else servers.program("server")})

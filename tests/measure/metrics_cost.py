@@ -1,7 +1,6 @@
-#!/usr/bin/env python3
 """metrics_cost: what a look of deploy/metrics costs over 16 full shards of 64 MiB, with 10 lines a push.
 
-The slots, 2 GiB, are written to a folder of METRICS_DIR, else of the system's temporary files, and removed. A first
+The slots are 2 GiB of temporary files. A first
 look goes through whole segments; each further one goes on from where the last one ended, here over a fifteenth of each
 segment, what a minute brings where a segment is full in a quarter of an hour. It is the processor time of the command:
 the best and the worst of five looks of each kind. Once the pushes have equal lengths, and once lines of 100 to 300
@@ -13,8 +12,6 @@ import subprocess
 import sys
 import tempfile
 
-sys.dont_write_bytecode = True
-sys.path.append(f"{sys.path[0]}/../models")
 from hostile_bytes import TOP, append_bytes, segment_bytes, state_bytes
 
 SHARDS, CAPACITY, LINES, LOOKS = 16, 67_108_864, 10, 5
@@ -87,17 +84,13 @@ def measure(above, least, most):
     return found
 
 
-def main():
+def main(words):
     status = 0
     for least, most in ((200, 200), (100, 300)):
-        with tempfile.TemporaryDirectory(prefix="needleazure-cost-", dir=os.environ.get("METRICS_DIR")) as above:
+        with tempfile.TemporaryDirectory(prefix="needleazure-cost-", dir=os.environ.get("MEASURE_DIR")) as above:
             for kind, took in measure(above, least, most).items():
                 is_so = min(took) <= MOST[kind]
                 print(f"{'ok' if is_so else 'WRONG'}: a {kind} look {min(took):.3f} to {max(took):.3f} s of a processor, "
                       f"at most {MOST[kind]} s are wanted", flush=True)
                 status |= not is_so
     return status
-
-
-if __name__ == "__main__":
-    sys.exit(main())

@@ -1,5 +1,4 @@
-#!/usr/bin/env python3
-"""start_time [MB [SHARDS [SERVER ..]]]: how long a server takes to be ready over shards that a server filled.
+"""start [MB [SHARDS [SERVER ..]]]: how long a server takes to be ready over shards that a server filled.
 
 A server with SHARDS shards (16) is pushed to until the segment of each has MB million bytes (42), and is killed. The
 lines are the same in each run but for their times. The slots have been filled as `make run` does, up to a capacity of
@@ -7,19 +6,13 @@ lines are the same in each run but for their times. The slots have been filled a
 each SERVER in turn, which have to take the same slots. At last `cat` reads the same segments. Each of it is done with the
 files in the system's cache and without, and the figures are medians of RUNS. Without the cache only these files are
 dropped from it, so what other processes have there stays; the disk may have a cache of its own.
-
-The files lie in a folder of START_DIR, else of the system's temporary files: name a folder on the disk that counts.
 """
 import os
-import signal
 import statistics
 import subprocess
-import sys
 import tempfile
 import time
 
-sys.dont_write_bytecode = True
-sys.path += [f"{sys.path[0]}/../models", f"{sys.path[0]}/../server"]
 import full_shards
 import servers
 
@@ -90,15 +83,7 @@ def run(folder, megabytes, count, programs):
 
 
 def main(words):
-    signal.signal(signal.SIGTERM, full_shards.end_by_term)
     megabytes, count = float((words + ["42"])[0]), int((words[1:] + ["16"])[0])
     programs = [os.path.abspath(it) for it in words[2:]] or [servers.program("server")]
-    with tempfile.TemporaryDirectory(prefix="needleazure-start-", dir=os.environ.get("START_DIR")) as folder:
-        try:
-            run(folder, megabytes, count, programs)
-        except (OSError, servers.NotStarted) as error:
-            servers.hold(False, f"the server answers and starts: {error!r}")
-
-
-if __name__ == "__main__":
-    main(sys.argv[1:])
+    with tempfile.TemporaryDirectory(prefix="needleazure-start-", dir=os.environ.get("MEASURE_DIR")) as folder:
+        run(folder, megabytes, count, programs)

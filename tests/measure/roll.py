@@ -1,11 +1,9 @@
-#!/usr/bin/env python3
-"""roll_time [MIB ..]: how long a push takes that begins the next segment of a full shard, beside a usual one.
+"""roll [MIB ..]: how long a push takes that begins the next segment of a full shard, beside a usual one.
 
 For each capacity (64 and 1,024 MiB where none is given) a server with one shard, of that NEEDLEAZURE_CAPACITY, is filled
 by pushes of 15 lines of 260,000 bytes on one stream, each sent when the one before is answered. Then the oldest lines are
 trimmed and a push is made in their place, over and over, until five pushes have begun a segment. At last the server is
-killed and started again. The log lies in a folder of ROLL_DIR, else of the system's temporary files: name a folder on
-the disk that counts. Ends with 1 where an answer isn't the one due.
+killed and started again.
 """
 import os
 import statistics
@@ -13,8 +11,6 @@ import sys
 import tempfile
 import time
 
-sys.dont_write_bytecode = True
-sys.path += [f"{sys.path[0]}/../models", f"{sys.path[0]}/../server"]
 import servers
 from segments import generation_of
 
@@ -95,10 +91,7 @@ def measure(folder, mib):
           f"a start over it {server.took:.2f} s, memory {replayed / 1e6:.0f} MB", flush=True)
 
 
-def main():
-    for mib in [int(it) for it in sys.argv[1:]] or [64, 1024]:
-        with tempfile.TemporaryDirectory(prefix="needleazure-roll-", dir=os.environ.get("ROLL_DIR")) as folder:
+def main(words):
+    for mib in map(int, words or [64, 1024]):
+        with tempfile.TemporaryDirectory(prefix="needleazure-roll-", dir=os.environ.get("MEASURE_DIR")) as folder:
             measure(folder, mib)
-
-
-main()

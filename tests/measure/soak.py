@@ -1,10 +1,9 @@
-#!/usr/bin/env python3
-"""soak [--try-faults] [MINUTES]: a server under a steady load, for so many minutes (2).
+"""soak [MINUTES]: a server under a steady load, for so many minutes (2).
 
 Four processes with two connections each push 1,500 times a second, 20 lines of 400 bytes each, whose times run fast, and
 trim each stream by each quarter of an hour of theirs. Each of four shards is then three quarters full, so that logs roll
 again and again; a shard has room for 8 MiB, and from five minutes on for 2 MiB for each minute. The load begins when they
-are so full. The server has the allocator that `make run` gives it, and its log is in memory, or in the folder SOAK_DIR.
+are so full. The server has the allocator that `make run` gives it, and its log is in memory, or in the folder MEASURE_DIR.
 Ends with 1 where
 
 - memory is above 1.1 times that at the end of the first minute: its greatest in ten seconds each;
@@ -13,18 +12,13 @@ Ends with 1 where
 - a push is answered otherwise than 204, or a trim otherwise than 200;
 - there were fewer than 1,000 pushes a second, or fewer than 20 rolls a shard.
 
-With less than two minutes the first half is the first minute. With --try-faults it is run over servers that lose memory,
-and that become slower (preload.c), and has to fail.
+With less than two minutes the first half is the first minute.
 """
 import multiprocessing
 import os
-import signal
 import statistics
-import sys
 import time
 
-sys.dont_write_bytecode = True
-sys.path += [f"{sys.path[0]}/../models", f"{sys.path[0]}/../server"]
 import servers
 from order_of_calls import generation_of
 
@@ -133,18 +127,11 @@ def judge(found, memory, rolls, seconds):
     servers.hold(count >= 1_000 * seconds and rolls >= 20 * SHARDS, "there were enough pushes and rolls")
 
 
-def main():
-    signal.signal(signal.SIGTERM, lambda number, _: sys.exit(128 + number))
-    if sys.argv[1:] == ["--try-faults"]:
-        sys.exit(servers.try_faults(FAULTS))
-    minutes = float(sys.argv[1]) if len(sys.argv) > 1 else 2
+def main(words):
+    minutes = float((words + [2])[0])
     capacity = int(max(8, 2 * minutes) * 2**20)
-    with servers.room_in_memory("soak", os.environ.get("SOAK_DIR")) as folder:
+    with servers.room_in_memory("soak", os.environ.get("MEASURE_DIR")) as folder:
         settings = {"NEEDLEAZURE_CAPACITY": str(capacity), **servers.allocator()}
         with servers.Server(folder, SHARDS, PROCESSES * STREAMS, settings) as server:
             found = run(folder, server, 60 * minutes, step_of(capacity))
         judge(*found, 60 * minutes)
-
-
-if __name__ == "__main__":
-    main()
