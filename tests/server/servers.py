@@ -23,6 +23,8 @@ TOP = os.path.dirname(os.path.dirname(os.path.dirname(os.path.realpath(__file__)
 SECONDS = 60
 HOUR = judges.HALF_AGE
 PUSH, READ, TRIM = "/loki/api/v1/push", "/ingester/v1/read", "/ingester/v1/trim"
+# the libraries that this run has built
+BUILT = set()
 
 
 def program(name):
@@ -46,6 +48,7 @@ def build_library(folder, name="preload"):
     """The library of preload.c, which is preloaded. Two names are two libraries."""
     path, source = f"{folder}/{name}.so", f"{TOP}/tests/server/preload.c"
     subprocess.run(["cc", "-shared", "-fPIC", "-O1", "-o", path, source, "-ldl", "-lpthread"], check=True)
+    BUILT.add(path)
     return path
 
 
@@ -68,15 +71,16 @@ def allocator():
 def breaking_library():
     folder = tempfile.mkdtemp(prefix="needleazure-break-")
     atexit.register(shutil.rmtree, folder, True)
-    return build_library(folder, "break_server")
+    return build_library(folder)
 
 
 def broken(settings):
     """The settings of a server, which is broken where this run's environment has variables of preload.c."""
     ways = {name: value for name, value in os.environ.items() if name.startswith("BREAK_")}
-    if not ways:
-        return settings
-    return {**settings, **ways, "LD_PRELOAD": f"{breaking_library()} {settings.get('LD_PRELOAD', '')}".strip()}
+    given = settings.get("LD_PRELOAD", "")
+    if ways and not BUILT & {*given.split()}:
+        given = f"{breaking_library()} {given}".strip()
+    return {**settings, **ways, "LD_PRELOAD": given} if ways else settings
 
 
 def run_again(words, settings):
