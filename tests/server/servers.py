@@ -52,6 +52,21 @@ def build_library(folder, name="preload"):
     return path
 
 
+def run(words, data=b"", **how):
+    """Exit status, output and errors of a program, by its name or path. A server that starts is killed: status None."""
+    words, pipes = [words[0] if "/" in words[0] else program(words[0]), *words[1:]], dict.fromkeys(["stdin", "stdout", "stderr"], subprocess.PIPE)
+    with subprocess.Popen(words, **pipes, **{**how, "env": broken(how.get("env", {}))}) as it:
+        watch = threading.Timer(SECONDS, it.kill)
+        watch.start()
+        said = it.stdout.readline() if words[0].endswith("server") else b""
+        if said.startswith(b"ready"):
+            it.kill()
+            return None, b"ready", b""
+        output, errors = it.communicate(data)
+        watch.cancel()
+        return it.returncode, said + output, errors
+
+
 def room_in_memory(name, place=None):
     """A temporary folder in this place, else where syncs take no time, where the system has such a place."""
     place = place or ("/dev/shm" if os.access("/dev/shm", os.W_OK) else None)

@@ -3,7 +3,6 @@ import os
 import shutil
 import socket
 import subprocess
-import threading
 import time
 
 import pytest
@@ -11,20 +10,6 @@ import servers
 
 SECOND, MINUTE, DAY = 10**9, 60 * 10**9, 24 * servers.HOUR
 LABELS = {"a": "1"}
-
-
-def run(words, data=b"", **settings):
-    """Exit status, output and errors of a program with this environment. A server that starts is killed: status None."""
-    words, pipes = [servers.program(words[0]), *words[1:]], dict.fromkeys(["stdin", "stdout", "stderr"], subprocess.PIPE)
-    with subprocess.Popen(words, **pipes, env=servers.broken(settings)) as it:
-        watch = threading.Timer(servers.SECONDS, it.kill)
-        watch.start()
-        if words[0].endswith("server") and it.stdout.readline().startswith(b"ready"):
-            it.kill()
-            return None, b"ready", b""
-        output, errors = it.communicate(data)
-        watch.cancel()
-        return it.returncode, output, errors
 
 
 def body_of(length, time=20):
@@ -61,13 +46,13 @@ REFUSED_THREAD = (3, b"", b"thread not started\n")
 @pytest.mark.parametrize("name", ["ingestctl", "server"])
 def test_refused_threads(folder, preload, name):
     """The thread of each shard is refused in turn: the program ends, changes nothing, and the slots open again."""
-    push = lambda slots, **settings: run(["ingestctl", "push", slots, "4", "t", str(time.time_ns())], body_of(1, time.time_ns()), **settings)
+    push = lambda slots, **how: servers.run(["ingestctl", "push", slots, "4", "t", str(time.time_ns())], body_of(1, time.time_ns()), **how)
     assert push(f"{folder}/slots") == (0, b"204\n", b"")
     files = lambda slots: {it: servers.bytes_of(f"{slots}/{it}") for it in os.listdir(slots)}
     for number in range(1, 5):
         mark, slots = f"{folder}/mark{number}", shutil.copytree(f"{folder}/slots", f"{folder}/{number}")
         settings = {"THREAD_AT": str(number), "THREAD_MARK": mark, "LD_PRELOAD": preload}
-        found = push(slots, **settings) if name == "ingestctl" else run(["server", slots, "0", "4", "3"], **settings)
+        found = push(slots, env=settings) if name == "ingestctl" else servers.run(["server", slots, "0", "4", "3"], env=settings)
         assert found == REFUSED_THREAD and os.path.exists(mark) and files(slots) == files(f"{folder}/slots")
         assert push(slots) == (0, b"204\n", b"")
 
@@ -87,22 +72,22 @@ def test_room(serve, folder, room, length, due):
     """The server and ingestctl have the room that their environment names."""
     with servers.Client(serve("log", 1, 1, with_room(room)).port) as client:
         assert client.push(LABELS, [(time.time_ns(), "x" * length, ())])[0] == due
-    ended = run(["ingestctl", "push", f"{folder}/ctl", "1", "t", "20"], body_of(length), **with_room(room))
+    ended = servers.run(["ingestctl", "push", f"{folder}/ctl", "1", "t", "20"], body_of(length), env=with_room(room))
     assert ended[1].startswith(str(due).encode())
 
 
 def test_room_of_a_split(folder):
-    run(["ingestctl", "push", f"{folder}/old", "1", "t", "20"], body_of(3_900))
-    status, _, errors = run(["walsplit", f"{folder}/old", f"{folder}/small", "2"], **with_room("4096"))
+    servers.run(["ingestctl", "push", f"{folder}/old", "1", "t", "20"], body_of(3_900))
+    status, _, errors = servers.run(["walsplit", f"{folder}/old", f"{folder}/small", "2"], env=with_room("4096"))
     assert status == 1 and b"no room" in errors
-    assert run(["walsplit", f"{folder}/old", f"{folder}/new", "2"], **with_room("8192")) == (0, b"split 1 to 2\n", b"")
+    assert servers.run(["walsplit", f"{folder}/old", f"{folder}/new", "2"], env=with_room("8192")) == (0, b"split 1 to 2\n", b"")
 
 
 @pytest.mark.parametrize("room", WRONG_ROOMS)
 def test_wrong_room(folder, room):
     """It is refused, and nothing is touched. ingest1 does not look at it."""
-    run(["ingestctl", "push", f"{folder}/old", "1", "t", "20"], body_of(1))
+    servers.run(["ingestctl", "push", f"{folder}/old", "1", "t", "20"], body_of(1))
     for words in (["server", f"{folder}/new", "0", "1", "1"], ["ingestctl", "push", f"{folder}/new", "1", "t", "20"],
                   ["walsplit", f"{folder}/old", f"{folder}/new", "2"]):
-        assert run(words, body_of(1), **with_room(room)) == REFUSED_ROOM and not os.path.exists(f"{folder}/new")
-    assert run(["ingest1", "20"], body_of(1), **with_room(room))[0] == 0
+        assert servers.run(words, body_of(1), env=with_room(room)) == REFUSED_ROOM and not os.path.exists(f"{folder}/new")
+    assert servers.run(["ingest1", "20"], body_of(1), env=with_room(room))[0] == 0
