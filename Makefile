@@ -47,19 +47,18 @@ power-loss: ## what a server under load may leave at a loss of power, image by i
 	@RT='$(RT)' tests/gate/build server
 	@tests/server/power_loss $(or $(IMAGES),2000) $(SEED)
 
-faults: ## hostile bytes, refused memory, bad files, held to the definitions (some minutes)
+faults: ## hostile bytes and refused memory, held to the definitions (some minutes)
 	@RT='$(RT)' tests/gate/build bench bench_calls call_cases conformance $(ALL)
 	@failed=0; for it in models/judge_rows 'gate/pytest tests/server/test_drawn.py -m by_hand' \
-		'server/each_allocation_fails bench ingest1 call_cases conformance ingestctl server' server/hostile_files; do \
+		'server/each_allocation_fails bench ingest1 call_cases conformance ingestctl server'; do \
 		tests/$$it || failed=1; done; DRAWN=5000 tests/gate/pytest tests/server/test_drawn.py || failed=1; exit $$failed
 
 program-rows: ## the programs over their words, streams, files and slots, as the rows of tests/rows/programs say
 	@RT='$(RT)' tests/gate/build layer_cases $(ALL)
 	@tests/server/program_rows
 
-# what a check is run over, where it isn't the server alone, and its words
-%-check: PROGRAMS = server
-drain-check metrics-check fill-check: PROGRAMS = server walcat
+# what a check is run over, and its words
+%-check: PROGRAMS = server walcat
 split-check: PROGRAMS = walsplit
 kit-check theorem-check: PROGRAMS =
 deb-check: PROGRAMS = $(ALL)

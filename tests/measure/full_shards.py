@@ -29,20 +29,20 @@ def settings_for(mib):
 class Filling:
     """Pushes to a shard over a connection of its own, a step of seconds from one to the next.
 
-    Each has LINES lines of STREAMS streams. The shard chooses the lines, which are the same in each push.
+    Each has so many lines of so many streams. The shard chooses the lines, which are the same in each push.
     """
 
-    def __init__(self, port, shard, count, first, step):
-        self.client, self.first, self.next, self.step = servers.Client(port), first, first, step
-        self.labels = list(itertools.islice(servers.labels_in(shard, count), STREAMS))
+    def __init__(self, port, shard, count, first, step, streams=STREAMS, lines=LINES, lengths=(LEAST, MOST)):
+        self.client, self.first, self.next, self.step = servers.Client(port, seconds=600), first, first, step
+        self.labels = list(itertools.islice(servers.labels_in(shard, count), streams))
         chosen = random.Random(shard)
-        words = "".join(chosen.choices(string.ascii_lowercase + " ", k=100_000))
-        streams, self.size = [], 0
+        words = "".join(chosen.choices(string.ascii_lowercase + " ", k=max(100_000, 2 * lengths[1])))
+        bodies, self.size = [], 0
         for labels in self.labels:
-            places = [(chosen.randrange(len(words) - MOST), chosen.randint(LEAST, MOST)) for _ in range(LINES)]
-            streams.append((labels, [(f"{SECOND}{it:09}", words[at:at + of], ()) for it, (at, of) in enumerate(places)]))
+            places = [(chosen.randrange(len(words) - lengths[1]), chosen.randint(*lengths)) for _ in range(lines)]
+            bodies.append((labels, [(f"{SECOND}{it:09}", words[at:at + of], ()) for it, (at, of) in enumerate(places)]))
             self.size += sum(13 + of for _, of in places)
-        self.request = servers.request(servers.PUSH, servers.push_body(streams))
+        self.request = servers.request(servers.PUSH, servers.push_body(bodies))
 
     def send(self):
         self.client.ends.sendall(self.request.replace(SECOND.encode(), b"%d" % self.next))

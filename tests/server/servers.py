@@ -15,11 +15,12 @@ import tempfile
 import threading
 
 sys.dont_write_bytecode = True
+TOP = os.path.dirname(os.path.dirname(os.path.dirname(os.path.realpath(__file__))))
+sys.path.append(f"{TOP}/tests/models")
 import judges
 from bodies import MOST_TIME, canonical, entries_of
 from bodies import shard_of as shard_of_key
 
-TOP = os.path.dirname(os.path.dirname(os.path.dirname(os.path.realpath(__file__))))
 SECONDS = 60
 HOUR = judges.HALF_AGE
 PUSH, READ, TRIM = "/loki/api/v1/push", "/ingester/v1/read", "/ingester/v1/trim"
