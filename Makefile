@@ -59,12 +59,11 @@ program-rows: ## the programs over their words, streams, files and slots, as the
 
 # what a check is run over, and its words
 %-check: PROGRAMS = server walcat
-split-check: PROGRAMS = walsplit
 kit-check theorem-check: PROGRAMS =
 deb-check: PROGRAMS = $(ALL)
 deb-check: WORDS = "$$(deploy/deb)"
 
-%-check: ## tests/*/NAME_check over built programs: drain edge metrics fill deb (as root), split, kit theorem
+%-check: ## tests/*/NAME_check over built programs: drain edge metrics fill deb (as root), kit theorem
 	@$(if $(PROGRAMS),RT='$(RT)' tests/gate/build $(PROGRAMS))
 	@RT='$(RT)' $(or $(wildcard tests/*/$*_check),$(error there is no tests/*/$*_check)) $(WORDS)
 

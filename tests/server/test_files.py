@@ -1,9 +1,12 @@
 """Slots that can't be used, file systems that fill, few descriptors, and splits whose device calls fail."""
+import collections
 import concurrent.futures
 import contextlib
 import fcntl
 import itertools
 import os
+import pty
+import re
 import resource
 import shutil
 import signal
@@ -344,3 +347,58 @@ def test_splits_whose_device_fails(folder, preload, shards, count):
     with concurrent.futures.ThreadPoolExecutor(4) as pool:
         list(pool.map(lambda it: try_call(preload, folder, old, count, *it), cases))
     assert reads_of(old, shards) == reads
+
+
+def traced(old, new, count, *words):
+    """walsplit under strace: its exit status and errors."""
+    words = ["strace", "-qq", *words, servers.program("walsplit"), old, new, str(count)]
+    ended = subprocess.run(words, capture_output=True, text=True, timeout=servers.SECONDS, check=False)
+    return ended.returncode, ended.stderr
+
+
+def try_disturbed(folder, old, whole, count, name, number, how):
+    """A split that is stopped before this call of the system, or in which it fails: the new folder is there whole or not at
+    all, the old slots stay as they were, and where it is not there the next run makes it."""
+    which, before, above = (name, number, how), files_of(old), f"{folder}/{name}-{number}{how}"
+    # (a slot is locked while it is open)
+    old, new = shutil.copytree(old, f"{above}/old"), f"{above}/new"
+    ended = traced(old, new, count, "-o", f"{above}/log", "-e", "trace=all", "-e", f"inject={name}:error=EIO{how}:when={number}")
+    assert not os.path.isdir(new) or files_of(new) == whole, which
+    assert os.path.isdir(new) or ended[0] != 0, which
+    assert files_of(old) == before, which
+    assert os.path.isdir(new) or traced(old, new, count, "-o", f"{above}/log")[0] == 0 and files_of(new) == whole, which
+    shutil.rmtree(above)
+
+
+@pytest.mark.by_hand
+def test_splits_that_are_disturbed(folder):
+    """Each call of the system of a split into a folder that isn't there yet is the last one, or fails (by Debian's strace)."""
+    os.mkdir(f"{folder}/1")
+    servers.write(f"{folder}/1/shard-00-0.wal", b"")
+    servers.write(f"{folder}/1/shard-00-1.wal", APPENDED)
+    for shards, count in ((1, 3), (3, 2)):
+        old, new, log = f"{folder}/{shards}", f"{folder}/{count}", f"{folder}/log-{count}"
+        assert traced(old, new, count, "-o", log)[0] == 0 and len(os.listdir(new)) == 2 * count
+        names = re.findall(rb"^([a-z0-9_]+)\(", servers.bytes_of(log), re.M)
+        calls = collections.Counter(it.decode() for it in names if it not in (b"execve", b"exit_group"))
+        cases = [(name, at, how) for name, many in calls.items() for at in range(1, many + 1) for how in ("", ":signal=KILL")]
+        with concurrent.futures.ThreadPoolExecutor(4) as pool:
+            list(pool.map(lambda it: try_disturbed(folder, old, files_of(new), count, *it), cases))
+
+
+@pytest.mark.parametrize("is_there", [False, True])
+def test_what_a_terminal_is_told_of_a_split(folder, is_there):
+    os.mkdir(f"{folder}/old")
+    servers.write(f"{folder}/old/shard-00-0.wal", b"")
+    servers.write(f"{folder}/old/shard-00-1.wal", APPENDED)
+    new, (reader, writer) = f"{folder}/new", pty.openpty()
+    if is_there:
+        os.mkdir(new)
+    words = [servers.program("walsplit"), f"{folder}/old", new, "2"]
+    ended = subprocess.run(words, stdout=subprocess.PIPE, stderr=writer, timeout=servers.SECONDS, check=False)
+    os.close(writer)
+    told = [f"{new} is written in place: an unfinished one is to be given up"] * is_there
+    said = os.read(reader, 4096).decode().splitlines()
+    os.close(reader)
+    assert said == [*told, "shard 00: reading", "new shard 00: writing", "new shard 01: writing"]
+    assert (ended.returncode, ended.stdout) == (0, b"split 1 to 2\n")
