@@ -1,0 +1,137 @@
+"""Shards that a server fills by pushes, their slots in the system's cache or not, and a start over them."""
+import itertools
+import mmap
+import os
+import random
+import shutil
+import string
+import subprocess
+import time
+
+import servers
+from order_of_calls import generation_of
+
+# (as `make run` has it)
+WORKERS = 64
+STREAMS, LINES, LEAST, MOST = 50, 10, 100, 300
+HEADER = 21
+# stands in a push for its second
+SECOND = "##########"
+
+
+def settings_for(mib):
+    """The environment of a server whose shards have this room, with the allocator that `make run` gives it."""
+    return {"NEEDLEAZURE_CAPACITY": str(mib << 20), **servers.allocator()}
+
+
+# ---- pushes --------------------------------------------------------------------------------------------------------
+
+class Filling:
+    """Pushes to a shard over a connection of its own, a step of seconds from one to the next.
+
+    Each has so many lines of so many streams. The shard chooses the lines, which are the same in each push.
+    """
+
+    def __init__(self, port, shard, count, first, step, streams=STREAMS, lines=LINES, lengths=(LEAST, MOST)):
+        self.client, self.first, self.next, self.step = servers.Client(port, seconds=600), first, first, step
+        self.labels = list(itertools.islice(servers.labels_in(shard, count), streams))
+        chosen = random.Random(shard)
+        words = "".join(chosen.choices(string.ascii_lowercase + " ", k=max(100_000, 2 * lengths[1])))
+        bodies, self.size = [], 0
+        for labels in self.labels:
+            places = [(chosen.randrange(len(words) - lengths[1]), chosen.randint(*lengths)) for _ in range(lines)]
+            bodies.append((labels, [(f"{SECOND}{it:09}", words[at:at + of], ()) for it, (at, of) in enumerate(places)]))
+            self.size += sum(13 + of for _, of in places)
+        self.request = servers.request(servers.PUSH, servers.push_body(bodies))
+
+    def send(self):
+        self.client.ends.sendall(self.request.replace(SECOND.encode(), b"%d" % self.next))
+
+    def is_taken(self):
+        """Whether there was room for the push that was sent."""
+        status, text = self.client.answer()
+        servers.need(status in (204, 507), f"a push is answered {status} {text[:200]}")
+        if status == 204:
+            self.next += self.step
+        return status == 204
+
+    def push(self):
+        self.send()
+        return self.is_taken()
+
+    def trim(self):
+        """Takes away what was pushed first of what is there."""
+        self.first += self.step
+        for it in self.labels:
+            status, text = self.client.trim(it, self.first * 10**9)
+            servers.need(status == 200, f"a trim is answered {status} {text}")
+
+
+def push_each(fillings):
+    """Pushes to these shards side by side. Returns those that had room."""
+    for it in fillings:
+        it.send()
+    return [it for it in fillings if it.is_taken()]
+
+
+# ---- slots ---------------------------------------------------------------------------------------------------------
+
+def fill_slots(folder, count, settings):
+    """Makes the slots of `count` shards, at their full length."""
+    words = [f"{servers.TOP}/deploy/fill-slots", folder, str(count)]
+    subprocess.run(words, env={**os.environ, **settings}, check=True)
+
+
+def slots_of(folder, shard):
+    return [f"{folder}/shard-{shard:02}-{slot}.wal" for slot in (0, 1)]
+
+
+def close_slots(folder, count):
+    """Makes the shards new ones, whose slots keep their length."""
+    for path in itertools.chain.from_iterable(slots_of(folder, it) for it in range(count)):
+        with open(path, "r+b") as file:
+            file.write(b"\0")
+
+
+def generation(path):
+    with open(path, "rb") as file:
+        return generation_of(file.read(HEADER))
+
+
+def slots_in_use(folder, count):
+    return [max(slots_of(folder, it), key=generation) for it in range(count)]
+
+
+def end_of(slot):
+    """Where a slot's segment ends."""
+    with open(slot, "rb") as file, mmap.mmap(file.fileno(), 0, prot=mmap.PROT_READ) as data:
+        at = HEADER
+        while data[at] == 1:
+            at += 5 + int.from_bytes(data[at + 1:at + 5], "little")
+        return at + 1
+
+
+def take_into_cache(slots):
+    subprocess.run(["cat", *slots], stdout=subprocess.DEVNULL, check=True)
+
+
+def drop_from_cache(slots):
+    """Has the system forget these files alone, and looks whether it did where `fincore` is installed."""
+    for slot in slots:
+        with open(slot, "rb") as file:
+            os.fsync(file.fileno())
+            os.posix_fadvise(file.fileno(), 0, 0, os.POSIX_FADV_DONTNEED)
+    if shutil.which("fincore"):
+        words = ["fincore", "--bytes", "--noheadings", "--output", "RES", *slots]
+        said = subprocess.run(words, capture_output=True, check=True).stdout
+        servers.need(not sum(map(int, said.split())), "files that were dropped are not in the cache")
+
+
+# ---- a start -------------------------------------------------------------------------------------------------------
+
+def start(folder, count, settings, **how):
+    """How many seconds a server takes to be ready, those of a processor, the most memory it has till then, and what it
+    has then."""
+    began = time.monotonic()
+    with servers.Server(folder, count, WORKERS, settings, **how) as server:
+        return time.monotonic() - began, server.processor(), server.memory("VmHWM"), server.memory()

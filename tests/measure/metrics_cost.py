@@ -1,0 +1,96 @@
+"""metrics_cost: what a look of deploy/metrics costs over 16 full shards of 64 MiB, with 10 lines a push.
+
+The slots are 2 GiB of temporary files. A first
+look goes through whole segments; each further one goes on from where the last one ended, here over a fifteenth of each
+segment, what a minute brings where a segment is full in a quarter of an hour. It is the processor time of the command:
+the best and the worst of five looks of each kind. Once the pushes have equal lengths, and once lines of 100 to 300
+bytes. Where the best one of a kind costs more than MOST says, the status is 1."""
+import os
+import random
+import shutil
+import subprocess
+import sys
+import tempfile
+
+from hostile_bytes import TOP, append_bytes, segment_bytes, state_bytes
+
+SHARDS, CAPACITY, LINES, LOOKS = 16, 67_108_864, 10, 5
+# (where blocks differ in length, a first look has to read each of half a million places in memory by itself)
+MOST = {"first": 0.2, "further": 0.1}
+KEY = b"t", b'{a="1"}'
+
+
+def entry(length):
+    return 11, b"x" * length
+
+
+def segment(shard, least, most):
+    """A segment, how many blocks it has, and where the gate is that the last fifteenth of it begins with."""
+    chosen = random.Random(shard)
+    payloads, gate = [state_bytes(2, KEY, 11, entry(1), [entry(1)])], 0
+    length = len(segment_bytes(b"2", 1, shard, SHARDS, payloads))
+    while True:
+        payload = append_bytes(2, KEY, [entry(chosen.randint(least, most)) for _ in range(LINES)])
+        length += 5 + len(payload)
+        if length > CAPACITY:
+            return segment_bytes(b"2", 1, shard, SHARDS, payloads).ljust(CAPACITY, b"\0"), len(payloads), gate
+        payloads.append(payload)
+        if not gate and length > CAPACITY * 14 // 15:
+            gate = length - 6 - len(payload)
+
+
+def look(folder, places):
+    """The processor seconds of a look."""
+    environment = {**os.environ, "CACHE_DIRECTORY": places} if places else {**os.environ}
+    words = [f"{TOP}/deploy/metrics", folder, "9", str(SHARDS)]
+    running = subprocess.Popen(words, env=environment, stdout=subprocess.DEVNULL, stderr=subprocess.DEVNULL)
+    _, status, used = os.wait4(running.pid, 0)
+    running.returncode = status
+    if status:
+        sys.exit(f"a look ends with {status}")
+    return used.ru_utime + used.ru_stime
+
+
+def set_gates(folder, gates, value):
+    for shard, gate in enumerate(gates):
+        with open(f"{folder}/shard-{shard:02}-1.wal", "r+b") as file:
+            os.pwrite(file.fileno(), value, gate)
+
+
+def look_again(folder, gates, places):
+    """A look at what was appended since one before."""
+    set_gates(folder, gates, b"\0")
+    shutil.rmtree(places)
+    os.mkdir(places)
+    look(folder, places)
+    set_gates(folder, gates, b"\1")
+    return look(folder, places)
+
+
+def measure(above, least, most):
+    """The looks of each kind."""
+    folder, places, blocks, gates = tempfile.mkdtemp(dir=above), tempfile.mkdtemp(dir=above), 0, []
+    for shard in range(SHARDS):
+        written, count, gate = segment(shard, least, most)
+        blocks += count
+        gates.append(gate)
+        with open(f"{folder}/shard-{shard:02}-1.wal", "wb") as file:
+            file.write(written)
+        with open(f"{folder}/shard-{shard:02}-0.wal", "wb") as file:
+            file.truncate(CAPACITY)
+    print(f"lines of {least} to {most} bytes, {blocks} blocks:", flush=True)
+    found = {"first": [look(folder, None) for _ in range(LOOKS)]}
+    found["further"] = [look_again(folder, gates, places) for _ in range(LOOKS)]
+    return found
+
+
+def main(words):
+    status = 0
+    for least, most in ((200, 200), (100, 300)):
+        with tempfile.TemporaryDirectory(prefix="needleazure-cost-", dir=os.environ.get("MEASURE_DIR")) as above:
+            for kind, took in measure(above, least, most).items():
+                is_so = min(took) <= MOST[kind]
+                print(f"{'ok' if is_so else 'WRONG'}: a {kind} look {min(took):.3f} to {max(took):.3f} s of a processor, "
+                      f"at most {MOST[kind]} s are wanted", flush=True)
+                status |= not is_so
+    return status

@@ -1,0 +1,201 @@
+"""scale: once at a scale that no row has, over the built server, walcat and deploy/drain.
+
+A shard gets 120,000 lines in one stream, by pushes of 10,000, and 25,000 streams, by pushes of 900. Another one, with room
+for 224 MiB, gets ten streams of 12 MB of long lines, which are read whole, each by one answer of more than 10 MB; it goes
+on until its log rolls, which makes a segment of more than 100 MB, and drain takes away all but the last hour. Of both the
+server is killed and started again, and walcat lists the slot in use. Each line is there once after each of these.
+
+It needs curl and jq, 1 GB of memory, and as much of temporary files.
+"""
+import gzip
+import json
+import os
+import re
+import subprocess
+import tempfile
+import time
+
+import servers
+from order_of_calls import generation_of
+from servers import hold, need
+
+FAULTS = [("there is no memory for an answer of 10 MB", "BREAK_LARGE", str(8 << 20), []),
+          ("there is no memory for a slot of 100 MB", "BREAK_LARGE", str(100_000_000), [])]
+CAPACITY, LARGE = 64 << 20, 224 << 20
+LINES, STREAMS, AT_ONCE, LONG, LONG_LINE, LONG_LINES = 120_000, 25_000, 900, 10, 262_144, 46
+MINUTE = 60 * 10**9
+
+
+def labels_of(name):
+    return {"job": name}
+
+
+class Shard:
+    """A server with one shard, a connection to it, and what each stream has."""
+
+    def __init__(self, folder, capacity):
+        self.folder, self.capacity, self.there = folder, capacity, {}
+        self.start()
+
+    def __enter__(self):
+        return self
+
+    def __exit__(self, *_):
+        self.server.end()
+
+    def start(self):
+        began = time.monotonic()
+        self.server = servers.Server(self.folder, 1, 4, {"NEEDLEAZURE_CAPACITY": str(self.capacity), **servers.allocator()})
+        self.client, self.took = servers.Client(self.server.port, seconds=600), time.monotonic() - began
+
+    def push(self, streams):
+        """Pushes entries to streams by their names."""
+        body = servers.push_body([(labels_of(name), entries) for name, entries in streams])
+        status, text = self.client.ask(servers.PUSH, body)
+        if status != 204:
+            hold(False, f"a push is answered {status} {text[:200]}")
+        for name, entries in streams:
+            self.there.setdefault(name, []).extend(entries)
+
+    def read_each(self, names):
+        """Whether each of these streams has just what was answered."""
+        names, is_so = list(names), True
+        for at in range(0, len(names), 50):
+            part = names[at:at + 50]
+            found = self.client.read_all([labels_of(it) for it in part])
+            is_so &= all(entries == self.there[it] for it, entries in zip(part, found))
+        return is_so
+
+    def generation(self):
+        return max(map(generation_of, self.heads()))
+
+    def heads(self):
+        for slot in (0, 1):
+            with open(f"{self.folder}/shard-00-{slot}.wal", "rb") as file:
+                yield file.read(21)
+
+
+def push_lines(shard, now):
+    entries = [(now + it, f"line {it}", ()) for it in range(LINES)]
+    for at in range(0, LINES, 10_000):
+        shard.push([("lines", entries[at:at + 10_000])])
+    hold(shard.read_each(["lines"]), f"{LINES:,} lines in one stream are read back")
+
+
+def push_streams(shard, now):
+    names = [f"s{it}" for it in range(STREAMS)]
+    for at in range(0, STREAMS, AT_ONCE):
+        shard.push([(it, [(now, f"of {it}", ())]) for it in names[at:at + AT_ONCE]])
+    hold(shard.read_each(names), f"{STREAMS:,} streams, by pushes of {AT_ONCE}, are read back")
+
+
+def long_push(shard, name, start, count):
+    shard.push([(name, [(start + it, f"{start + it} ".ljust(LONG_LINE, "x"), ()) for it in range(count)])])
+
+
+def push_long(shard, now):
+    """Long lines, most of them of hours before the last one of their stream."""
+    for number in range(LONG):
+        name = f"long{number}"
+        for at in range(0, LONG_LINES, 15):
+            long_push(shard, name, now - 5 * servers.HOUR + at * MINUTE, min(15, LONG_LINES - at))
+        long_push(shard, name, now, 1)
+    length = 0
+    for number in range(LONG):
+        status, text = shard.client.ask(servers.READ, servers.read_body(labels_of(f"long{number}")))
+        length = len(text)
+        need(servers.entries_of(status, text) == shard.there[f"long{number}"], "a long read has what was answered")
+    hold(length > 10_000_000, f"{LONG} reads of {length:,} bytes have what was answered")
+
+
+def roll(shard, now):
+    """Goes on with a stream whose lines are trimmed, until the log rolls."""
+    before, stamp, slowest = shard.generation(), now - 150 * servers.HOUR, 0
+    while True:
+        began = time.monotonic()
+        long_push(shard, "rolling", stamp, 15)
+        slowest = max(slowest, time.monotonic() - began)
+        if shard.generation() > before:
+            break
+        status, _ = shard.client.trim(labels_of("rolling"), stamp - servers.HOUR)
+        need(status == 200, f"a trim is answered {status}")
+        shard.there["rolling"] = [it for it in shard.there["rolling"] if it[0] >= stamp - servers.HOUR]
+        stamp += 2 * servers.HOUR
+    hold(shard.read_each(shard.there), f"the log has rolled, and has all lines; the slowest push took {slowest:.2f} s")
+
+
+def list_slot(path):
+    """What walcat says of a slot: where its segment ends, how many streams it names, and how many entries it has."""
+    began = time.monotonic()
+    words = [servers.program("walcat"), path, "0", "1"]
+    ended = subprocess.run(words, env=servers.broken({}), capture_output=True, text=True, check=False)
+    lines = ended.stdout.splitlines()
+    hold(ended.returncode == 0 and lines[-1].startswith("end "), f"walcat lists it ({time.monotonic() - began:.2f} s): {lines[0]}, {lines[-1]}")
+    rows = [re.fullmatch(r"(?:state|append) (\S+ \{.*\}) (?:highest \d+ )?entries (\d+)|trim .*", it) for it in lines[1:-1]]
+    need(all(rows), "each line of it says a record")
+    named = [it for it in rows if it[1]]
+    return int(lines[-1].split()[1]), len({it[1] for it in named}), sum(int(it[2]) for it in named)
+
+
+def drain(work, shard):
+    """The lines that drain takes away, by stream."""
+    os.makedirs(f"{work}/programs")
+    os.symlink(servers.program("walcat"), f"{work}/programs/walcat")
+    environment = {**os.environ, "PATH": f"{work}/programs:{os.environ['PATH']}", "TMPDIR": work}
+    words = [f"{servers.TOP}/deploy/drain", shard.folder, str(shard.server.port), "1", f"{work}/lines"]
+    return subprocess.run(words, env=environment, capture_output=True, text=True, check=False)
+
+
+def drained(work):
+    found = {}
+    for folder, _, names in os.walk(f"{work}/lines"):
+        for name in sorted(it for it in names if it.endswith(".gz")):
+            with gzip.open(f"{folder}/{name}", "rt", encoding="utf-8") as file:
+                for it in map(json.loads, file):
+                    found.setdefault(it["stream"]["job"], []).append((int(it["time"]), it["line"], ()))
+    return found
+
+
+def check_drain(work, shard):
+    began = time.monotonic()
+    ended = drain(work, shard)
+    hold(ended.returncode == 0, f"drain ends well ({time.monotonic() - began:.0f} s) {ended.stderr[:300]}")
+    taken = drained(work)
+    due = {name: [it for it in entries if it[0] < entries[-1][0] - servers.HOUR] for name, entries in shard.there.items()}
+    count = sum(map(len, taken.values()))
+    hold(taken == {name: its for name, its in due.items() if its}, f"it took {count} lines of {len(taken)} streams, each once")
+    for name, its in due.items():
+        shard.there[name] = shard.there[name][len(its):]
+    hold(shard.read_each(shard.there), "and the server has the others")
+
+
+def start_again(shard):
+    """Kills the server, starts it, and lists the slot in use: where its segment ends, its streams, and their entries."""
+    shard.server.end()
+    shard.start()
+    hold(shard.read_each(shard.there), f"started again in {shard.took:.2f} s it has all lines")
+    return list_slot(f"{shard.folder}/shard-00-{shard.generation() % 2}.wal")
+
+
+def check_many(work, now):
+    with Shard(f"{work}/many", CAPACITY) as shard:
+        push_lines(shard, now)
+        push_streams(shard, now)
+        end, streams, entries = start_again(shard)
+        hold((streams, entries) == (STREAMS + 1, LINES + STREAMS), f"{end:,} bytes, {streams:,} streams, {entries:,} entries")
+
+
+def check_large(work, now):
+    with Shard(f"{work}/large", LARGE) as shard:
+        push_long(shard, now)
+        roll(shard, now)
+        end, streams, entries = start_again(shard)
+        count = sum(map(len, shard.there.values()))
+        hold(end > 100_000_000 and (streams, entries) == (LONG + 1, count), f"{end:,} bytes, {streams} streams, {entries:,} entries")
+        check_drain(work, shard)
+
+
+def main(words):
+    with tempfile.TemporaryDirectory(prefix="needleazure-scale-", dir=os.environ.get("MEASURE_DIR")) as work:
+        check_many(work, time.time_ns())
+        check_large(work, time.time_ns())

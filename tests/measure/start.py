@@ -1,0 +1,89 @@
+"""start [MB [SHARDS [SERVER ..]]]: how long a server takes to be ready over shards that a server filled.
+
+A server with SHARDS shards (16) is pushed to until the segment of each has MB million bytes (42), and is killed. The
+lines are the same in each run but for their times. The slots have been filled as `make run` does, up to a capacity of
+64 MiB, or more where that is too little. Then servers are started over the files: the one of crates/server/out/server, or
+each SERVER in turn, which have to take the same slots. At last `cat` reads the same segments. Each of it is done with the
+files in the system's cache and without, and the figures are medians of RUNS. Without the cache only these files are
+dropped from it, so what other processes have there stays; the disk may have a cache of its own.
+"""
+import os
+import statistics
+import subprocess
+import tempfile
+import time
+
+import full_shards
+import servers
+
+RUNS = 3
+CACHES = [("in the cache", full_shards.take_into_cache), ("not in the cache", full_shards.drop_from_cache)]
+
+
+def fill(folder, megabytes, count, settings, how):
+    """Fills the shards, and tells how much memory the server had at the end."""
+    with servers.Server(folder, count, full_shards.WORKERS, settings, **how) as server:
+        first = int(time.time()) - 100 * 3600
+        fillings = [full_shards.Filling(server.port, it, count, first, 1) for it in range(count)]
+        for _ in range(max(1, round(megabytes * 1e6 / fillings[0].size))):
+            servers.need(full_shards.push_each(fillings) == fillings, "each shard has room")
+        return server.memory()
+
+
+def read(slots):
+    """How many seconds `cat` takes to read these files, and those of a processor."""
+    began = time.monotonic()
+    running = subprocess.Popen(["cat", *slots], stdout=subprocess.DEVNULL)
+    _, status, used = os.wait4(running.pid, 0)
+    took, running.returncode = time.monotonic() - began, status
+    servers.need(status == 0, f"cat ends with {status}")
+    return took, used.ru_utime + used.ru_stime
+
+
+def measure(slots, runs):
+    """The figures of each of these ways to read the slots, by what it is."""
+    found = {}
+    for _ in range(RUNS):
+        for words, prepare in CACHES:
+            for name, run in runs.items():
+                prepare(slots)
+                found.setdefault(f"{name}, files {words}", []).append(run())
+    return found
+
+
+def table(found, length):
+    yield "| What | Seconds | MB/s of segments | Processor seconds | Most memory, MB | Memory when ready, MB |"
+    yield "|---|---|---|---|---|---|"
+    for name, runs in found.items():
+        took, processor, *memory = map(statistics.median, zip(*runs))
+        most, ready = (f"{it / 1e6:,.0f}" for it in memory) if memory else ("not measured",) * 2
+        yield f"| {name} | {took:.2f} | {length / took / 1e6:,.0f} | {processor:.2f} | {most} | {ready} |"
+
+
+def starts(folder, count, settings, programs):
+    """A start of each of these servers, by its name."""
+    names = programs if len(programs) > 1 else ["a start"]
+    return {name: lambda path=path: full_shards.start(folder, count, settings, executable=path)
+            for name, path in zip(names, programs)}
+
+
+def run(folder, megabytes, count, programs):
+    mib = min(1024, max(64, int(megabytes * 1.1e6) // 2**20 + 1))
+    settings = full_shards.settings_for(mib)
+    full_shards.fill_slots(folder, count, settings)
+    memory = fill(folder, megabytes, count, settings, {"executable": programs[0]})
+    slots = full_shards.slots_in_use(folder, count)
+    ends = list(map(full_shards.end_of, slots))
+    found = measure(slots, starts(folder, count, settings, programs))
+    for slot, end in zip(slots, ends):
+        os.truncate(slot, end)
+    found.update(measure(slots, {"`cat` of the segments": lambda: read(slots)}))
+    print(f"{count} shards of {mib} MiB with {sum(ends) / 1e6:,.0f} MB of segments; the server that wrote them had "
+          f"{memory / 1e6:,.0f} MB of memory at its end:\n", *table(found, sum(ends)), sep="\n", flush=True)
+
+
+def main(words):
+    megabytes, count = float((words + ["42"])[0]), int((words[1:] + ["16"])[0])
+    programs = [os.path.abspath(it) for it in words[2:]] or [servers.program("server")]
+    with tempfile.TemporaryDirectory(prefix="needleazure-start-", dir=os.environ.get("MEASURE_DIR")) as folder:
+        run(folder, megabytes, count, programs)

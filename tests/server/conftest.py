@@ -1,0 +1,42 @@
+"""What the tests here share: a folder, a server, a client, and the library that is preloaded."""
+import contextlib
+import os
+import sys
+
+import pytest
+
+sys.dont_write_bytecode = True
+HERE = os.path.dirname(os.path.realpath(__file__))
+sys.path += [HERE, f"{HERE}/../models"]
+import servers
+
+
+@pytest.fixture
+def folder():
+    """A folder in memory, where syncs take no time."""
+    with servers.room_in_memory("test") as it:
+        yield os.path.realpath(it)
+
+
+@pytest.fixture(scope="session")
+def preload(tmp_path_factory):
+    """The library of preload.c."""
+    return servers.build_library(str(tmp_path_factory.mktemp("preload")))
+
+
+@pytest.fixture
+def serve(folder):
+    """Starts servers, which end with the test."""
+    with contextlib.ExitStack() as ends:
+        yield lambda name="log", *words, **how: ends.enter_context(servers.Server(f"{folder}/{name}", *words, **how))
+
+
+@pytest.fixture
+def server(serve):
+    return serve()
+
+
+@pytest.fixture
+def client(server):
+    with servers.Client(server.port) as it:
+        yield it

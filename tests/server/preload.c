@@ -1,0 +1,552 @@
+// Preloaded, it counts, notes, delays and refuses calls of a program, each by variables of the environment:
+//
+// memory    MEMORY_AT=n: the n-th request is refused, and the file MEMORY_MARK is made. MEMORY_COUNT_TO: before each write
+//           to standard output, how many requests there were is added to this file. BREAK_LARGE=n: none above n bytes.
+// threads   THREAD_AT=n: the n-th thread is refused, and the file THREAD_MARK is made.
+// streams   INPUT_FAILS=n or INPUT_STARVES=n: standard input, and each file open for reading alone, fails after n bytes for
+//           the device or for want of memory. OUTPUT_ROOM=n, ERROR_ROOM=n: then there is no space left.
+// device    DEVICE_AT=n: of the reads, writes and data syncs at a place the n-th fails; with DEVICE_HOW=stop the program
+//           ends in its place, with torn in the middle of a write. DEVICE_COUNT_TO: at the end, how many there were.
+// notes     RECORD_TO: each call on what stands below the folder RECORD_UNDER (a real path) is noted there, once before it
+//           is made, with the bytes of a write, and once after it, with its result; crash_images.py reads it. RECORD_READS:
+//           reads too, with the thread in place of `at`. RECORD_SLOW=n: what is noted takes n microseconds longer.
+//           FAIL_SYNC=n: each n-th fdatasync (of files whose path ends with FAIL_NAME) fails. FULL_AT=n: from the n-th
+//           write on none makes its file longer; the first of them writes half.
+// time      FAST=n: what the program waits for, and the clock that it waits by, go n times as fast.
+// broken    BREAK_ADDRESS: it listens on all addresses. BREAK_CLOCK: the clock of the day stands still. BREAK_PAUSE: no
+//           thread sleeps. BREAK_SETTING: there is no NEEDLEAZURE_CAPACITY. BREAK_ACCEPT=n: after n connections none is
+//           accepted. BREAK_SYNC=folder, file, opening or gate: folders are not synced, files are not when they are made,
+//           nothing is before the first write, or every other sync of a slot's bytes is left out. BREAK_LINE=n: in each
+//           n-th write of several bytes the last x is a y. BREAK_MEMORY: each write leaves 256 bytes of memory behind.
+//           BREAK_SPEED=n: each sync takes n nanoseconds longer than the one before.
+#define _GNU_SOURCE
+#include <arpa/inet.h>
+#include <dlfcn.h>
+#include <errno.h>
+#include <fcntl.h>
+#include <poll.h>
+#include <pthread.h>
+#include <signal.h>
+#include <stdarg.h>
+#include <stdint.h>
+#include <stdio.h>
+#include <stdlib.h>
+#include <string.h>
+#include <sys/epoll.h>
+#include <sys/socket.h>
+#include <sys/stat.h>
+#include <sys/syscall.h>
+#include <sys/uio.h>
+#include <time.h>
+#include <unistd.h>
+
+// The function of this name that would be called without this library.
+#define NEXT(name) \
+    ({ \
+        static __typeof__(name) *next; \
+        if (next == NULL) { \
+            next = (__typeof__(name) *)dlsym(RTLD_NEXT, #name); \
+        } \
+        next; \
+    })
+
+static uint64_t number_of(const char *name) {
+    const char *said = getenv(name);
+    return said == NULL ? 0 : strtoull(said, NULL, 10);
+}
+
+static int is_said(const char *name, const char *what) {
+    const char *said = getenv(name);
+    return said != NULL && strcmp(said, what) == 0;
+}
+
+static int refuse(int cause) {
+    errno = cause;
+    return -1;
+}
+
+static void make_file(const char *path) {
+    int file = path == NULL ? -1 : NEXT(openat)(AT_FDCWD, path, O_CREAT | O_WRONLY, 0600);
+    if (file >= 0) {
+        close(file);
+    }
+}
+
+__attribute__((constructor)) static void forget_setting(void) {
+    if (getenv("BREAK_SETTING") != NULL) {
+        unsetenv("NEEDLEAZURE_CAPACITY");
+    }
+}
+
+// ---- memory --------------------------------------------------------------------------------------------------------
+
+static uint64_t requests;
+
+static int is_refused(size_t size) {
+    static uint64_t at, most;
+    static int is_known;
+    if (!is_known) {
+        at = number_of("MEMORY_AT");
+        most = getenv("BREAK_LARGE") == NULL ? UINT64_MAX : number_of("BREAK_LARGE");
+        is_known = 1;
+    }
+    uint64_t number = __atomic_add_fetch(&requests, 1, __ATOMIC_SEQ_CST);
+    if (size <= most && number != at) {
+        return 0;
+    }
+    if (number == at) {
+        make_file(getenv("MEMORY_MARK"));
+    }
+    errno = ENOMEM;
+    return 1;
+}
+
+void *malloc(size_t size) {
+    return is_refused(size) ? NULL : NEXT(malloc)(size);
+}
+
+void *realloc(void *old, size_t size) {
+    return is_refused(size) ? NULL : NEXT(realloc)(old, size);
+}
+
+void *aligned_alloc(size_t alignment, size_t size) {
+    return is_refused(size) ? NULL : NEXT(aligned_alloc)(alignment, size);
+}
+
+int posix_memalign(void **out, size_t alignment, size_t size) {
+    return is_refused(size) ? ENOMEM : NEXT(posix_memalign)(out, alignment, size);
+}
+
+// Adds a line with the number of requests to a file, by calls that make none.
+static void note_requests(const char *path) {
+    int file = NEXT(openat)(AT_FDCWD, path, O_CREAT | O_WRONLY | O_APPEND, 0600);
+    char line[24];
+    int size = snprintf(line, sizeof line, "%lu\n", (unsigned long)requests);
+    if (file >= 0 && NEXT(write)(file, line, (size_t)size) != size) {
+        abort();
+    }
+    close(file);
+}
+
+// ---- threads -------------------------------------------------------------------------------------------------------
+
+int pthread_create(pthread_t *thread, const pthread_attr_t *attributes, void *(*start)(void *), void *argument) {
+    static uint64_t asked;
+    uint64_t at = number_of("THREAD_AT");
+    if (at == 0 || __atomic_add_fetch(&asked, 1, __ATOMIC_SEQ_CST) != at) {
+        return NEXT(pthread_create)(thread, attributes, start, argument);
+    }
+    make_file(getenv("THREAD_MARK"));
+    return EAGAIN;
+}
+
+// ---- streams -------------------------------------------------------------------------------------------------------
+
+static int is_input(int file) {
+    return file == STDIN_FILENO || (file > STDERR_FILENO && (fcntl(file, F_GETFL) & O_ACCMODE) == O_RDONLY);
+}
+
+ssize_t read(int file, void *to, size_t count) {
+    static size_t given;
+    const char *fails = getenv("INPUT_FAILS"), *starves = getenv("INPUT_STARVES");
+    const char *limit = fails == NULL ? starves : fails;
+    if (limit == NULL || count == 0 || !is_input(file)) {
+        return NEXT(read)(file, to, count);
+    }
+    size_t left = strtoull(limit, NULL, 10) - given;
+    ssize_t found = left == 0 ? 0 : NEXT(read)(file, to, count < left ? count : left);
+    if (found == 0) {
+        return refuse(fails == NULL ? ENOMEM : EIO);
+    }
+    given += found < 0 ? 0 : (size_t)found;
+    return found;
+}
+
+ssize_t write(int file, const void *from, size_t count) {
+    static size_t taken[STDERR_FILENO + 1];
+    const char *counts = file == STDOUT_FILENO ? getenv("MEMORY_COUNT_TO") : NULL;
+    if (counts != NULL) {
+        note_requests(counts);
+    }
+    const char *room = file == STDOUT_FILENO   ? getenv("OUTPUT_ROOM")
+                       : file == STDERR_FILENO ? getenv("ERROR_ROOM")
+                                               : NULL;
+    if (room == NULL || count == 0) {
+        return NEXT(write)(file, from, count);
+    }
+    size_t left = strtoull(room, NULL, 10) - taken[file];
+    if (left == 0) {
+        return refuse(ENOSPC);
+    }
+    ssize_t done = NEXT(write)(file, from, count < left ? count : left);
+    taken[file] += done < 0 ? 0 : (size_t)done;
+    return done;
+}
+
+// ---- time ----------------------------------------------------------------------------------------------------------
+
+static int64_t fast(void) {
+    static int64_t times;
+    if (times == 0) {
+        times = getenv("FAST") == NULL ? 1 : (int64_t)number_of("FAST");
+    }
+    return times;
+}
+
+static int64_t nanoseconds(const struct timespec *it) {
+    return (int64_t)it->tv_sec * 1000000000 + it->tv_nsec;
+}
+
+static struct timespec span_of(int64_t nanoseconds) {
+    return (struct timespec){nanoseconds / 1000000000, nanoseconds % 1000000000};
+}
+
+int clock_gettime(clockid_t which, struct timespec *to) {
+    static struct timespec first;
+    int made = (int)syscall(SYS_clock_gettime, which, to);
+    if (which == CLOCK_MONOTONIC && fast() > 1) {
+        *to = span_of(nanoseconds(to) * fast());
+    }
+    if (which == CLOCK_REALTIME && getenv("BREAK_CLOCK") != NULL) {
+        first = first.tv_sec == 0 ? *to : first;
+        *to = first;
+    }
+    return made;
+}
+
+int nanosleep(const struct timespec *asked, struct timespec *left) {
+    struct timespec span = span_of(nanoseconds(asked) / fast());
+    return getenv("BREAK_PAUSE") != NULL ? 0 : NEXT(nanosleep)(&span, left);
+}
+
+int clock_nanosleep(clockid_t which, int flags, const struct timespec *asked, struct timespec *left) {
+    struct timespec span = span_of(nanoseconds(asked) / fast());
+    return getenv("BREAK_PAUSE") != NULL ? 0 : NEXT(clock_nanosleep)(which, flags, &span, left);
+}
+
+int setsockopt(int file, int level, int name, const void *value, socklen_t size) {
+    if (level == SOL_SOCKET && (name == SO_RCVTIMEO || name == SO_SNDTIMEO) && fast() > 1) {
+        const struct timeval *asked = value;
+        int64_t span = ((int64_t)asked->tv_sec * 1000000 + asked->tv_usec) / fast();
+        struct timeval changed = {span / 1000000, span % 1000000};
+        return NEXT(setsockopt)(file, level, name, &changed, sizeof changed);
+    }
+    return NEXT(setsockopt)(file, level, name, value, size);
+}
+
+static int sooner(int milliseconds) {
+    return milliseconds <= 0 ? milliseconds : (int)((milliseconds + fast() - 1) / fast());
+}
+
+int poll(struct pollfd *files, nfds_t count, int wait) {
+    return NEXT(poll)(files, count, sooner(wait));
+}
+
+int ppoll(struct pollfd *files, nfds_t count, const struct timespec *wait, const sigset_t *mask) {
+    struct timespec span = wait == NULL ? (struct timespec){0, 0} : span_of(nanoseconds(wait) / fast());
+    return NEXT(ppoll)(files, count, wait == NULL ? NULL : &span, mask);
+}
+
+int epoll_wait(int file, struct epoll_event *events, int count, int wait) {
+    return NEXT(epoll_wait)(file, events, count, sooner(wait));
+}
+
+// ---- the network ---------------------------------------------------------------------------------------------------
+
+int bind(int it, const struct sockaddr *address, socklen_t length) {
+    struct sockaddr_in changed;
+    if (getenv("BREAK_ADDRESS") != NULL && address->sa_family == AF_INET && length == sizeof changed) {
+        memcpy(&changed, address, sizeof changed);
+        changed.sin_addr.s_addr = htonl(INADDR_ANY);
+        address = (struct sockaddr *)&changed;
+    }
+    return NEXT(bind)(it, address, length);
+}
+
+int accept4(int it, struct sockaddr *address, socklen_t *length, int flags) {
+    static uint64_t made;
+    uint64_t most = number_of("BREAK_ACCEPT");
+    if (most > 0 && ++made > most) {
+        pause();
+    }
+    return NEXT(accept4)(it, address, length, flags);
+}
+
+// ---- the device ----------------------------------------------------------------------------------------------------
+
+static uint64_t device_calls, writes;
+
+// Whether this call on a device fails. Where the program is to end here, it does.
+static int device_fails(void) {
+    uint64_t number = __atomic_add_fetch(&device_calls, 1, __ATOMIC_SEQ_CST);
+    if (number != number_of("DEVICE_AT")) {
+        return 0;
+    }
+    if (is_said("DEVICE_HOW", "stop")) {
+        kill(getpid(), SIGKILL);
+    }
+    errno = EIO;
+    return 1;
+}
+
+__attribute__((destructor)) static void tell_device_calls(void) {
+    const char *to = getenv("DEVICE_COUNT_TO");
+    FILE *file = to == NULL ? NULL : fopen(to, "w");
+    if (file != NULL) {
+        fprintf(file, "%lu\n", (unsigned long)device_calls);
+        fclose(file);
+    }
+}
+
+struct note {
+    uint64_t number, when, at, length;
+    int64_t result;
+    uint16_t path_length;
+    char kind;
+    char is_end;
+    uint32_t bytes_length;
+} __attribute__((packed));
+
+struct call {
+    char path[4096];
+    struct note note;
+    int is_noted;
+};
+
+// Writes a note in its turn. The file is opened by the first.
+static void put(struct call *call, const void *bytes, size_t length) {
+    static pthread_mutex_t turn = PTHREAD_MUTEX_INITIALIZER;
+    static uint64_t calls;
+    static int notes = -1;
+    const char *to = getenv("RECORD_TO");
+    struct timespec now;
+    pthread_mutex_lock(&turn);
+    if (notes < 0 && to != NULL) {
+        int file = NEXT(openat)(AT_FDCWD, to, O_WRONLY | O_CREAT | O_APPEND | O_CLOEXEC, 0600);
+        notes = fcntl(file, F_DUPFD_CLOEXEC, 500);
+        close(file);
+    }
+    if (!call->note.is_end) {
+        call->note.number = ++calls;
+    }
+    syscall(SYS_clock_gettime, CLOCK_MONOTONIC, &now);
+    call->note.when = (uint64_t)nanoseconds(&now);
+    call->note.bytes_length = (uint32_t)length;
+    struct iovec parts[3] = {
+        {&call->note, sizeof call->note}, {call->path, call->note.path_length}, {(void *)bytes, length}};
+    if (notes >= 0 && writev(notes, parts, 3) < 0) {
+        abort();
+    }
+    pthread_mutex_unlock(&turn);
+}
+
+static void begin(struct call *call, char kind, uint64_t at, uint64_t length, const void *bytes) {
+    const char *under = getenv("RECORD_UNDER");
+    call->is_noted = under != NULL && strncmp(call->path, under, strlen(under)) == 0;
+    if (call->is_noted) {
+        call->note = (struct note){.at = at, .length = length, .kind = kind, .path_length = (uint16_t)strlen(call->path)};
+        put(call, bytes, bytes == NULL ? 0 : length);
+    }
+}
+
+// Hands the result on, and the cause of a failure.
+static int64_t end(struct call *call, int64_t result) {
+    int cause = errno;
+    if (call->is_noted) {
+        call->note.result = result;
+        call->note.is_end = 1;
+        put(call, NULL, 0);
+    }
+    errno = cause;
+    return result;
+}
+
+// Waits in a call that was begun.
+static void take_long(const struct call *call) {
+    if (call->is_noted && getenv("RECORD_SLOW") != NULL) {
+        usleep((useconds_t)number_of("RECORD_SLOW"));
+    }
+}
+
+static void name_file(struct call *call, int file) {
+    char link[64];
+    if (getenv("RECORD_UNDER") == NULL) {
+        call->path[0] = 0;
+        return;
+    }
+    snprintf(link, sizeof link, "/proc/self/fd/%d", file);
+    ssize_t length = readlink(link, call->path, sizeof call->path - 1);
+    call->path[length < 0 ? 0 : length] = 0;
+}
+
+// A path from the folder in which the program runs, or from `folder`.
+static void name_path(struct call *call, int folder, const char *path) {
+    call->path[0] = 0;
+    if (path[0] != '/' && folder == AT_FDCWD && getcwd(call->path, sizeof call->path / 2) != NULL) {
+        strcat(call->path, "/");
+    }
+    strncat(call->path, path, sizeof call->path / 2 - 1);
+}
+
+static int opens(int folder, const char *path, int flags, mode_t mode) {
+    struct call call;
+    name_path(&call, folder, path);
+    begin(&call, 'o', 0, (uint64_t)flags, NULL);
+    return (int)end(&call, NEXT(openat)(folder, path, flags, mode));
+}
+
+#define OPENS(name, folder, ...) \
+    int name(__VA_ARGS__ const char *path, int flags, ...) { \
+        va_list more; \
+        va_start(more, flags); \
+        mode_t mode = flags & (O_CREAT | O_TMPFILE) ? va_arg(more, mode_t) : 0; \
+        va_end(more); \
+        return opens(folder, path, flags, mode); \
+    }
+
+OPENS(open, AT_FDCWD)
+OPENS(open64, AT_FDCWD)
+OPENS(openat, folder, int folder, )
+OPENS(openat64, folder, int folder, )
+
+int mkdir(const char *path, mode_t mode) {
+    struct call call;
+    name_path(&call, AT_FDCWD, path);
+    begin(&call, 'm', 0, 0, NULL);
+    return (int)end(&call, NEXT(mkdir)(path, mode));
+}
+
+int rename(const char *from, const char *to) {
+    struct call call;
+    name_path(&call, AT_FDCWD, from);
+    begin(&call, 'r', 0, 0, NULL);
+    return (int)end(&call, NEXT(rename)(from, to));
+}
+
+int ftruncate(int file, off_t length) {
+    struct call call;
+    name_file(&call, file);
+    begin(&call, 't', 0, (uint64_t)length, NULL);
+    return (int)end(&call, NEXT(ftruncate)(file, length));
+}
+
+int ftruncate64(int file, off64_t length) {
+    return ftruncate(file, length);
+}
+
+ssize_t pread(int file, void *to, size_t count, off_t at) {
+    struct call call = {.is_noted = 0};
+    if (getenv("RECORD_READS") != NULL) {
+        name_file(&call, file);
+        begin(&call, 'p', (uint64_t)gettid(), count, NULL);
+        take_long(&call);
+    }
+    return (ssize_t)end(&call, device_fails() ? -1 : NEXT(pread)(file, to, count, at));
+}
+
+ssize_t pread64(int file, void *to, size_t count, off64_t at) {
+    return pread(file, to, count, at);
+}
+
+// How many bytes of a write there is room for; -1 where there is none.
+static ssize_t room(int file, size_t count, off_t at, uint64_t number) {
+    uint64_t from = number_of("FULL_AT");
+    struct stat its;
+    if (from == 0 || number < from || fstat(file, &its) != 0 || at + (off_t)count <= its.st_size) {
+        return (ssize_t)count;
+    }
+    return number == from && count > 1 ? (ssize_t)(count / 2) : -1;
+}
+
+// A copy of the bytes in which the last x is a y, where this write is to be changed.
+static char *changed(const void *bytes, size_t count) {
+    static uint64_t made;
+    uint64_t each = number_of("BREAK_LINE");
+    if (each == 0 || count < 2 || __atomic_add_fetch(&made, 1, __ATOMIC_SEQ_CST) % each != 0) {
+        return NULL;
+    }
+    char *copy = memcpy(NEXT(malloc)(count), bytes, count), *letter = memrchr(copy, 'x', count);
+    if (letter != NULL) {
+        *letter = 'y';
+    }
+    return copy;
+}
+
+static ssize_t write_at(struct call *call, int file, const void *bytes, size_t count, off_t at) {
+    static volatile char *left;
+    uint64_t number = call->is_noted || getenv("RECORD_UNDER") == NULL ? __atomic_add_fetch(&writes, 1, __ATOMIC_SEQ_CST) : writes;
+    if (getenv("BREAK_MEMORY") != NULL) {
+        left = NEXT(malloc)(256);
+        left[0] = 1;
+    }
+    if (device_fails()) {
+        if (is_said("DEVICE_HOW", "torn")) {
+            NEXT(pwrite)(file, bytes, count / 2, at);
+            kill(getpid(), SIGKILL);
+        }
+        return -1;
+    }
+    ssize_t fits = call->is_noted ? room(file, count, at, number) : (ssize_t)count;
+    if (fits < 0) {
+        return refuse(ENOSPC);
+    }
+    char *copy = changed(bytes, count);
+    ssize_t made = NEXT(pwrite)(file, copy == NULL ? bytes : copy, (size_t)fits, at);
+    free(copy);
+    return made;
+}
+
+ssize_t pwrite(int file, const void *bytes, size_t count, off_t at) {
+    struct call call;
+    name_file(&call, file);
+    begin(&call, 'w', (uint64_t)at, count, bytes);
+    take_long(&call);
+    return (ssize_t)end(&call, write_at(&call, file, bytes, count, at));
+}
+
+ssize_t pwrite64(int file, const void *bytes, size_t count, off64_t at) {
+    return pwrite(file, bytes, count, at);
+}
+
+// Whether this sync of a file fails.
+static int sync_fails(const char *path) {
+    static uint64_t made;
+    uint64_t each = number_of("FAIL_SYNC");
+    const char *name = getenv("FAIL_NAME");
+    if (each == 0 || (name != NULL && (strlen(path) < strlen(name) || strcmp(path + strlen(path) - strlen(name), name)))) {
+        return 0;
+    }
+    return __atomic_add_fetch(&made, 1, __ATOMIC_SEQ_CST) % each == 0;
+}
+
+int fdatasync(int file) {
+    static uint64_t made;
+    struct call call;
+    uint64_t number = __atomic_add_fetch(&made, 1, __ATOMIC_SEQ_CST);
+    struct timespec more = span_of((int64_t)(number_of("BREAK_SPEED") * number));
+    if (nanoseconds(&more) > 0) {
+        NEXT(nanosleep)(&more, NULL);
+    }
+    if ((is_said("BREAK_SYNC", "gate") && number % 2 == 0) || (is_said("BREAK_SYNC", "opening") && writes == 0)) {
+        return 0;
+    }
+    name_file(&call, file);
+    begin(&call, 's', 0, 0, NULL);
+    take_long(&call);
+    if (call.is_noted && sync_fails(call.path)) {
+        return (int)end(&call, refuse(EIO));
+    }
+    return (int)end(&call, device_fails() ? -1 : NEXT(fdatasync)(file));
+}
+
+int fsync(int file) {
+    struct stat its;
+    struct call call;
+    if ((is_said("BREAK_SYNC", "opening") && writes == 0) ||
+        (fstat(file, &its) == 0 && is_said("BREAK_SYNC", S_ISDIR(its.st_mode) ? "folder" : "file"))) {
+        return 0;
+    }
+    name_file(&call, file);
+    begin(&call, 'f', 0, 0, NULL);
+    return (int)end(&call, NEXT(fsync)(file));
+}

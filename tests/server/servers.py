@@ -1,0 +1,292 @@
+"""What runs over a built server share: libraries to preload, a server, a connection to it, and what its answers say.
+
+An entry is its time, its line, and its metadata as pairs of bytes in the order of their names; labels are a dict.
+"""
+import atexit
+import contextlib
+import functools
+import json
+import os
+import shutil
+import socket
+import subprocess
+import sys
+import tempfile
+import threading
+
+sys.dont_write_bytecode = True
+TOP = os.path.dirname(os.path.dirname(os.path.dirname(os.path.realpath(__file__))))
+sys.path.append(f"{TOP}/tests/models")
+import judges
+from bodies import MOST_TIME, canonical, entries_of
+from bodies import shard_of as shard_of_key
+
+SECONDS = 60
+HOUR = judges.HALF_AGE
+PUSH, READ, TRIM = "/loki/api/v1/push", "/ingester/v1/read", "/ingester/v1/trim"
+# the libraries that this run has built
+BUILT = set()
+
+
+def program(name):
+    return f"{TOP}/crates/{name}/out/{name}"
+
+
+def hold(is_so, what):
+    """Says whether something is so, and ends the run where it isn't."""
+    print(f"{'ok' if is_so else 'WRONG'}: {what}", flush=True)
+    if not is_so:
+        sys.exit(1)
+
+
+def need(is_so, what):
+    """Ends the run where something isn't so, and says nothing else."""
+    if not is_so:
+        hold(is_so, what)
+
+
+def build_library(folder, name="preload"):
+    """The library of preload.c, which is preloaded. Two names are two libraries."""
+    path, source = f"{folder}/{name}.so", f"{TOP}/tests/server/preload.c"
+    subprocess.run(["cc", "-shared", "-fPIC", "-O1", "-o", path, source, "-ldl", "-lpthread"], check=True)
+    BUILT.add(path)
+    return path
+
+
+def run(words, data=b"", **how):
+    """Exit status, output and errors of a program, by its name or path. A server that starts is killed: status None."""
+    words, pipes = [words[0] if "/" in words[0] else program(words[0]), *words[1:]], dict.fromkeys(["stdin", "stdout", "stderr"], subprocess.PIPE)
+    with subprocess.Popen(words, **pipes, **{**how, "env": broken(how.get("env", {}))}) as it:
+        watch = threading.Timer(SECONDS, it.kill)
+        watch.start()
+        said = it.stdout.readline() if words[0].endswith("server") else b""
+        if said.startswith(b"ready"):
+            it.kill()
+            return None, b"ready", b""
+        output, errors = it.communicate(data)
+        watch.cancel()
+        return it.returncode, said + output, errors
+
+
+def room_in_memory(name, place=None):
+    """A temporary folder in this place, else where syncs take no time, where the system has such a place."""
+    place = place or ("/dev/shm" if os.access("/dev/shm", os.W_OK) else None)
+    return tempfile.TemporaryDirectory(prefix=f"needleazure-{name}-", dir=place)
+
+
+def allocator():
+    """The settings by which `make run` gives the server its allocator."""
+    found = next((f"/usr/lib/{it}/libjemalloc.so.2" for it in sorted(os.listdir("/usr/lib"))
+                  if os.path.exists(f"/usr/lib/{it}/libjemalloc.so.2")), None)
+    return {"LD_PRELOAD": found} if found else {"GLIBC_TUNABLES": "glibc.malloc.tcache_count=1000"}
+
+
+# ---- servers that are broken on purpose ----------------------------------------------------------------------------
+
+@functools.cache
+def breaking_library():
+    folder = tempfile.mkdtemp(prefix="needleazure-break-")
+    atexit.register(shutil.rmtree, folder, True)
+    return build_library(folder)
+
+
+def broken(settings):
+    """The settings of a server, which is broken where this run's environment has variables of preload.c."""
+    ways = {name: value for name, value in os.environ.items() if name.startswith("BREAK_")}
+    given = settings.get("LD_PRELOAD", "")
+    if ways and not BUILT & {*given.split()}:
+        given = f"{breaking_library()} {given}".strip()
+    return {**settings, **ways, "LD_PRELOAD": given} if ways else settings
+
+
+def run_again(words, settings):
+    """Runs this script with these words. Returns its exit status, and what it said."""
+    how = {"env": {**os.environ, **settings}, "capture_output": True, "text": True, "check": False}
+    ended = subprocess.run([sys.argv[0], *words], **how)
+    return ended.returncode, (ended.stdout + ended.stderr).strip().splitlines() or [""]
+
+
+def try_faults(faults):
+    """Runs this script over servers that are broken: `faults` has a name, a variable, its value, and the words of each
+    run, which has to end with 1, and with 0 over a server that isn't broken."""
+    is_well = True
+    for words in sorted({tuple(it[3]) for it in faults}):
+        status, said = run_again(words, {})
+        print(f"{'ok' if status == 0 else 'WRONG'}: not broken ({' '.join(words) or 'all'}): {said[-1]}", flush=True)
+        is_well &= status == 0
+    for name, variable, value, words in faults:
+        status, said = run_again(words, {variable: value})
+        why = next((it for it in said if "WRONG" in it), said[-1])
+        print(f"{'found' if status == 1 else 'NOT FOUND'}: {name} ({variable}={value}): {why[:300]}", flush=True)
+        is_well &= status == 1
+    return 0 if is_well else 1
+
+
+# ---- keys ----------------------------------------------------------------------------------------------------------
+
+def text_of(labels):
+    """The canonical text of labels, as bytes."""
+    return canonical([(name.encode(), value.encode()) for name, value in labels.items()])
+
+
+def shard_of(tenant, labels, count):
+    return shard_of_key(tenant.encode(), text_of(labels), count)
+
+
+def labels_in(shard, count, tenant="t", name="s"):
+    """Labels of streams of a shard, without end."""
+    number = 0
+    while True:
+        labels = {name: str(number)}
+        if shard_of(tenant, labels, count) == shard:
+            yield labels
+        number += 1
+
+
+# ---- a server ------------------------------------------------------------------------------------------------------
+
+class NotStarted(Exception):
+    """A server ended before it was ready."""
+
+
+class Server:
+    """A server over a folder, until it is killed. `settings` is all of its environment, `how` goes to Popen."""
+
+    def __init__(self, folder, shards=4, workers=8, settings=None, more=(), **how):
+        words = [program("server"), folder, "0", str(shards), str(workers), *more]
+        how = {"stdout": subprocess.PIPE, "stderr": subprocess.PIPE, "env": broken(settings or {}), **how}
+        self.running = subprocess.Popen(words, **how)
+        watch = threading.Timer(SECONDS, self.running.kill)
+        watch.start()
+        said = self.running.stdout.readline()
+        watch.cancel()
+        if not said.startswith(b"ready "):
+            errors = self.running.stderr.read().decode() if self.running.stderr else ""
+            raise NotStarted(f"status {self.end()}: {errors.strip()}")
+        self.pid, self.port = self.running.pid, int(said.split()[1])
+
+    def __enter__(self):
+        return self
+
+    def __exit__(self, *_):
+        self.end()
+
+    def end(self):
+        """Kills it. Returns its exit status."""
+        self.running.kill()
+        status = self.running.wait()
+        self.running.stdout.close()
+        return status
+
+    def errors(self):
+        """What it wrote to standard error, after its end."""
+        with self.running.stderr as file:
+            return file.read().decode()
+
+    def memory(self, which="VmRSS"):
+        """How many bytes of memory it has now, or with VmHWM has had at most."""
+        with open(f"/proc/{self.pid}/status", encoding="ascii") as file:
+            return next(int(line.split()[1]) * 1024 for line in file if line.startswith(which))
+
+    def processor(self):
+        """For how many seconds it has had a processor."""
+        with open(f"/proc/{self.pid}/stat", encoding="ascii") as file:
+            words = file.read().rpartition(")")[2].split()
+        return (int(words[11]) + int(words[12])) / os.sysconf("SC_CLK_TCK")
+
+
+# ---- a connection --------------------------------------------------------------------------------------------------
+
+def request(path, body, tenant="t"):
+    body = json.dumps(body).encode()
+    head = [f"POST {path} HTTP/1.1", f"X-Scope-OrgID: {tenant}", "Content-Type: application/json", f"Content-Length: {len(body)}"]
+    return "\r\n".join([*head, "", ""]).encode() + body
+
+
+def value_of(entry):
+    """An entry as a push has it."""
+    time, line, pairs = entry
+    more = [{name.decode(): value.decode() for name, value in pairs}] if pairs else []
+    return [str(time), line, *more]
+
+
+def push_body(streams):
+    """The body of a push of pairs of labels and entries."""
+    return {"streams": [{"stream": labels, "values": list(map(value_of, entries))} for labels, entries in streams]}
+
+
+def read_body(labels, first=0, last=MOST_TIME):
+    return {"stream": labels, "from": str(first), "to": str(last)}
+
+
+class Client:
+    """A connection to a server. Requests may be sent before the answers to earlier ones are taken."""
+
+    def __init__(self, port, tenant="t", seconds=SECONDS):
+        self.tenant, self.found = tenant, b""
+        self.ends = socket.create_connection(("127.0.0.1", port), seconds)
+        self.ends.setsockopt(socket.IPPROTO_TCP, socket.TCP_NODELAY, 1)
+
+    def __enter__(self):
+        return self
+
+    def __exit__(self, *_):
+        self.ends.close()
+
+    def more(self):
+        piece = self.ends.recv(1 << 20)
+        if not piece:
+            raise ConnectionError("ended without an answer")
+        self.found += piece
+
+    def answer(self):
+        """Status and body of the next answer."""
+        while b"\r\n\r\n" not in self.found:
+            self.more()
+        head, _, self.found = self.found.partition(b"\r\n\r\n")
+        lengths = [int(it[15:]) for it in head.split(b"\r\n") if it.startswith(b"Content-Length:")]
+        length, pieces = sum(lengths), [self.found]
+        while length > sum(map(len, pieces)):
+            self.found = b""
+            self.more()
+            pieces.append(self.found)
+        whole = b"".join(pieces)
+        self.found = whole[length:]
+        return int(head.split()[1]), whole[:length]
+
+    def send(self, path, body):
+        self.ends.sendall(request(path, body, self.tenant))
+
+    def ask(self, path, body):
+        self.send(path, body)
+        return self.answer()
+
+    def push(self, labels, entries):
+        """Status and text of the answer to a push of one stream."""
+        status, text = self.ask(PUSH, push_body([(labels, entries)]))
+        return status, text.decode()
+
+    def read(self, labels, first=0, last=MOST_TIME):
+        """The entries of a stream, or the status of another answer."""
+        return entries_of(*self.ask(READ, read_body(labels, first, last)))
+
+    def read_all(self, streams):
+        """The entries of each of these streams, read by requests that are sent together."""
+        self.ends.sendall(b"".join(request(READ, read_body(it), self.tenant) for it in streams))
+        return [entries_of(*self.answer()) for _ in streams]
+
+    def trim(self, labels, bound):
+        status, text = self.ask(TRIM, {"stream": labels, "bound": str(bound)})
+        return status, text.decode()
+
+
+def write(path, data):
+    with open(path, "wb") as file:
+        file.write(data)
+
+
+def bytes_of(path, most=-1):
+    """The bytes of a file, or the first of them, none where it isn't there."""
+    with contextlib.suppress(FileNotFoundError), open(path, "rb") as file:
+        return file.read(most)
+    return b""

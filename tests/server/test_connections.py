@@ -1,0 +1,199 @@
+"""Connections as clients use them: kept open, byte by byte, silent, cut, slow, and very many."""
+import os
+import resource
+import socket
+import statistics
+import struct
+import subprocess
+import threading
+import time
+
+import pytest
+import servers
+from hostile_bytes import exchange
+
+LABELS, READY, SECONDS = {"a": "1"}, b"GET /ready HTTP/1.1\r\n\r\n", 60
+# one more than any number that a loop of the server's could have
+CONNECTIONS = int(os.environ.get("CONNECTIONS", 101_000))
+
+
+def entry(line="x"):
+    return time.time_ns(), line, ()
+
+
+def push_request(labels, entries, tenant="t"):
+    return servers.request(servers.PUSH, servers.push_body([(labels, entries)]), tenant)
+
+
+def test_requests_in_turn(client):
+    """Each is answered before the next is sent, after a pause too."""
+    kept = []
+    for number, pause in enumerate([0, 0, 2.5, 0]):
+        time.sleep(pause)
+        kept.append(entry(f"line {number}"))
+        assert client.push(LABELS, kept[-1:]) == (204, "")
+        assert client.read(LABELS) == kept
+
+
+def test_bytes_one_by_one(client):
+    one = entry()
+    for request in (push_request(LABELS, [one]), servers.request(servers.READ, servers.read_body(LABELS))):
+        for at in range(len(request)):
+            client.ends.sendall(request[at:at + 1])
+            time.sleep(0.001)
+        status, body = client.answer()
+        assert status == 204 or servers.entries_of(status, body) == [one]
+
+
+def test_answers_are_sent_at_once(client):
+    """The second of two answers does not wait until the client has acknowledged the first, which takes it 40 ms."""
+    took = []
+    for _ in range(100):
+        began = time.monotonic()
+        client.ends.sendall(2 * READY)
+        assert [client.answer() for _ in range(2)] == [(200, b"ready")] * 2
+        took.append(time.monotonic() - began)
+    assert statistics.median(took[50:]) < 0.025
+
+
+def closes(ends):
+    """What comes on a connection until the server closes it, and after how long."""
+    began, found = time.monotonic(), b""
+    try:
+        while piece := ends.recv(65_536):
+            found += piece
+    except ConnectionError:
+        pass
+    return found, time.monotonic() - began
+
+
+def test_silent_clients(serve, preload):
+    """60 seconds of silence close a connection, before a byte, in a head and in a body, and nothing of it is served. The
+    server's clock goes twenty times as fast."""
+    server = serve(workers=3, settings={"LD_PRELOAD": preload, "FAST": "20"})
+    inner = push_request({"a": "inner"}, [entry()]) + READY
+    head = servers.request(servers.PUSH, "x" * (len(inner) + 98))[:-len(inner) - 100]
+    clients = [socket.create_connection(("127.0.0.1", server.port), SECONDS) for _ in range(3)]
+    for ends, sent in zip(clients, [b"", head[:40], head + inner]):
+        ends.sendall(sent)
+    for ends in clients:
+        found, took = closes(ends)
+        ends.close()
+        assert not found and took < 30
+        # (the others were closed beside the first)
+        assert ends is not clients[0] or took > 1.5
+    with servers.Client(server.port) as client:
+        assert client.read({"a": "inner"}) == [] and client.push(LABELS, [entry()]) == (204, "")
+
+
+def test_cut_bodies(server):
+    """What came of a body that is cut, or too large, is no request."""
+    inner = push_request({"a": "inner"}, [entry()]) + READY
+    for length, due in ((len(inner) + 100, b""), (4_194_305, b"HTTP/1.1 413")):
+        head = servers.request(servers.PUSH, {}).replace(b"Content-Length: 2", b"Content-Length: %d" % length)[:-2]
+        found = exchange(server.port, head + inner, SECONDS)
+        assert found is not None and found.startswith(due) and found.count(b"HTTP/1.1") == bool(due)
+    with servers.Client(server.port) as client:
+        assert client.read({"a": "inner"}) == []
+
+
+@pytest.mark.parametrize("is_reset", [False, True])
+def test_clients_that_leave(serve, is_reset):
+    """Three pushes are cut at each place. An end leaves those that were sent whole, a reset a beginning of them."""
+    server, now = serve(workers=1), time.time_ns()
+    lines = [(now + at, f"line {at}", ()) for at in range(3)]
+    for place in range(len(b"".join(push_request(LABELS, [it], "0000") for it in lines)) + 1):
+        pieces = [push_request(LABELS, [it], f"{place:04}") for it in lines]
+        data, whole = b"".join(pieces)[:place], sum(place >= sum(map(len, pieces[:at])) for at in (1, 2, 3))
+        if is_reset:
+            with socket.create_connection(("127.0.0.1", server.port), SECONDS) as it:
+                it.sendall(data)
+                it.setsockopt(socket.SOL_SOCKET, socket.SO_LINGER, struct.pack("ii", 1, 0))
+        else:
+            exchange(server.port, data, SECONDS)
+        with servers.Client(server.port, f"{place:04}") as client:
+            assert client.read(LABELS) in [lines[:at] for at in range(0 if is_reset else whole, whole + 1)], place
+
+
+class Pusher(threading.Thread):
+    """Pushes line after line over one connection, until it is told to end."""
+
+    def __init__(self, port, number):
+        super().__init__(daemon=True)
+        self.client, self.labels, self.lines, self.wrong, self.is_done = servers.Client(port), {"a": f"p{number}"}, [], "", False
+
+    def run(self):
+        try:
+            while not self.is_done and not self.wrong:
+                self.lines.append(entry(f"line {len(self.lines)}"))
+                status, text = self.client.push(self.labels, self.lines[-1:])
+                self.wrong = "" if status == 204 else f"{status} {text}"
+        except OSError as error:
+            self.wrong = repr(error)
+
+
+def test_slow_clients(serve):
+    """Beside 200 clients that send a byte a second, others are answered; one that comes after them, when they are gone."""
+    server, slow = serve(workers=64), push_request({"a": "slow"}, [entry("x" * 1_000)])
+    pushers = [Pusher(server.port, it) for it in range(8)]
+    for it in pushers:
+        it.start()
+    crowd = [socket.create_connection(("127.0.0.1", server.port), SECONDS) for _ in range(200)]
+    for at in range(4):
+        for it in crowd:
+            it.sendall(slow[at:at + 1])
+        time.sleep(1)
+    made = [len(it.lines) for it in pushers]
+    late = servers.Client(server.port)
+    late.send(servers.PUSH, servers.push_body([({"a": "late"}, [entry()])]))
+    for it in crowd:
+        it.close()
+    assert late.answer() == (204, b"")
+    for it in pushers:
+        it.is_done = True
+        it.join(SECONDS)
+        assert not it.wrong and late.read(it.labels) == it.lines
+    assert min(made) > 20 and late.read({"a": "slow"}) == [] and len(late.read({"a": "late"})) == 1
+    late.ends.close()
+
+
+def test_no_descriptors(serve):
+    """A server that has no descriptor left for a while waits, and then answers each connection that waited."""
+    server = serve(workers=64, preexec_fn=lambda: resource.setrlimit(resource.RLIMIT_NOFILE, (40, 40)))
+    held = [servers.Client(server.port) for _ in range(60)]
+    for number, it in enumerate(held):
+        it.send(servers.PUSH, servers.push_body([({"a": str(number)}, [entry()])]))
+    ends = time.monotonic() + SECONDS
+    while len(os.listdir(f"/proc/{server.pid}/fd")) < 40 and time.monotonic() < ends:
+        time.sleep(0.05)
+    before, began = server.processor(), time.monotonic()
+    time.sleep(3)
+    used = (server.processor() - before) / (time.monotonic() - began)
+    assert used < 0.2, f"it uses {used:.2f} of a processor while it waits"
+    for it in held:
+        assert it.answer()[0] == 204
+        it.ends.close()
+    for _ in range(100):
+        with servers.Client(server.port) as it:
+            assert it.push({"a": "late"}, [entry()])[0] == 204
+
+
+def test_many_connections(serve, folder):
+    """Each of very many short connections is answered."""
+    subprocess.run(["cc", "-O1", "-o", f"{folder}/many", f"{servers.TOP}/tests/server/many_connections.c", "-lpthread"], check=True)
+    server = serve(workers=16)
+    ended = subprocess.run([f"{folder}/many", str(server.port), str(CONNECTIONS), "8"], capture_output=True, text=True, check=True)
+    assert int(ended.stdout) == CONNECTIONS, ended.stderr
+    with servers.Client(server.port) as client:
+        assert client.push(LABELS, [entry()]) == (204, "")
+
+
+def test_counted_connections(serve):
+    """A server with CONNECTIONS ends well after so many."""
+    server = serve(more=["3"])
+    for number in range(3):
+        with servers.Client(server.port) as client:
+            assert client.push(LABELS, [entry(str(number))]) == (204, "")
+    assert server.running.wait(SECONDS) == 0
+    with servers.Client(serve().port) as client:
+        assert len(client.read(LABELS)) == 3

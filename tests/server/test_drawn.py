@@ -1,0 +1,133 @@
+"""Drawn, cut and changed bytes for the programs, each answer held to a judge of the definitions (judges.py).
+
+A slot is given to `walcat`, a body to `ingest1`; label sets go into a push of `ingestctl`, whose log `walcat` then prints,
+and label texts into a slot. A connection is sent to a server that has no stream, ended, and read to its end. hypothesis
+draws 300 of each kind, always the same ones, or with DRAWN=n any n, and shrinks what differs. `by_hand` are the cases that
+have a name: each cut of some, each byte of some with each value, and what is about a limit.
+"""
+import concurrent.futures
+import itertools
+import json
+import os
+import shutil
+import subprocess
+import tempfile
+
+import hostile_bytes
+import judges
+import pytest
+import servers
+from bodies import canonical, label_fault
+from hypothesis import HealthCheck, given, settings, strategies
+from servers import program
+
+NOW, SECONDS = 20, 60
+# the least number of named cases of each kind
+FLOORS = {"segments": 126_000, "bodies": 15_000, "heads": 8_000}
+DRAWING = settings(max_examples=int(os.environ.get("DRAWN", 300)), derandomize="DRAWN" not in os.environ, deadline=None,
+                   database=None, suppress_health_check=list(HealthCheck))
+
+
+def run(words, data=b""):
+    """Exit status, standard output and standard error of a program."""
+    done = subprocess.run(words, input=data, capture_output=True, timeout=SECONDS, env={}, check=False)
+    return done.returncode, done.stdout, done.stderr
+
+
+def walcat(data, shard=0, count=1):
+    with tempfile.NamedTemporaryFile(prefix="needleazure-") as file:
+        file.write(data)
+        file.flush()
+        return run([program("walcat"), file.name, str(shard), str(count)])
+
+
+# ---- the kinds: of a case what was said, and what may be said ---------------------------------------------------------
+
+def try_segment(case):
+    return walcat(*case), [judges.walcat(*case)]
+
+
+def try_body(case):
+    now, body = case
+    return run([program("ingest1"), str(now)], body), [judges.ingest1(now, body)]
+
+
+def pushed(sets):
+    """What a push of these labels, one line for each, is answered, and what `walcat` then prints of its slot."""
+    lines, records = [], []
+    for number, pairs in enumerate(sets):
+        fault = label_fault(sorted(pairs))
+        if fault:
+            lines.append(f"stream {number}: {fault}\n")
+            continue
+        # (the first call begins a segment with its stream, each later one appends to it)
+        records.append((b"append t %b entries 1" if records else b"state t %b highest 10 entries 1") % canonical(pairs))
+    answer = f"{400 if lines else 204}\n{''.join(lines)}".encode()
+    return answer, b"\n".join([b"segment version 2 generation 1 shard 0 of 1", *records]) if records else b"closed\n"
+
+
+def try_labels(sets):
+    if isinstance(sets, bytes):
+        data = hostile_bytes.state_of_text(sets)
+        return walcat(data), [judges.walcat(data)]
+    slots = tempfile.mkdtemp(prefix="needleazure-")
+    streams = [{"stream": {name.decode(): value.decode() for name, value in pairs}, "values": [["10", f"{number}"]]}
+               for number, pairs in enumerate(sets)]
+    body = json.dumps({"streams": streams}, ensure_ascii=False).encode()
+    _, answer, _ = run([program("ingestctl"), "push", slots, "1", "t", str(NOW)], body)
+    _, printed, _ = run([program("walcat"), f"{slots}/shard-00-1.wal", "0", "1"])
+    shutil.rmtree(slots)
+    # (without its last line, the place of the end)
+    return (answer, printed if printed == b"closed\n" else printed.rpartition(b"\nend ")[0]), [pushed(sets)]
+
+
+@pytest.fixture(scope="module")
+def try_head(tmp_path_factory):
+    with servers.Server(f"{tmp_path_factory.mktemp('drawn')}/log", 4, 64) as server:
+        # (addresses of its own, so that ports suffice)
+        numbers = itertools.count()
+        yield lambda data: (hostile_bytes.exchange(server.port, data, SECONDS, f"127.0.1.{next(numbers) % 250 + 1}"),
+                            judges.connection(data))
+
+
+def hold(tried, name=""):
+    said, wanted = tried
+    assert said in wanted, name
+
+
+@DRAWING
+@given(strategies.randoms(use_true_random=False))
+def test_drawn_segments(draw):
+    hold(try_segment(hostile_bytes.drawn_segment(draw)))
+
+
+@DRAWING
+@given(strategies.randoms(use_true_random=False))
+def test_drawn_bodies(draw):
+    hold(try_body(hostile_bytes.drawn_body(draw)))
+
+
+@DRAWING
+@given(strategies.randoms(use_true_random=False))
+def test_drawn_labels(draw):
+    hold(try_labels(hostile_bytes.drawn_labels(draw)))
+
+
+@DRAWING
+@given(draw=strategies.randoms(use_true_random=False))
+def test_drawn_heads(try_head, draw):
+    hold(try_head(hostile_bytes.drawn_head(draw)))
+
+
+@pytest.mark.by_hand
+@pytest.mark.parametrize("kind", FLOORS)
+def test_named(try_head, kind):
+    tries, made = {"segments": try_segment, "bodies": try_body, "heads": try_head}, 0
+    with concurrent.futures.ThreadPoolExecutor(os.cpu_count()) as pool:
+        cases = hostile_bytes.NAMED[kind]()
+        while part := list(itertools.islice(cases, 1_000)):
+            for (name, _), tried in zip(part, pool.map(lambda it: tries[kind](it[1]), part)):
+                hold(tried, name)
+            made += len(part)
+    print(f"{kind}: {made} named cases")
+    assert made >= FLOORS[kind]

@@ -1,0 +1,103 @@
+"""Large bodies, large answers, large slots, many calls, and what memory a server keeps."""
+import os
+import time
+
+import servers
+from hostile_bytes import segment_bytes, state_bytes
+from segments import generation_of
+
+MOST_BODY, MOST_LINE, MINUTE = 4_194_304, 262_144, 60 * 10**9
+# (each large piece of memory is a map of its own, which goes when it is freed)
+EXACT = {"GLIBC_TUNABLES": "glibc.malloc.mmap_threshold=65536"}
+
+
+def lines_from(start, count, length, step=1):
+    return [(start + at * step, f"{at} ".ljust(length, "x"), ()) for at in range(count)]
+
+
+def test_a_body_of_4_mib_refused_in_part(client):
+    """What is refused is named, and all else is there. One byte more is too large."""
+    now = time.time_ns()
+    well, late = lines_from(now, 15, 255_000), (now - 8 * 24 * servers.HOUR, "old", ())
+    length = lambda more: len(servers.request(servers.PUSH, push_of(more)).partition(b"\r\n\r\n")[2])
+    push_of = lambda more: servers.push_body([({"a": "1"}, [*well[:8], late, *well[8:]]), ({"a": "2"}, [(now, "x" * (MOST_LINE + 1), ())]),
+                                              ({"a": "3"}, [(now, "x" * more, ())])])
+    rest = MOST_BODY - length(0)
+    assert length(rest) == MOST_BODY
+    due = b"stream 0 entry 8: too old\nstream 1 entry 0: line too long\n"
+    assert client.ask(servers.PUSH, push_of(rest)) == (400, due)
+    assert client.read({"a": "1"}) == well and client.read({"a": "2"}) == [] and len(client.read({"a": "3"})[0][1]) == rest
+    assert client.ask(servers.PUSH, push_of(rest + 1)) == (413, b"body too large")
+
+
+def test_10000_streams_of_one_line(client):
+    now, labels = time.time_ns(), [{"a": str(it)} for it in range(10_000)]
+    assert client.ask(servers.PUSH, servers.push_body([(it, [(now, "x", ())]) for it in labels])) == (204, b"")
+    for at in range(0, 10_000, 100):
+        assert client.read_all(labels[at:at + 100]) == [[(now, "x", ())]] * 100
+
+
+def test_a_read_of_30000_entries(client):
+    """Its answer has more than 4 MB."""
+    lines = lines_from(time.time_ns(), 30_000, 150)
+    for at in range(0, 30_000, 10_000):
+        assert client.push({"a": "1"}, lines[at:at + 10_000]) == (204, "")
+    status, text = client.ask(servers.READ, servers.read_body({"a": "1"}))
+    assert len(text) > 4_000_000 and servers.entries_of(status, text) == lines
+
+
+def test_a_start_over_a_block_above_100_mb(serve, folder):
+    """A slot whose first block is that long is replayed, and the shard goes on."""
+    now, streams, count = time.time_ns(), 35, 12
+    labels = sorted(({"a": str(it)} for it in range(streams)), key=servers.text_of)
+    lines = [(now + at, b"x" * MOST_LINE) for at in range(count)]
+    states = [state_bytes(2, (b"t", servers.text_of(it)), lines[-1][0], lines[-1], lines) for it in labels]
+    os.mkdir(f"{folder}/log")
+    servers.write(f"{folder}/log/shard-00-1.wal", segment_bytes(b"2", 1, 0, 1, [b"".join(states)]))
+    server = serve("log", 1, settings={"NEEDLEAZURE_CAPACITY": str(256 << 20)})
+    with servers.Client(server.port) as client:
+        for it in (labels[0], labels[-1]):
+            assert client.read(it) == [(at, line.decode(), ()) for at, line in lines]
+        assert client.push(labels[0], [(now + count, "more", ())]) == (204, "")
+
+
+def test_many_turns(serve):
+    """2,100 calls of one pass, each a turn of the one owner."""
+    with servers.Client(serve("log", 1, 1).port) as client:
+        lines = lines_from(time.time_ns(), 2_100, 10)
+        for at in range(0, 2_100, 100):
+            for line in lines[at:at + 100]:
+                client.send(servers.PUSH, servers.push_body([({"a": "1"}, [line])]))
+            assert [client.answer() for _ in range(100)] == [(204, b"")] * 100, at
+        assert client.read({"a": "1"}) == lines
+
+
+def roll(client, path, stamp):
+    """Pushes and trims until the shard has begun another segment. Returns the last time."""
+    generation = lambda: max(generation_of(servers.bytes_of(f"{path}/shard-00-{it}.wal", 21)) for it in (0, 1))
+    before = generation()
+    while generation() == before:
+        stamp += 2 * servers.HOUR
+        assert client.push({"a": "rolling"}, lines_from(stamp, 15, 250_000))[0] == 204
+        assert client.trim({"a": "rolling"}, stamp - servers.HOUR)[0] == 200
+    return stamp
+
+
+def test_memory(serve, folder):
+    """Neither rolls nor lines that are trimmed leave memory behind."""
+    server = serve("log", 1, 1, {**EXACT, "NEEDLEAZURE_CAPACITY": str(56 << 20)})
+    with servers.Client(server.port) as client:
+        stamp, now = time.time_ns() - 150 * servers.HOUR, time.time_ns()
+        for at in range(0, 75, 15):
+            assert client.push({"a": "kept"}, lines_from(now + at, 15, 250_000))[0] == 204
+        stamp = roll(client, f"{folder}/log", stamp)
+        before = server.memory()
+        for _ in range(3):
+            stamp = roll(client, f"{folder}/log", stamp)
+        assert server.memory() < before + 8_000_000, "after rolls"
+        for at in range(0, 60, 15):
+            assert client.push({"a": "trimmed"}, lines_from(now - 10 * servers.HOUR + at, 15, 250_000))[0] == 204
+        assert client.push({"a": "trimmed"}, [(now, "last", ())])[0] == 204
+        assert server.memory() > before + 8_000_000, "15 MB more"
+        assert client.trim({"a": "trimmed"}, now - servers.HOUR) == (200, '{"trimmed":60}')
+        assert server.memory() < before + 8_000_000, "after a trim"
