@@ -3,3 +3,4 @@ mod Places
 mod Clocks
 mod Servers
 mod Calls
+mod TooLong
