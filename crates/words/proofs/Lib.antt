@@ -4,3 +4,5 @@ mod Clocks
 mod Servers
 mod Calls
 mod TooLong
+mod Questions
+mod PartsRead

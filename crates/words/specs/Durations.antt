@@ -1,5 +1,6 @@
 -- Durations, as Loki's settings write them: whole numbers in decimal digits, each with its unit after it.
-use Rattle.std.specs.Prelude.{ℕ, ◌+◌, ◌-◌, ◌*◌, ◌^◌, ◌≤◌, ◌==◌, ◌&&◌, nat_le, nat_lt, if◌then◌else◌, Bool, List, [], ◌∷◌, Option, None, Some}
+use Rattle.std.specs.Prelude.{◌≡◌, ◌++◌, ℕ, ◌+◌, ◌-◌, ◌*◌, ◌^◌, ◌≤◌, ◌==◌, ◌&&◌, nat_le, nat_lt, if◌then◌else◌, Bool, List, [], ◌∷◌, Option, None, Some}
+use Rattle.std.specs.Str.Parse.{IsNumeral, digits_value}
 use Rattle.accept.specs.OneStream.{end_of_time}
 use Rattle.words.specs.declared.durations.Parts.{Parts}
 
@@ -62,6 +63,24 @@ duration_of (byte ∷ []) = if byte == 48 then Some 0 else None
 duration_of (first ∷ second ∷ bytes) = duration_after (read_bytes (Some nothing_read) (first ∷ second ∷ bytes))
 
 -- No duration comes of this: it is none, or its nanoseconds or its number are too many already.
-abbrev pub IsLost : Option Parts → Type 0
-IsLost None = Unit {0}
-IsLost (Some parts) = end_of_time ≤ parts.nanos + number_or_zero parts.number
+abbrev pub IsNoDuration : Option Parts → Type 0
+IsNoDuration None = Unit {0}
+IsNoDuration (Some parts) = end_of_time ≤ parts.nanos + number_or_zero parts.number
+
+-- A number in decimal digits, and its unit with the unit's nanoseconds.
+pub record NumberWithUnit : Type 0 where
+  pub digits : List ℕ
+  pub letter : ℕ
+  pub unit : ℕ
+  pub is_number : IsNumeral 10 digits
+  pub is_unit : unit_nanos letter ≡ Some unit
+
+-- parts as they are written, one after another
+abbrev pub text_of_parts : List NumberWithUnit → List ℕ
+text_of_parts [] = []
+text_of_parts (part ∷ parts) = part.digits ++ part.letter ∷ text_of_parts parts
+
+-- the nanoseconds of all parts
+abbrev pub nanos_of_parts : List NumberWithUnit → ℕ
+nanos_of_parts [] = 0
+nanos_of_parts (part ∷ parts) = digits_value 10 part.digits * part.unit + nanos_of_parts parts

@@ -1,7 +1,7 @@
 //! Durations, as Loki's settings write them.
 ghost use Rattle.std.specs.Prelude.{◌≡◌, ◌≤◌, ◌<◌, Some, IfSome, MatchOption};
 ghost use Rattle.accept.specs.OneStream.{end_of_time};
-ghost use Rattle.words.specs.Durations.{unit_nanos, read_byte, read_bytes, duration_after, duration_of, nothing_read, IsLost};
+ghost use Rattle.words.specs.Durations.{unit_nanos, read_byte, read_bytes, duration_after, duration_of, nothing_read, IsNoDuration};
 
 use accept::END_OF_TIME;
 
@@ -49,7 +49,7 @@ fn nanos_in(bytes: &[u8]) -> Option<u64>
 
 // What is read with one more byte. `None` where that is no duration, or one that is too long.
 fn parts_with(parts: Parts, byte: u8) -> Option<Parts>
-    ensures { MatchOption result (IsLost (read_byte parts byte)) (λ more. read_byte parts byte
+    ensures { MatchOption result (IsNoDuration (read_byte parts byte)) (λ more. read_byte parts byte
         ≡ Some more) }
 {
     if byte >= b'0' && byte <= b'9' {

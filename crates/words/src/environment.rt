@@ -6,8 +6,8 @@ ghost use Rattle.words.specs.Environments.{least_of, unset_of, text_of, limit_of
 use crate::durations::duration_in;
 use accept::Limits;
 
-/// The texts of the variables that programs read: `None` where a variable is not set.
-#[derive(Drop)]
+/// The texts of the variables that programs read: `None` where a variable is not set. By default none is set.
+#[derive(Default, Drop)]
 pub struct Environment {
     /// `NEEDLEAZURE_CAPACITY`: how many bytes a slot may have.
     pub capacity: Option<String>,

@@ -1,6 +1,7 @@
 //! The words that programs are given.
 #![tactic(auto)]
 
+mod about;
 mod durations;
 mod environment;
 mod laws;
@@ -11,10 +12,11 @@ ghost use Rattle.labels.specs.Tenants.{is_tenant};
 ghost use Rattle.accept.specs.OneStream.{end_of_time};
 ghost use Rattle.words.specs.Words.{value, IsNumberIn, NameShard, GiveShard, SaysPlace, GiveClock, SaysClock, NameServer, SaysOfServer, GiveServer, SaysServer, verb_of, IsVerb, NameCall, SaysOfCall, GiveCall, SaysCall, GivesCapacity, capacity_of};
 
+pub use about::{VERSION, tell_about};
 pub use durations::duration_in;
 pub use environment::{Environment, LimitSetting, limits_in};
 use labels::{LabelFault, Tenant};
-pub use laws::unset_limits;
+pub use laws::{unset_limits, written_durations_are_read};
 use pushjson::time_of;
 use requests::Route;
 pub use said::{CallWords, ServerWords, ShardPlace};
