@@ -6,4 +6,4 @@ mod server;
 
 pub use connections::Connections;
 pub use server::run_server;
-pub use words::{setting_of, words_of};
+pub use words::{Environment, environment_of, tell_about, words_of};

@@ -1,17 +1,21 @@
 //! The program `ingesterd`: the server.
-ghost use Rattle.std.specs.Prelude.{◌≡◌, ◌≢◌, ◌↔◌, ◌≤◌, ◌^◌, ℕ, Some, IfErr, OnOk, slice_get, option_map};
+ghost use Rattle.std.specs.Prelude.{◌≡◌, ◌≢◌, ◌↔◌, ◌≤◌, ◌^◌, ℕ, Some, IfErr, IsSome, OnOk, slice_get, option_map, string_bytes};
 ghost use Rattle.history.specs.Handles.{Passed};
 ghost use Rattle.ingester.specs.Calls.{IsPassOf};
-ghost use Rattle.words.specs.Words.{GiveServer, GivesCapacity};
-ghost use Rattle.programs.specs.Openings.{IsProfiled};
+ghost use Rattle.accept.specs.OneStream.{AreLimits};
+ghost use Rattle.words.specs.Words.{GiveServer, GivesCapacity, capacity_of};
+ghost use Rattle.words.specs.Environments.{limits_of};
+ghost use Rattle.programs.specs.Openings.{IsOpenedUnder};
 ghost use Rattle.programs.specs.Stops.{stop_status};
 ghost use Rattle.ingesterd.specs.Endings.{ServerEnds, HasSaidReady, HasSaidUntil};
 
 use crate::connections::Connections;
+use accept::Limits;
 use disk::Disk;
 use ingester::{Ingester, Pass};
 use programs::{
-    Replaying, Stopped, SystemClock, capacity_by, close_shards, open_shards, say_replayed,
+    Replaying, Stopped, SystemClock, capacity_by, close_shards, limits_by, open_shards,
+    say_replayed,
 };
 use slots::{open_slots, terminal_in};
 use std::alloc::Global;
@@ -22,18 +26,17 @@ use std::rt::Clock;
 use std::sync::Wait;
 use std::thread::Threads;
 use std::time::Instant;
-use words::{ServerWords, server_in};
+use words::{Environment, ServerWords, server_in};
 use workers::serve_listener;
 
-/// Runs `ingesterd DIR PORT SHARDS WORKERS [CONNECTIONS]`, and gives its exit status. `setting` is the capacity of a
-/// slot by the environment.
+/// Runs `ingesterd DIR PORT SHARDS WORKERS [CONNECTIONS]`, and gives its exit status.
 ///
 /// Opens and replays the slots of DIR, listens on the port of 127.0.0.1 (0: any that is free), and writes `ready` and
 /// the port. Each connection is served by one of WORKERS threads, and each shard is owned by another thread. The server
 /// closes its shards and ends with status 0 after CONNECTIONS connections, where that is given, or when no worker is
 /// left. A connection that fails costs no more than itself (`Connections`).
 ///
-/// Status 1: a fault while running. 2: wrong words, or a wrong setting. 3: the opening was refused, or the thread of a
+/// Status 1: a fault while running. 2: wrong words, or a wrong setting of the environment. 3: the opening was refused, or the thread of a
 /// shard could not be started. A fault is one line of `errors`. A shard that stops answering writes one line to
 /// `marks`, where they are given. Where `marks` are a terminal, lines there say what is replayed, before `ready` is
 /// written: one for each shard as it ends, and one for all.
@@ -41,7 +44,7 @@ pub fn run_server<R, W: Write, E: Write>(
     rt: &R,
     alloc: Global,
     words: &[String],
-    setting: Option<&str>,
+    environment: &Environment,
     output: &mut W,
     errors: &mut E,
     marks: Option<Stderr>,
@@ -50,8 +53,9 @@ where
     R: Files<File = File> + Net<Listener = TcpListener, Stream = TcpStream>,
     R: Clock + Threads + Wait + Copy + Send + Sync + 'static,
     ensures status { result ≤ 3 }
-    ensures usage { (result ≡ 2)
-        ↔ (¬ (GiveServer words.now × GivesCapacity (option_map (λ s. s.now) setting.entry))) }
+    ensures usage { (result ≡ 2) ↔ (¬ (GiveServer words.now
+        × GivesCapacity (option_map string_bytes environment.now.capacity)
+        × IsSome (limits_of environment.now))) }
     ensures ends { ServerEnds words.now (W.contents output.old) (W.contents output.new) result }
 {
     let Some(words) = server_in(words) else {
@@ -61,10 +65,18 @@ where
         );
         return 2;
     };
-    let Some(capacity) = capacity_by(setting, errors) else {
+    let Some(capacity) = capacity_by(environment, errors) else {
         return 2;
     };
-    let asked = Asked { words, capacity };
+    let Some(limits) = limits_by(environment, errors) else {
+        return 2;
+    };
+    let asked = Asked {
+        words,
+        environment,
+        limits,
+        capacity,
+    };
     if let Err(stopped) = serve_folder(rt, alloc, asked, output, marks) {
         let _ = writeln!(errors, "{stopped}");
         return stopped.status();
@@ -72,11 +84,16 @@ where
     0
 }
 
-// What the server is asked for: its words, and how many bytes a slot may have.
+// What the server is asked for: its words, and what the environment gives.
 #[derive(Clone, Copy)]
 struct Asked<'a> {
     words: ServerWords<'a>,
+    environment: &'a Environment,
+    limits: Limits,
     capacity: u64,
+    ghost given: { limits_of environment.now ≡ Some limits },
+    ghost lawful: { AreLimits limits },
+    ghost room: { capacity ≡ capacity_of (option_map string_bytes environment.now.capacity) },
     ghost small: { capacity ≤ 2 ^ 30 },
 }
 
@@ -109,6 +126,7 @@ where
         alloc,
         slots,
         words.workers,
+        asked.limits,
         asked.capacity,
         &observer,
     )?;
@@ -132,8 +150,8 @@ fn serve_port<D, R, W: Write>(
 where
     D: Disk + Drop + Send,
     R: Net<Listener = TcpListener, Stream = TcpStream> + Clock + Threads + Wait + Sync,
-    requires profiled { IsProfiled asked.words.shards asked.words.workers asked.capacity
-        ingester.now passes.items }
+    requires opened { IsOpenedUnder asked.limits asked.words.shards asked.words.workers
+        asked.capacity ingester.now passes.items }
     requires passes { (i : ℕ) (pass : Passed) → slice_get passes.items i ≡ Some pass
         → IsPassOf ingester.now pass }
     ensures passes { (i : ℕ) (pass : Passed) → slice_get result.0.items i ≡ Some pass

@@ -1,13 +1,14 @@
 //! Shards that programs open and close.
 ghost use Rattle.std.specs.Prelude.{◌≡◌, ◌<◌, ◌≤◌, ◌^◌, ℕ, List, Some, slice_get, vec_len, IfOk, IfErr};
 ghost use Rattle.labels.specs.Shards.{max_shards};
+ghost use Rattle.accept.specs.OneStream.{AreLimits};
 ghost use Rattle.history.specs.Handles.{Passed};
 ghost use Rattle.ingester.specs.Calls.{IsPassOf};
 ghost use Rattle.ingester.specs.declared.refusal.OpenFault.{OpenFault};
 ghost use Rattle.openings.specs.Findings.{AreOpenedFrom};
 ghost use Rattle.history.specs.Histories.{max_passes};
 ghost use Rattle.ingester.specs.Findings.{IsUnmade};
-ghost use Rattle.programs.specs.Openings.{IsProfiled};
+ghost use Rattle.programs.specs.Openings.{IsOpenedUnder};
 
 use crate::stopped::Stopped;
 use accept::Limits;
@@ -18,14 +19,15 @@ use std::alloc::Global;
 use std::sync::Wait;
 use std::thread::Threads;
 
-/// Opens shards over these slots under the profile's limits, with 1 to 64 passes, and starts a thread for each shard
-/// that owns it. `capacity` is how many bytes a segment may have, at most 2^30. `observer` is told of each shard as
+/// Opens shards over these slots under these limits, with 1 to 64 passes, and starts a thread for each shard that owns
+/// it. `capacity` is how many bytes a segment may have, at most 2^30. `observer` is told of each shard as
 /// soon as it is replayed.
 pub fn open_shards<D, R, O>(
     rt: &R,
     alloc: Global,
     slots: Vec<[D; 2]>,
     passes: u32,
+    limits: Limits,
     capacity: u64,
     observer: &O,
 ) -> Result<(Ingester<D>, Vec<Pass>), Stopped>
@@ -35,9 +37,10 @@ where
     O: Observer + Sync,
     requires slots { (0 < vec_len slots) × (vec_len slots ≤ max_shards) }
     requires passes { (0 < passes) × (passes ≤ max_passes) }
+    requires limits { AreLimits limits }
     requires capacity { capacity ≤ 2 ^ 30 }
-    ensures profiled { IfOk result
-        (λ it. IsProfiled (vec_len slots) passes capacity it.0 it.1.items) }
+    ensures opened { IfOk result
+        (λ it. IsOpenedUnder limits (vec_len slots) passes capacity it.0 it.1.items) }
     ensures found { IfOk result (λ it.
         AreOpenedFrom D.sight D.follows
         (vec_len slots) capacity 0 slots.items it.0.logs it.0.about.bases) }
@@ -49,7 +52,7 @@ where
 {
     let settings = Settings {
         passes,
-        limits: Limits::PROFILE,
+        limits,
         capacity,
     };
     match Ingester::open_observed(rt, *rt, alloc, slots, settings, observer) {

@@ -1,20 +1,24 @@
-//! What the environment says of the slots.
-ghost use Rattle.std.specs.Prelude.{◌≡◌, ◌≤◌, ◌^◌, IfSome, MatchOption, option_map};
+//! What the environment sets.
+ghost use Rattle.std.specs.Prelude.{◌≡◌, ◌≤◌, ◌^◌, IfSome, MatchOption, option_map, string_bytes};
+ghost use Rattle.accept.specs.OneStream.{AreLimits};
 ghost use Rattle.words.specs.Words.{GivesCapacity, capacity_of};
+ghost use Rattle.words.specs.Environments.{limits_of};
 
+use accept::Limits;
 use std::io::Write;
-use words::capacity_in;
+use words::{Environment, LimitSetting, capacity_in, limits_in};
 
-/// How many bytes a slot may have by the setting. `None` where the setting is not lawful; a line of `errors` then says
-/// which settings are.
-pub fn capacity_by<E: Write>(setting: Option<&str>, errors: &mut E) -> Option<u64>
-    ensures given { MatchOption result (¬ GivesCapacity (option_map (λ s. s.now) setting.entry))
-        (λ _. GivesCapacity (option_map (λ s. s.now) setting.entry)) }
+/// How many bytes a slot may have by the environment. `None` where it gives no such number; a line of `errors` then says
+/// which it may give.
+pub fn capacity_by<E: Write>(environment: &Environment, errors: &mut E) -> Option<u64>
+    ensures given { MatchOption result
+        (¬ GivesCapacity (option_map string_bytes environment.now.capacity))
+        (λ _. GivesCapacity (option_map string_bytes environment.now.capacity)) }
     ensures says { IfSome result (λ capacity. capacity
-        ≡ capacity_of (option_map (λ s. s.now) setting.entry)) }
+        ≡ capacity_of (option_map string_bytes environment.now.capacity)) }
     ensures few { IfSome result (λ capacity. capacity ≤ 2 ^ 30) }
 {
-    let capacity = capacity_in(setting);
+    let capacity = capacity_in(environment.capacity.as_deref());
     if capacity.is_none() {
         let _ = writeln!(
             errors,
@@ -22,4 +26,34 @@ pub fn capacity_by<E: Write>(setting: Option<&str>, errors: &mut E) -> Option<u6
         );
     }
     capacity
+}
+
+/// The limits that the environment gives. `None` where a variable gives none; a line of `errors` then names the first
+/// such variable, and says what it may be.
+pub fn limits_by<E: Write>(environment: &Environment, errors: &mut E) -> Option<Limits>
+    ensures given { result ≡ limits_of environment.now }
+    ensures lawful { IfSome result AreLimits }
+{
+    match limits_in(environment) {
+        Ok(limits) => Some(limits),
+        Err(setting) => {
+            let _ = writeln!(errors, "{}", fault_of(setting));
+            None
+        }
+    }
+}
+
+// What is said of a variable that gives no limit.
+fn fault_of(setting: LimitSetting) -> &'static str {
+    match setting {
+        LimitSetting::MaxChunkAge => {
+            "NEEDLEAZURE_MAX_CHUNK_AGE is not 0 or a duration in w, d, h, m and s, such as 90s, 2h or 1h30m"
+        }
+        LimitSetting::RejectOldSamplesMaxAge => {
+            "NEEDLEAZURE_REJECT_OLD_SAMPLES_MAX_AGE is not a duration above 0 in w, d, h, m and s, such as 168h or 7d"
+        }
+        LimitSetting::CreationGracePeriod => {
+            "NEEDLEAZURE_CREATION_GRACE_PERIOD is not a duration above 0 in w, d, h, m and s, such as 90s or 10m"
+        }
+    }
 }

@@ -1,7 +1,7 @@
 //! The server over a folder, and `ingestctl` over the same while there is no server.
 
 use crate::client::{Client, NO_CONTENT, PUSH, READ, Step, answers_of, listen};
-use ingesterd::run_server;
+use ingesterd::{Environment, run_server};
 use memory_disk::Gate;
 use programs::SystemClock;
 use std::alloc::Global;
@@ -56,10 +56,11 @@ where
     R: Threads + Wait + Clock + Copy + Send + Sync + 'static,
 {
     let (mut output, mut errors) = (Vec::new(alloc), Vec::new(alloc));
+    let unset = Environment::default();
     let (told, status) = join(
         rt,
         move || answers_of(&client).ok(),
-        || run_server(rt, alloc, words, None, &mut output, &mut errors, None),
+        || run_server(rt, alloc, words, &unset, &mut output, &mut errors, None),
     );
     let ended = Ended {
         status,
@@ -83,8 +84,8 @@ where
     R: Files<File = File> + Threads + Wait + Copy + Send + Sync + 'static,
 {
     let (mut output, mut errors) = (Vec::new(alloc), Vec::new(alloc));
-    let mut input = body.as_bytes();
-    let status = run_ctl(rt, alloc, words, None, &mut input, &mut output, &mut errors);
+    let (mut input, unset) = (body.as_bytes(), Environment::default());
+    let status = run_ctl(rt, alloc, words, &unset, &mut input, &mut output, &mut errors);
     Ended {
         status,
         output,

@@ -4,6 +4,7 @@ use Rattle.std.specs.Prelude.{Result, Ok, Err, OnOk, codes}
 use Rattle.std.specs.FinMap as finite
 use Rattle.std.specs.Io.KnownBytes.{Appends}
 use Rattle.std.proofs.KnownBytes.{Appends-trans}
+use Rattle.accept.specs.declared.limits.Limits.{Limits}
 use Rattle.memory_disk.specs.declared.memory.MemDisk.{MemDisk}
 use Rattle.requests.specs.declared.answer.Answer.{Answer}
 use Rattle.requests.specs.declared.route.Route.TheVariants.{Push}
@@ -27,8 +28,10 @@ pub answer_alone : (IsDue : Answer → Type 0) (a b : Option (List ℕ)) (answer
 answer_alone IsDue a b answer due first = (answer, [], due, subst (Appends a b) (sym (append-nil (answer_lines answer))) first)
 
 -- such an answer to a push, where the opening found no stream
-pub on_empty : (r : Result (Unit {0}) Stopped) (opening : Opening MemDisk) (now : ℕ) (input a b : Option (List ℕ)) (body : List ℕ) → opening.about.bases ≡ finite.empty ∷ [] → IsBodyOf input body
-    → OnOk r ((x : Answer) × (ys : List ℕ) × IsAnswerDue opening 1 (capacity_of None) Push now (codes "t") body x × Appends a b (answer_lines x ++ ys))
-    → OnOk r ((x : Answer) × (bytes : List ℕ) × (ys : List ℕ) × IsBodyOf input bytes × IsDueToPush MemDisk now bytes x × Appends a b (answer_lines x ++ ys))
-on_empty (Ok u) opening now input a b body empty is h = (h.0, body, h.1, is, record { opening = opening; empty = empty; due = h.2 }, h.3)
-on_empty (Err e) opening now input a b body empty is h = tt
+pub on_empty : (r : Result (Unit {0}) Stopped) (opening : Opening MemDisk) (limits : Limits) (now : ℕ) (input a b : Option (List ℕ)) (body : List ℕ) → opening.about.bases ≡ finite.empty ∷ [] → opening.about.limits ≡ limits → IsBodyOf input body
+    → OnOk r ((x : Answer) × (ys : List ℕ) × IsAnswerDue opening opening.about.limits 1 (capacity_of None) Push now (codes "t") body x × Appends a b (answer_lines x ++ ys))
+    → OnOk r ((x : Answer) × (bytes : List ℕ) × (ys : List ℕ) × IsBodyOf input bytes × IsDueToPush MemDisk limits now bytes x × Appends a b (answer_lines x ++ ys))
+on_empty (Ok u) opening limits now input a b body empty under is h =
+    let due = subst (λ (l : Limits). IsAnswerDue opening l 1 (capacity_of None) Push now (codes "t") body h.0) under h.2 in
+    (h.0, body, h.1, is, record { opening = opening; empty = empty; due = due }, h.3)
+on_empty (Err e) opening limits now input a b body empty under is h = tt

@@ -1,7 +1,7 @@
 //! The program `ingest1`: a push body, judged on an empty shard in memory and read back.
-ghost use Rattle.std.specs.Prelude.{◌≡◌, ◌↔◌, ◌<◌, ◌≤◌, ◌++◌, ◌∷◌, [], ℕ, List, None, Ok, IfOk, IfErr, OnOk, codes, vec_len};
+ghost use Rattle.std.specs.Prelude.{◌≡◌, ◌↔◌, ◌<◌, ◌≤◌, ◌++◌, ◌∷◌, [], ℕ, List, None, Ok, IfOk, IfErr, OnOk, Some, IsSome, codes, vec_len};
 ghost use Rattle.std.specs.Io.KnownBytes.{Appends};
-ghost use Rattle.accept.specs.OneStream.{end_of_time};
+ghost use Rattle.accept.specs.OneStream.{AreLimits, end_of_time};
 ghost use Rattle.memory_disk.specs.MemDisk.{memory_sight};
 ghost use Rattle.memory_disk.specs.declared.memory.MemDisk.{MemDisk};
 ghost use Rattle.requests.specs.declared.answer.Answer.{Answer};
@@ -9,26 +9,27 @@ ghost use Rattle.answering.specs.Responses.{RequestIsAnswered};
 ghost use Rattle.front.specs.Calls.{CallGives};
 ghost use Rattle.ingester.specs.Calls.{IsPassOf};
 ghost use Rattle.words.specs.Words.{GiveClock, capacity_of};
-ghost use Rattle.programs.specs.Openings.{IsProfiled};
+ghost use Rattle.words.specs.Environments.{limits_of};
+ghost use Rattle.programs.specs.Openings.{IsOpenedUnder};
 ghost use Rattle.programs.specs.Stops.{stop_status};
 ghost use Rattle.tools.specs.EmptySlots.{AreEmptySlots};
 ghost use Rattle.tools.specs.Endings.{PushEnds, IsAnswerDue, IsBodyOf, IsDueToPush, answer_lines};
 
 use crate::body::{read_body, write_answer, write_bytes};
 use crate::one_pass::{close_for_one, open_for_one};
-use accept::{Call, END_OF_TIME};
+use accept::{Call, END_OF_TIME, Limits};
 use disk::Disk;
 use front::{Answer, Route, Status, answer, answer_of_read};
 use ingester::{Ingester, Pass};
 use labels::{LabelFault, LabelSet, StreamKey, Tenant};
 use memory_disk::MemDisk;
-use programs::Stopped;
+use programs::{Stopped, limits_by};
 use pushjson::{PushFault, RawBatch, read_push};
 use std::alloc::Global;
 use std::io::{Read, Write};
 use std::sync::Wait;
 use std::thread::Threads;
-use words::{CAPACITY, clock_in};
+use words::{CAPACITY, Environment, clock_in};
 
 /// The tenant of the streams.
 const TENANT: &str = "t";
@@ -45,11 +46,13 @@ const CALLS: u64 = 65_536;
 /// bytes. The program writes the push's status, a line feed and its body. Then, for each stream with lawful labels, in
 /// the order of the body, it writes the body of a read of all its entries and a line feed. For a body that is refused
 /// for its form it writes status, line feed and text, and no more. Status 0: an answer was written, whatever its own
-/// status. 1: a fault while running. 2: wrong words. 3: the opening was refused. A fault is one line of `errors`.
+/// status. 1: a fault while running. 2: a wrong word, or a wrong setting of the environment. 3: the opening was
+/// refused. A fault is one line of `errors`.
 pub fn run_ingest1<R, I: Read, W: Write, E: Write>(
     rt: &R,
     alloc: Global,
     words: &[String],
+    environment: &Environment,
     input: &mut I,
     output: &mut W,
     errors: &mut E,
@@ -57,15 +60,19 @@ pub fn run_ingest1<R, I: Read, W: Write, E: Write>(
 where
     R: Threads + Wait + Copy + Send + Sync + 'static,
     ensures status { result ≤ 3 }
-    ensures usage { (result ≡ 2) ↔ (¬ GiveClock words.now) }
-    ensures ends { PushEnds words.now (I.remaining input.old) (W.contents output.old)
-        (W.contents output.new) result }
+    ensures usage { (result ≡ 2)
+        ↔ (¬ (GiveClock words.now × IsSome (limits_of environment.now))) }
+    ensures ends { PushEnds words.now environment.now (I.remaining input.old)
+        (W.contents output.old) (W.contents output.new) result }
 {
     let Some(now) = clock_in(words) else {
         let _ = writeln!(errors, "usage: ingest1 NOW");
         return 2;
     };
-    if let Err(stopped) = push_and_read(rt, alloc, now, input, output) {
+    let Some(limits) = limits_by(environment, errors) else {
+        return 2;
+    };
+    if let Err(stopped) = push_and_read(rt, alloc, limits, now, input, output) {
         let _ = writeln!(errors, "{stopped}");
         return stopped.status();
     }
@@ -76,21 +83,23 @@ where
 fn push_and_read<R, I: Read, W: Write>(
     rt: &R,
     alloc: Global,
+    limits: Limits,
     now: u64,
     input: &mut I,
     output: &mut W,
 ) -> Result<(), Stopped>
 where
     R: Threads + Wait + Copy + Send + Sync + 'static,
-    requires { now < end_of_time }
+    requires limits { AreLimits limits }
+    requires clock { now < end_of_time }
     ensures pushed { OnOk result ((answer : Answer) × (body : List ℕ) × (back : List ℕ)
-        × IsBodyOf (I.remaining input.old) body × IsDueToPush MemDisk now body answer
+        × IsBodyOf (I.remaining input.old) body × IsDueToPush MemDisk limits now body answer
         × Appends (W.contents output.old) (W.contents output.new) (answer_lines answer ++ back)) }
     ensures refused { IfErr result (λ stop. stop_status stop ≡ 3
         → W.contents output.new ≡ W.contents output.old) }
 {
     let body = read_body(alloc, input)?;
-    let (ingester, mut pass) = open_for_one(rt, alloc, empty_slots(alloc)?, CAPACITY)?;
+    let (ingester, mut pass) = open_for_one(rt, alloc, empty_slots(alloc)?, limits, CAPACITY)?;
     let done = push_body(rt, alloc, &ingester, &mut pass, now, &body, output);
     close_for_one(rt, alloc, ingester, pass);
     done
@@ -106,12 +115,13 @@ fn push_body<D: Disk + Drop, R: Wait, W: Write>(
     body: &[u8],
     output: &mut W,
 ) -> Result<(), Stopped>
-    requires profiled { IsProfiled 1 1 (capacity_of None) ingester.now (pass.old ∷ []) }
+    requires opened { IsOpenedUnder ingester.now.about.limits 1 1 (capacity_of None)
+        ingester.now (pass.old ∷ []) }
     requires pass { IsPassOf ingester.now pass.old }
     requires clock { now < end_of_time }
     ensures pass { IsPassOf ingester.now pass.new }
     ensures pushed { OnOk result ((answer : Answer) × (back : List ℕ)
-        × IsAnswerDue ingester.now 1 (capacity_of None) Route.Push now (codes "t") body.now answer
+        × IsAnswerDue ingester.now ingester.now.about.limits 1 (capacity_of None) Route.Push now (codes "t") body.now answer
         × Appends (W.contents output.old) (W.contents output.new) (answer_lines answer ++ back)) }
     ensures stopped { IfErr result (λ stop. stop_status stop ≡ 1) }
 {

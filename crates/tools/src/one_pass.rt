@@ -1,12 +1,14 @@
 //! Shards that are opened and closed by one pass.
 ghost use Rattle.std.specs.Prelude.{◌≡◌, ◌<◌, ◌≤◌, ◌^◌, ◌∷◌, [], List, vec_len, IfOk, IfErr};
 ghost use Rattle.labels.specs.Shards.{max_shards};
+ghost use Rattle.accept.specs.OneStream.{AreLimits};
 ghost use Rattle.openings.specs.Findings.{AreOpenedFrom};
 ghost use Rattle.ingester.specs.Calls.{IsPassOf};
 ghost use Rattle.ingester.specs.declared.refusal.OpenFault.{OpenFault};
 ghost use Rattle.ingester.specs.Findings.{IsUnmade};
-ghost use Rattle.programs.specs.Openings.{IsProfiled};
+ghost use Rattle.programs.specs.Openings.{IsOpenedUnder};
 
+use accept::Limits;
 use disk::Disk;
 use ingester::{Ingester, Pass};
 use openings::Unobserved;
@@ -15,19 +17,22 @@ use std::alloc::Global;
 use std::sync::Wait;
 use std::thread::Threads;
 
-/// Opens shards over these slots, with one pass.
+/// Opens shards over these slots under these limits, with one pass.
 pub fn open_for_one<D, R>(
     rt: &R,
     alloc: Global,
     slots: Vec<[D; 2]>,
+    limits: Limits,
     capacity: u64,
 ) -> Result<(Ingester<D>, Pass), Stopped>
 where
     D: Disk + Drop + Send + 'static,
     R: Threads + Wait + Copy + Send + Sync + 'static,
     requires slots { (0 < vec_len slots) × (vec_len slots ≤ max_shards) }
+    requires limits { AreLimits limits }
     requires capacity { capacity ≤ 2 ^ 30 }
-    ensures profiled { IfOk result (λ it. IsProfiled (vec_len slots) 1 capacity it.0 (it.1 ∷ [])) }
+    ensures opened { IfOk result
+        (λ it. IsOpenedUnder limits (vec_len slots) 1 capacity it.0 (it.1 ∷ [])) }
     ensures found { IfOk result (λ it.
         AreOpenedFrom D.sight D.follows
         (vec_len slots) capacity 0 slots.items it.0.logs it.0.about.bases) }
@@ -36,7 +41,7 @@ where
         × IsUnmade D.sight D.follows (vec_len slots) slots.items backs fault) }
     ensures pass { IfOk result (λ it. IsPassOf it.0 it.1) }
 {
-    let (ingester, mut passes) = open_shards(rt, alloc, slots, 1, capacity, &Unobserved)?;
+    let (ingester, mut passes) = open_shards(rt, alloc, slots, 1, limits, capacity, &Unobserved)?;
     let Some(pass) = passes.pop() else {
         unreachable!();
     };

@@ -5,7 +5,16 @@ use listing::{are_walcat_words, run_walcat};
 use std::fs::{File, Files};
 use std::io;
 use std::process::ExitCode;
-use words::words_of;
+use words::{tell_about, words_of};
+
+/// What `--help` prints.
+const HELP: &str = "\
+usage: walcat FILE SHARD COUNT
+
+Prints the segment in FILE, which is a slot of shard SHARD, from 0 on, among COUNT.
+
+man walcat has the rest.
+";
 
 fn main(rt: HostRuntime) -> ExitCode {
     let Ok(words) = words_of(&rt) else {
@@ -13,6 +22,9 @@ fn main(rt: HostRuntime) -> ExitCode {
         return ExitCode::FAILURE;
     };
     let (alloc, mut output, mut errors) = (rt.alloc(), rt.stdout(), rt.stderr());
+    if let Some(status) = tell_about(&words, "walcat", HELP, &mut output, &mut errors) {
+        return ExitCode::from(status);
+    }
     let status = match words.first() {
         Some(file) if are_walcat_words(&words) => match File::open(&rt, file.as_str()) {
             Ok(mut slot) => run_walcat(alloc, &words, &mut slot, &mut output, &mut errors),

@@ -3,7 +3,17 @@
 
 use splitting::run_walsplit;
 use std::process::ExitCode;
-use words::{setting_of, words_of};
+use words::{setting_of, tell_about, words_of};
+
+/// What `--help` prints.
+const HELP: &str = "\
+usage: walsplit OLD NEW COUNT
+
+Writes the streams of the slots in the folder OLD into slots of COUNT shards, 1 to 64, in the folder NEW.
+No server may have OLD open. NEEDLEAZURE_CAPACITY in the environment says the bytes of a new slot.
+
+man walsplit has the rest.
+";
 
 fn main(rt: HostRuntime) -> ExitCode {
     let (Ok(words), Ok(setting)) = (words_of(&rt), setting_of(&rt)) else {
@@ -12,6 +22,9 @@ fn main(rt: HostRuntime) -> ExitCode {
     };
     let (alloc, setting) = (rt.alloc(), setting.as_deref());
     let (mut output, mut errors) = (rt.stdout(), rt.stderr());
+    if let Some(status) = tell_about(&words, "walsplit", HELP, &mut output, &mut errors) {
+        return ExitCode::from(status);
+    }
     let marks = Some(rt.stderr());
     let status = run_walsplit(&rt, alloc, &words, setting, &mut output, &mut errors, marks);
     ExitCode::from(status)

@@ -3,3 +3,6 @@ mod Places
 mod Clocks
 mod Servers
 mod Calls
+mod TooLong
+mod Questions
+mod PartsRead

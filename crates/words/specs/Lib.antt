@@ -1,1 +1,4 @@
 pub mod Words
+pub mod Durations
+pub mod Environments
+pub mod Abouts

@@ -1,6 +1,10 @@
 //! The words that programs are given.
 #![tactic(auto)]
 
+mod about;
+mod durations;
+mod environment;
+mod laws;
 mod said;
 
 ghost use Rattle.std.specs.Prelude.{◌≡◌, ◌<◌, ◌≤◌, ◌^◌, None, Some, IsTrue, IfOk, IfSome, MatchOption, option_map};
@@ -8,7 +12,11 @@ ghost use Rattle.labels.specs.Tenants.{is_tenant};
 ghost use Rattle.accept.specs.OneStream.{end_of_time};
 ghost use Rattle.words.specs.Words.{value, IsNumberIn, NameShard, GiveShard, SaysPlace, GiveClock, SaysClock, NameServer, SaysOfServer, GiveServer, SaysServer, verb_of, IsVerb, NameCall, SaysOfCall, GiveCall, SaysCall, GivesCapacity, capacity_of};
 
+pub use about::{VERSION, tell_about};
+pub use durations::duration_in;
+pub use environment::{Environment, LimitSetting, limits_in};
 use labels::{LabelFault, Tenant};
+pub use laws::{unset_limits, written_durations_are_read};
 use pushjson::time_of;
 use requests::Route;
 pub use said::{CallWords, ServerWords, ShardPlace};
@@ -48,11 +56,29 @@ fn read_words<R: Env + AllocGlobal>(rt: &R) -> io::Result<Vec<String>> {
     Ok(env::args(rt)?.skip(1).collect(rt.alloc())?)
 }
 
-/// What the environment says of the bytes of a slot, in the variable `NEEDLEAZURE_CAPACITY`. `None` where that is not
-/// set. An empty text where its value is not text: neither is a capacity.
+/// What the environment says of the bytes of a slot, in the variable `NEEDLEAZURE_CAPACITY`: see `Environment`.
 pub fn setting_of<R: Env + AllocGlobal>(rt: &R) -> Result<Option<String>, AllocError> {
-    match env::var(rt, "NEEDLEAZURE_CAPACITY") {
-        Ok(setting) => Ok(Some(setting)),
+    variable_of(rt, "NEEDLEAZURE_CAPACITY")
+}
+
+/// The variables of the environment that programs read.
+pub fn environment_of<R: Env + AllocGlobal>(rt: &R) -> Result<Environment, AllocError> {
+    let capacity = setting_of(rt)?;
+    let max_chunk_age = variable_of(rt, "NEEDLEAZURE_MAX_CHUNK_AGE")?;
+    let reject_old_samples_max_age = variable_of(rt, "NEEDLEAZURE_REJECT_OLD_SAMPLES_MAX_AGE")?;
+    let creation_grace_period = variable_of(rt, "NEEDLEAZURE_CREATION_GRACE_PERIOD")?;
+    Ok(Environment {
+        capacity,
+        max_chunk_age,
+        reject_old_samples_max_age,
+        creation_grace_period,
+    })
+}
+
+// A variable's text: `None` where it is not set. An empty text where its value is not text: that is no lawful setting.
+fn variable_of<R: Env + AllocGlobal>(rt: &R, name: &str) -> Result<Option<String>, AllocError> {
+    match env::var(rt, name) {
+        Ok(text) => Ok(Some(text)),
         Err(VarError::NotPresent) => Ok(None),
         Err(VarError::NotUnicode) => Ok(Some(String::new(rt.alloc()))),
         Err(VarError::OutOfMemory) => Err(AllocError),
