@@ -7,6 +7,7 @@ use crate::client::{Client, NO_CONTENT, PUSH, READ, Request, Step, answers_of, l
 use accept::Limits;
 use history::Pass;
 use ingester::Ingester;
+use front::Untold;
 use ingesterd::Connections;
 use memory_disk::{Gate, GateDisk, MemDisk};
 use std::alloc::{AllocError, Global};
@@ -165,10 +166,14 @@ where
 }
 
 /// What each worker serves its connections with.
-fn servers_of(alloc: Global, workers: u32) -> Result<Vec<Connections<Standing>>, AllocError> {
+fn servers_of<'a>(
+    alloc: Global,
+    workers: u32,
+    full: &'a Untold,
+) -> Result<Vec<Connections<'a, Standing, Untold>>, AllocError> {
     let mut servers = Vec::new(alloc);
     for _ in 0..workers {
-        servers.push(Connections::new(Standing))?;
+        servers.push(Connections::new(Standing, full))?;
     }
     Ok(servers)
 }
@@ -178,7 +183,7 @@ fn talk_and_serve<R>(
     client: Client<R>,
     ingester: &Ingester<Slot>,
     passes: Vec<Pass>,
-    servers: Vec<Connections<Standing>>,
+    servers: Vec<Connections<'_, Standing, Untold>>,
     listener: &TcpListener,
     connections: u64,
 ) -> (Vec<Pass>, Option<String>)
@@ -227,7 +232,8 @@ where
     let gate = Gate::new(alloc)?;
     let listener = listen(rt)?;
     listener.set_nonblocking(talk.accepts_fail)?;
-    let servers = servers_of(alloc, talk.workers)?;
+    let full = Untold;
+    let servers = servers_of(alloc, talk.workers, &full)?;
     let client = Client {
         rt,
         alloc,
