@@ -68,10 +68,11 @@ pub enum Stop {
     Failed,
 }
 
-/// A file with the record of its calls.
+/// A file with the record of its calls, and why the last one failed that the system refused.
 #[derive(Drop)]
 pub struct NotedFile {
     file: File,
+    cause: Option<io::Error>,
     pub noted: Record,
 }
 
@@ -86,8 +87,14 @@ impl NotedFile {
     {
         NotedFile {
             file,
+            cause: None,
             noted: Record::new(),
         }
+    }
+
+    /// The system's error at the last call that it refused, where it refused one.
+    pub fn cause(&self) -> Option<io::Error> {
+        self.cause
     }
 
     /// Reads at a place. The system may give fewer bytes than fit. It gives none only at the end.
@@ -114,7 +121,8 @@ impl NotedFile {
                 self.noted.note(&[INTERRUPTED, 0, 0], &[]);
                 Err(Stop::Interrupted)
             }
-            Err(_) => {
+            Err(error) => {
+                self.cause = Some(error);
                 self.noted.note(&[REFUSED, 0, 0], &[]);
                 Err(Stop::Failed)
             }
@@ -151,7 +159,8 @@ impl NotedFile {
                 self.noted.note(&[INTERRUPTED, 0, 0], &[]);
                 Err(Stop::Interrupted)
             }
-            Err(_) => {
+            Err(error) => {
+                self.cause = Some(error);
                 self.noted.note(&[BROKE, at, 0], bytes);
                 Err(Stop::Failed)
             }
@@ -175,6 +184,7 @@ impl NotedFile {
                 Ok(())
             }
             Err(error) => {
+                self.cause = Some(error);
                 self.noted.note(&[REFUSED, 0, 0], &[]);
                 Err(error)
             }
@@ -197,6 +207,7 @@ impl NotedFile {
                 Ok(len)
             }
             Err(error) => {
+                self.cause = Some(error);
                 self.noted.note(&[REFUSED, 0, 0], &[]);
                 Err(error)
             }

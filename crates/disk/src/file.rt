@@ -3,6 +3,7 @@ ghost use Rattle.disk.specs.Sight.{Holds, Reads, IsSynced, Looks, Writes, Counts
 ghost use Rattle.disk.specs.Calls.{Start, Synced, Measured, Refused, IsServedByCalls};
 
 use crate::calls::{NotedFile, Stop};
+use crate::cause::Cause;
 use crate::device::failed;
 use crate::{DeviceFault, Disk};
 use std::fs::{File, OpenOptions, TryLockError};
@@ -51,6 +52,12 @@ impl FileDisk {
             calls: NotedFile::new(file),
             failures: 0,
         }
+    }
+}
+
+impl Cause for FileDisk {
+    fn cause(&self) -> Option<io::Error> {
+        self.calls.cause()
     }
 }
 

@@ -6,10 +6,12 @@
 #![tactic(auto)]
 
 mod calls;
+mod cause;
 mod device;
 mod file;
 mod laws;
 
+pub use cause::Cause;
 pub use device::{DeviceFault, Disk, failed};
 pub use file::{FileDisk, FileFault, LockedFile};
 pub use laws::failed_writes_leave_any;

@@ -1,9 +1,11 @@
 //! HTTP/1.1 over an ingester: from the bytes of a connection to calls, and from their replies to bytes.
 #![tactic(auto)]
 
+mod full;
 mod laws;
 mod serving;
 
 pub use answering::{Answer, Clock, Route, ServeFault, Served, Status, answer_of_read};
+pub use full::{FullShards, Untold};
 pub use laws::one_step_a_call;
-pub use serving::{answer, serve};
+pub use serving::{answer, serve, serve_and_tell};

@@ -6,20 +6,57 @@ ghost use Rattle.answering.specs.Responses.{RequestIsAnswered};
 ghost use Rattle.answering.specs.Serving.{ConnectionIsServed, world, io};
 ghost use Rattle.front.specs.Calls.{CallGives, failure_of, reply_told};
 
+use crate::full::{FullShards, Untold};
 use accept::{Call, Reply};
 use answering::{Answer, Calls, Clock, Ends, Failure, RequestBody, Route, ServeFault, Served};
 use disk::Disk;
 use ingester::{CallFault, Ingester, Pass};
-use labels::Tenant;
+use labels::{MAX_SHARDS, Tenant, shard_of};
 use std::alloc::Global;
 use std::collections::VecDeque;
 use std::io::{Read, Write};
 use std::sync::Wait;
 
-/// An ingester, by which the calls of requests are made.
+/// The most calls that are made together.
+const WINDOW: usize = 64;
+
+/// An ingester, by which the calls of requests are made, and who is told of full shards.
 #[derive(Drop)]
-struct Service<'a, D: Disk + Drop> {
+struct Service<'a, D: Disk + Drop, F> {
     ingester: &'a Ingester<D>,
+    full: &'a F,
+}
+
+// The shard of a call.
+fn shard_in<D: Disk + Drop>(ingester: &Ingester<D>, call: &Call) -> u32 {
+    let shards = ingester.shards();
+    if shards < 1 || shards > MAX_SHARDS {
+        return 0;
+    }
+    shard_of(call.key(), shards)
+}
+
+// The shards of the first calls of these, which are taken out when they are made.
+fn shards_of<D: Disk + Drop>(ingester: &Ingester<D>, calls: &VecDeque<Call>) -> [u32; WINDOW] {
+    let mut shards = [0; WINDOW];
+    for (shard, call) in shards.iter_mut().zip(calls.iter()) {
+        *shard = shard_in(ingester, call);
+    }
+    shards
+}
+
+// Tells of each shard whose call found no room.
+fn tell_of_full<R: Wait, F: FullShards>(
+    rt: &R,
+    full: &F,
+    shards: &[u32],
+    outcomes: &VecDeque<Result<Reply, CallFault>>,
+) {
+    for (shard, outcome) in shards.iter().zip(outcomes.iter()) {
+        if let Ok(Reply::NoRoom) = outcome {
+            full.found_no_room(rt, *shard);
+        }
+    }
 }
 
 fn failure_of(fault: CallFault) -> Failure
@@ -33,7 +70,7 @@ fn failure_of(fault: CallFault) -> Failure
     }
 }
 
-impl<'a, D: Disk + Drop> Calls for Service<'a, D> {
+impl<'a, D: Disk + Drop, F: FullShards> Calls for Service<'a, D, F> {
     type Pass = Pass;
 
     type Outcome = Result<Reply, CallFault>;
@@ -51,8 +88,14 @@ impl<'a, D: Disk + Drop> Calls for Service<'a, D> {
         pass: &mut Pass,
         call: Call,
     ) -> Result<Reply, Failure> {
+        let shard = shard_in(self.ingester, &call);
         match self.ingester.call(rt, alloc, pass, call) {
-            Ok(reply) => Ok(reply),
+            Ok(reply) => {
+                if matches!(&reply, Reply::NoRoom) {
+                    self.full.found_no_room(rt, shard);
+                }
+                Ok(reply)
+            }
             Err(fault) => Err(failure_of(fault)),
         }
     }
@@ -65,7 +108,9 @@ impl<'a, D: Disk + Drop> Calls for Service<'a, D> {
         calls: &mut VecDeque<Call>,
         outcomes: &mut VecDeque<Result<Reply, CallFault>>,
     ) {
+        let shards = shards_of(self.ingester, calls);
         self.ingester.call_all(rt, alloc, pass, calls, outcomes);
+        tell_of_full(rt, self.full, &shards, outcomes);
     }
 
     fn told(outcome: Result<Reply, CallFault>) -> Result<Reply, Failure> {
@@ -103,7 +148,10 @@ pub fn answer<D: Disk + Drop, R: Wait>(
         CallGives route now tenant.now body.now pass.old result
         pass.new }
 {
-    let service = Service { ingester };
+    let service = Service {
+        ingester,
+        full: &Untold,
+    };
     let request = RequestBody {
         time: now,
         route,
@@ -137,7 +185,31 @@ pub fn serve<D: Disk + Drop, R: Wait, C: Clock, I: Read, O: Write>(
         (io (I.remaining reader.old) (O.contents writer.old)) (world pass.old clock.old)
         (io (I.remaining reader.new) (O.contents writer.new)) (world pass.new clock.new) result }
 {
-    let service = Service { ingester };
+    serve_and_tell(rt, alloc, ingester, &Untold, pass, clock, reader, writer)
+}
+
+/// Answers the requests of a connection as `serve` does, and tells `full` of each call that found no room in its shard.
+///
+/// # Errors
+///
+/// Those of `serve`.
+pub fn serve_and_tell<D: Disk + Drop, R: Wait, F: FullShards, C: Clock, I: Read, O: Write>(
+    rt: &R,
+    alloc: Global,
+    ingester: &Ingester<D>,
+    full: &F,
+    pass: &mut Pass,
+    clock: &mut C,
+    reader: &mut I,
+    writer: &mut O,
+) -> Result<Served, ServeFault>
+    requires pass { IsPassOf ingester.now pass.old }
+    ensures pass { IsPassOf ingester.now pass.new }
+    ensures serves { ConnectionIsServed CallGives C.ticks
+        (io (I.remaining reader.old) (O.contents writer.old)) (world pass.old clock.old)
+        (io (I.remaining reader.new) (O.contents writer.new)) (world pass.new clock.new) result }
+{
+    let service = Service { ingester, full };
     let mut ends = Ends::new(reader, writer);
     answering::serve(rt, alloc, &service, pass, clock, &mut ends)
 }

@@ -4,7 +4,7 @@ ghost use Rattle.history.specs.Handles.{is_closed_pass};
 ghost use Rattle.ingester.specs.Calls.{IsPassOf};
 
 use disk::Disk;
-use front::{Clock, serve};
+use front::{Clock, FullShards, serve_and_tell};
 use ingester::{Ingester, Pass};
 use std::alloc::Global;
 use std::net::TcpStream;
@@ -13,20 +13,22 @@ use workers::Serve;
 
 /// Serves connections as `front` does, by a clock. A connection that fails, or does nothing for 60 seconds, is closed,
 /// and its worker takes the next; what it was answered stands. A pass is closed when its numbers are used up or a call
-/// of it is in doubt, and its worker then takes no other connection and ends.
+/// of it is in doubt, and its worker then takes no other connection and ends. It tells `full` of calls that find no room.
 #[derive(Drop)]
-pub struct Connections<C: Clock> {
+pub struct Connections<'a, C: Clock, F: FullShards> {
     clock: C,
+    full: &'a F,
 }
 
-impl<C: Clock> Connections<C> {
-    /// Serves connections by this clock.
-    pub fn new(clock: C) -> Connections<C> {
-        Connections { clock }
+impl<'a, C: Clock, F: FullShards> Connections<'a, C, F> {
+    /// Serves connections by this clock, and tells `full` of shards that have no room.
+    pub fn new(clock: C, full: &'a F) -> Connections<'a, C, F> {
+        Connections { clock, full }
     }
 }
 
-impl<D: Disk + Drop, C: Clock> Serve<Ingester<D>, Pass> for Connections<C> {
+impl<'a, D: Disk + Drop, C: Clock, F: FullShards> Serve<Ingester<D>, Pass>
+    for Connections<'a, C, F> {
     ghost is_pass_of = { IsPassOf };
 
     ghost may_go_on = { λ pass. not (is_closed_pass pass) };
@@ -40,8 +42,17 @@ impl<D: Disk + Drop, C: Clock> Serve<Ingester<D>, Pass> for Connections<C> {
         stream: &TcpStream,
     ) -> bool {
         let (mut reader, mut writer) = (stream, stream);
-        let clock = &mut self.clock;
-        let _ = serve(rt, alloc, ingester, pass, clock, &mut reader, &mut writer);
+        let (clock, full) = (&mut self.clock, self.full);
+        let _ = serve_and_tell(
+            rt,
+            alloc,
+            ingester,
+            full,
+            pass,
+            clock,
+            &mut reader,
+            &mut writer,
+        );
         !pass.is_closed()
     }
 }

@@ -10,6 +10,7 @@ ghost use Rattle.programs.specs.Stops.{stop_status};
 ghost use Rattle.ingesterd.specs.Endings.{ServerEnds, HasSaidReady, HasSaidUntil};
 
 use crate::connections::Connections;
+use crate::full_lines::FullShardLines;
 use accept::Limits;
 use disk::Disk;
 use ingester::{Ingester, Pass};
@@ -133,18 +134,20 @@ where
     if let Some(terminal) = terminal {
         say_replayed(rt, &ingester, start, terminal);
     }
-    let (passes, served) = serve_port(rt, alloc, asked, &ingester, passes, output);
+    let full = FullShardLines::new(rt, marks);
+    let (passes, served) = serve_port(rt, alloc, asked, &ingester, passes, &full, output);
     close_shards(rt, ingester, passes);
     served
 }
 
 // Opens the port, says which it is, and serves over what was opened as it was asked for. Gives passes that are left.
-fn serve_port<D, R, W: Write>(
-    rt: &R,
+fn serve_port<'a, D, R, W: Write>(
+    rt: &'a R,
     alloc: Global,
     asked: Asked<'_>,
     ingester: &Ingester<D>,
     passes: Vec<Pass>,
+    full: &'a FullShardLines<'a, R>,
     output: &mut W,
 ) -> (Vec<Pass>, Result<(), Stopped>)
 where
@@ -163,7 +166,7 @@ where
     ensures running { IfErr result.1 (λ stop. stop_status stop ≡ 1) }
 {
     let words = asked.words;
-    let servers = match make_servers(rt, alloc, passes.len()) {
+    let servers = match make_servers(rt, alloc, passes.len(), full) {
         Ok(servers) => servers,
         Err(stopped) => return (passes, Err(stopped)),
     };
@@ -193,12 +196,13 @@ fn make_servers<'a, R: Clock>(
     rt: &'a R,
     alloc: Global,
     count: usize,
-) -> Result<Vec<Connections<SystemClock<'a, R>>>, Stopped>
+    full: &'a FullShardLines<'a, R>,
+) -> Result<Vec<Connections<'a, SystemClock<'a, R>, FullShardLines<'a, R>>>, Stopped>
     ensures { IfErr result (λ stop. stop ≡ Stopped.Memory) }
 {
     let mut servers = Vec::with_capacity(alloc, count)?;
     for _ in 0..count {
-        let server = Connections::new(SystemClock::new(rt));
+        let server = Connections::new(SystemClock::new(rt), full);
         if servers.push(server).is_err() {
             return Err(Stopped::Memory);
         }

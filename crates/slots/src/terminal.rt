@@ -4,7 +4,7 @@ use std::fmt::Display;
 use std::io::{IsTerminal, Stderr, Write};
 
 /// How many bytes a line may have.
-const LINE: usize = 160;
+const LINE: usize = 320;
 
 /// Standard error, where it is given and is a terminal.
 pub fn terminal_in(errors: Option<Stderr>) -> Option<Stderr> {
@@ -14,7 +14,7 @@ pub fn terminal_in(errors: Option<Stderr>) -> Option<Stderr> {
     }
 }
 
-/// Writes a line of up to 159 bytes in one write, so that lines of several threads do not mix. A longer one is left
+/// Writes a line of up to 319 bytes in one write, so that lines of several threads do not mix. A longer one is left
 /// out, and so is one that cannot be written.
 pub fn say_line<L: Display + Drop>(mut terminal: Stderr, text: L) {
     let mut line = [0; LINE];

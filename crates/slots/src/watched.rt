@@ -1,8 +1,9 @@
 //! Slots that write a line where their shard stops answering, and before a long read.
 
 use crate::terminal::{say_line, terminal_in};
-use disk::{DeviceFault, Disk};
-use std::io::{Stderr, Write};
+use disk::{Cause, DeviceFault, Disk};
+use std::fmt;
+use std::io::{self, Stderr};
 
 /// A read of more bytes than this has a line before it.
 const LONG: usize = 100_000_000;
@@ -31,20 +32,42 @@ impl<D: Disk> Watched<D> {
     }
 }
 
-// Says that a shard stops answering, in one write, since several shards may stop at once.
-fn say_unavailable(errors: Option<Stderr>, shard: u32) {
-    let Some(mut errors) = errors else {
+// Says that a shard stops answering, and why as the system says it, in one write, since several shards may stop at once.
+fn say_unavailable(errors: Option<Stderr>, shard: u32, cause: Option<io::Error>) {
+    let Some(errors) = errors else {
         return;
     };
-    let mut line =
-        *b"shard 00 is unavailable: a call on its disk failed, and its requests are answered 503 from now \
-on. See to the disk, then start the server again as docs/OPERATING.md says under \"After a failed disk\".\n";
-    line[6] = b'0' + (shard / 10 % 10) as u8;
-    line[7] = b'0' + (shard % 10) as u8;
-    let _ = errors.write_all(&line);
+    match cause {
+        Some(cause) => say_line(errors, Unavailable { shard, cause }),
+        None => say_line(
+            errors,
+            Unavailable {
+                shard,
+                cause: "no byte was taken",
+            },
+        ),
+    }
 }
 
-impl<D: Disk> Disk for Watched<D> {
+// The line of a shard that stops answering.
+#[derive(Drop)]
+struct Unavailable<C> {
+    shard: u32,
+    cause: C,
+}
+
+impl<C: fmt::Display> fmt::Display for Unavailable<C> {
+    fn fmt<W: fmt::Write>(&self, f: &mut fmt::Formatter<W>) -> fmt::Result {
+        let Unavailable { shard, cause } = self;
+        write!(
+            f,
+            "shard {shard:02} is unavailable: a call on its disk failed: {cause}. Its requests are answered 503 \
+from now on. See to the disk, then start the server again as docs/OPERATING.md says under \"After a failed disk\"."
+        )
+    }
+}
+
+impl<D: Disk + Cause> Disk for Watched<D> {
     ghost follows = { λ w. D.follows w.inner };
 
     ghost sight = { λ w. D.sight w.inner };
@@ -72,7 +95,7 @@ impl<D: Disk> Disk for Watched<D> {
         self.is_written = true;
         let made = self.inner.write_at(at, bytes);
         if made.is_err() {
-            say_unavailable(self.errors, self.shard);
+            say_unavailable(self.errors, self.shard, self.inner.cause());
         }
         made
     }
@@ -80,7 +103,7 @@ impl<D: Disk> Disk for Watched<D> {
     fn sync(&mut self) -> Result<(), DeviceFault> {
         let made = self.inner.sync();
         if made.is_err() && self.is_written {
-            say_unavailable(self.errors, self.shard);
+            say_unavailable(self.errors, self.shard, self.inner.cause());
         }
         made
     }

@@ -5,6 +5,7 @@ ghost use Rattle.ingester.specs.Calls.{IsPassOf};
 
 use crate::client::{Client, NO_CONTENT, PUSH, READ, Request, Step, answers_of, listen};
 use accept::Limits;
+use front::Untold;
 use ingester::{Ingester, Pass, Settings};
 use ingesterd::Connections;
 use memory_disk::{Gate, GateDisk, MemDisk};
@@ -169,10 +170,14 @@ where
 }
 
 /// What each worker serves its connections with.
-fn servers_of(alloc: Global, workers: u32) -> Result<Vec<Connections<Standing>>, AllocError> {
+fn servers_of<'a>(
+    alloc: Global,
+    workers: u32,
+    full: &'a Untold,
+) -> Result<Vec<Connections<'a, Standing, Untold>>, AllocError> {
     let mut servers = Vec::new(alloc);
     for _ in 0..workers {
-        servers.push(Connections::new(Standing))?;
+        servers.push(Connections::new(Standing, full))?;
     }
     Ok(servers)
 }
@@ -182,7 +187,7 @@ fn talk_and_serve<R>(
     client: Client<R>,
     ingester: &Ingester<Slot>,
     passes: Vec<Pass>,
-    servers: Vec<Connections<Standing>>,
+    servers: Vec<Connections<'_, Standing, Untold>>,
     listener: &TcpListener,
     connections: u64,
 ) -> (Vec<Pass>, Option<String>)
@@ -231,7 +236,8 @@ where
     let gate = Gate::new(alloc)?;
     let listener = listen(rt)?;
     listener.set_nonblocking(talk.accepts_fail)?;
-    let servers = servers_of(alloc, talk.workers)?;
+    let full = Untold;
+    let servers = servers_of(alloc, talk.workers, &full)?;
     let client = Client {
         rt,
         alloc,
