@@ -29,7 +29,7 @@ use Rattle.answering.specs.Responses.{status_for, text_for, content_for, failure
 use Rattle.answering.specs.Showing.{IsShown}
 use Rattle.answering.specs.Serving.{Exchange, World, world, response, closes, called_text, is_failed, response_text, failure_at, ends_behind, VerdictGives, VerdictIsLeft, IsExchange, ConnectionGives, ConnectionEnds, ConnectionIsServed, IsUnbegun, io}
 use Rattle.answering.specs.Turns.{IsSameVisit, ResponseGives, ResponseIsWritten, ConnectionTurnIsAnswered, ConnectionTurnIsServed}
-use Rattle.answering.specs.Visits.{GoesOn, IsOver, IsVisit}
+use Rattle.answering.specs.Visits.{KeepsOn, IsOver, IsVisit}
 use Rattle.answering.specs.declared.visiting.Visit.{Visit}
 use Rattle.answering.specs.declared.visiting.Turn.TheVariants.{Answered, Closed, Unfinished}
 
@@ -201,10 +201,10 @@ module _ {H C : Type 0} (gives : Giving H) (ticks : C → ℕ → C → Type 0) 
   serves_push bytes w (d ∷ ds) mid between e rest w' (next, after, first, kept, others) x stays =
       (next, after, first, kept, serves_push next after ds mid between e rest w' others x stays)
 
-  pub starts : (due : Dues H) (before : Option (List ℕ)) (bytes : List ℕ) (w : World H C) → GoesOn gives ticks due due before before bytes w bytes w
+  pub starts : (due : Dues H) (before : Option (List ℕ)) (bytes : List ℕ) (w : World H C) → KeepsOn gives ticks due due before before bytes w bytes w
   starts due before bytes w = record { exchanges = []; appends = Appends-nil before; serves = (refl, refl); follows = λ knows more is. is }
 
-  module _ (due due1 due2 : Dues H) (before between after : Option (List ℕ)) (bytes old rest : List ℕ) (w mid w' : World H C) (p : GoesOn gives ticks due due1 before between bytes w old mid) where
+  module _ (due due1 due2 : Dues H) (before between after : Option (List ℕ)) (bytes old rest : List ℕ) (w mid w' : World H C) (p : KeepsOn gives ticks due due1 before between bytes w old mid) where
     -- the next response is due, where all were
     pub next_due : AreDueTo gives ticks bytes w due → NextIsDue gives ticks old mid due1
     next_due are text last next =
@@ -221,10 +221,10 @@ module _ {H C : Type 0} (gives : Giving H) (ticks : C → ℕ → C → Type 0) 
         }))
 
     -- more came
-    pub reads_more : (more : List ℕ) → GoesOn gives ticks due due1 before between (bytes ++ more) w (old ++ more) mid
+    pub reads_more : (more : List ℕ) → KeepsOn gives ticks due due1 before between (bytes ++ more) w (old ++ more) mid
     reads_more more = record { exchanges = p.exchanges; appends = p.appends; serves = serves_more bytes more w p.exchanges old mid p.serves; follows = p.follows }
 
-    pub goes_on : ConnectionTurnIsServed gives ticks due1 due2 between after old mid rest w' (Ok Answered) → GoesOn gives ticks due due2 before after bytes w rest w'
+    pub goes_on : ConnectionTurnIsServed gives ticks due1 due2 between after old mid rest w' (Ok Answered) → KeepsOn gives ticks due due2 before after bytes w rest w'
     goes_on t =
         let (e, x, stays, out) = t.gives_next in
         let texts : flat_map response p.exchanges ++ t.text ≡ flat_map response (p.exchanges ++ e ∷ []) =
@@ -237,7 +237,7 @@ module _ {H C : Type 0} (gives : Giving H) (ticks : C → ℕ → C → Type 0) 
         }
 
     -- no whole request is left
-    pub stays : (n : ℕ) → ConnectionTurnIsServed gives ticks due1 due2 between after old mid rest w' (Ok (Unfinished n)) → GoesOn gives ticks due due2 before after bytes w rest w' × IsUnbegun rest
+    pub stays : (n : ℕ) → ConnectionTurnIsServed gives ticks due1 due2 between after old mid rest w' (Ok (Unfinished n)) → KeepsOn gives ticks due due2 before after bytes w rest w' × IsUnbegun rest
     stays n t =
         let (unbegun, left, (silent, still)) = t.gives_next in
         let texts : flat_map response p.exchanges ++ t.text ≡ flat_map response p.exchanges = ap (λ l. flat_map response p.exchanges ++ l) silent ∙ append-nil (flat_map response p.exchanges) in (
@@ -282,7 +282,7 @@ module _ {H C : Type 0} (gives : Giving H) (ticks : C → ℕ → C → Type 0) 
     stopped CutShort t = absurd t.gives_next
 
   -- where more was read, and after it the connection is over
-  pub read_over : (due due1 : Dues H) (before after : Option (List ℕ)) (bytes old more new : List ℕ) (w mid : World H C) (left : Option (List ℕ)) (result : Result Served ServeFault) → GoesOn gives ticks due due1 before after bytes w old mid
+  pub read_over : (due due1 : Dues H) (before after : Option (List ℕ)) (bytes old more new : List ℕ) (w mid : World H C) (left : Option (List ℕ)) (result : Result Served ServeFault) → KeepsOn gives ticks due due1 before after bytes w old mid
       → new ≡ old ++ more → ConnectionEnds gives ticks new left mid [] mid result → IsOver gives ticks before after (bytes ++ more) left w mid result
   read_over due due1 before after bytes old more new w mid left result p grown finishes =
       over due due1 due1 before after after (bytes ++ more) (old ++ more) (old ++ more) w mid mid (reads_more due due1 due1 before after after bytes old old w mid mid p more) left [] result (Appends-nil after)

@@ -1,5 +1,6 @@
 pub mod Asking
 pub mod Calls
+pub mod Connections
 pub mod Courses
 pub mod Due
 pub mod Ends

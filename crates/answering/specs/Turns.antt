@@ -1,7 +1,7 @@
 -- What one turn of a connection says; for private clauses.
 use Rattle.std.specs.Prelude.{◌≡◌, ◌⊎◌, ℕ, ◌<◌, Bool, false, List, [], take, drop, Option, None, Result, Ok, Err, OnOk}
 use Rattle.std.specs.Io.KnownBytes.{Appends, Consumes}
-use Rattle.requests.specs.Streams.{Request, ReadsMessage, IsMessage, IsUnread, MayGrow}
+use Rattle.requests.specs.Streams.{Request, ReadsMessage, IsMessage, MayStand, MayGrow}
 use Rattle.requests.specs.Writing.{Dues, Follows}
 use Rattle.requests.specs.declared.incoming.Message.{Message}
 use Rattle.requests.specs.declared.fault.ServeFault.{ServeFault}
@@ -12,7 +12,7 @@ use Rattle.answering.specs.Calls.{Giving}
 use Rattle.answering.specs.Courses.{Course}
 use Rattle.answering.specs.Ends.{IsSameEnd}
 use Rattle.answering.specs.Serving.{Exchange, World, world, Io, response, closes, response_text, failure_at, ends_behind, VerdictGives, VerdictIsLeft, IsExchange, ConnectionEnds, IsSilent, IsUnbegun}
-use Rattle.answering.specs.Visits.{GoesOn}
+use Rattle.answering.specs.Visits.{KeepsOn}
 use Rattle.answering.specs.declared.visiting.Visit.{Visit}
 use Rattle.answering.specs.declared.visiting.Turn.{Turn}
 use Rattle.answering.specs.declared.visiting.Turn.TheVariants as turns
@@ -51,7 +51,7 @@ OnKept (Err fault) t = Unit {0}
 
 -- what may stand there when it is looked at next: no more than before; or this many bytes more
 abbrev pub MayComeAfter : Turn → List ℕ → Type 0
-MayComeAfter turns.Answered rest = IsUnread rest
+MayComeAfter turns.Answered rest = MayStand rest
 MayComeAfter (turns.Unfinished n) rest = (0 < n) × MayGrow rest n
 MayComeAfter turns.Closed rest = Unit {0}
 
@@ -115,7 +115,7 @@ module _ {H C : Type 0} (gives : Giving H) (ticks : C → ℕ → C → Type 0) 
       : Type 0 where
     pub bytes : List ℕ
     pub consumes : Consumes ends.unread ends'.unread bytes
-    pub goes : GoesOn gives ticks due due' ends.written ends'.written bytes w rest w'
+    pub goes : KeepsOn gives ticks due due' ends.written ends'.written bytes w rest w'
 
   -- the message, whichever request of these bytes it is, was answered and dropped
   abbrev pub ConnectionTakesMessage : Dues H → Dues H → Option (List ℕ) → Option (List ℕ) → Message

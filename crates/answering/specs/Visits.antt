@@ -2,7 +2,7 @@
 use Rattle.std.specs.Prelude.{ℕ, ◌<◌, List, Option, None, Result, Ok, Err}
 use Rattle.std.specs.List.{flat_map}
 use Rattle.std.specs.Io.KnownBytes.{Appends}
-use Rattle.requests.specs.Streams.{IsUnread, MayGrow}
+use Rattle.requests.specs.Streams.{MayStand, MayGrow}
 use Rattle.requests.specs.Writing.{Dues, Follows}
 use Rattle.requests.specs.declared.fault.ServeFault.{ServeFault}
 use Rattle.requests.specs.declared.fault.ServeFault.TheVariants as faults
@@ -15,13 +15,13 @@ use Rattle.answering.specs.declared.visiting.Visited.TheVariants as visited
 
 -- what may stand there at the next visit: no more than is left; or this many bytes more
 abbrev pub LeavesRoom : Visited → List ℕ → Type 0
-LeavesRoom visited.More rest = IsUnread rest
+LeavesRoom visited.More rest = MayStand rest
 LeavesRoom (visited.Unfinished n) rest = (0 < n) × MayGrow rest n
 LeavesRoom visited.Closed rest = Unit {0}
 
 module _ {H C : Type 0} (gives : Giving H) (ticks : C → ℕ → C → Type 0) where
   -- of these bytes some requests were answered, none of which closes, and this is left
-  pub record GoesOn (due due' : Dues H) (before after : Option (List ℕ)) (bytes : List ℕ)
+  pub record KeepsOn (due due' : Dues H) (before after : Option (List ℕ)) (bytes : List ℕ)
       (w : World H C) (rest : List ℕ) (w' : World H C) : Type 0 where
     pub exchanges : List Exchange
     pub appends : Appends before after (flat_map response exchanges)
@@ -40,9 +40,9 @@ module _ {H C : Type 0} (gives : Giving H) (ticks : C → ℕ → C → Type 0) 
       → List ℕ → World H C
       → Result Visited ServeFault → Type 0
   IsVisit due due' before after bytes w rest w' (Ok visited.More) =
-      GoesOn due due' before after bytes w rest w'
+      KeepsOn due due' before after bytes w rest w'
   IsVisit due due' before after bytes w rest w' (Ok (visited.Unfinished n)) =
-      GoesOn due due' before after bytes w rest w' × IsUnbegun rest
+      KeepsOn due due' before after bytes w rest w' × IsUnbegun rest
   IsVisit due due' before after bytes w rest w' (Ok visited.Closed) =
       IsOver before after bytes None w w' (Ok served.Closed)
   IsVisit due due' before after bytes w rest w' (Err faults.Write) =

@@ -1,7 +1,7 @@
 //! The two ends of a connection.
 ghost use Rattle.std.specs.Prelude.{◌≡◌, ◌⊎◌, ◌<◌, true, [], None, IfErr, OnOk};
 ghost use Rattle.requests.specs.Answers.{answer_text, fixed_text, failure_text};
-ghost use Rattle.requests.specs.Streams.{Grows, IsCut, IsUnread, MayGrow};
+ghost use Rattle.requests.specs.Streams.{Grows, IsCut, MayStand, MayGrow};
 ghost use Rattle.requests.specs.Writing.{WritesBeginning, Follows};
 ghost use Rattle.answering.specs.Ends.{IsOfAnswer, IsReadOn, IsSameEnd};
 
@@ -58,7 +58,7 @@ impl<'a, I: Read> ReadEnd<'a, I> {
         ensures grows { Grows (I.remaining self.old.reader.now)
             (I.remaining self.new.reader.now) incoming.old
             incoming.new }
-        ensures unread { IsUnread incoming.new }
+        ensures unread { MayStand incoming.new }
         ensures reads { IsReadOn incoming.new (I.remaining self.new.reader.now) result }
         ensures told { IfErr result (λ fault. fault ≡ ServeFault.Read → self.new.failed ≡ true) }
     {

@@ -4,6 +4,7 @@
 mod calling;
 mod calls;
 mod clock;
+mod connection;
 mod ends;
 mod laws;
 mod lines;
@@ -15,10 +16,11 @@ mod windows;
 
 pub use calls::Calls;
 pub use clock::Clock;
+pub use connection::Connection;
 pub use ends::Ends;
 pub use laws::visits_join;
 pub use replies::answer_of_read;
-pub use requests::{Answer, Answers, Failure, Route, Sent, ServeFault, Served, Status};
+pub use requests::{Answer, Answers, Failure, Outgoing, Route, Sent, ServeFault, Served, Status};
 pub use responding::{RequestBody, answer};
 pub use serving::{serve, serve_to};
 pub use visiting::{Visited, answer_requests};

@@ -1,7 +1,7 @@
 //! The requests of a connection that have come: their calls made, and their answers put where they go.
 ghost use Rattle.std.specs.Prelude.{◌≡◌, ◌<◌, ◌≤◌, length, drop, slice_range, IfErr, IfOk};
 ghost use Rattle.accept.specs.OneStream.{end_of_time};
-ghost use Rattle.requests.specs.Streams.{IsUnread};
+ghost use Rattle.requests.specs.Streams.{MayStand};
 ghost use Rattle.answering.specs.Due.{AreDueTo, NextIsDue, MessageIsDue, ResponseIsDue};
 ghost use Rattle.answering.specs.Ends.{IsOfAnswer, IsSameEnd};
 ghost use Rattle.answering.specs.Responses.{content_for};
@@ -196,7 +196,7 @@ impl<'a, 'b, S: Calls<Pass = P>, P, C: Clock, O: Answers<Knows = P>> Visit<'a, '
     // Answers what stands at the front.
     pub(crate) fn take_turn<R: Wait>(&mut self, rt: &R, alloc: Global) -> Result<Turn, ServeFault>
         requires ready { S.is_ready self.old.service.now self.old.pass.now }
-        requires unread { IsUnread self.old.incoming.now }
+        requires unread { MayStand self.old.incoming.now }
         requires due { NextIsDue (S.gives self.old.service.now) C.ticks self.old.incoming.now
             (world_of self.old) (due_of O.due self.old) }
         ensures same { IsSameVisit O.through self.old self.new }
@@ -227,7 +227,7 @@ impl<'a, 'b, S: Calls<Pass = P>, P, C: Clock, O: Answers<Knows = P>> Visit<'a, '
         most: u32,
     ) -> Result<Visited, ServeFault>
         requires ready { S.is_ready self.old.service.now self.old.pass.now }
-        requires unread { IsUnread self.old.incoming.now }
+        requires unread { MayStand self.old.incoming.now }
         requires due { AreDueTo (S.gives self.old.service.now) C.ticks self.old.incoming.now
             (world_of self.old) (due_of O.due self.old) }
         ensures same { IsSameVisit O.through self.old self.new }
@@ -264,7 +264,7 @@ fn visit_end<'a, 'b, S: Calls<Pass = P>, P, R: Wait, C: Clock, O: Answers<Knows 
     most: u32,
 ) -> Result<Visited, ServeFault>
     requires pass { S.is_ready service.now pass.old }
-    requires unread { IsUnread incoming.old }
+    requires unread { MayStand incoming.old }
     requires due { AreDueTo (S.gives service.now) C.ticks incoming.old
         (world pass.old clock.old) (O.due end.old.writer.now) }
     ensures pass { S.is_ready service.now pass.new }
@@ -294,19 +294,19 @@ fn visit_end<'a, 'b, S: Calls<Pass = P>, P, R: Wait, C: Clock, O: Answers<Knows 
 ///
 /// `Memory`: what was put there are whole answers of a beginning of the requests, and none of status 500 is lost.
 /// `Write`: a beginning of the answers was taken. In both cases calls made before stand, and the connection is over.
-pub fn answer_requests<'a, 'b, S: Calls<Pass = P>, P, R: Wait, C: Clock, O: Answers<Knows = P>>(
+pub fn answer_requests<S: Calls<Pass = P>, P, R: Wait, C: Clock, O: Answers<Knows = P>>(
     rt: &R,
     alloc: Global,
-    service: &'a S,
-    pass: &'a mut P,
-    clock: &'a mut C,
-    answers: &'b mut O,
-    incoming: &'a mut Incoming,
-    outgoing: &'a mut Outgoing,
+    service: &S,
+    pass: &mut P,
+    clock: &mut C,
+    answers: &mut O,
+    incoming: &mut Incoming,
+    outgoing: &mut Outgoing,
     most: u32,
 ) -> Result<Visited, ServeFault>
     requires pass { S.is_ready service.now pass.old }
-    requires unread { IsUnread incoming.old }
+    requires unread { MayStand incoming.old }
     requires due { AreDueTo (S.gives service.now) C.ticks incoming.old
         (world pass.old clock.old) (O.due answers.old) }
     ensures pass { S.is_ready service.now pass.new }

@@ -8,7 +8,7 @@ use Rattle.httparse.specs.declared.spans.RequestSpans.{RequestSpans}
 use Rattle.requests.specs.Fields.{fields_of}
 use Rattle.requests.specs.Framings.{framing_of}
 use Rattle.requests.specs.Judging.{SaysHead}
-use Rattle.requests.specs.Streams.{ReadsHead, ReadsMessage, IsCut, IsHeld, IsNext, IsUnread, MayGrow, body_length}
+use Rattle.requests.specs.Streams.{ReadsHead, ReadsMessage, IsCut, HoldsHead, IsNext, MayStand, MayGrow, body_length}
 use Rattle.requests.specs.declared.framing.Framing.TheVariants.{Length}
 use Rattle.requests.specs.declared.incoming.Message.{Message}
 use Rattle.requests.specs.declared.incoming.Next.TheVariants.{Whole, Unfinished}
@@ -50,7 +50,7 @@ le_or_lt : (a b : ℕ) → (a ≤ b) ⊎ (b < a)
 le_or_lt a b = grind arith
 
 module _ (buffer : List ℕ) (hs : List HeaderSpan) (spans : RequestSpans) (h : RequestHead) (at : IsRequestAt buffer hs spans h) (within : IsRequestWithin buffer hs spans)
-    (room : length hs ≡ 64) (short : spans.len ≤ 16384) (unread : IsUnread buffer) (m : Message) (says : SaysHead h spans.len m) where
+    (room : length hs ≡ 64) (short : spans.len ≤ 16384) (unread : MayStand buffer) (m : Message) (says : SaysHead h spans.len m) where
   head : ReadsHead buffer h (drop spans.len buffer)
   head = reads_head buffer hs spans h at within room short
 
@@ -61,7 +61,7 @@ module _ (buffer : List ℕ) (hs : List HeaderSpan) (spans : RequestSpans) (h : 
   ordered = omega (arith, says.ordered, says.start_is)
 
   -- where more is there than a head may have, it is no more than the message
-  at_most : IsHeld buffer → length buffer ≤ m.end
+  at_most : HoldsHead buffer → length buffer ≤ m.end
   at_most held =
       let few = held.few h (drop spans.len buffer) at.reads in
       let lengths = ap body_length framing in

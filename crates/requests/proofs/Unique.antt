@@ -6,7 +6,7 @@ use Rattle.httparse.specs.Grammar.{RequestHead, print_request, ReadsRequest}
 use Rattle.httparse.proofs.GrammarLemmas.{request_unique, ReadsRequest-append}
 use Rattle.requests.specs.Fields.{fields_of}
 use Rattle.requests.specs.Framings.{framing_of}
-use Rattle.requests.specs.Streams.{Request, ReadsHead, ReadsMessage, ReadsRequests, HoldsNone, IsHeld, body_length}
+use Rattle.requests.specs.Streams.{Request, ReadsHead, ReadsMessage, ReadsRequests, HoldsNone, HoldsHead, body_length}
 use Rattle.requests.specs.Laws.{HaveOneRequest, KeepsRequest, RefusesForGood, HoldsNoneIfCut, HaveOneSplit, GoOn}
 use Rattle.requests.specs.declared.fixed.FixedAnswer.{FixedAnswer}
 use Rattle.requests.specs.declared.framing.Framing.{Framing}
@@ -87,7 +87,7 @@ go_on bytes [] mid r rest before here = (rest, subst (λ l. ReadsMessage l r res
 go_on bytes (s ∷ ss) mid r rest (next, first, others) here = (next, first, go_on next ss mid r rest others here)
 
 -- a head and no more than its body
-pub held : (bytes : List ℕ) (h : RequestHead) (behind : List ℕ) (n : ℕ) → ReadsHead bytes h behind → framing_of h.method (fields_of h) ≡ Length n → length behind ≤ n → IsHeld bytes
+pub held : (bytes : List ℕ) (h : RequestHead) (behind : List ℕ) (n : ℕ) → ReadsHead bytes h behind → framing_of h.method (fields_of h) ≡ Length n → length behind ≤ n → HoldsHead bytes
 held bytes h behind n head framing few = record {
   some = (λ none. none h behind head.reads);
   lawful = (λ over. absurd (omega (arith, over [] h behind (subst (λ b. ReadsRequest b h behind) (sym (append-nil bytes)) head.reads), head.few)));

@@ -73,7 +73,7 @@ body_length (Length n) = n
 body_length (Refused why) = 0
 
 -- a whole head of lawful length is there, and no more after it than its body: said so that it has one proof at most
-pub record IsHeld (bytes : List ℕ) : Type 0 where
+pub record HoldsHead (bytes : List ℕ) : Type 0 where
   pub some : ¬ HasNoRequest bytes
   pub lawful : ¬ RequestOverflows max_fields bytes
   pub short : (h : RequestHead) (rest : List ℕ) → ReadsRequest bytes h rest
@@ -82,12 +82,12 @@ pub record IsHeld (bytes : List ℕ) : Type 0 where
       → length rest ≤ body_length (framing_of h.method (fields_of h))
 
 -- what may stand in the buffer when it is looked at: no more than a head may have, or a head and no more than its body
-abbrev pub IsUnread : List ℕ → Type 0
-IsUnread bytes = max_head < length bytes → IsHeld bytes
+abbrev pub MayStand : List ℕ → Type 0
+MayStand bytes = max_head < length bytes → HoldsHead bytes
 
 -- this many bytes may come before it is looked at
 abbrev pub MayGrow : List ℕ → ℕ → Type 0
-MayGrow bytes n = (more : List ℕ) → length more ≤ n → IsUnread (bytes ++ more)
+MayGrow bytes n = (more : List ℕ) → length more ≤ n → MayStand (bytes ++ more)
 
 -- the message is this request, whose text stands at the front of the buffer
 pub record IsMessage (buffer : List ℕ) (r : Request) (m : Message) : Type 0 where

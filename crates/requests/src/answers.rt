@@ -1,11 +1,12 @@
 //! Where answers are put.
-ghost use Rattle.std.specs.Prelude.{◌≡◌, IfErr, OnOk};
+ghost use Rattle.std.specs.Prelude.{◌≡◌, ◌≤◌, ◌++◌, [], Some, length, drop, IfErr, OnOk, OnErr};
 ghost use Rattle.requests.specs.Writing.{WritesBeginning, Follows};
 
 use crate::fault::ServeFault;
 use crate::writing::write_text;
+use std::alloc::Global;
 use std::io::Write;
-use std::marker::PhantomData;
+use std::marker::{Model, PhantomData};
 
 /// Where answers are put: a writer, or a text that will be sent. What may be put there is a matter of what is known of
 /// the calls at that moment, so code that is generic over this trait puts nothing there without a proof that it is due.
@@ -68,5 +69,74 @@ impl<'a, O: Write, P> Answers for Sent<'a, O, P> {
 
     fn say(&mut self, _knows: &P, text: &[u8]) -> Result<(), ServeFault> {
         write_text(self.writer, text)
+    }
+}
+
+fn push_text(all: &mut Vec<u8>, text: &[u8]) -> Result<(), ServeFault>
+    ensures ok { OnOk result (all.new.items ≡ all.old.items ++ text.now) }
+    ensures err { OnErr result (all.new.items ≡ all.old.items) }
+    ensures cause { IfErr result (λ e. e ≡ ServeFault.Write) }
+{
+    match all.extend_from_slice(text) {
+        Ok(()) => Ok(()),
+        Err(_) => Err(ServeFault::Write),
+    }
+}
+
+/// A text that is to be sent: answers are put there, and whoever has the connection sends it from its front. `P` is what
+/// is known of the calls. Contracts see the text.
+#[derive(Drop)]
+pub struct Outbox<P> {
+    text: Vec<u8>,
+    of: PhantomData<P>,
+}
+
+impl<P> Model for Outbox<P> {
+    ghost use Rattle.std.specs.Prelude.{List, ℕ};
+
+    ghost Value = { List ℕ };
+
+    ghost view = { λ o. o.text.items };
+}
+
+impl<P> Outbox<P> {
+    /// Nothing is to be sent. Takes no memory.
+    pub fn new(alloc: Global) -> Outbox<P>
+        ensures { result ≡ [] }
+    {
+        Outbox {
+            text: Vec::new(alloc),
+            of: PhantomData,
+        }
+    }
+
+    /// The text that is to be sent.
+    pub fn text(&self) -> &[u8]
+        ensures { result.now ≡ self.now }
+    {
+        self.text.as_slice()
+    }
+
+    /// So many bytes of it were sent.
+    pub fn sent(&mut self, count: usize)
+        requires { count ≤ length self.old }
+        ensures { self.new ≡ drop count self.old }
+    {
+        self.text.drain(..count);
+    }
+}
+
+impl<P> Answers for Outbox<P> {
+    type Knows = P;
+
+    ghost contents = { λ outbox. Some outbox };
+
+    ghost through = { λ _. 0 };
+
+    ghost due = { λ _ _ _. Unit {0} };
+
+    /// Where there is no memory, none of the text is taken.
+    fn say(&mut self, _knows: &P, text: &[u8]) -> Result<(), ServeFault> {
+        push_text(&mut self.text, text)
     }
 }

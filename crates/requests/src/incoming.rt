@@ -4,7 +4,7 @@ ghost use Rattle.std.specs.Io.KnownBytes.{IsAtEnd};
 ghost use Rattle.httparse.specs.Grammar.{RequestHead};
 ghost use Rattle.httparse.specs.Spans.{IsRequestAt, IsRequestOf, IsRequestWithin};
 ghost use Rattle.requests.specs.Judging.{IsJudged};
-ghost use Rattle.requests.specs.Streams.{Grows, IsNext, Fits, IsHeld, IsUnfinished, IsUnread, MayGrow};
+ghost use Rattle.requests.specs.Streams.{Grows, IsNext, Fits, HoldsHead, IsUnfinished, MayStand, MayGrow};
 
 use crate::fault::ServeFault;
 use crate::fixed::FixedAnswer;
@@ -79,7 +79,7 @@ fn request_of(alloc: Global, bytes: &[u8], fields: &[HeaderSpan], spans: Request
     requires within { IsRequestWithin bytes.now fields.now spans }
     requires room { length fields.now ≡ MAX_FIELDS }
     requires short { spans.len ≤ MAX_HEAD }
-    requires unread { IsUnread bytes.now }
+    requires unread { MayStand bytes.now }
     ensures next { IsNext bytes.now result }
     ensures fits { Fits bytes.now result }
 {
@@ -96,7 +96,7 @@ fn request_of(alloc: Global, bytes: &[u8], fields: &[HeaderSpan], spans: Request
 
 /// The head that is at the front of the bytes, which is whole.
 fn head_of(bytes: &[u8], fields: &mut [HeaderSpan]) -> RequestSpans
-    requires held { IsHeld bytes.now }
+    requires held { HoldsHead bytes.now }
     requires room { length fields.old ≡ MAX_FIELDS }
     ensures head { IsRequestOf bytes.now fields.new result }
     ensures within { IsRequestWithin bytes.now fields.new result }
@@ -126,7 +126,7 @@ fn begun(bytes: &[u8]) -> Next
 
 /// What is at the front of these bytes.
 fn next_of(alloc: Global, bytes: &[u8]) -> Next
-    requires { IsUnread bytes.now }
+    requires { MayStand bytes.now }
     ensures next { IsNext bytes.now result }
     ensures fits { Fits bytes.now result }
 {
@@ -198,7 +198,7 @@ impl Incoming {
         requires some { 0 < most }
         requires room { MayGrow self.old most }
         ensures grows { Grows (R.remaining reader.old) (R.remaining reader.new) self.old self.new }
-        ensures unread { IsUnread self.new }
+        ensures unread { MayStand self.new }
         ensures none { IfOk result (λ n. n ≡ 0 → IsAtEnd (R.remaining reader.new)
             × (self.new ≡ self.old)) }
         ensures err { OnErr result (self.new ≡ self.old) }
@@ -209,7 +209,7 @@ impl Incoming {
 
     /// What is at the front of what has come.
     pub fn next(&self, alloc: Global) -> Next
-        requires { IsUnread self.now }
+        requires { MayStand self.now }
         ensures next { IsNext self.now result }
         ensures fits { Fits self.now result }
     {

@@ -22,7 +22,7 @@ mod verdict;
 mod writing;
 
 pub use answer::{Answer, Content};
-pub use answers::{Answers, Sent};
+pub use answers::{Answers, Outbox, Sent};
 pub use failure::Failure;
 pub use fault::{ServeFault, Served};
 pub use fixed::{FixedAnswer, Method};

@@ -1,11 +1,11 @@
 use Rattle.std.proofs.Common.{◌≡◌, ◌⊎◌, Ok, Err, [], ◌++◌, ◌∙◌, subst, sym, refl, arith}
 use Rattle.std.proofs.KnownBytes.{Consumes-nil, Consumes-trans}
 use Rattle.std.proofs.lemmas.Result.{err_from_is_err_and}
-use Rattle.requests.specs.Streams.{IsCut, IsUnread}
+use Rattle.requests.specs.Streams.{IsCut, MayStand}
 use Rattle.answering.specs.Due.{NextIsDue}
 use Rattle.answering.specs.Ends.{IsReadOn}
 use Rattle.answering.specs.Turns.{MayComeAfter, ConnectionTurnIsServed, due_of, taken_of, world_of}
-use Rattle.answering.specs.Visits.{GoesOn}
+use Rattle.answering.specs.Visits.{KeepsOn}
 use Rattle.answering.specs.declared.visiting.Turn.TheVariants.{Answered, Closed, Unfinished}
 use Rattle.answering.proofs.Turning.{same_trans, starts, next_due, goes_on, stays, reads_more, read_over, read_ended, read_failed, closed, failed, is_served}
 use Rattle.answering.proofs.visiting.Visit.serve_all.Goals as goal
@@ -20,11 +20,11 @@ loop-turn-init g c =
       same = record { service = refl; pass = refl; clock = refl; end = refl; of = record { writer = refl; same = refl }; incoming = refl; outgoing = refl };
       reader = refl;
       ready = c.requires.ready;
-      unread = subst IsUnread (sym c.requires.fresh) (λ long. absurd (omega arith));
+      unread = subst MayStand (sym c.requires.fresh) (λ long. absurd (omega arith));
       progress = record {
         bytes = [];
         consumes = Consumes-nil (g.I.Read.remaining c.args.source.now.reader.now);
-        goes = subst (λ l. GoesOn gives g.C.Clock.ticks due due taken taken [] (world_of old) l (world_of old)) (sym c.requires.fresh) (starts gives g.C.Clock.ticks due taken [] (world_of old));
+        goes = subst (λ l. KeepsOn gives g.C.Clock.ticks due due taken taken [] (world_of old) l (world_of old)) (sym c.requires.fresh) (starts gives g.C.Clock.ticks due taken [] (world_of old));
       };
     }
 
@@ -175,7 +175,7 @@ loop-turn-preserved g c =
       progress = record {
         bytes = p.bytes ++ more;
         consumes = Consumes-trans unread between left p.bytes more p.consumes consumes;
-        goes = subst (λ l. GoesOn gives g.C.Clock.ticks (due old) (due new) (taken old) (taken new) (p.bytes ++ more) (world_of old) l (world_of new)) (sym grown)
+        goes = subst (λ l. KeepsOn gives g.C.Clock.ticks (due old) (due new) (taken old) (taken new) (p.bytes ++ more) (world_of old) l (world_of new)) (sym grown)
             (reads_more gives g.C.Clock.ticks (due old) (due new) (due new) (taken old) (taken new) (taken new) p.bytes new.incoming.now new.incoming.now (world_of old) (world_of new) (world_of new) goes more);
       };
     }

@@ -1,0 +1,27 @@
+-- A connection without its ends.
+use Rattle.std.specs.Prelude.{◌≡◌, ℕ, ◌-◌, Bool, true, false, List, ◌++◌, length, drop, Result, Ok, Err}
+use Rattle.requests.specs.declared.fault.ServeFault.{ServeFault}
+use Rattle.answering.specs.declared.visiting.Visited.{Visited}
+use Rattle.answering.specs.declared.visiting.Visited.TheVariants.{More, Unfinished, Closed}
+
+-- what has come and is not yet answered, how much more may come, what is to be sent, and whether the connection ends then
+pub record Unended : Type 0 where
+  pub came : List ℕ
+  pub room : ℕ
+  pub text : List ℕ
+  pub closes : Bool
+
+-- these bytes came
+abbrev pub with_bytes : List ℕ → Unended → Unended
+with_bytes bytes c = record { came = c.came ++ bytes; room = c.room - length bytes; text = c.text; closes = c.closes }
+
+-- so many bytes were sent
+abbrev pub without_bytes : ℕ → Unended → Unended
+without_bytes n c = record { came = c.came; room = c.room; text = drop n c.text; closes = c.closes }
+
+-- how much may come after a visit, and whether the connection ends
+abbrev pub IsLeftSo : Result Visited ServeFault → Unended → Unended → Type 0
+IsLeftSo (Ok More) old new = (new.room ≡ 0) × (new.closes ≡ old.closes)
+IsLeftSo (Ok (Unfinished n)) old new = (new.room ≡ n) × (new.closes ≡ old.closes)
+IsLeftSo (Ok Closed) old new = (new.room ≡ 0) × (new.closes ≡ true)
+IsLeftSo (Err fault) old new = (new.room ≡ 0) × (new.closes ≡ true)
