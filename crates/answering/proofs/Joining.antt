@@ -5,11 +5,11 @@ use Rattle.std.specs.List.{flat_map}
 use Rattle.requests.proofs.Unique.{keeps_request, one_request}
 use Rattle.answering.specs.Calls.{Giving}
 use Rattle.answering.specs.Serving.{Exchange, World, response}
-use Rattle.answering.specs.Joining.{Stay, text_of, AnswersApart, AreOneConnection, IsOneText, IsApart, HaveSameRequests}
+use Rattle.answering.specs.Joining.{Stay, visit_text, AnswersApart, AreOneConnection, IsOneText, IsApart, HaveSameRequests}
 
 pub one_text : {H C : Type 0} (visits : List (Stay H C)) → IsOneText visits
 one_text [] = refl
-one_text (v ∷ vs) = ap (λ l. text_of v ++ l) (one_text vs) ∙ sym (flat_map-append response v.exchanges (flat_map (λ u. u.exchanges) vs))
+one_text (v ∷ vs) = ap (λ l. visit_text v ++ l) (one_text vs) ∙ sym (flat_map-append response v.exchanges (flat_map (λ u. u.exchanges) vs))
 
 module _ {H C : Type 0} (gives : Giving H) (ticks : C → ℕ → C → Type 0) where
   pub apart : (bytes : List ℕ) (w : World H C) (es : List Exchange) (rest : List ℕ) (w' : World H C) → IsApart gives ticks bytes w es rest w'

@@ -12,8 +12,8 @@ pub record Stay (H C : Type 0) : Type 0 where
   pub rest : List ℕ
   pub after : World H C
 
-abbrev pub text_of : {H C : Type 0} → Stay H C → List ℕ
-text_of v = flat_map response v.exchanges
+abbrev pub visit_text : {H C : Type 0} → Stay H C → List ℕ
+visit_text v = flat_map response v.exchanges
 
 module _ {H C : Type 0} (gives : Giving H) (ticks : C → ℕ → C → Type 0) where
   -- from what was left by one to the next; what is known may change between them
@@ -46,4 +46,4 @@ module _ {H C : Type 0} (gives : Giving H) (ticks : C → ℕ → C → Type 0) 
 
 -- the texts of visits are the responses to all that they answered
 abbrev pub IsOneText : {H C : Type 0} → List (Stay H C) → Type 0
-IsOneText visits = flat_map text_of visits ≡ flat_map response (flat_map (λ v. v.exchanges) visits)
+IsOneText visits = flat_map visit_text visits ≡ flat_map response (flat_map (λ v. v.exchanges) visits)

@@ -1,2 +1,3 @@
 pub mod Gaining
+pub mod Ordering
 pub mod Telling

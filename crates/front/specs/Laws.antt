@@ -1,8 +1,11 @@
 -- The steps that a pass gains are the calls of the requests, in their order.
-use Rattle.std.specs.Prelude.{◌≡◌, ℕ, List, ◌++◌}
+use Rattle.std.specs.Prelude.{◌≡◌, ◌⊎◌, ℕ, true, List, [], ◌++◌}
+use Rattle.std.specs.List.{flat_map}
 use Rattle.accept.specs.declared.history.Step.{Step}
 use Rattle.history.specs.Handles.{Passed}
-use Rattle.answering.specs.Serving.{Exchange, World, ConnectionGives, IsExchange, IsAbandoned}
+use Rattle.requests.specs.Answers.{fixed_text}
+use Rattle.requests.specs.declared.fixed.FixedAnswer.{FixedAnswer}
+use Rattle.answering.specs.Serving.{Exchange, World, response, ConnectionGives, IsExchange, IsAbandoned}
 use Rattle.answering.specs.Steps.{AreStepsBy, AreFirstStepsBy, AreTheirSteps}
 use Rattle.front.specs.Calls.{CallGives}
 
@@ -35,3 +38,14 @@ MakesItsFirstCalls ticks bytes w w' =
     (left : IsAbandoned CallGives ticks bytes w w')
     → (steps : List Step) × Gains w.knows steps w'.knows
     × AreFirstStepsBy left.now left.request.body left.verdict steps
+
+-- the text is the responses to these requests, and perhaps what refuses the next one; the pass has made the steps of the
+-- calls of all of them
+pub record AnswersAfterSteps (old new : Passed) (text : List ℕ) : Type 0 where
+  pub exchanges : List Exchange
+  pub refusal : List ℕ
+  pub steps : List Step
+  pub made : Gains old steps new
+  pub steps_are : AreTheirSteps exchanges steps
+  pub refused : (refusal ≡ []) ⊎ ((why : FixedAnswer) × (refusal ≡ fixed_text why true))
+  pub is : text ≡ flat_map response exchanges ++ refusal

@@ -1,7 +1,9 @@
 ghost use Rattle.std.specs.Prelude.{ℕ, List};
 ghost use Rattle.history.specs.Handles.{Passed};
 ghost use Rattle.answering.specs.Serving.{Exchange, World};
-ghost use Rattle.front.specs.Laws.{MakesItsCalls, MakesItsFirstCalls, MakesTheirCalls};
+ghost use Rattle.answering.specs.Due.{IsDueText};
+ghost use Rattle.front.specs.Calls.{CallGives};
+ghost use Rattle.front.specs.Laws.{MakesItsCalls, MakesItsFirstCalls, MakesTheirCalls, AnswersAfterSteps};
 
 use answering::Clock;
 
@@ -18,4 +20,12 @@ pub fn one_step_a_call<C: Clock>()
     ensures all { (bytes : List ℕ) (w : World Passed C) (es : List Exchange)
         (rest : List ℕ)
         (w' : World Passed C) → MakesTheirCalls C.ticks bytes w es rest w' }
+{}
+
+/// The law of order: what is due are the responses to requests that have come, and the pass has made a step for each of
+/// their calls that got a reply, and no other. So when it is sent, these steps are there.
+pub fn answers_after_steps<C: Clock>()
+    ensures { (bytes : List ℕ) (w : World Passed C) (knows : Passed)
+        (text : List ℕ) → IsDueText CallGives C.ticks bytes w knows text
+        → AnswersAfterSteps w.knows knows text }
 {}

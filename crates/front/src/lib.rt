@@ -5,7 +5,10 @@ mod full;
 mod laws;
 mod serving;
 
-pub use answering::{Answer, Clock, Route, ServeFault, Served, Status, answer_of_read};
+pub use answering::{
+    Answer, Answers, Clock, Connection, Outgoing, Route, ServeFault, Served, Status, Visited,
+    answer_of_read,
+};
 pub use full::{FullShards, Untold};
-pub use laws::one_step_a_call;
-pub use serving::{answer, serve, serve_and_tell};
+pub use laws::{answers_after_steps, one_step_a_call};
+pub use serving::{answer, serve, serve_and_tell, serve_to, visit};

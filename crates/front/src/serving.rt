@@ -1,14 +1,20 @@
 //! An ingester as what makes the calls of requests.
-ghost use Rattle.std.specs.Prelude.{◌≡◌, ◌<◌};
+ghost use Rattle.std.specs.Prelude.{◌≡◌, ◌<◌, Some};
 ghost use Rattle.accept.specs.OneStream.{end_of_time};
 ghost use Rattle.ingester.specs.Calls.{IsPassOf};
+ghost use Rattle.answering.specs.Connections.{IsLeftSo};
+ghost use Rattle.answering.specs.Due.{AreDueTexts};
 ghost use Rattle.answering.specs.Responses.{RequestIsAnswered};
 ghost use Rattle.answering.specs.Serving.{ConnectionIsServed, world, io};
+ghost use Rattle.answering.specs.Visits.{IsVisit};
 ghost use Rattle.front.specs.Calls.{CallGives, failure_of, reply_told};
 
 use crate::full::{FullShards, Untold};
 use accept::{Call, Reply};
-use answering::{Answer, Calls, Clock, Ends, Failure, RequestBody, Route, ServeFault, Served};
+use answering::{
+    Answer, Answers, Calls, Clock, Connection, Ends, Failure, Outgoing, RequestBody, Route,
+    ServeFault, Served, Visited,
+};
 use disk::Disk;
 use ingester::{CallFault, Ingester, Pass};
 use labels::{MAX_SHARDS, Tenant, shard_of};
@@ -212,4 +218,66 @@ pub fn serve_and_tell<D: Disk + Drop, R: Wait, F: FullShards, C: Clock, I: Read,
     let service = Service { ingester, full };
     let mut ends = Ends::new(reader, writer);
     answering::serve(rt, alloc, &service, pass, clock, &mut ends)
+}
+
+/// Answers the requests of a connection as `serve` does, to where answers are put. Nothing is put there but by `say`, and only what is due then: the responses to whole
+/// requests that have come, once their calls have come back.
+///
+/// # Errors
+///
+/// As `serve`.
+pub fn serve_to<D: Disk + Drop, R: Wait, C: Clock, I: Read, A: Answers<Knows = Pass>>(
+    rt: &R,
+    alloc: Global,
+    ingester: &Ingester<D>,
+    pass: &mut Pass,
+    clock: &mut C,
+    reader: &mut I,
+    answers: &mut A,
+) -> Result<Served, ServeFault>
+    requires pass { IsPassOf ingester.now pass.old }
+    requires due { AreDueTexts CallGives C.ticks (I.remaining reader.old)
+        (world pass.old clock.old) (A.due answers.old) }
+    ensures pass { IsPassOf ingester.now pass.new }
+    ensures same { A.through answers.new ≡ A.through answers.old }
+    ensures serves { ConnectionIsServed CallGives C.ticks
+        (io (I.remaining reader.old) (A.contents answers.old)) (world pass.old clock.old)
+        (io (I.remaining reader.new) (A.contents answers.new)) (world pass.new clock.new) result }
+{
+    let service = Service {
+        ingester,
+        full: &Untold,
+    };
+    let mut ends = Ends::new(reader, answers);
+    answering::serve_to(rt, alloc, &service, pass, clock, &mut ends)
+}
+
+/// Answers the requests that have come of a connection, at most this many: `Connection::answer` by the calls of an
+/// ingester.
+///
+/// # Errors
+///
+/// As `Connection::answer`.
+pub fn visit<D: Disk + Drop, R: Wait, C: Clock>(
+    rt: &R,
+    alloc: Global,
+    ingester: &Ingester<D>,
+    pass: &mut Pass,
+    clock: &mut C,
+    connection: &mut Connection<Pass>,
+    outgoing: &mut Outgoing,
+    most: u32,
+) -> Result<Visited, ServeFault>
+    requires pass { IsPassOf ingester.now pass.old }
+    ensures pass { IsPassOf ingester.now pass.new }
+    ensures left { IsLeftSo result connection.old connection.new }
+    ensures visits { IsVisit CallGives C.ticks (λ _ _. Unit {0}) (λ _ _. Unit {0})
+        (Some connection.old.text) (Some connection.new.text) connection.old.came
+        (world pass.old clock.old) connection.new.came (world pass.new clock.new) result }
+{
+    let service = Service {
+        ingester,
+        full: &Untold,
+    };
+    connection.answer(rt, alloc, &service, pass, clock, outgoing, most)
 }
