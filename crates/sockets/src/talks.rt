@@ -5,9 +5,9 @@ ghost use Rattle.ingester.specs.Calls.{IsPassOf};
 
 use crate::client::{Client, NO_CONTENT, PUSH, READ, Request, Step, answers_of, listen};
 use accept::Limits;
+use front::Untold;
 use history::Pass;
 use ingester::Ingester;
-use front::Untold;
 use ingesterd::Connections;
 use memory_disk::{Gate, GateDisk, MemDisk};
 use std::alloc::{AllocError, Global};
