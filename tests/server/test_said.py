@@ -43,3 +43,19 @@ def test_a_full_file_system(serve, folder):
         assert lines_of(serve("small/log", 1, 1)) == [line_with("No space left on device (os error 28)")]
     finally:
         subprocess.run(["umount", "-l", f"{folder}/small"], check=True)
+
+
+def test_a_full_shard_once_a_minute(serve):
+    """The first push that finds no room has a line, and those after it within a minute have none, by whatever worker; nor
+    has the other shard. A push still has its 507."""
+    server = serve("log", 2, 4, {"NEEDLEAZURE_CAPACITY": "4096"})
+    full, other = (next(servers.labels_in(shard, 2)) for shard in (1, 0))
+    line = (time.time_ns(), "x" * 1500, ())
+    with servers.Client(server.port) as first, servers.Client(server.port) as second:
+        assert first.push(full, [line])[0] == 204
+        later = [(line[0] + 1, "y" * 1500, ())]
+        assert [it.push(full, later) for it in (first, second, first)] == [(507, "stream 0: no room\n")] * 3
+        assert second.ask(servers.PUSH, servers.push_body([(other, [line]), (full, later)]))[0] == 507
+    server.end()
+    due = "shard 01 has no room: pushes to it are answered 507. Take lines out of it, as docs/OPERATING.md says under \"A full shard\"."
+    assert server.errors().splitlines() == [due]

@@ -85,7 +85,15 @@ where
 {
     let (mut output, mut errors) = (Vec::new(alloc), Vec::new(alloc));
     let (mut input, unset) = (body.as_bytes(), Environment::default());
-    let status = run_ctl(rt, alloc, words, &unset, &mut input, &mut output, &mut errors);
+    let status = run_ctl(
+        rt,
+        alloc,
+        words,
+        &unset,
+        &mut input,
+        &mut output,
+        &mut errors,
+    );
     Ended {
         status,
         output,
