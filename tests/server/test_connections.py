@@ -181,8 +181,8 @@ def test_no_descriptors(serve):
 def test_many_connections(serve, folder):
     """Each of very many short connections is answered."""
     subprocess.run(["cc", "-O1", "-o", f"{folder}/many", f"{servers.TOP}/tests/server/many_connections.c", "-lpthread"], check=True)
-    server = serve(workers=16)
-    ended = subprocess.run([f"{folder}/many", str(server.port), str(CONNECTIONS), "8"], capture_output=True, text=True, check=True)
+    server = serve(workers=64)
+    ended = subprocess.run([f"{folder}/many", str(server.port), str(CONNECTIONS), "60"], capture_output=True, text=True, check=True)
     assert int(ended.stdout) == CONNECTIONS, ended.stderr
     with servers.Client(server.port) as client:
         assert client.push(LABELS, [entry()]) == (204, "")
