@@ -20,6 +20,7 @@ TUNED = $(if $(JEMALLOC),LD_PRELOAD=$(JEMALLOC),GLIBC_TUNABLES=glibc.malloc.tcac
 # (without SHARDS, which stays the same for a folder, ./data keeps the number that it has, and a new one gets 8)
 run: ## the server on port 3100, with its log in ./data (SHARDS=8 WORKERS=64)
 	@RT='$(RT)' tests/build server
+	@deploy/check-filesystem "$(CURDIR)/data" || true
 	@SHARDS='$(SHARDS)' deploy/with-shards deploy/fill-slots "$(CURDIR)/data" {} || true
 	@SHARDS='$(SHARDS)' $(TUNED) exec deploy/with-shards crates/server/out/server "$(CURDIR)/data" 3100 {} $(WORKERS)
 
