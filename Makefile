@@ -6,7 +6,7 @@ WORKERS ?= 64
 .PHONY: help run demo sample test edits faults check check-docs fmt bench kill failed-disk roll-time deb deb-check \
 	edge-check drain-check pictures deb-lint metrics-check metrics-cost fill-check split-check \
 	power-loss sync-check outside-check soak scale-check start-time default-shards theorem-check kit-check \
-	program-rows
+	program-rows filesystem-loss filesystem-check
 
 help: ## prints this
 	@sed -nE 's/^([a-z][a-z-]*):.*## (.*)/\1\t\2/p' Makefile | while IFS='	' read -r name words; do \
@@ -148,3 +148,10 @@ split-check: ## walsplit stopped before each call of the system that it makes
 deb-lint: ## the Debian packages made twice, which gives the same bytes, and looked at by lintian
 	@RT='$(RT)' tests/build server ingestctl ingest1 walcat walsplit
 	@tests/deb_lint
+
+filesystem-loss: ## losses of power on real file systems, block by block (as root; IMAGES=1000 SEED=1 FILESYSTEMS="ext4 xfs btrfs")
+	@RT='$(RT)' tests/build server
+	@tests/server/filesystem_loss $(if $(SEED),--seed $(SEED)) $(or $(IMAGES),1000) $(FILESYSTEMS)
+
+filesystem-check: ## what is said at a start of file systems that don't keep what was synced (as root)
+	@tests/package/check_filesystem

@@ -6,6 +6,7 @@ import contextlib
 import os
 import subprocess
 import sys
+import threading
 import time
 
 sys.dont_write_bytecode = True
@@ -25,20 +26,23 @@ class InUse(Exception):
 
 
 class FileSystem:
-    """How a file system is made, and what mends it. `size` is the least by which its mkfs has its usual features."""
+    """How a file system is made and mounted, and what mends it. `size` is the least by which its mkfs has its usual
+    features. Of `may_lose` what mends it may throw away what was synced; `in_place` is a log that is not copied on write;
+    `at_once` is how many of its images may be mounted together."""
 
-    def __init__(self, kind, size, make, mend, options="rw", may_lose=False):
+    def __init__(self, kind, size, make, mend, options="rw", may_lose=False, in_place=False, at_once=8):
         self.kind, self.size, self.make, self.mend, self.options = kind, size << 20, make, mend, options
-        # (what mends it may throw away what was synced)
-        self.may_lose = may_lose
+        self.may_lose, self.in_place, self.turn = may_lose, in_place, threading.Semaphore(at_once)
 
 
 EXT4_MEND = [["e2fsck", "-fy"]]
+BTRFS = ["btrfs", 320, ["mkfs.btrfs", "-q", "-f"], [["btrfs", "rescue", "super-recover", "-y"]]]
 FILE_SYSTEMS = {
     "ext4": FileSystem("ext4", 600, ["mkfs.ext4", "-q", "-F"], EXT4_MEND),
-    # (images of one file system have one name, by which xfs would refuse the second)
     "xfs": FileSystem("xfs", 320, ["mkfs.xfs", "-q", "-f"], [["xfs_repair", "-L"]], "nouuid", may_lose=True),
-    "btrfs": FileSystem("btrfs", 320, ["mkfs.btrfs", "-q", "-f"], [["btrfs", "rescue", "super-recover", "-y"]]),
+    # (images of one file system have one name, by which older kernels take the second for the first)
+    "btrfs": FileSystem(*BTRFS, at_once=1),
+    "btrfs-in-place": FileSystem(*BTRFS, at_once=1, in_place=True),
     "ext4-fast-commit": FileSystem("ext4", 600, ["mkfs.ext4", "-q", "-F", "-O", "fast_commit"], EXT4_MEND),
 }
 
@@ -105,28 +109,29 @@ def unmount(folder):
     wait_for(is_unmounted, f"{folder} can't be unmounted")
 
 
-def is_free(device):
-    return not os.path.exists(f"/sys/block/{os.path.basename(device)}/loop/backing_file")
-
-
 @contextlib.contextmanager
 def mounted(system, image, folder):
     """The file system of an image, at this folder."""
     os.makedirs(folder, exist_ok=True)
-    run("mount", "-t", system.kind, "-o", f"loop,{system.options}", image, folder, why=NotMounted)
-    device = run("findmnt", "-n", "-o", "SOURCE", folder).strip()
-    try:
-        yield
-    finally:
-        unmount(folder)
-        wait_for(lambda: not is_of(device, image), f"{device} is in use after {folder} was unmounted")
+    with system.turn:
+        run("mount", "-t", system.kind, "-o", f"loop,{system.options}", image, folder, why=NotMounted)
+        device = f"/dev/{loop_over(image)}"
+        try:
+            yield
+        finally:
+            unmount(folder)
+            wait_for(lambda: not is_of(device, image), f"{device} is in use after {folder} was unmounted")
 
 
 def is_of(device, path):
-    """Whether a loop device is still over this file."""
+    """Whether a loop device is over this file."""
     with contextlib.suppress(OSError), open(f"/sys/block/{os.path.basename(device)}/loop/backing_file", encoding="utf-8") as file:
         return file.read().strip() == path
     return False
+
+
+def loop_over(path):
+    return next(it for it in os.listdir("/sys/block") if is_of(it, path))
 
 
 def mend(system, image):
@@ -206,6 +211,9 @@ class Recorded:
         run("mount", "-t", self.system.kind, "-o", self.system.options, self.device, self.folder)
         # (it ends with the mount)
         run("losetup", "--detach", self.device)
+        if self.system.in_place and not os.path.exists(f"{self.folder}/log"):
+            os.mkdir(f"{self.folder}/log")
+            run("chattr", "+C", f"{self.folder}/log")
         return self
 
     def __exit__(self, *_):

@@ -162,7 +162,7 @@ class ServedLife:
 
     def live(self, disk, seconds):
         folder = f"{disk}/log"
-        if self.is_filled and not os.path.exists(folder):
+        if self.is_filled and not os.path.exists(f"{folder}/shard-00-0.wal"):
             subprocess.run([f"{servers.TOP}/deploy/fill-slots", folder, str(self.shards)],
                            env={**os.environ, **self.environment}, check=True)
         for number in range(self.draw.choice([1, 1, 2])):
