@@ -15,6 +15,7 @@ SECONDS = 60
 INSIDE = "NEEDLEAZURE_IN_NAMESPACE"
 LOOP_MAJOR = 7
 TRACING = "/sys/kernel/tracing"
+FAILED = subprocess.CalledProcessError
 
 
 class NotMounted(Exception):
@@ -23,6 +24,10 @@ class NotMounted(Exception):
 
 class InUse(Exception):
     """A loop device that stays in use after its file system was unmounted."""
+
+
+class Unnoted(Exception):
+    """A device has at the end what its notes do not give."""
 
 
 class FileSystem:
@@ -69,11 +74,11 @@ def without_mounts(folder):
             subprocess.run(["umount", "--lazy", it], check=False)
 
 
-def run(*words, why=subprocess.CalledProcessError, well=(0,)):
+def run(*words, why=FAILED, well=(0,)):
     ended = subprocess.run(words, capture_output=True, text=True, timeout=SECONDS, check=False)
     if ended.returncode not in well:
         said = (ended.stderr or ended.stdout).strip()
-        raise why(f"{' '.join(words)}: {said}") if why is NotMounted else why(ended.returncode, words, ended.stdout, said)
+        raise why(f"{' '.join(words)}: {said}") if why is not FAILED else why(ended.returncode, words, ended.stdout, said)
     return ended.stdout
 
 

@@ -18,7 +18,7 @@ from segments import generation_of
 CLIENTS, STREAMS = 6, 2
 MINUTE = servers.HOUR // 60
 # (from one push of a stream to the next)
-STEP, OLDEST = 3 * MINUTE, 6 * 24 * 60 * MINUTE
+STEP, OLDEST = 6 * MINUTE, 6 * 24 * 60 * MINUTE
 
 
 class Wrong(Exception):
@@ -147,7 +147,8 @@ class ServedLife:
 
     def __init__(self, draw, work, settings=None):
         self.draw, self.work, self.settings = draw, work, settings or {}
-        self.shards, self.capacity = draw.choice([1, 2, 3]), draw.choice([131_072, 262_144])
+        self.shards = draw.choice([1, 2, 3])
+        self.capacity = draw.choice([81_920, 131_072]) // self.shards
         self.streams = [Stream(str(it)) for it in range(CLIENTS * STREAMS)]
         self.is_filled, self.kind = False, "empty slots"
         self.forget()
