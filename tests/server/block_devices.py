@@ -4,6 +4,7 @@ A loop device is handed back when its mount ends, and the mounts end with the na
 """
 import contextlib
 import os
+import signal
 import subprocess
 import sys
 import threading
@@ -53,13 +54,26 @@ FILE_SYSTEMS = {
 
 
 def enter_namespace():
-    """Starts this script again in a namespace of its own for mounts and processes, and returns there."""
+    """Starts this script again in a namespace of its own for mounts and processes, and returns there alone."""
     if os.environ.get(INSIDE):
+        signal.signal(signal.SIGTERM, lambda number, _: sys.exit(128 + number))
         return
     if os.geteuid() != 0:
         sys.exit("root alone may mount: run this as root")
     words = ["unshare", "--mount", "--propagation", "slave", "--pid", "--fork", "--kill-child", "--mount-proc"]
-    os.execvpe("unshare", [*words, sys.executable, *sys.argv], {**os.environ, INSIDE: "1"})
+    # (a signal of the terminal comes to the script inside too)
+    signal.signal(signal.SIGINT, signal.SIG_IGN)
+    with subprocess.Popen([*words, sys.executable, *sys.argv], env={**os.environ, INSIDE: "1"},
+                          preexec_fn=lambda: signal.signal(signal.SIGINT, signal.SIG_DFL)) as outer:
+        signal.signal(signal.SIGTERM, lambda *_: stop_inside(outer.pid))
+        sys.exit(outer.wait())
+
+
+def stop_inside(outer):
+    """Hands a signal on, which unshare itself doesn't."""
+    with open(f"/proc/{outer}/task/{outer}/children", encoding="ascii") as file:
+        for it in file.read().split():
+            os.kill(int(it), signal.SIGTERM)
 
 
 @contextlib.contextmanager

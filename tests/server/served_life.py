@@ -207,6 +207,8 @@ class ServedLife:
                     found = client.read_all([it.labels for it in self.streams])
         except servers.NotStarted as error:
             raise Wrong(f"the server does not start: {error}") from error
+        except OSError as error:
+            raise Wrong(f"the server ends while it is read: {error}") from error
         return found, self.hold_to(found, moment)
 
     def hold_to(self, found, moment):
