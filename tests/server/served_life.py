@@ -166,11 +166,14 @@ class ServedLife:
         if self.is_filled and not os.path.exists(f"{folder}/shard-00-0.wal"):
             subprocess.run([f"{servers.TOP}/deploy/fill-slots", folder, str(self.shards)],
                            env={**os.environ, **self.environment}, check=True)
+        before = self.generations(folder)
         for number in range(self.draw.choice([1, 1, 2])):
             self.serve(folder, seconds, number)
-        for shard in range(self.shards):
-            slots = [servers.bytes_of(f"{folder}/shard-{shard:02}-{it}.wal", 21) for it in (0, 1)]
-            self.counts["rolls"] += max(0, max(map(generation_of, slots)) - 1)
+        self.counts["rolls"] += sum(now - max(1, then) for then, now in zip(before, self.generations(folder)) if now)
+
+    def generations(self, folder):
+        return [max(generation_of(servers.bytes_of(f"{folder}/shard-{shard:02}-{it}.wal", 21)) for it in (0, 1))
+                for shard in range(self.shards)]
 
     def serve(self, folder, seconds, number):
         self.ends.clear()
