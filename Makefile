@@ -7,7 +7,7 @@ ALL = server ingestctl ingest1 walcat walsplit
 # (memory that the process already has, since page faults would hide what a call costs)
 HELD = glibc.malloc.mmap_max=0:glibc.malloc.trim_threshold=17179869184
 
-.PHONY: help run demo sample test server edits faults check check-docs fmt bench kill power-loss program-rows measure \
+.PHONY: help run demo sample test server edits faults check check-docs fmt bench kill power-loss filesystem-loss program-rows measure \
 	deb deb-lint pictures
 
 help: ## prints this
@@ -22,6 +22,7 @@ TUNED = $(if $(JEMALLOC),LD_PRELOAD=$(JEMALLOC),GLIBC_TUNABLES=glibc.malloc.tcac
 # (without SHARDS, which stays the same for a folder, ./data keeps the number that it has, and a new one gets 8)
 run: ## the server on port 3100, with its log in ./data (SHARDS=8 WORKERS=64)
 	@RT='$(RT)' tests/gate/build server
+	@deploy/check-filesystem "$(CURDIR)/data" || true
 	@SHARDS='$(SHARDS)' deploy/with-shards deploy/fill-slots "$(CURDIR)/data" {} || true
 	@SHARDS='$(SHARDS)' $(TUNED) exec deploy/with-shards crates/server/out/server "$(CURDIR)/data" 3100 {} $(WORKERS)
 
@@ -59,11 +60,11 @@ program-rows: ## the programs over their words, streams, files and slots, as the
 
 # what a check is run over, and its words
 %-check: PROGRAMS = server walcat
-kit-check theorem-check: PROGRAMS =
+kit-check theorem-check filesystem-check: PROGRAMS =
 deb-check: PROGRAMS = $(ALL)
 deb-check: WORDS = "$$(deploy/deb)"
 
-%-check: ## tests/*/NAME_check over built programs: drain edge metrics fill deb (as root), kit theorem
+%-check: ## tests/*/NAME_check over built programs: drain edge metrics fill deb filesystem (as root), kit theorem
 	@$(if $(PROGRAMS),RT='$(RT)' tests/gate/build $(PROGRAMS))
 	@RT='$(RT)' $(or $(wildcard tests/*/$*_check),$(error there is no tests/*/$*_check)) $(WORDS)
 
@@ -100,3 +101,7 @@ deb: ## the Debian package, in deploy/out
 deb-lint: ## the Debian packages made twice, which gives the same bytes, and looked at by lintian
 	@RT='$(RT)' tests/gate/build $(ALL)
 	@tests/package/deb_lint
+
+filesystem-loss: ## losses of power on real file systems, block by block (as root; IMAGES=1000 SEED=1 FILESYSTEMS="ext4 xfs btrfs")
+	@RT='$(RT)' tests/gate/build server
+	@tests/server/filesystem_loss $(if $(SEED),--seed $(SEED)) $(or $(IMAGES),1000) $(FILESYSTEMS)
