@@ -147,3 +147,12 @@ split-check: ## walsplit stopped before each call of the system that it makes
 deb-lint: ## the Debian packages made twice, which gives the same bytes, and looked at by lintian
 	@RT='$(RT)' tests/build server ingestctl ingest1 walcat walsplit
 	@tests/deb_lint
+
+.PHONY: scale-out-check after-check
+scale-out-check: ## deploy/nginx-spread.conf before three servers and a fourth that is added, and the model of docs/SCALE.md beside nginx
+	@RT='$(RT)' tests/build server
+	@tests/package/scale_out_check
+
+after-check: ## the examples of docs/AFTER.md: zgrep, jq, lnav, SQLite, systemd-tmpfiles, rclone, Loki
+	@RT='$(RT)' tests/build server walcat
+	@tests/package/after_check
