@@ -80,6 +80,7 @@ edge-check: ## deploy/nginx.conf in nginx before two servers: slow clients, a ki
 
 drain-check: ## deploy/drain over a server under load, killed ten times
 	@RT='$(RT)' tests/build server walcat
+	@tests/package/drain_ranges
 	@tests/drain_check
 
 pictures: ## draws the pictures and figures of the documents (graphviz, gnuplot-nox)
