@@ -17,7 +17,7 @@ BOARD, CONSOLE = f"{TOP}/deploy/grafana.json", f"{TOP}/deploy/needleazure.html"
 # what the console of Debian's Prometheus is drawn with, beside Prometheus itself
 PACKAGES = ["libjs-bootstrap4", "libjs-d3", "libjs-jquery", "libjs-popper.js", "libjs-rickshaw", "fonts-glyphicons-halflings"]
 EXAMPLES = "usr/share/doc/prometheus/examples/console_libraries"
-MINUTES, GRAPHS = 5, 8
+MINUTES, GRAPHS, TRIES = 5, 8, 5
 
 
 def read(path):
@@ -116,7 +116,12 @@ def hold_all(hold, promtool, port, instance, work, shards):
     empty = [name for name, query in queries if not has_data(port, query)]
     hold(len(queries) > 25 and not empty, f"and each has had data {empty or ''}".strip())
     hold(shutil.which("chromium"), "Chromium is installed (apt-get install chromium)")
-    faults = list(console_faults(open_console(port, work, "--dump-dom"), shards))
+    for _ in range(TRIES):
+        faults = list(console_faults(open_console(port, work, "--dump-dom"), shards))
+        if not faults:
+            break
+        # (the drain has to have been at the server that was started just before)
+        time.sleep(3)
     hold(not faults, f"Chromium shows needleazure.html: {GRAPHS} graphs, and a row for each of {shards} shards {faults or ''}".strip())
     picture = os.environ.get("PICTURE")
     if picture:
