@@ -6,7 +6,7 @@ WORKERS ?= 64
 .PHONY: help run demo sample test edits faults check check-docs fmt bench kill failed-disk roll-time deb deb-check \
 	edge-check drain-check pictures deb-lint metrics-check metrics-cost fill-check split-check \
 	power-loss sync-check outside-check soak scale-check start-time default-shards theorem-check kit-check \
-	program-rows
+	program-rows syslog-check sweep-check memory-check drain-cost
 
 help: ## prints this
 	@sed -nE 's/^([a-z][a-z-]*):.*## (.*)/\1\t\2/p' Makefile | while IFS='	' read -r name words; do \
@@ -15,7 +15,8 @@ help: ## prints this
 # (jemalloc where it is installed, else the C library's with threads that keep more freed pieces at hand:
 # docs/BENCHMARKS.md says what a push takes by each)
 JEMALLOC = $(firstword $(wildcard /usr/lib/*/libjemalloc.so.2))
-TUNED = $(if $(JEMALLOC),LD_PRELOAD=$(JEMALLOC),GLIBC_TUNABLES=glibc.malloc.tcache_count=1000)
+# (its threads give pages back that are no longer used)
+TUNED = $(if $(JEMALLOC),LD_PRELOAD=$(JEMALLOC) MALLOC_CONF=background_thread:true,GLIBC_TUNABLES=glibc.malloc.tcache_count=1000)
 
 # (without SHARDS, which stays the same for a folder, ./data keeps the number that it has, and a new one gets 8)
 run: ## the server on port 3100, with its log in ./data (SHARDS=8 WORKERS=64)
@@ -148,6 +149,22 @@ split-check: ## walsplit stopped before each call of the system that it makes
 deb-lint: ## the Debian packages made twice, which gives the same bytes, and looked at by lintian
 	@RT='$(RT)' tests/build server ingestctl ingest1 walcat walsplit
 	@tests/deb_lint
+
+syslog-check: ## deploy/syslog-ng.conf in syslog-ng: a killed server, a restart meanwhile, a full server, 10,000 lines
+	@RT='$(RT)' tests/build server
+	@tests/package/syslog_check
+
+sweep-check: ## deploy/sweep over a server with quiet streams, beside a pushing client: kills, failures, how long nobody is served
+	@RT='$(RT)' tests/build server walcat
+	@tests/package/sweep_check
+
+memory-check: ## what a server has of memory after trims, again and again, and while it reads a long stream (10 minutes)
+	@RT='$(RT)' tests/build server
+	@tests/measure/memory_check
+
+drain-cost: ## what the drain costs over 5,000 streams and over one of 100 MB: seconds of a processor, memory
+	@RT='$(RT)' tests/build server walcat
+	@tests/measure/drain_cost
 
 .PHONY: scale-out-check after-check
 scale-out-check: ## deploy/nginx-spread.conf before three servers and a fourth that is added, and the model of docs/SCALE.md beside nginx
