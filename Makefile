@@ -79,10 +79,11 @@ edge-check: ## deploy/nginx.conf in nginx before two servers: slow clients, a ki
 	@RT='$(RT)' tests/build server
 	@tests/edge_check
 
-drain-check: ## deploy/drain over a server under load, killed ten times
+drain-check: ## deploy/drain over a server under load, killed ten times, to files and to a Loki
 	@RT='$(RT)' tests/build server walcat
 	@tests/package/drain_ranges
 	@tests/drain_check
+	@tests/package/drain_to_loki
 
 pictures: ## draws the pictures and figures of the documents (graphviz, gnuplot-nox)
 	@for it in push threads memory; do dot -Tsvg -o docs/pictures/$$it.svg docs/pictures/$$it.dot; done
