@@ -9,6 +9,7 @@ import http.server
 import json
 import random
 import socket
+import ssl
 import threading
 import time
 import zlib
@@ -18,17 +19,24 @@ PUSH = "/loki/api/v1/push"
 
 class Loki(http.server.ThreadingHTTPServer):
     """`ways` are what it does beside taking, each with its share of the requests: `limit`, `fail`, `die` before it has
-    taken anything, `die_after`, `sleep`. `refuses` says whether it refuses a line by 400. `status` answers all."""
+    taken anything, `die_after`, `sleep`. `refuses` says whether it refuses a line by 400. `status` has what answers a tenant.
+    `certificate` is a file with one and its key."""
 
     daemon_threads, request_queue_size = True, 128
 
-    def __init__(self, ways=None, refuses=lambda line: False, takes_gzip=True, seconds=3, most=1 << 30, authorization=None):
+    def __init__(self, ways=None, refuses=lambda line: False, takes_gzip=True, seconds=3, most=1 << 30, authorization=None,
+                 certificate=None):
         self.ways, self.refuses, self.takes_gzip, self.seconds, self.most = ways or {}, refuses, takes_gzip, seconds, most
         self.authorization, self.status, self.chance = authorization, {}, random.Random(1)
         self.lock, self.answers = threading.Lock(), collections.Counter()
         # by tenant and labels: what was taken, in the order in which it came
         self.streams, self.taken, self.orders = {}, set(), collections.Counter()
         super().__init__(("127.0.0.1", 0), Request)
+        self.address = f"http{'s' if certificate else ''}://127.0.0.1:{self.server_port}{PUSH}"
+        if certificate:
+            context = ssl.SSLContext(ssl.PROTOCOL_TLS_SERVER)
+            context.load_cert_chain(certificate)
+            self.socket = context.wrap_socket(self.socket, server_side=True)
         threading.Thread(target=self.serve_forever, daemon=True, kwargs={"poll_interval": 0.05}).start()
 
     def __enter__(self):
@@ -37,10 +45,6 @@ class Loki(http.server.ThreadingHTTPServer):
     def __exit__(self, *_):
         self.shutdown()
         self.server_close()
-
-    @property
-    def address(self):
-        return f"http://127.0.0.1:{self.server_port}{PUSH}"
 
     def way(self):
         with self.lock:
