@@ -47,7 +47,8 @@ def board_faults():
         yield "two panels of one id"
     for it in panels:
         place = it["gridPos"]
-        squares = {(x, y) for x in range(place["x"], place["x"] + place["w"]) for y in range(place["y"], place["y"] + place["h"])}
+        columns = range(place["x"], place["x"] + place["w"])
+        squares = {(x, y) for x in columns for y in range(place["y"], place["y"] + place["h"])}
         if squares & taken or place["x"] + place["w"] > 24:
             yield f"{it['title']}: over another panel, or wider than the page"
         taken |= squares
@@ -64,7 +65,8 @@ def parse_faults(promtool, queries, work):
     rules = [{"record": f"query:{at}", "expr": query} for at, (_, query) in enumerate(queries)]
     with open(f"{work}/queries.yml", "w", encoding="utf-8") as file:
         json.dump({"groups": [{"name": "queries", "rules": rules}]}, file)
-    ended = subprocess.run([promtool, "check", "rules", f"{work}/queries.yml"], capture_output=True, text=True, timeout=60, check=False)
+    words = [promtool, "check", "rules", f"{work}/queries.yml"]
+    ended = subprocess.run(words, capture_output=True, text=True, timeout=60, check=False)
     return (ended.stdout + ended.stderr).strip() if ended.returncode else ""
 
 
@@ -122,7 +124,8 @@ def hold_all(hold, promtool, port, instance, work, shards):
             break
         # (the drain has to have been at the server that was started just before)
         time.sleep(3)
-    hold(not faults, f"Chromium shows needleazure.html: {GRAPHS} graphs, and a row for each of {shards} shards {faults or ''}".strip())
+    what = f"Chromium shows needleazure.html: {GRAPHS} graphs, and a row for each of {shards} shards"
+    hold(not faults, f"{what} {faults or ''}".strip())
     picture = os.environ.get("PICTURE")
     if picture:
         open_console(port, work, f"--screenshot={os.path.abspath(picture)}")
