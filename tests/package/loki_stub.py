@@ -46,6 +46,9 @@ class Loki(http.server.ThreadingHTTPServer):
         self.shutdown()
         self.server_close()
 
+    def handle_error(self, *_):
+        """A client that was killed in the middle is no fault."""
+
     def way(self):
         with self.lock:
             drawn = self.chance.random()
