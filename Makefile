@@ -64,10 +64,12 @@ program-rows: ## the programs over their words, streams, files and slots, as the
 kit-check theorem-check filesystem-check: PROGRAMS =
 deb-check: PROGRAMS = $(ALL)
 deb-check: WORDS = "$$(deploy/deb)"
+drain-check: ALSO = tests/package/drain_to_loki
 
-%-check: ## tests/*/NAME_check over built programs: drain edge metrics fill deb filesystem (as root), kit theorem
+%-check: ## tests/*/NAME_check over built programs: drain sweep after syslog memory edge scale-out metrics fill, as root deb filesystem, alone kit theorem
 	@$(if $(PROGRAMS),RT='$(RT)' tests/gate/build $(PROGRAMS))
-	@RT='$(RT)' $(or $(wildcard tests/*/$*_check),$(error there is no tests/*/$*_check)) $(WORDS)
+	@RT='$(RT)' $(or $(wildcard tests/*/$(subst -,_,$*)_check),$(error there is no tests/*/$(subst -,_,$*)_check)) $(WORDS)
+	@$(ALSO)
 
 measure: ## what is timed: soak scale roll start default_shards metrics_cost (NAME=soak WORDS=2)
 	@RT='$(RT)' tests/gate/build server walcat
