@@ -6,7 +6,7 @@ WORKERS ?= 64
 .PHONY: help run demo sample test edits faults check check-docs fmt bench kill failed-disk roll-time deb deb-check \
 	edge-check drain-check pictures deb-lint metrics-check metrics-cost fill-check split-check \
 	power-loss sync-check outside-check soak scale-check start-time default-shards theorem-check kit-check \
-	program-rows
+	program-rows gateway gateway-check gateway-speed
 
 help: ## prints this
 	@sed -nE 's/^([a-z][a-z-]*):.*## (.*)/\1\t\2/p' Makefile | while IFS='	' read -r name words; do \
@@ -66,15 +66,15 @@ default-shards: ## what 16, 8 and 4 shards of together 1 GiB cost: pushes, pause
 	@RT='$(RT)' tests/build server
 	@tests/default_shards
 
-deb: ## the Debian package, in deploy/out
+deb: gateway ## the Debian package, in deploy/out
 	@RT='$(RT)' tests/build server ingestctl ingest1 walcat walsplit
 	@deploy/deb
 
-deb-check: ## the package on a fresh machine of Debian's systemd in a folder (as root, eight minutes)
+deb-check: gateway ## the package on a fresh machine of Debian's systemd in a folder (as root, eight minutes)
 	@RT='$(RT)' tests/build server ingestctl ingest1 walcat walsplit
 	@tests/deb_check "$$(deploy/deb)"
 
-edge-check: ## deploy/nginx.conf in nginx before two servers: slow clients, a killed server, sizes, lies
+edge-check: gateway ## deploy/nginx.conf in nginx before two servers and a gateway: slow clients, a killed server, sizes, lies
 	@RT='$(RT)' tests/build server
 	@tests/edge_check
 
@@ -144,6 +144,19 @@ split-check: ## walsplit stopped before each call of the system that it makes
 	@RT='$(RT)' tests/build walsplit
 	@tests/split_check
 
-deb-lint: ## the Debian packages made twice, which gives the same bytes, and looked at by lintian
+deb-lint: gateway ## the Debian packages made twice, which gives the same bytes, and looked at by lintian
 	@RT='$(RT)' tests/build server ingestctl ingest1 walcat walsplit
 	@tests/deb_lint
+
+gateway: ## needleazure-gateway for Promtail and Alloy, in deploy/out, from Go and libraries of Debian
+	@deploy/gateway/build
+
+gateway-check: gateway ## the gateway: its tests under the race detector, random and hostile bodies, 500 clients, kills (PARTS=random)
+	@RT='$(RT)' tests/build server
+	@deploy/gateway/build race
+	@tests/package/gateway_quick race
+	@tests/package/gateway_check $(PARTS)
+
+gateway-speed: gateway ## pushes a second and processor time through the gateway beside the server alone (SECONDS=3)
+	@RT='$(RT)' tests/build server
+	@tests/measure/gateway_speed $(SECONDS)
