@@ -4,11 +4,13 @@ import (
 	"bytes"
 	"compress/flate"
 	"compress/gzip"
+	"context"
 	"errors"
 	"io"
 	"mime"
 	"net"
 	"net/http"
+	"time"
 
 	"github.com/golang/snappy"
 )
@@ -46,8 +48,26 @@ func (it *received) read(from *http.Request, most int64, held *held) (err error)
 	if from.ContentLength > most {
 		return errTooLarge(most)
 	}
-	it.bytes, err = readAll(from.Body, most, held)
-	return unread(err)
+	if it.bytes, err = readAll(from.Body, most, held); err != nil {
+		return unread(err)
+	}
+	setDeadline(from, time.Time{})
+	return nil
+}
+
+// By this key the context of a request has its connection.
+type lineKey struct{}
+
+func keepLine(in context.Context, line net.Conn) context.Context {
+	return context.WithValue(in, lineKey{}, line)
+}
+
+// setDeadline is for reading the rest of a request. (http.Server.ReadTimeout would also end a push whose body has come and
+// that waits for the server's answer.)
+func setDeadline(from *http.Request, at time.Time) {
+	if line, is := from.Context().Value(lineKey{}).(net.Conn); is {
+		line.SetReadDeadline(at)
+	}
 }
 
 func errTooLarge(most int64) error { return tooLarge("body too large: more than %d bytes", most) }
@@ -59,10 +79,7 @@ func unread(err error) error {
 	if errors.As(err, &late) && late.Timeout() {
 		return &fault{http.StatusServiceUnavailable, "the body did not come in time, send it again"}
 	}
-	if err != nil {
-		return asBadRequest(err)
-	}
-	return nil
+	return asBadRequest(err)
 }
 
 // unpack is the body without its compression.

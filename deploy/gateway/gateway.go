@@ -13,6 +13,7 @@ type gateway struct {
 	server *server
 	tenant string
 	most   int64
+	within time.Duration
 	budget *budget
 	// a place for each push that is unpacked and sent
 	places  chan struct{}
@@ -24,6 +25,7 @@ func newGateway(words words) *gateway {
 		server: newServer(words.to, words.connections),
 		tenant: words.tenant,
 		most:   words.maxBody,
+		within: bodyTime,
 		budget: newBudget(words.memory),
 		places: make(chan struct{}, words.connections),
 	}
@@ -39,7 +41,11 @@ func (it *gateway) handler() http.Handler {
 	routes.HandleFunc(pushPath, only(it.push, http.MethodPost))
 	routes.HandleFunc(readyPath, only(it.ready, http.MethodGet, http.MethodHead))
 	routes.HandleFunc("/metrics", only(it.metrics.handler().ServeHTTP, http.MethodGet, http.MethodHead))
-	return routes
+	return http.HandlerFunc(func(to http.ResponseWriter, from *http.Request) {
+		// (also what nobody wants of a request is read to its end before the next one)
+		setDeadline(from, time.Now().Add(it.within))
+		routes.ServeHTTP(to, from)
+	})
 }
 
 func only(then http.HandlerFunc, methods ...string) http.HandlerFunc {
@@ -138,8 +144,9 @@ func (it *gateway) read(body *received, holding *held) ([]stream, error) {
 	if err != nil {
 		return nil, err
 	}
-	// (the part that is made of it, which may be six times as long where it is all control characters)
-	if err := holding.take(smaller(6*int64(len(unpacked)), mostBody) + firstRead); err != nil {
+	// (its texts once more, and the part that is made of it, which is six times as long if it is all control characters)
+	length := int64(len(unpacked))
+	if err := holding.take(length + smaller(6*length, mostBody)); err != nil {
 		return nil, err
 	}
 	decode := decodeProtobuf

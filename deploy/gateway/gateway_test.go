@@ -1,6 +1,7 @@
 package main
 
 import (
+	"bufio"
 	"context"
 	"encoding/json"
 	"fmt"
@@ -204,6 +205,72 @@ func TestUnanswered(t *testing.T) {
 	}
 }
 
+// The largest pushes that may be find memory, if there are no others.
+func TestMemory(t *testing.T) {
+	const most = 1 << 16
+	by := over(newStandIn(t).URL, "--max-body", fmt.Sprint(most), "--memory", fmt.Sprint(24*most), "--tenant", "t")
+	control := push(&PushedStream{Entries: []*PushedEntry{{Line: []byte(strings.Repeat("\x01", most-20))}}})
+	many := push(&PushedStream{Entries: make([]*PushedEntry, most/bytesEach-1)})
+	text := `{"streams":[{"values":[` + strings.Repeat(`["1","a"],`, 4_000) + `["1","a"]]}]}`
+	text += strings.Repeat(" ", most-len(text))
+	for name, it := range map[string]answer{
+		"control characters": {kind: "application/x-protobuf", text: snapped(string(control))},
+		"entries":            {kind: "application/x-protobuf", text: snapped(string(many))},
+		"gzip":               {kind: "application/json", text: gzipped(text)},
+		"plain":              {kind: "application/json", text: text},
+	} {
+		head := []string{"Content-Type", it.kind}
+		if name == "gzip" {
+			head = append(head, "Content-Encoding", "gzip")
+		}
+		if found := ask1(by, "POST", pushPath, it.text, head...); found.status != 204 {
+			t.Errorf("%s: %v", name, found)
+		}
+	}
+}
+
+// A body that comes too slowly is given up, and a server's answer that comes slowly isn't.
+func TestTimes(t *testing.T) {
+	slow := httptest.NewServer(http.HandlerFunc(func(to http.ResponseWriter, from *http.Request) {
+		io.Copy(io.Discard, from.Body)
+		time.Sleep(300 * time.Millisecond)
+		to.WriteHeader(http.StatusNoContent)
+	}))
+	defer slow.Close()
+	given, _ := readWords([]string{"--listen", ":0", "--to", slow.URL, "--tenant", "t"})
+	gateway := newGateway(given)
+	gateway.within = 100 * time.Millisecond
+	serving := httptest.NewUnstartedServer(gateway.handler())
+	serving.Config.ConnContext = keepLine
+	serving.Start()
+	defer serving.Close()
+	for name, it := range map[string]struct {
+		head, body string
+		status     int
+	}{
+		"whole": {"X-Scope-OrgID: t", "{}", 204}, "half": {"X-Scope-OrgID: t", "{", 503},
+		"half of what is refused by its head": {"Content-Encoding: br", "", 400},
+	} {
+		line, err := net.Dial("tcp", serving.Listener.Addr().String())
+		if err != nil {
+			t.Fatal(err)
+		}
+		defer line.Close()
+		// (twice over one connection, whose next request has its own time)
+		for again := 0; again < 2; again++ {
+			fmt.Fprintf(line, "POST %s HTTP/1.1\r\nHost: a\r\nContent-Type: application/json\r\n%s\r\nContent-Length: 2\r\n\r\n%s", pushPath, it.head, it.body)
+			line.SetReadDeadline(time.Now().Add(10 * time.Second))
+			got, err := http.ReadResponse(bufio.NewReader(line), nil)
+			if err != nil || got.StatusCode != it.status {
+				t.Fatalf("%s: %v, %v", name, got, err)
+			}
+			if it.status != 204 {
+				break
+			}
+		}
+	}
+}
+
 // Many at a time take no more connections than they are given.
 func TestConnections(t *testing.T) {
 	var mutex sync.Mutex
@@ -239,15 +306,15 @@ func TestConnections(t *testing.T) {
 
 func TestWords(t *testing.T) {
 	for given, wanted := range map[string]string{
-		"--listen :1 --to http://a:1":                "",
-		"--listen :1 --to https://a --max-body 1024": "",
+		"--listen :1 --to http://a:1":                 "",
+		"--listen :1 --to https://a --max-body 65536": "",
 		"":                               "--listen is missing",
 		"--listen :1":                    "--to is not of the form http://HOST:PORT",
 		"--listen :1 --to a:1":           "--to is not of the form http://HOST:PORT",
 		"--listen :1 --to http://a/b":    "--to is not of the form http://HOST:PORT",
 		"--listen :1 --to http://a more": "not known: more",
-		"--listen :1 --to http://a --max-body 1023":     "--max-body is not a number from 1024 to 1073741824",
-		"--listen :1 --to http://a --max-body 67108864": "--memory is less than 16 times --max-body",
+		"--listen :1 --to http://a --max-body 65535":    "--max-body is not a number from 65536 to 1073741824",
+		"--listen :1 --to http://a --max-body 67108864": "--memory is less than 24 times --max-body",
 		"--listen :1 --to http://a --connections 65":    "--connections is not a number from 1 to 64",
 		"--listen :1 --to http://a --tenants a":         "flag provided but not defined: -tenants",
 		"--listen :1 --to http://a --tenant a|b":        "--tenant is not 1 to 150 letters, digits, - and _",

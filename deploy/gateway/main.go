@@ -59,10 +59,10 @@ func serve(ends context.Context, listening net.Listener, given words) error {
 	serving := &http.Server{
 		Handler:           newGateway(given).handler(),
 		ReadHeaderTimeout: headTime,
-		ReadTimeout:       bodyTime,
 		WriteTimeout:      pushTime + answerTime,
 		IdleTimeout:       keptTime,
 		MaxHeaderBytes:    mostHead,
+		ConnContext:       keepLine,
 	}
 	failed := make(chan error, 1)
 	go func() { failed <- serving.Serve(listening) }()

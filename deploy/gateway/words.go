@@ -18,8 +18,9 @@ type words struct {
 	connections        int
 }
 
-// (what the largest push may need while it is unpacked, by the largest body)
-const memoryEach = 16
+// (what the largest push may take: what came and what it unpacks to thrice each, its texts, 8 times for its messages, and a
+// part that is 6 times as long; so that none is answered 503 for ever)
+const memoryEach = 24
 
 var tenantName = regexp.MustCompile(`^[A-Za-z0-9_-]{1,150}$`)
 
@@ -47,12 +48,12 @@ func readWords(given []string) (words, error) {
 		return it, errors.New("--to is not of the form http://HOST:PORT")
 	case it.tenant != "" && !tenantName.MatchString(it.tenant):
 		return it, errors.New("--tenant is not 1 to 150 letters, digits, - and _")
-	case it.maxBody < 1024 || it.maxBody > 1<<30:
-		return it, errors.New("--max-body is not a number from 1024 to 1073741824")
+	case it.maxBody < 65_536 || it.maxBody > 1<<30:
+		return it, errors.New("--max-body is not a number from 65536 to 1073741824")
 	case it.connections < 1 || it.connections > 64:
 		return it, errors.New("--connections is not a number from 1 to 64")
 	case it.memory < memoryEach*it.maxBody:
-		return it, errors.New("--memory is less than 16 times --max-body")
+		return it, errors.New("--memory is less than 24 times --max-body")
 	}
 	return it, nil
 }
