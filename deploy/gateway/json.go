@@ -2,6 +2,7 @@ package main
 
 import (
 	"encoding/json"
+	"fmt"
 	"strconv"
 	"strings"
 
@@ -14,6 +15,8 @@ type jsonBody struct {
 	*jsoniter.Iterator
 	found   *messages
 	streams []stream
+	// whether it is in a stream, which is the next of them
+	isInside bool
 	// the first fault, which ends the reading
 	err error
 }
@@ -26,7 +29,7 @@ func decodeJSON(body []byte, found *messages) ([]stream, error) {
 	it := jsonBody{Iterator: jsoniter.ParseBytes(jsoniter.ConfigDefault, body), found: found}
 	it.object("a push", func(key string) {
 		if strings.EqualFold(key, "streams") {
-			it.array("streams", func() { it.stream() })
+			it.array(`"streams"`, func() { it.stream() })
 		} else {
 			it.Skip()
 		}
@@ -42,11 +45,15 @@ func (it *jsonBody) fail(err error) {
 
 // is looks whether the next value is of this kind. Otherwise it fails.
 func (it *jsonBody) is(kind jsoniter.ValueType, what, wanted string) bool {
-	if it.WhatIsNext() != kind {
-		it.fail(badRequest("stream %d: %s is not %s", len(it.streams), what, wanted))
-		return false
+	if it.WhatIsNext() == kind {
+		return true
 	}
-	return true
+	where := ""
+	if it.isInside {
+		where = fmt.Sprintf("stream %d: ", len(it.streams))
+	}
+	it.fail(badRequest("%s%s is not %s", where, what, wanted))
+	return false
 }
 
 func (it *jsonBody) object(what string, each func(key string)) {
@@ -83,22 +90,23 @@ func (it *jsonBody) stream() {
 		return
 	}
 	next, entries := stream{number: len(it.streams)}, []entry(nil)
+	it.isInside = true
 	it.object("a stream", func(key string) {
 		switch key {
 		case "stream":
 			next.labels = it.labels()
 		case "values":
-			it.array("values", func() { entries = it.entry(entries) })
+			it.array(`"values"`, func() { entries = it.entry(entries) })
 		default:
 			it.Skip()
 		}
 	})
 	next.length, next.entry = len(entries), func(at int) entry { return entries[at] }
-	it.streams = append(it.streams, next)
+	it.streams, it.isInside = append(it.streams, next), false
 }
 
 func (it *jsonBody) labels() (found []label) {
-	it.object("its labels", func(name string) {
+	it.object(`"stream"`, func(name string) {
 		if !it.count() {
 			return
 		}
@@ -119,7 +127,7 @@ func (it *jsonBody) labelValue(name string) string {
 	case jsoniter.NumberValue, jsoniter.BoolValue:
 		return string(it.SkipAndReturnBytes())
 	}
-	it.is(jsoniter.StringValue, "the value of its label "+name, "a text")
+	it.is(jsoniter.StringValue, "the value of the label "+name, "a text")
 	return ""
 }
 
