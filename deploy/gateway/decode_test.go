@@ -115,7 +115,7 @@ func TestProtobuf(t *testing.T) {
 		return &timestamppb.Timestamp{Seconds: seconds, Nanos: more}
 	}
 	pair := func(name, value string) *PushedPair { return &PushedPair{Name: []byte(name), Value: []byte(value)} }
-	unknown := protowire.AppendTag(push(&PushedStream{Labels: []byte(`{a="1"}`)}), 9, protowire.StartGroupType)
+	unknown := protowire.AppendTag(push(&PushedStream{Labels: `{a="1"}`}), 9, protowire.StartGroupType)
 	unknown = protowire.AppendTag(unknown, 9, protowire.EndGroupType)
 	for name, it := range map[string]struct {
 		body   []byte
@@ -125,11 +125,11 @@ func TestProtobuf(t *testing.T) {
 		"unknown fields": {unknown, []plain{{labels: []label{{"a", "1"}}}}},
 		"no labels":      {push(&PushedStream{}), []plain{{}}},
 		"entries": {push(
-			&PushedStream{Labels: []byte(`{a="1"}`), Entries: []*PushedEntry{
+			&PushedStream{Labels: `{a="1"}`, Entries: []*PushedEntry{
 				{Timestamp: at(1, 5), Line: []byte("a\xff\n"), Metadata: []*PushedPair{pair("k", "v"), pair("k", "w"), pair("", "")}},
 				{}, {Timestamp: &timestamppb.Timestamp{}},
 			}},
-			&PushedStream{Labels: []byte(`{b='2'}`), Entries: []*PushedEntry{{Timestamp: at(1795762800, 999_999_999)}}},
+			&PushedStream{Labels: `{b='2'}`, Entries: []*PushedEntry{{Timestamp: at(1795762800, 999_999_999)}}},
 		), []plain{
 			{[]label{{"a", "1"}}, []entry{{1_000_000_005, "a\xff\n", []label{{"k", "w"}, {"", ""}}}, {}, {}}},
 			{[]label{{"b", "2"}}, []entry{{time: 1795762800999999999}}},
@@ -158,17 +158,18 @@ func TestProtobufFaults(t *testing.T) {
 		body   []byte
 		wanted string
 	}{
-		"cut":             {whole[:len(whole)-1], "400 unexpected EOF"},
-		"a length's lie":  {[]byte{0x0a, 0xff, 0xff, 0xff, 0xff, 0x07}, "400 unexpected EOF"},
-		"an endless tag":  {[]byte(strings.Repeat("\xff", 20)), "400 variable length integer overflow"},
-		"field 0":         {[]byte{0x02, 0x00}, "400 invalid field number"},
-		"a wrong type":    {[]byte{0x08, 0x01}, "400 proto: wrong wireType = 0 for field 1"},
-		"one inside":      {[]byte{0x0a, 0x02, 0x10, 0x01}, "400 proto: wrong wireType = 0 for field 2"},
-		"the year 0":      {entry(-62135596801, 0), "400 before 0001-01-01"},
-		"the year 10,000": {entry(253402300800, 0), "400 after 9999-12-31"},
-		"nanoseconds":     {entry(1, 1_000_000_000), "400 stream 0 entry 1: proto: timestamp"},
-		"fewer than none": {entry(1, -1), "400 out-of-range nanos"},
-		"labels": {push(&PushedStream{}, &PushedStream{Labels: []byte(`{a}`)}),
+		"cut":                      {whole[:len(whole)-1], "400 unexpected EOF"},
+		"a length's lie":           {[]byte{0x0a, 0xff, 0xff, 0xff, 0xff, 0x07}, "400 unexpected EOF"},
+		"an endless tag":           {[]byte(strings.Repeat("\xff", 20)), "400 variable length integer overflow"},
+		"field 0":                  {[]byte{0x02, 0x00}, "400 invalid field number"},
+		"a wrong type":             {[]byte{0x08, 0x01}, "400 proto: wrong wireType = 0 for field 1"},
+		"one inside":               {[]byte{0x0a, 0x02, 0x10, 0x01}, "400 proto: wrong wireType = 0 for field 2"},
+		"the year 0":               {entry(-62135596801, 0), "400 before 0001-01-01"},
+		"the year 10,000":          {entry(253402300800, 0), "400 after 9999-12-31"},
+		"nanoseconds":              {entry(1, 1_000_000_000), "400 stream 0 entry 1: proto: timestamp"},
+		"fewer than none":          {entry(1, -1), "400 out-of-range nanos"},
+		"labels that are no UTF-8": {protowire.AppendBytes([]byte{0x0a, 0x03, 0x0a}, []byte("\xff")), "400 invalid UTF-8"},
+		"labels": {push(&PushedStream{}, &PushedStream{Labels: `{a}`}),
 			`400 couldn't parse labels of stream 1: 1:3: parse error: unexpected '}' inside braces, expected "="`},
 		"too many entries": {push(&PushedStream{Entries: make([]*PushedEntry, 101)}), "413 more than 100 streams, entries and labels in a push"},
 	} {

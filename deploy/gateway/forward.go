@@ -130,6 +130,8 @@ type verdict struct {
 	lines  []string
 	// of all lines
 	bytes int
+	// what stands behind the last of them
+	end string
 }
 
 const moreRefused = "more was refused than an answer has room for"
@@ -147,6 +149,7 @@ func (it *verdict) say(line string) {
 func (it *verdict) refuse(number int, why string) {
 	it.status = http.StatusBadRequest
 	it.say(fmt.Sprintf("stream %d: %s", number, why))
+	it.end = "\n"
 }
 
 // add takes the answer to a part, and says whether the next one is to be sent: where this one has to be sent again, so
@@ -164,10 +167,15 @@ func (it *verdict) add(to part, found answer) bool {
 			it.say(to.renumber(line))
 		}
 	}
+	if strings.HasSuffix(found.text, "\n") {
+		it.end = "\n"
+	}
 	return goesOn
 }
 
-func (it *verdict) answer() answer { return answer{it.status, it.kind, strings.Join(it.lines, "\n")} }
+func (it *verdict) answer() answer {
+	return answer{it.status, it.kind, strings.Join(it.lines, "\n") + it.end}
+}
 
 var numbered = regexp.MustCompile(`^stream (\d+)(?: entry (\d+))?: `)
 

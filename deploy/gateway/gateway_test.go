@@ -132,13 +132,13 @@ func TestVerdicts(t *testing.T) {
 		wanted answer
 	}{
 		"stored":         {[]answer{stored, stored, stored}, 3, stored},
-		"refused once":   {[]answer{stored, lines(400, "stream 1 entry 7: too old"), stored}, 3, lines(400, "stream 2 entry 7: too old")},
+		"refused once":   {[]answer{stored, lines(400, "stream 1 entry 7: too old\n"), stored}, 3, lines(400, "stream 2 entry 7: too old\n")},
 		"refused always": {[]answer{lines(400, "stream 0 entry 1: a"), lines(400, "stream 0 entry 1: b\nstream 1: c"), lines(400, "stream 0 entry 5: d")}, 3, lines(400, "stream 1 entry 1: a\nstream 1 entry 10001: b\nstream 2: c\nstream 2 entry 8004: d")},
 		"full":           {[]answer{lines(400, "stream 0 entry 1: a"), lines(507, "stream 0: no room")}, 2, lines(507, "stream 1 entry 1: a\nstream 1: no room")},
 		"unavailable":    {[]answer{lines(503, "stream 0: unavailable")}, 1, lines(503, "stream 1: unavailable")},
 		"no such lines":  {[]answer{lines(500, "stream 9: it\nstream 0 entry 99999999999999999999: it\nout of memory")}, 1, lines(500, "stream 9: it\nstream 0 entry 99999999999999999999: it\nout of memory")},
 		"lines without end": {[]answer{lines(400, strings.Repeat("stream 0: it\n", 50_000)), lines(400, strings.Repeat("stream 0: it\n", 50_000)), lines(400, "a")}, 3,
-			lines(400, strings.Repeat("stream 1: it\n", 80_659)+moreRefused)},
+			lines(400, strings.Repeat("stream 1: it\n", 80_659)+moreRefused+"\n")},
 		"another tenant": {[]answer{lines(400, "bad tenant"), lines(400, "bad tenant"), lines(400, "bad tenant")}, 3, lines(400, "bad tenant\nbad tenant\nbad tenant")},
 	} {
 		stands := newStandIn(t, it.given...)
@@ -151,11 +151,11 @@ func TestVerdicts(t *testing.T) {
 // What can't be sent is refused, the rest is sent.
 func TestNameTwice(t *testing.T) {
 	entries := []*PushedEntry{{Timestamp: &timestamppb.Timestamp{Seconds: 1}}}
-	body := push(&PushedStream{Labels: []byte(`{a="1",a="2"}`), Entries: entries}, &PushedStream{Labels: []byte(`{a="1"}`), Entries: entries})
+	body := push(&PushedStream{Labels: `{a="1",a="2"}`, Entries: entries}, &PushedStream{Labels: `{a="1"}`, Entries: entries})
 	stands := newStandIn(t)
 	head := []string{"Content-Type", "application/x-protobuf", "X-Scope-OrgID", "t"}
 	found := ask1(over(stands.URL), "POST", pushPath, snapped(string(body)), head...)
-	if found.status != 400 || found.text != "stream 0: label name twice" || len(stands.bodies[0].Streams) != 1 {
+	if found.status != 400 || found.text != "stream 0: label name twice\n" || len(stands.bodies[0].Streams) != 1 {
 		t.Errorf("%v, %v", found, stands.bodies)
 	}
 }

@@ -134,7 +134,8 @@ func (it *labelText) pair() (name, value string, err error) {
 	return name, value, err
 }
 
-// quoted reads a text in single or double quotes, with Go's escapes. A \x or \377 gives a byte, which may be no UTF-8.
+// quoted reads a text in single or double quotes, with Go's escapes. A \x or \377 gives a byte, which may be no UTF-8. Of
+// a long text it keeps no more than the server needs to refuse it.
 func (it *labelText) quoted() (string, error) {
 	quote := it.next()
 	it.at++
@@ -158,7 +159,9 @@ func (it *labelText) quoted() (string, error) {
 			if !utf8.ValidString(rest) {
 				return "", it.fault("invalid UTF-8 rune")
 			}
-			found.WriteString(rest)
+			if found.Len() <= mostValue {
+				found.WriteString(cut(rest, mostValue))
+			}
 			it.at += len(rest)
 		}
 	}
@@ -169,9 +172,11 @@ func (it *labelText) escape(quote byte, found *strings.Builder) error {
 	if err != nil {
 		return it.fault("unknown or unfinished escape sequence")
 	}
-	if more {
+	switch {
+	case found.Len() > mostValue:
+	case more:
 		found.WriteRune(text)
-	} else {
+	default:
 		found.WriteByte(byte(text))
 	}
 	it.at = len(it.text) - len(rest)

@@ -85,6 +85,14 @@ func TestLabelsAreCut(t *testing.T) {
 	if err != nil || len(long[0].name) != 1025 || len(long[0].value) != 2049 {
 		t.Errorf("%d, %d, %v", len(long[0].name), len(long[0].value), err)
 	}
+	for name, value := range map[string]string{
+		"escapes": strings.Repeat(`\x41`, 5000), "both": strings.Repeat(`b\u0041`, 2500), "one more": strings.Repeat("b", 2047) + `\n\n`,
+	} {
+		found, err := parseLabels(`{a="` + value + `",b='1'}`)
+		if err != nil || len(found) != 2 || len(found[0].value) != 2049 || found[1].value != "1" {
+			t.Errorf("%s: %d, %v", name, len(found[0].value), err)
+		}
+	}
 }
 
 func FuzzLabels(f *testing.F) {

@@ -24,8 +24,6 @@ const (
 	// for the pushes under way at a stop
 	stopTime = 30 * time.Second
 	mostHead = 16_384
-	// beside the budget: the program, what connections take, and what isn't collected yet
-	besides = 128 << 20
 )
 
 func main() {
@@ -40,7 +38,8 @@ func main() {
 		fmt.Fprintf(os.Stderr, "needleazure-gateway: %s\n%s\n", err, usage)
 		os.Exit(2)
 	}
-	debug.SetMemoryLimit(given.memory + besides)
+	// (beside the budget what isn't collected yet: with less it would do little else than collect)
+	debug.SetMemoryLimit(given.memory + given.memory/2)
 	ends, stop := signal.NotifyContext(context.Background(), syscall.SIGTERM, syscall.SIGINT)
 	defer stop()
 	listening, err := net.Listen("tcp", given.listen)

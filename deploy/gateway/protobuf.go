@@ -90,7 +90,7 @@ func asBadRequest(err error) error {
 }
 
 func (it *PushedStream) stream(number int) (stream, error) {
-	labels, err := parseLabels(string(it.Labels))
+	labels, err := parseLabels(it.Labels)
 	if err != nil {
 		return stream{}, badRequest("couldn't parse labels of stream %d: %s", number, err)
 	}
