@@ -8,7 +8,7 @@ ALL = server ingestctl ingest1 walcat walsplit
 HELD = glibc.malloc.mmap_max=0:glibc.malloc.trim_threshold=17179869184
 
 .PHONY: help run demo sample test server edits faults check check-docs fmt bench kill power-loss filesystem-loss program-rows measure \
-	deb deb-lint pictures
+	deb deb-lint gateway pictures
 
 help: ## prints this
 	@sed -nE 's/^([a-z%][a-z-]*):.*## (.*)/\1\t\2/p' Makefile | while IFS='	' read -r name words; do \
@@ -65,9 +65,12 @@ kit-check theorem-check filesystem-check: PROGRAMS =
 deb-check: PROGRAMS = $(ALL)
 deb-check: WORDS = "$$(deploy/deb)"
 drain-check: ALSO = tests/package/drain_to_loki
+gateway-check: BEFORE = deploy/gateway/build race && tests/package/gateway_quick race
+deb-check edge-check gateway-check: gateway
 
-%-check: ## tests/*/NAME_check over built programs: drain sweep after syslog memory edge scale-out metrics fill, as root deb filesystem, alone kit theorem
+%-check: ## tests/*/NAME_check over built programs: gateway drain sweep after syslog memory edge scale-out metrics fill, as root deb filesystem, alone kit theorem
 	@$(if $(PROGRAMS),RT='$(RT)' tests/gate/build $(PROGRAMS))
+	@$(BEFORE)
 	@RT='$(RT)' $(or $(wildcard tests/*/$(subst -,_,$*)_check),$(error there is no tests/*/$(subst -,_,$*)_check)) $(WORDS)
 	@$(ALSO)
 
@@ -97,14 +100,17 @@ pictures: ## draws the pictures and figures of the documents (graphviz, gnuplot-
 	@docs/pictures/slots.py | dot -Tsvg -o docs/pictures/slots.svg
 	@docs/figures/plot
 
-deb: ## the Debian package, in deploy/out
+deb: gateway ## the Debian package, in deploy/out
 	@RT='$(RT)' tests/gate/build $(ALL)
 	@deploy/deb
 
-deb-lint: ## the Debian packages made twice, which gives the same bytes, and looked at by lintian
+deb-lint: gateway ## the Debian packages made twice, which gives the same bytes, and looked at by lintian
 	@RT='$(RT)' tests/gate/build $(ALL)
 	@tests/package/deb_lint
 
 filesystem-loss: ## losses of power on real file systems, block by block (as root; IMAGES=1000 SEED=1 FILESYSTEMS="ext4 xfs btrfs")
 	@RT='$(RT)' tests/gate/build server
 	@tests/server/filesystem_loss $(if $(SEED),--seed $(SEED)) $(or $(IMAGES),1000) $(FILESYSTEMS)
+
+gateway: ## needleazure-gateway for Promtail and Alloy, in deploy/out, from Go and libraries of Debian
+	@deploy/gateway/build

@@ -1,0 +1,201 @@
+package main
+
+import (
+	"bytes"
+	"context"
+	"errors"
+	"fmt"
+	"io"
+	"log"
+	"net"
+	"net/http"
+	"regexp"
+	"strconv"
+	"strings"
+	"sync/atomic"
+	"time"
+)
+
+const (
+	pushPath  = "/loki/api/v1/push"
+	readyPath = "/ready"
+	// for an answer of the server, as nginx waits for one
+	answerTime = 60 * time.Second
+	// the server closes a connection that is idle for 60 seconds
+	idleTime = 30 * time.Second
+	// of the text of an answer, which has a line for each entry that is refused. (Those of a part are less.)
+	mostAnswer = 1 << 20
+)
+
+// The server that pushes are sent on to, over connections that are kept: each of them holds one of its workers.
+type server struct {
+	address string
+	pushes  *http.Client
+	looks   *http.Client
+	isAway  atomic.Bool
+}
+
+func newServer(address string, connections int) *server {
+	return &server{
+		address: address,
+		pushes:  newClient(&http.Transport{MaxConnsPerHost: connections, MaxIdleConnsPerHost: connections}),
+		// (a look for /ready keeps no worker)
+		looks: newClient(&http.Transport{MaxConnsPerHost: 2, DisableKeepAlives: true}),
+	}
+}
+
+func newClient(by *http.Transport) *http.Client {
+	dialer := net.Dialer{Timeout: 5 * time.Second}
+	by.DialContext = dialer.DialContext
+	by.IdleConnTimeout = idleTime
+	by.ResponseHeaderTimeout = answerTime
+	by.DisableCompression = true
+	noRedirect := func(*http.Request, []*http.Request) error { return http.ErrUseLastResponse }
+	return &http.Client{Transport: by, CheckRedirect: noRedirect}
+}
+
+// An answer of the server.
+type answer struct {
+	status int
+	kind   string
+	text   string
+}
+
+func (it *server) push(in context.Context, tenant string, body []byte) (answer, error) {
+	asked, err := http.NewRequestWithContext(in, http.MethodPost, it.address+pushPath, bytes.NewReader(body))
+	if err != nil {
+		return answer{}, err
+	}
+	asked.Header.Set("Content-Type", "application/json")
+	asked.Header.Set("X-Scope-OrgID", tenant)
+	return ask(it.pushes, asked)
+}
+
+func (it *server) ready(in context.Context) (answer, error) {
+	asked, err := http.NewRequestWithContext(in, http.MethodGet, it.address+readyPath, nil)
+	if err != nil {
+		return answer{}, err
+	}
+	return ask(it.looks, asked)
+}
+
+// note says once that the server is away, and once that it is back.
+func (it *server) note(err error) {
+	if errors.Is(err, context.Canceled) {
+		return
+	}
+	switch isAway := err != nil; {
+	case it.isAway.Swap(isAway) == isAway:
+	case isAway:
+		log.Printf("the server does not answer: %s", err)
+	default:
+		log.Printf("the server at %s answers again", it.address)
+	}
+}
+
+func ask(client *http.Client, asked *http.Request) (answer, error) {
+	asked.Header.Set("User-Agent", "needleazure-gateway")
+	got, err := client.Do(asked)
+	if err != nil {
+		return answer{}, err
+	}
+	defer got.Body.Close()
+	text, err := io.ReadAll(io.LimitReader(got.Body, mostAnswer))
+	if err != nil {
+		return answer{}, err
+	}
+	return answer{got.StatusCode, got.Header.Get("Content-Type"), string(text)}, nil
+}
+
+// unanswered is the answer where the server gave none: what was sent may be stored or not, and is sent again.
+func unanswered(err error) error {
+	var late net.Error
+	switch {
+	case errors.Is(err, context.Canceled):
+		return &fault{clientGone, "the client has gone"}
+	case errors.As(err, &late) && late.Timeout():
+		return &fault{http.StatusGatewayTimeout, "the server did not answer in time, send it again"}
+	}
+	return &fault{http.StatusBadGateway, "the server is away, send it again"}
+}
+
+// (which nobody is told, but the metrics, by nginx's number for it)
+const clientGone = 499
+
+// A verdict is the answer to a push, out of those to its parts: the worst status, and all lines, numbered as the streams
+// and entries of the body that came.
+type verdict struct {
+	status int
+	kind   string
+	lines  []string
+	// of all lines
+	bytes int
+	// what stands behind the last of them
+	end string
+}
+
+const moreRefused = "more was refused than an answer has room for"
+
+func (it *verdict) say(line string) {
+	switch it.bytes += len(line) + 1; {
+	case it.bytes <= mostAnswer:
+		it.lines = append(it.lines, line)
+	case it.lines[len(it.lines)-1] != moreRefused:
+		it.lines = append(it.lines, moreRefused)
+	}
+}
+
+// refuse is for a stream that can't be sent.
+func (it *verdict) refuse(number int, why string) {
+	it.status = http.StatusBadRequest
+	it.say(fmt.Sprintf("stream %d: %s", number, why))
+	it.end = "\n"
+}
+
+// add takes the answer to a part, and says whether the next one is to be sent: where this one has to be sent again, so
+// has the whole body, and what isn't sent yet isn't stored twice then.
+func (it *verdict) add(to part, found answer) bool {
+	goesOn := found.status == http.StatusNoContent || found.status == http.StatusBadRequest
+	if !goesOn || found.status == http.StatusBadRequest || it.status == 0 {
+		it.status = found.status
+	}
+	if found.kind != "" {
+		it.kind = found.kind
+	}
+	for _, line := range strings.Split(found.text, "\n") {
+		if line != "" {
+			it.say(to.renumber(line))
+		}
+	}
+	if strings.HasSuffix(found.text, "\n") {
+		it.end = "\n"
+	}
+	return goesOn
+}
+
+func (it *verdict) answer() answer {
+	return answer{it.status, it.kind, strings.Join(it.lines, "\n") + it.end}
+}
+
+var numbered = regexp.MustCompile(`^stream (\d+)(?: entry (\d+))?: `)
+
+// renumber gives a line of an answer the numbers that its stream and entry had in the body that came.
+func (it *part) renumber(line string) string {
+	found := numbered.FindStringSubmatch(line)
+	if found == nil {
+		return line
+	}
+	at, err := strconv.Atoi(found[1])
+	if err != nil || at >= len(it.spans) {
+		return line
+	}
+	from, rest := it.spans[at], line[len(found[0]):]
+	if found[2] == "" {
+		return "stream " + strconv.Itoa(from.stream) + ": " + rest
+	}
+	entry, err := strconv.Atoi(found[2])
+	if err != nil {
+		return line
+	}
+	return "stream " + strconv.Itoa(from.stream) + " entry " + strconv.Itoa(from.first+entry) + ": " + rest
+}

@@ -1,0 +1,76 @@
+// needleazure-gateway takes pushes as Loki's shippers send them, and sends them on to a Needleazure server. Its manual
+// page has its words; docs/API.md has what it takes and answers.
+package main
+
+import (
+	"context"
+	"errors"
+	"flag"
+	"fmt"
+	"log"
+	"net"
+	"net/http"
+	"os"
+	"os/signal"
+	"runtime/debug"
+	"syscall"
+	"time"
+)
+
+const (
+	headTime = 10 * time.Second
+	bodyTime = 60 * time.Second
+	keptTime = 120 * time.Second
+	// for the pushes under way at a stop
+	stopTime = 30 * time.Second
+	mostHead = 16_384
+)
+
+func main() {
+	log.SetFlags(0)
+	log.SetPrefix("needleazure-gateway: ")
+	given, err := readWords(os.Args[1:])
+	if errors.Is(err, flag.ErrHelp) {
+		fmt.Println(usage)
+		return
+	}
+	if err != nil {
+		fmt.Fprintf(os.Stderr, "needleazure-gateway: %s\n%s\n", err, usage)
+		os.Exit(2)
+	}
+	// (beside the budget what isn't collected yet: with less it would do little else than collect)
+	debug.SetMemoryLimit(given.memory + given.memory/2)
+	ends, stop := signal.NotifyContext(context.Background(), syscall.SIGTERM, syscall.SIGINT)
+	defer stop()
+	listening, err := net.Listen("tcp", given.listen)
+	if err == nil {
+		fmt.Printf("ready %s\n", listening.Addr())
+		err = serve(ends, listening, given)
+	}
+	if err != nil {
+		log.Print(err)
+		os.Exit(1)
+	}
+}
+
+// serve answers until it is told to end, and then those that are under way.
+func serve(ends context.Context, listening net.Listener, given words) error {
+	serving := &http.Server{
+		Handler:           newGateway(given).handler(),
+		ReadHeaderTimeout: headTime,
+		WriteTimeout:      pushTime + answerTime,
+		IdleTimeout:       keptTime,
+		MaxHeaderBytes:    mostHead,
+		ConnContext:       keepLine,
+	}
+	failed := make(chan error, 1)
+	go func() { failed <- serving.Serve(listening) }()
+	select {
+	case err := <-failed:
+		return err
+	case <-ends.Done():
+	}
+	in, end := context.WithTimeout(context.Background(), stopTime)
+	defer end()
+	return serving.Shutdown(in)
+}

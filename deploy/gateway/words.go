@@ -1,0 +1,59 @@
+package main
+
+import (
+	"errors"
+	"flag"
+	"io"
+	"net/url"
+	"regexp"
+)
+
+const usage = `usage: needleazure-gateway --listen ADDR --to http://HOST:PORT
+       [--max-body BYTES] [--tenant NAME] [--connections N] [--memory BYTES]`
+
+// The words that a gateway is started with.
+type words struct {
+	listen, to, tenant string
+	maxBody, memory    int64
+	connections        int
+}
+
+// (what the largest push may take: what came and what it unpacks to thrice each, its texts, 8 times for its messages, and a
+// part that is 6 times as long; so that none is answered 503 for ever)
+const memoryEach = 24
+
+var tenantName = regexp.MustCompile(`^[A-Za-z0-9_-]{1,150}$`)
+
+func readWords(given []string) (words, error) {
+	it := words{}
+	flags := flag.NewFlagSet("needleazure-gateway", flag.ContinueOnError)
+	flags.SetOutput(io.Discard)
+	flags.Usage = func() {}
+	flags.StringVar(&it.listen, "listen", "", "")
+	flags.StringVar(&it.to, "to", "", "")
+	flags.StringVar(&it.tenant, "tenant", "", "")
+	flags.Int64Var(&it.maxBody, "max-body", 16<<20, "")
+	flags.Int64Var(&it.memory, "memory", 512<<20, "")
+	flags.IntVar(&it.connections, "connections", 32, "")
+	if err := flags.Parse(given); err != nil {
+		return it, err
+	}
+	to, err := url.Parse(it.to)
+	switch {
+	case flags.NArg() > 0:
+		return it, errors.New("not known: " + flags.Arg(0))
+	case it.listen == "":
+		return it, errors.New("--listen is missing")
+	case err != nil || to.Scheme != "http" && to.Scheme != "https" || to.Host == "" || to.Path != "" || to.RawQuery != "":
+		return it, errors.New("--to is not of the form http://HOST:PORT")
+	case it.tenant != "" && !tenantName.MatchString(it.tenant):
+		return it, errors.New("--tenant is not 1 to 150 letters, digits, - and _")
+	case it.maxBody < 65_536 || it.maxBody > 1<<30:
+		return it, errors.New("--max-body is not a number from 65536 to 1073741824")
+	case it.connections < 1 || it.connections > 64:
+		return it, errors.New("--connections is not a number from 1 to 64")
+	case it.memory < memoryEach*it.maxBody:
+		return it, errors.New("--memory is less than 24 times --max-body")
+	}
+	return it, nil
+}
