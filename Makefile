@@ -49,9 +49,9 @@ power-loss: ## what a server under load may leave at a loss of power, image by i
 	@RT='$(RT)' tests/gate/build server
 	@tests/server/power_loss $(or $(IMAGES),2000) $(SEED)
 
-faults: ## hostile bytes and refused memory, held to the definitions (some minutes)
+faults: ## hostile bytes, refused memory, bad files, held to the definitions (some minutes)
 	@RT='$(RT)' tests/gate/build bench bench_calls call_cases conformance $(ALL)
-	@failed=0; for it in models/judge_rows 'gate/pytest tests/server/test_drawn.py -m by_hand' \
+	@failed=0; for it in models/judge_rows 'gate/pytest tests/server/test_drawn.py tests/server/test_files.py -m by_hand' \
 		'server/each_allocation_fails bench ingest1 call_cases conformance ingestctl server'; do \
 		tests/$$it || failed=1; done; DRAWN=5000 tests/gate/pytest tests/server/test_drawn.py || failed=1; exit $$failed
 

@@ -2,7 +2,7 @@
 
 A slot is given to `walcat`, a body to `ingest1`; label sets go into a push of `ingestctl`, whose log `walcat` then prints,
 and label texts into a slot. A connection is sent to a server that has no stream, ended, and read to its end. hypothesis
-draws 300 of each kind, always the same ones, or with DRAWN=n any n, and shrinks what differs. `by_hand` are the cases that
+draws 100 of each kind, always the same ones, or with DRAWN=n any n, and shrinks what differs. `by_hand` are the cases that
 have a name: each cut of some, each byte of some with each value, and what is about a limit.
 """
 import concurrent.futures
@@ -24,7 +24,7 @@ from servers import program
 NOW, SECONDS = 20, 60
 # the least number of named cases of each kind
 FLOORS = {"segments": 126_000, "bodies": 15_000, "heads": 8_000}
-DRAWING = settings(max_examples=int(os.environ.get("DRAWN", 300)), derandomize="DRAWN" not in os.environ, deadline=None,
+DRAWING = settings(max_examples=int(os.environ.get("DRAWN", 100)), derandomize="DRAWN" not in os.environ, deadline=None,
                    database=None, suppress_health_check=list(HealthCheck))
 
 

@@ -168,7 +168,7 @@ def try_slot(folder, programs, slot, put, due, **user):
 
 
 @pytest.mark.parametrize("slot", [0, 1])
-@pytest.mark.parametrize("kind", KINDS)
+@pytest.mark.parametrize("kind", [pytest.param(it, marks=[pytest.mark.by_hand] * ("2^30" in it)) for it in KINDS])
 def test_slots(folder, programs, kind, slot):
     try_slot(folder, programs, slot, *KINDS[kind])
 
@@ -220,6 +220,7 @@ def try_length(folder, begun, least, length):
     assert servers.run(["ingestctl", "read", *words], READ)[1] == states[1], length
 
 
+@pytest.mark.by_hand
 @pytest.mark.parametrize("begun, least, lengths", LENGTHS)
 def test_lengths_of_files(folder, begun, least, lengths):
     """What was answered is there with room again, and of what wasn't answered all or nothing."""
@@ -260,12 +261,14 @@ def try_full(serve, free, length, **how):
     server.end()
 
 
+@pytest.mark.by_hand
 @pytest.mark.parametrize("length", [50, 4_000, 60_000])
 def test_full_quota(serve, length):
     try_full(serve, lambda: None, length, preexec_fn=limit_length(300_000))
 
 
 @as_root
+@pytest.mark.by_hand
 @pytest.mark.parametrize("length", [50, 4_000, 60_000])
 def test_full_file_system(serve, folder, length):
     """A tmpfs of 2 MiB, and a file in it that takes most of it until there has to be room."""
