@@ -47,8 +47,8 @@ FILE_SYSTEMS = {
     "ext4": FileSystem("ext4", 600, ["mkfs.ext4", "-q", "-F"], EXT4_MEND),
     "xfs": FileSystem("xfs", 320, ["mkfs.xfs", "-q", "-f"], [["xfs_repair", "-L"]], "nouuid", may_lose=True),
     # (images of one file system have one name, by which older kernels take the second for the first)
-    "btrfs": FileSystem(*BTRFS, at_once=1),
-    "btrfs-in-place": FileSystem(*BTRFS, at_once=1, in_place=True),
+    "btrfs": FileSystem(*BTRFS, may_lose=True, at_once=1),
+    "btrfs-in-place": FileSystem(*BTRFS, may_lose=True, at_once=1, in_place=True),
     "ext4-fast-commit": FileSystem("ext4", 600, ["mkfs.ext4", "-q", "-F", "-O", "fast_commit"], EXT4_MEND),
 }
 
