@@ -1,6 +1,8 @@
 pub mod Handing
 pub mod Among
 pub mod Counting
+pub mod Calling
+pub mod Marking
 pub mod Living
 pub mod Leaving
 pub mod Saying
