@@ -11,3 +11,4 @@ pub mod Ending
 pub mod Telling
 pub mod Sample
 pub mod Together
+pub mod Refusing
