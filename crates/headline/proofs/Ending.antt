@@ -1,24 +1,42 @@
 -- The headline of an opening, until it is closed or cut.
-use Rattle.std.proofs.Common.{◌≡◌, ℕ, suc, ◌+◌, ◌<◌, ◌≤◌, List, [], ◌∷◌, length, sym, ap, ◌∙◌, subst, ⊎_elim, arith, Option, Some, None, length-append}
+use Rattle.std.proofs.Common.{◌≡◌, ◌⊎◌, ℕ, suc, ◌+◌, ◌<◌, ◌≤◌, List, [], ◌∷◌, true, length, refl, inl, inr, sym, ap, ◌∙◌, subst, ⊎_elim, arith, Option, Some, None, length-append}
 use Rattle.std.specs.Prelude.{slice_get}
 use Rattle.std.proofs.lemmas.Option.{slice_get_cases}
 use Rattle.accept.specs.declared.history.Item.{Item}
 use Rattle.accept.specs.Rooms.{Streams}
 use Rattle.disk.specs.Sight.{Sight}
+use Rattle.accept.specs.Histories.{is_marked}
+use Rattle.segment.specs.declared.owner.Owner.{Owner}
 use Rattle.segment.specs.Segments.{owner_of}
+use Rattle.wal.specs.declared.fault.OpenFault.TheVariants.{Device, Memory}
+use Rattle.wal.specs.declared.log.Wal.{Wal}
+use Rattle.wal.specs.Logs.{Follow, slots}
+use Rattle.wal.specs.Moments.{Pair, HasFailed, HasNoFailure}
+use Rattle.wal.specs.Recovery.{Recovers}
+use Rattle.wal.proofs.OneImage.{settled_seen}
 use Rattle.wal.specs.declared.fault.OpenFault.{OpenFault}
 use Rattle.wal.specs.Covers.{Covers, IsAfter}
-use Rattle.wal.specs.Opening.{slots_of, IsOfDeviceOrMemory}
-use Rattle.history.specs.Histories.{history_of, doubt_of}
+use Rattle.wal.specs.Opening.{slots_of, CountsCause}
+use Rattle.history.specs.Histories.{base_at, history_of, doubt_of}
+use Rattle.history.specs.Handles.{fresh_book}
 use Rattle.owners.specs.Openings.{Opening}
+use Rattle.owners.specs.Places.{opened_shard}
 use Rattle.ingester.specs.Closings.{IsHandedOut}
 use Rattle.headline.specs.Threads.{Thread, last_passes}
-use Rattle.headline.specs.Headline.{IsHeadline}
-use Rattle.headline.specs.Turns.{shard_then}
-use Rattle.headline.specs.Lives.{Life, ShardEnd, HandedOut, CutAt, IsLife, IsEnd, MayBeReplayed, MayBeRefused, LeftAt, AreLeftAt, writing_at, writing_in}
-use Rattle.headline.proofs.Leaving.{covered_left, found_at, left_length, left_at, opened_at}
+use Rattle.headline.specs.Headline.{RefusedShard, IsForDeviceOrMemory}
+use Rattle.headline.specs.Turns.{Moment, Between, Within, IsMoment, FollowThen, shard_then}
+use Rattle.headline.specs.Lives.{Life, ShardEnd, HandedOut, CutAt, IsLife, IsEnd, WereRead, HasFailedSince, MayBeReplayed, MayBeRefused, IsHeadlineOf, failures_of, slots_then, LeftAt, AreLeftAt, writing_at, writing_in}
+use Rattle.headline.proofs.Leaving.{covered_left, found_at, left_length, left_at, opened_at, given_at}
+use Rattle.headline.proofs.Marking.{lead_marks, lead_follows, fresh_marks, turn_follows}
 use Rattle.headline.proofs.Saying.{IsKnown, end_among, says as said}
-use Rattle.headline.proofs.Turning.{stretch_covers}
+use Rattle.headline.proofs.Turning.{index_get, stretch_covers}
+
+both_same : (old new : Pair) → HasNoFailure old new → failures_of new ≡ failures_of old
+both_same old new h = λ i. (h.0 i, h.1 i)
+
+both_differ : (old new : Pair) → HasFailed old new → failures_of new ≡ failures_of old → ⊥
+both_differ old new (inl f) e = f (ap (λ (c : ℕ × ℕ). c.0) e)
+both_differ old new (inr f) e = f (ap (λ (c : ℕ × ℕ). c.1) e)
 
 module _ {D : Type 0} (sight : D → Sight) (follows : D → Type 0) (only_now : (d : D) (c : List ℕ) → follows d → (sight d).left_since (sight d).moment c → (sight d).may_leave c)
     (lived : Life D) (life : IsLife sight follows lived) where
@@ -38,6 +56,15 @@ module _ {D : Type 0} (sight : D → Sight) (follows : D → Type 0) (only_now :
   pub record IsGood (k : ℕ) (end : ShardEnd D) (items : List Item) : Type 0 where
     pub known : IsKnown opening threads k items
     pub covers : (left : List D) → LeftAt sight follows end left → Covers (owner_of k opening.about.shards) opening.about.limits (slots_of sight left) (history_of opening.about k items) (writing_at (Some end) items)
+    pub opened : Wal D
+    pub opened_as : slice_get opening.logs k ≡ Some opened
+    pub follow : Follow follows opened
+    pub marks : is_marked items ≡ true → HasFailed (slots sight opened) (slots_then sight follows end)
+
+  -- at the start of the turn that was cut
+  follow_before : (m : Moment D) → IsMoment sight follows m → FollowThen sight follows m → Follow follows (shard_then m).log
+  follow_before (Between s) is f = f
+  follow_before (Within t) is f = turn_follows sight follows t is.turn f
 
   pub good_end : (k : ℕ) (end : ShardEnd D) → IsEnd sight follows opening threads k end → (items : List Item) × IsGood k end items
   good_end k (HandedOut it) is =
@@ -46,6 +73,10 @@ module _ {D : Type 0} (sight : D → Sight) (follows : D → Type 0) (only_now :
         record {
           known = record { legal = out.legal; by_passes = out.by_passes; told = λ t h. let i = end_among t threads h in out.told i.0 t.end i.1 };
           covers = λ left l. covered_left sight follows (owner_of k opening.about.shards) opening.about.limits it.0 left (history_of opening.about k out.items) (doubt_of out.items) l (out.covers is.1);
+          opened = out.opened;
+          opened_as = out.opened_as;
+          follow = out.before is.1;
+          marks = λ e. out.failed (out.marked_is ∙ e);
         },
       )
   good_end k (CutAt st) is = (
@@ -54,6 +85,10 @@ module _ {D : Type 0} (sight : D → Sight) (follows : D → Type 0) (only_now :
       known = record { legal = is.legal; by_passes = is.by_passes; told = is.told };
       covers = λ left l. stretch_covers sight follows only_now opening threads (length given) life.capacity k st left is life.shards
           (opened_at sight follows (length given) life.capacity k given opening.logs opening.about.bases is.opened life.found is.opened_as) l;
+      opened = is.opened;
+      opened_as = is.opened_as;
+      follow = lead_follows sight follows (opened_shard opening k is.opened) (shard_then st.moment) st.turns is.turned (follow_before st.moment is.moment is.follow);
+      marks = (lead_marks sight follows is.opened (opened_shard opening k is.opened) (shard_then st.moment) st.turns (fresh_marks sight follows is.opened (fresh_book opening.table opening.about k) refl) is.turned).marked;
     },
   )
 
@@ -85,9 +120,31 @@ module _ {D : Type 0} (sight : D → Sight) (follows : D → Type 0) (only_now :
       subst (λ (o : Option (ShardEnd D)). IsAfter opening.about.limits (history_of opening.about k (histories k)) (writing_at o (histories k)) state) (sym g.there)
       (found.opened.covered found.follow opening.about.limits (history_of opening.about k (histories k)) (writing_at (Some g.end) (histories k)) covers)
 
+  -- what each shard began with stood in its slots
+  reads : (k : ℕ) → k < opening.about.shards → WereRead sight follows lived k (base_at opening.about k)
+  reads k lt =
+      let g = ((history_at k).1 lt).good in
+      let at = given_at sight follows (length given) life.capacity k given opening.logs opening.about.bases g.opened life.found g.opened_as in
+      let from = at.3 in
+      let base : at.1 ≡ base_at opening.about k = sym (index_get opening.about.bases k _ at.1 at.2) in
+      let rests = from.rests g.follow in
+      record {
+        given = at.0;
+        given_as = at.4;
+        stood = subst (Recovers (owner_of k (length given)) (slots_of sight at.0).first.seen (slots_of sight at.0).second.seen) base
+            (subst (λ (a : List ℕ). Recovers (owner_of k (length given)) a (slots_of sight at.0).second.seen at.1) rests.first.same
+            (subst (λ (b : List ℕ). Recovers (owner_of k (length given)) (slots sight g.opened).first.seen b at.1) rests.second.same
+            (subst (λ (w : Owner). Recovers w (slots sight g.opened).first.seen (slots sight g.opened).second.seen at.1) from.same_owner (settled_seen sight g.opened at.1 (from.settled g.follow)))));
+      }
+
+  marks : (k : ℕ) → k < opening.about.shards → is_marked (histories k) ≡ true → HasFailedSince sight follows lived k
+  marks k lt e =
+      let at = (history_at k).1 lt in
+      record { opened = at.good.opened; opened_as = at.good.opened_as; end = at.end; ended_as = at.there; failed = at.good.marks e }
+
   -- the slots of a shard that is refused keep its history, so they have no fault
-  gives : (k : ℕ) (fault : OpenFault) → MayBeRefused sight follows ends k fault → IsOfDeviceOrMemory fault
-  gives k fault r =
+  gives : (k : ℕ) (r : RefusedShard) → MayBeRefused sight follows ends k r → IsForDeviceOrMemory r
+  gives k shown r =
       let f = r.refused in
       let counted : opening.about.shards ≡ length r.left = life.shards ∙ sym life.ends_of_all ∙ sym (left_length sight follows ends r.left r.crash) in
       let parts : length r.left ≡ length f.front + suc (length f.behind) = ap length f.all_are ∙ length-append f.front (f.given ∷ f.behind) in
@@ -95,7 +152,13 @@ module _ {D : Type 0} (sight : D → Sight) (follows : D → Type 0) (only_now :
       let g = (history_at k).1 (omega arith) in
       let crash : LeftAt sight follows g.end f.given = left_at sight follows ends f.front f.behind f.given g.end (subst (AreLeftAt sight follows ends) f.all_are r.crash) (ap (slice_get ends) number ∙ g.there) in
       let covers = subst (λ (n : ℕ). Covers (owner_of k n) opening.about.limits (slots_of sight f.given) (history_of opening.about k (histories k)) (writing_at (Some g.end) (histories k))) counted (g.good.covers f.given crash) in
-      f.refusal.covered r.follow opening.about.limits (history_of opening.about k (histories k)) (writing_at (Some g.end) (histories k)) covers
+      ⊎_elim
+      (λ (e : shown.fault ≡ Device). inl (e, λ same.
+          both_differ (slots_of sight f.given) (slots_of sight f.back) (subst (λ (x : OpenFault). CountsCause x (slots_of sight f.given) (slots_of sight f.back)) e f.refusal.counted) (sym r.after ∙ same ∙ r.before)))
+      (λ (e : shown.fault ≡ Memory). inr (e, r.after
+          ∙ both_same (slots_of sight f.given) (slots_of sight f.back) (subst (λ (x : OpenFault). CountsCause x (slots_of sight f.given) (slots_of sight f.back)) e f.refusal.counted)
+          ∙ sym r.before))
+      (f.refusal.covered r.follow opening.about.limits (history_of opening.about k (histories k)) (writing_at (Some g.end) (histories k)) covers)
 
-  pub says : IsHeadline opening.about threads histories (writing_in ends histories) (MayBeReplayed sight follows ends) (MayBeRefused sight follows ends)
-  says = said opening threads life.threads_are some_shard histories (λ k lt. ((history_at k).1 lt).good.known) (writing_in ends histories) (MayBeReplayed sight follows ends) after (MayBeRefused sight follows ends) gives
+  pub says : IsHeadlineOf sight follows lived histories
+  says = said opening threads life.threads_are some_shard histories (λ k lt. ((history_at k).1 lt).good.known) (writing_in ends histories) (WereRead sight follows lived) reads (HasFailedSince sight follows lived) marks (MayBeReplayed sight follows ends) after (MayBeRefused sight follows ends) gives

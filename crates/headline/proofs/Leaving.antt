@@ -89,15 +89,19 @@ module _ {D : Type 0} (sight : D → Sight) (follows : D → Type 0) where
     pub opened : IsOpenedFrom sight follows (owner_of k count) capacity given log m
 
   opened_again : (count capacity k j i : ℕ) (given : List (List D)) (logs : List (Wal D)) (ms : List Streams) (log : Wal D) → k ≡ j + i → AreOpenedFrom sight follows count capacity j given logs ms → slice_get logs i ≡ Some log
-      → (one : List D) × (m : Streams) × (slice_get ms i ≡ Some m) × IsOpenedFrom sight follows (owner_of k count) capacity one log m
+      → (one : List D) × (m : Streams) × (slice_get ms i ≡ Some m) × IsOpenedFrom sight follows (owner_of k count) capacity one log m × (slice_get given i ≡ Some one)
   opened_again count capacity k j i given [] ms log e o h = let never : None ≡ Some log = h in absurd (cc)
   opened_again count capacity k j i [] (w ∷ logs) ms log e o h = absurd o
   opened_again count capacity k j i (x ∷ given) (w ∷ logs) [] log e o h = absurd o
   opened_again count capacity k j zero (x ∷ given) (w ∷ logs) (n ∷ ms) log e o h =
       let same : w ≡ log = cc in
       let at : j ≡ k = omega arith in
-      (x, n, λ q. Some n, subst (λ (i : ℕ). IsOpenedFrom sight follows (owner_of i count) capacity x log n) at (subst (λ (l : Wal D). IsOpenedFrom sight follows (owner_of j count) capacity x l n) same o.0))
+      (x, n, λ q. Some n, subst (λ (i : ℕ). IsOpenedFrom sight follows (owner_of i count) capacity x log n) at (subst (λ (l : Wal D). IsOpenedFrom sight follows (owner_of j count) capacity x l n) same o.0), λ q. Some x)
   opened_again count capacity k j (suc i) (x ∷ given) (w ∷ logs) (n ∷ ms) log e o h = opened_again count capacity k (j + 1) i given logs ms log (omega arith) o.1 h
+
+  pub given_at : (count capacity k : ℕ) (given : List (List D)) (logs : List (Wal D)) (ms : List Streams) (log : Wal D) → AreOpenedFrom sight follows count capacity 0 given logs ms → slice_get logs k ≡ Some log
+      → (one : List D) × (m : Streams) × (slice_get ms k ≡ Some m) × IsOpenedFrom sight follows (owner_of k count) capacity one log m × (slice_get given k ≡ Some one)
+  given_at count capacity k given logs ms log o h = opened_again count capacity k 0 k given logs ms log (omega arith) o h
 
   pub opened_at : (count capacity k : ℕ) (given : List (List D)) (logs : List (Wal D)) (ms : List Streams) (log : Wal D) → AreOpenedFrom sight follows count capacity 0 given logs ms → slice_get logs k ≡ Some log → IsOpenedAt count capacity k log ms
   opened_at count capacity k given logs ms log o h =

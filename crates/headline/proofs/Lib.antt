@@ -1,6 +1,8 @@
 pub mod Handing
 pub mod Among
 pub mod Counting
+pub mod Calling
+pub mod Marking
 pub mod Living
 pub mod Leaving
 pub mod Saying
@@ -9,3 +11,4 @@ pub mod Ending
 pub mod Telling
 pub mod Sample
 pub mod Together
+pub mod Refusing

@@ -1,5 +1,5 @@
 -- Small runs of which the record holds, so that a changed record can be refuted by them.
-use Rattle.std.proofs.Common.{◌≡◌, ℕ, zero, suc, ◌<◌, Bool, true, false, List, [], ◌∷◌, ◌++◌, take, refl, sym, ap, ◌∙◌, subst, inl, inr, ⊎_elim, arith, Some, None}
+use Rattle.std.proofs.Common.{◌≡◌, ◌⊎◌, ℕ, zero, suc, ◌<◌, Bool, true, false, List, [], ◌∷◌, ◌++◌, take, refl, sym, ap, ◌∙◌, subst, inl, inr, ⊎_elim, arith, Some, None}
 use Rattle.std.specs.Prelude.{slice_get, slice_index_or, ◌==◌, if◌then◌else◌, is_some, Ok}
 use Rattle.std.specs.FinMap as finite
 use Rattle.std.proofs.lemmas.Bool.{true≢false}
@@ -12,16 +12,15 @@ use Rattle.accept.specs.declared.history.Item.{Item}
 use Rattle.accept.specs.declared.history.Item.TheVariants.{Answered, Failed}
 use Rattle.accept.specs.Rooms.{Streams}
 use Rattle.accept.specs.Histories.{meaning, stream_of, MayFollow, answered_to, reply_to}
-use Rattle.accept.proofs.Meanings.{get-meaning}
-use Rattle.wal.specs.declared.fault.OpenFault.{OpenFault}
-use Rattle.wal.specs.declared.fault.OpenFault.TheVariants.{Memory}
+use Rattle.accept.proofs.Meanings.{get-meaning, meaning-nothing}
+use Rattle.wal.specs.declared.fault.OpenFault.TheVariants.{Device, Memory}
 use Rattle.history.specs.declared.views.About.{About}
 use Rattle.history.specs.Shards.{shard_of}
 use Rattle.history.specs.Histories.{IsBeginning, IsLegalAt, IsByPasses, terms_of, history_of}
 use Rattle.history.specs.Plays.{seen_at, HasStepsOf}
 use Rattle.history.specs.Handles.{Passed}
 use Rattle.headline.specs.Threads.{Called, Happening, Thread, AnsweredCall, happened_to}
-use Rattle.headline.specs.Headline.{IsOneOf, WasAnswered, IsReplay, IsHeadline, is_refusal, shard_at, step_for, steps_for, items_before, history_before}
+use Rattle.headline.specs.Headline.{IsOneOf, WasAnswered, WasCalled, RefusedShard, IsForDeviceOrMemory, IsReplay, IsHeadline, is_refusal, shard_at, step_for, steps_for, items_before, history_before}
 
 abbrev pub key : ℕ → StreamKey
 key n = record { tenant = 97 ∷ []; labels = n ∷ [] }
@@ -50,9 +49,27 @@ in_doubt k = push 1 ∷ []
 abbrev pub found : ℕ → Streams → Type 0
 found k state = state ≡ meaning (answered_to about.limits (history_of about k items) (push 1 ∷ []))
 
--- or its slots were not opened for want of memory
-abbrev pub wanting : ℕ → OpenFault → Type 0
-wanting k fault = fault ≡ Memory
+-- or its slots were not opened for want of memory, or because a call on slot 0 failed
+abbrev pub no_memory : RefusedShard
+no_memory = record { fault = Memory; failures_before = (0, 0); failures_after = (0, 0) }
+
+abbrev pub no_device : RefusedShard
+no_device = record { fault = Device; failures_before = (0, 0); failures_after = (1, 0) }
+
+abbrev pub wanting : ℕ → RefusedShard → Type 0
+wanting k r = (r ≡ no_memory) ⊎ (r ≡ no_device)
+
+wanted : (k : ℕ) (r : RefusedShard) → wanting k r → IsForDeviceOrMemory r
+wanted k r (inl e) = subst IsForDeviceOrMemory (sym e) (inr (refl, refl))
+wanted k r (inr e) = subst IsForDeviceOrMemory (sym e) (inl (refl, λ same. let never : 1 ≡ 0 = ap (λ (c : ℕ × ℕ). c.0) same in omega arith))
+
+-- the slots were empty when they were opened
+abbrev pub empty_slots : ℕ → Streams → Type 0
+empty_slots k m = m ≡ finite.empty
+
+-- a call on a slot failed
+abbrev pub one_failed : ℕ → Type 0
+one_failed k = Unit {0}
 
 module _ (any : Passed) where
   abbrev pub knows : ℕ → List Item → List Step → Passed
@@ -115,17 +132,25 @@ module _ (any : Passed) where
   unfolding shard_of
   due = refl
 
-  pub stands : IsHeadline about threads failed in_doubt found wanting
+  was_called : (s : Step) → IsOneOf (Answered s) items → WasCalled threads s.ask
+  was_called s (inl e) = absurd (let never : Answered s ≡ Failed (push 1 ∷ []) = e in cc)
+  was_called s (inr (inl e)) = let same : s ≡ step = cc in subst (λ (t : Step). WasCalled threads t.ask) (sym same) (inl refl)
+  was_called s (inr (inr n)) = absurd n
+
+  pub stands : IsHeadline about threads failed in_doubt empty_slots one_failed found wanting
   stands = record {
+    over_what_was_read = λ k lt. refl;
     each_shards_calls = each;
     one_growing_history = λ h one k lt. subst (λ (g : Happening). IsBeginning (seen_at g.before.caller k) (seen_at g.after.caller k) × IsBeginning (seen_at g.after.caller k) items) (sym (only_happening h one)) (grows k lt);
     each_answered_call_once = λ a one. subst (λ (b : AnsweredCall). (k : ℕ) → k < 1 → steps_for b items ≡ (if k == shard_at about b then step_for b ∷ [] else [])) (sym (only_call a one)) once;
     and_no_others = λ t one. ⊎_elim (λ (e : t ≡ _). subst (λ (u : Thread). (k : ℕ) → k < 1 → HasStepsOf u.end.caller k items) (sym e) its) (λ (n : ⊥). absurd n) one;
+    no_step_without_its_call = λ have k lt s one. was_called s one;
+    a_mark_only_where_a_device_failed = λ k lt e. tt;
     after_all_its_pass_had_seen = λ a one. subst (λ (b : AnsweredCall). IsBeginning (seen_at b.knew (shard_at about b)) (items_before about failed b)) (sym (only_call a one)) seen_before;
     the_reply = λ a one e. absurd (true≢false (ap (λ (b : AnsweredCall). is_refusal b.reply) (sym (only_call a one)) ∙ e));
     a_refusal_in_its_stated_place = λ a one. subst (λ (b : AnsweredCall). b.reply ≡ reply_to (terms_of about (shard_at about b)) (history_before about failed b) b.call) (sym (only_call a one)) due;
     whatever_crash_comes = λ k lt state e. replayed k lt state e;
-    replay_gives = λ k fault e. inr e;
+    replay_gives = wanted;
   }
     where
       each : (k : ℕ) → k < 1 → IsLegalAt about k items × IsByPasses 1 items
@@ -140,6 +165,7 @@ module _ (any : Passed) where
         a_beginning_of_that_history = record { rest = []; is = refl };
         continued_only_by_calls_being_written = record { rest = []; is = refl };
         holds_every_answered_call = λ a one s. subst (λ (b : AnsweredCall). IsOneOf (step_for b) items) (sym (only_call a one)) (inr (inl refl));
+        holds_what_each_pass_had_seen = λ t one. ⊎_elim (λ (e : t ≡ _). subst (λ (u : Thread). IsBeginning (seen_at u.end.caller 0) items) (sym e) (record { rest = []; is = refl })) (λ (n : ⊥). absurd n) one;
       }
       replayed (suc k) lt state e = absurd (omega arith)
 
@@ -153,12 +179,15 @@ two k = push 1 ∷ push 2 ∷ []
 abbrev pub one_found : ℕ → Streams → Type 0
 one_found k state = state ≡ meaning (answered_to about.limits (history_of about k []) (push 1 ∷ []))
 
-pub also_stands : IsHeadline about [] nothing two one_found wanting
+pub also_stands : IsHeadline about [] nothing two empty_slots (λ k. ⊥) one_found wanting
 also_stands = record {
+  over_what_was_read = λ k lt. refl;
   each_shards_calls = λ k lt. (record { is = λ n i e. let never : None ≡ Some i = e in absurd (cc) }, tt);
   one_growing_history = λ h one. absurd one;
   each_answered_call_once = λ a one. absurd one;
   and_no_others = λ t one. absurd one;
+  no_step_without_its_call = λ have k lt s one. absurd one;
+  a_mark_only_where_a_device_failed = λ k lt e. absurd (true≢false (sym e));
   after_all_its_pass_had_seen = λ a one. absurd one;
   the_reply = λ a one. absurd one;
   a_refusal_in_its_stated_place = λ a one. absurd one;
@@ -169,9 +198,43 @@ also_stands = record {
     a_beginning_of_that_history = record { rest = []; is = refl };
     continued_only_by_calls_being_written = record { rest = push 2 ∷ []; is = refl };
     holds_every_answered_call = λ a one. absurd one;
+    holds_what_each_pass_had_seen = λ t one. absurd one;
   };
-  replay_gives = λ k fault e. inr e;
+  replay_gives = wanted;
 }
+
+-- The slots held the stream of one call when they were opened.
+abbrev pub one_stream : Streams
+one_stream = meaning (answered_to about.limits (history_of about 0 []) (push 1 ∷ []))
+
+abbrev pub about_more : About
+about_more = record about { bases = one_stream ∷ [] }
+
+abbrev pub held_one : ℕ → Streams → Type 0
+held_one k m = m ≡ one_stream
+
+abbrev pub no_replay : ℕ → Streams → Type 0
+no_replay k state = ⊥
+
+pub stands_over : IsHeadline about_more [] nothing two held_one (λ k. ⊥) no_replay wanting
+stands_over = record {
+  over_what_was_read = λ k lt. first k lt;
+  each_shards_calls = λ k lt. (record { is = λ n i e. let never : None ≡ Some i = e in absurd (cc) }, tt);
+  one_growing_history = λ h one. absurd one;
+  each_answered_call_once = λ a one. absurd one;
+  and_no_others = λ t one. absurd one;
+  no_step_without_its_call = λ have k lt s one. absurd one;
+  a_mark_only_where_a_device_failed = λ k lt e. absurd (true≢false (sym e));
+  after_all_its_pass_had_seen = λ a one. absurd one;
+  the_reply = λ a one. absurd one;
+  a_refusal_in_its_stated_place = λ a one. absurd one;
+  whatever_crash_comes = λ k lt state e. absurd e;
+  replay_gives = wanted;
+}
+  where
+    first : (k : ℕ) → k < 1 → held_one k (slice_index_or (one_stream ∷ []) k finite.empty)
+    first zero lt = refl
+    first (suc k) lt = absurd (omega arith)
 
 -- whether there is a stream on the key of this number
 abbrev pub has_stream : ℕ → List Ask → Bool
@@ -212,3 +275,7 @@ other_found [] b (x ∷ y ∷ []) o e =
     let other : push 1 ≡ y = cc in
     true≢false (sym two_both ∙ ap (λ a. has_stream 2 (a ∷ push 1 ∷ [])) one ∙ ap (λ a. has_stream 2 (x ∷ a ∷ [])) other ∙ sym (same_streams 2 (push 1 ∷ []) (x ∷ y ∷ []) e) ∙ two_one)
 other_found [] b (x ∷ y ∷ z ∷ more) o e = let never : push 2 ∷ push 1 ∷ [] ≡ x ∷ y ∷ z ∷ (more ++ o.rest) = o.is in cc
+
+-- the slots that held a stream were not empty
+pub not_empty : finite.empty ≡ one_stream → ⊥
+not_empty e = true≢false (sym one_one ∙ same_streams 1 (push 1 ∷ []) [] (sym e ∙ sym (meaning-nothing finite.empty)) ∙ one_none)

@@ -11,15 +11,13 @@ use Rattle.accept.specs.declared.history.Item.{Item}
 use Rattle.accept.specs.declared.history.Item.TheVariants.{Answered}
 use Rattle.accept.specs.declared.history.History.{History}
 use Rattle.accept.specs.Rooms.{Streams}
-use Rattle.accept.specs.Histories.{answer, reply_to, MayFollow, is_step_of}
+use Rattle.accept.specs.Histories.{answer, reply_to, MayFollow, is_step_of, is_marked}
 use Rattle.accept.proofs.Legal.{legal-last}
 use Rattle.accept.proofs.OtherKeys.{answer-only_about}
-use Rattle.wal.specs.declared.fault.OpenFault.{OpenFault}
 use Rattle.wal.specs.Covers.{IsAfter}
-use Rattle.wal.specs.Opening.{IsOfDeviceOrMemory}
 use Rattle.history.specs.declared.views.About.{About}
 use Rattle.history.specs.declared.views.Caller.{Caller}
-use Rattle.history.specs.Histories.{IsBeginning, IsLegalAt, IsByPasses, terms_of, history_of, shard_in, step_of, steps_by, steps_on, HaveNumbersBelow, HaveNumbersAbove, IsRising}
+use Rattle.history.specs.Histories.{IsBeginning, IsLegalAt, IsByPasses, base_at, terms_of, history_of, shard_in, step_of, steps_by, steps_on, HaveNumbersBelow, HaveNumbersAbove, IsRising}
 use Rattle.history.specs.Plays.{seen_at, ask_of, Extends, HasStepsOf}
 use Rattle.history.specs.Handles.{Passed}
 use Rattle.history.proofs.Lists.{begins_trans}
@@ -29,8 +27,9 @@ use Rattle.owners.specs.Openings.{Opening}
 use Rattle.ingester.specs.Calls.{IsAnswered, shard_for}
 use Rattle.ingester.specs.Closings.{IsTold}
 use Rattle.headline.specs.Threads.{What, Called, Looked, Met, Happening, Happens, Thread, IsThread, AnsweredCall, answers_by, last_passes, happened_to}
-use Rattle.headline.specs.Headline.{IsOneOf, ask_for, shard_at, step_for, steps_for, before_step, WasAnswered, is_refusal, IsReplay, IsHeadline}
+use Rattle.headline.specs.Headline.{IsOneOf, ask_for, shard_at, step_for, steps_for, before_step, WasAnswered, is_refusal, RefusedShard, IsForDeviceOrMemory, IsReplay, IsHeadline}
 use Rattle.headline.proofs.Among.{among_right, among_part}
+use Rattle.headline.proofs.Calling.{step_called}
 use Rattle.headline.proofs.Counting.{one_step, above_open, before_one}
 use Rattle.headline.proofs.Living.{IsSound, Grows, given_answer, IsOnTheWay, on_the_way, sound_on, fresh_sound}
 
@@ -180,8 +179,9 @@ module _ {D : Type 0} (opening : Opening D) (threads : List Thread) (threads_are
       subst (IsOneOf (step_for a)) (sym p.stands) (among_right (step_for a) (before_step (ask_for a) (histories (shard_at opening.about a))) (step_for a ∷ p.behind) (inl refl)) in
       subst (λ j. IsOneOf (step_for a) (histories j)) e here
 
-  module _ (writing : ℕ → List Ask) (replay : ℕ → Streams → Type 0) (after : (k : ℕ) → k < opening.about.shards → (state : Streams) → replay k state → IsAfter opening.about.limits (history_of opening.about k (histories k)) (writing k) state)
-      (refusal : ℕ → OpenFault → Type 0) (gives : (k : ℕ) (fault : OpenFault) → refusal k fault → IsOfDeviceOrMemory fault) where
+  module _ (writing : ℕ → List Ask) (read : ℕ → Streams → Type 0) (reads : (k : ℕ) → k < opening.about.shards → read k (base_at opening.about k)) (failed : ℕ → Type 0) (marks : (k : ℕ) → k < opening.about.shards → is_marked (histories k) ≡ true → failed k)
+      (replay : ℕ → Streams → Type 0) (after : (k : ℕ) → k < opening.about.shards → (state : Streams) → replay k state → IsAfter opening.about.limits (history_of opening.about k (histories k)) (writing k) state)
+      (refusal : ℕ → RefusedShard → Type 0) (gives : (k : ℕ) (r : RefusedShard) → refusal k r → IsForDeviceOrMemory r) where
     replayed : (k : ℕ) → k < opening.about.shards → (state : Streams) → replay k state → IsReplay opening.about threads k (histories k) (writing k) state
     replayed k lt state r =
         let found = after k lt state r in
@@ -192,10 +192,12 @@ module _ {D : Type 0} (opening : Opening D) (threads : List Thread) (threads_are
           a_beginning_of_that_history = record { rest = []; is = sym (append-nil (histories k)) };
           continued_only_by_calls_being_written = record { rest = drop found.0 (writing k); is = sym (take-append-drop found.0 (writing k)) };
           holds_every_answered_call = λ a one e. held a one k e;
+          holds_what_each_pass_had_seen = λ t of. ((good k lt).told t of).begins;
         }
 
-    pub says : IsHeadline opening.about threads histories writing replay refusal
+    pub says : IsHeadline opening.about threads histories writing read failed replay refusal
     says = record {
+      over_what_was_read = reads;
       each_shards_calls = λ k lt. let g = good k lt in (g.legal, g.by_passes);
       one_growing_history = λ h one k lt.
           let t = among_part (λ (u : Thread). u.happened) h threads one in
@@ -203,6 +205,8 @@ module _ {D : Type 0} (opening : Opening D) (threads : List Thread) (threads_are
           (w.grows.seen k, begins_trans (w.later.seen k) ((good k lt).told t.0 t.1).begins);
       each_answered_call_once = once_at;
       and_no_others = λ t of k lt. ((good k lt).told t of).steps;
+      no_step_without_its_call = λ have k lt s one. step_called opening threads k (histories k) threads_are (λ t of. ((good k lt).told t of).steps) (good k lt).by_passes have s one;
+      a_mark_only_where_a_device_failed = marks;
       after_all_its_pass_had_seen = λ a one. (stands_at a one).had_seen;
       the_reply = λ a one answered.
           let k : ℕ = shard_at opening.about a in

@@ -22,8 +22,8 @@ use Rattle.history.specs.declared.views.About.{About}
 use Rattle.history.specs.Histories.{IsLegalAt, base_at, terms_of, history_of}
 use Rattle.history.proofs.Past.{legal_front}
 use Rattle.openings.specs.Findings.{AreOpenedFrom}
-use Rattle.headline.specs.Headline.{is_refusal, IsReplay, IsHeadline}
-use Rattle.headline.specs.Lives.{Life, IsLife, MayBeReplayed, MayBeRefused, writing_in}
+use Rattle.headline.specs.Headline.{is_refusal, IsReplay}
+use Rattle.headline.specs.Lives.{Life, IsLife, IsHeadlineOf, MayBeReplayed, writing_in}
 use Rattle.headline.specs.Chains.{Part, answered_in, calls_found, IsPart, AreParts, base_in, IsContinued, AreLives, IsFoundLast, AreHeadlines, IsHeadlineOfLives}
 use Rattle.headline.proofs.Saying.{not_refused}
 use Rattle.headline.proofs.Ending.{histories, says}
@@ -145,7 +145,7 @@ module _ {D : Type 0} (sight : D → Sight) (follows : D → Type 0) (only_now :
     pub is_part : IsPart k e history part
     pub state_is : state ≡ meaning (answered_to limits h (answered_in part.beginning ++ part.more))
 
-  one_more : (limits : Limits) (k : ℕ) (e : Life D) (history : ℕ → List Item) (h : History) (state : Streams) → IsHeadline e.opening.about e.threads history (writing_in e.ends history) (MayBeReplayed sight follows e.ends) (MayBeRefused sight follows e.ends) → k < e.opening.about.shards
+  one_more : (limits : Limits) (k : ℕ) (e : Life D) (history : ℕ → List Item) (h : History) (state : Streams) → IsHeadlineOf sight follows e history → k < e.opening.about.shards
       → e.opening.about.limits ≡ limits → IsWithin limits h → meaning h ≡ base_at e.opening.about k → MayBeReplayed sight follows e.ends k state → IsOneMore limits k e history h state
   one_more limits k e history h state says lt same within base replay =
       let about : About = e.opening.about in
@@ -159,6 +159,7 @@ module _ {D : Type 0} (sight : D → Sight) (follows : D → Type 0) (only_now :
           a_beginning_of_that_history = r.a_beginning_of_that_history;
           continued_only_by_calls_being_written = r.continued_only_by_calls_being_written;
           holds_every_answered_call = r.holds_every_answered_call;
+          holds_what_each_pass_had_seen = r.holds_what_each_pass_had_seen;
         };
         state_is = r.the_state_after ∙ its ∙ ap (λ (l : Limits). meaning (answered_to l h (answered_in r.beginning ++ r.more))) same;
       }

@@ -68,7 +68,7 @@ steps_marked about k items doubt asks =
     let rest = steps_added about k (items ++ Failed doubt ∷ []) asks in
     record { more = Failed doubt ∷ rest.more; is = rest.is ∙ append_assoc items (Failed doubt ∷ []) rest.more; calls = rest.calls }
 
-index_get : {A : Type 0} (xs : List A) (k : ℕ) (d x : A) → slice_get xs k ≡ Some x → slice_index_or xs k d ≡ x
+pub index_get : {A : Type 0} (xs : List A) (k : ℕ) (d x : A) → slice_get xs k ≡ Some x → slice_index_or xs k d ≡ x
 index_get [] k d x e = let never : None ≡ Some x = e in absurd (cc)
 index_get (y ∷ xs) zero d x e = let one : Some y ≡ Some x = e in cc
 index_get (y ∷ xs) (suc k) d x e = index_get xs k d x e

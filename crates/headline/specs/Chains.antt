@@ -8,9 +8,10 @@ use Rattle.accept.specs.Rooms.{Streams}
 use Rattle.accept.specs.Histories.{meaning, answered_to}
 use Rattle.disk.specs.Sight.{Sight}
 use Rattle.history.specs.Histories.{IsBeginning, base_at}
-use Rattle.headline.specs.Threads.{AnsweredCall}
-use Rattle.headline.specs.Headline.{IsOneOf, WasAnswered, IsHeadline, is_refusal, shard_at, step_for}
-use Rattle.headline.specs.Lives.{Life, IsLife, MayBeReplayed, MayBeRefused, AreLeftAt, LogsFollow, writing_in}
+use Rattle.history.specs.Plays.{seen_at}
+use Rattle.headline.specs.Threads.{Thread, AnsweredCall}
+use Rattle.headline.specs.Headline.{IsOneOf, WasAnswered, is_refusal, shard_at, step_for}
+use Rattle.headline.specs.Lives.{Life, IsLife, IsHeadlineOf, MayBeReplayed, AreLeftAt, LogsFollow, writing_in}
 
 -- what was found of a shard's history after an opening: a beginning of it, and calls that were being written
 pub record Part : Type 0 where
@@ -37,6 +38,8 @@ pub record IsPart {D : Type 0} (k : ℕ) (life : Life D) (history : ℕ → List
   pub holds_every_answered_call : (a : AnsweredCall) → WasAnswered life.threads a
       → shard_at life.opening.about a ≡ k
       → IsOneOf (step_for a) p.beginning
+  pub holds_what_each_pass_had_seen : (t : Thread) → IsOneOf t life.threads
+      → IsBeginning (seen_at t.end.caller k) p.beginning
 
 abbrev pub AreParts : {D : Type 0} → ℕ → List (Life D) → List (ℕ → List Item) → List Part → Type 0
 AreParts k [] [] [] = Unit {0}
@@ -81,10 +84,7 @@ module _ {D : Type 0} (sight : D → Sight) (follows : D → Type 0) where
   -- each by itself
   abbrev pub AreHeadlines : List (Life D) → List (ℕ → List Item) → Type 0
   AreHeadlines [] [] = Unit {0}
-  AreHeadlines (life ∷ lives) (h ∷ histories) =
-      IsHeadline life.opening.about life.threads h (writing_in life.ends h)
-      (MayBeReplayed sight follows life.ends)
-      (MayBeRefused sight follows life.ends)
+  AreHeadlines (life ∷ lives) (h ∷ histories) = IsHeadlineOf sight follows life h
       × AreHeadlines lives histories
   AreHeadlines lives histories = ⊥
 

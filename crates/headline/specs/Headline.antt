@@ -1,20 +1,21 @@
 -- The sentence on the front page, word by word.
-use Rattle.std.specs.Prelude.{◌≡◌, ◌⊎◌, ℕ, ◌+◌, ◌<◌, ◌==◌, Bool, true, false, List, [], ◌∷◌, filter, if◌then◌else◌}
+use Rattle.std.specs.Prelude.{◌≡◌, ◌≢◌, ◌⊎◌, ℕ, ◌+◌, ◌<◌, ◌==◌, Bool, true, false, List, [], ◌∷◌, filter, if◌then◌else◌}
 use Rattle.accept.specs.declared.call.Reply.{Reply}
 use Rattle.accept.specs.declared.call.Reply.TheVariants.{Verdict, Entries, Trimmed, TrimTooNew, NoStream, NoRoom, Unavailable}
 use Rattle.accept.specs.declared.history.Ask.{Ask}
+use Rattle.accept.specs.declared.history.Step.{Step}
 use Rattle.accept.specs.declared.history.Item.{Item}
 use Rattle.accept.specs.declared.history.Item.TheVariants.{Answered}
 use Rattle.accept.specs.declared.history.History.{History}
 use Rattle.accept.specs.Rooms.{Streams}
-use Rattle.accept.specs.Histories.{key_of, answer, meaning, reply_to, answered_to, is_step_of}
+use Rattle.accept.specs.Histories.{key_of, answer, meaning, reply_to, answered_to, is_step_of, is_marked}
 use Rattle.accept.specs.OneKey.{only_about}
 use Rattle.wal.specs.declared.fault.OpenFault.{OpenFault}
-use Rattle.wal.specs.Opening.{IsOfDeviceOrMemory}
+use Rattle.wal.specs.declared.fault.OpenFault.TheVariants.{Device, Memory}
 use Rattle.history.specs.declared.views.About.{About}
-use Rattle.history.specs.Histories.{IsBeginning, IsLegalAt, IsByPasses, terms_of, history_of, shard_in, step_of}
+use Rattle.history.specs.Histories.{IsBeginning, IsLegalAt, IsByPasses, base_at, terms_of, history_of, shard_in, step_of}
 use Rattle.history.specs.Plays.{seen_at, ask_of, HasStepsOf}
-use Rattle.headline.specs.Threads.{Happening, Thread, AnsweredCall, happened_to, calls_answered_to}
+use Rattle.headline.specs.Threads.{Happening, Thread, AnsweredCall, happened_to, calls_answered_to, calls_made_by}
 
 abbrev pub IsOneOf : {A : Type 0} → A → List A → Type 0
 IsOneOf x [] = ⊥
@@ -57,6 +58,25 @@ history_before about history a = history_of about (shard_at about a) (items_befo
 abbrev pub WasAnswered : List Thread → AnsweredCall → Type 0
 WasAnswered threads a = IsOneOf a (calls_answered_to threads)
 
+-- each of n passes has a thread
+abbrev pub HaveThreads : ℕ → List Thread → Type 0
+HaveThreads n threads = (p : ℕ) → p < n → (t : Thread) × IsOneOf t threads × (t.number ≡ p)
+
+-- the call was made by one of the passes, under its number
+abbrev pub WasCalled : List Thread → Ask → Type 0
+WasCalled threads ask = IsOneOf ask (calls_made_by threads)
+
+-- why an opening refused a shard, and how many calls on slot 0 and slot 1 had failed before it and after it
+pub record RefusedShard : Type 0 where
+  pub fault : OpenFault
+  pub failures_before : ℕ × ℕ
+  pub failures_after : ℕ × ℕ
+
+-- for want of a device, and a call on one failed; or of memory, and none did
+abbrev pub IsForDeviceOrMemory : RefusedShard → Type 0
+IsForDeviceOrMemory r = ((r.fault ≡ Device) × (r.failures_after ≢ r.failures_before))
+    ⊎ ((r.fault ≡ Memory) × (r.failures_after ≡ r.failures_before))
+
 -- .. replay gives the state after a beginning of that history, continued only by calls then being written, that holds
 -- every answered call.
 pub record IsReplay (about : About) (threads : List Thread) (k : ℕ) (history : List Item)
@@ -69,14 +89,19 @@ pub record IsReplay (about : About) (threads : List Thread) (k : ℕ) (history :
   pub continued_only_by_calls_being_written : IsBeginning more writing
   pub holds_every_answered_call : (a : AnsweredCall) → WasAnswered threads a → shard_at about a ≡ k
       → IsOneOf (step_for a) beginning
+  pub holds_what_each_pass_had_seen : (t : Thread) → IsOneOf t threads
+      → IsBeginning (seen_at t.end.caller k) beginning
 
 -- However many threads call, each shard's calls stand in one growing history, each answered call once, after all its
 -- pass had seen, with the reply a one-thread ingester computes from the earlier steps on that stream or a refusal in
 -- its stated place; and whatever crash comes, ..
 pub record IsHeadline (about : About) (threads : List Thread) (history : ℕ → List Item)
     (writing : ℕ → List Ask)
+    (read : ℕ → Streams → Type 0)
+    (failed : ℕ → Type 0)
     (replay : ℕ → Streams → Type 0)
-    (refusal : ℕ → OpenFault → Type 0) : Type 0 where
+    (refusal : ℕ → RefusedShard → Type 0) : Type 0 where
+  pub over_what_was_read : (k : ℕ) → k < about.shards → read k (base_at about k)
   pub each_shards_calls : (k : ℕ) → k < about.shards
       → IsLegalAt about k (history k) × IsByPasses about.passes (history k)
   pub one_growing_history : (h : Happening) → IsOneOf h (happened_to threads) → (k : ℕ)
@@ -88,6 +113,10 @@ pub record IsHeadline (about : About) (threads : List Thread) (history : ℕ →
       → steps_for a (history k) ≡ (if k == shard_at about a then step_for a ∷ [] else [])
   pub and_no_others : (t : Thread) → IsOneOf t threads → (k : ℕ) → k < about.shards
       → HasStepsOf t.end.caller k (history k)
+  pub no_step_without_its_call : HaveThreads about.passes threads → (k : ℕ) → k < about.shards
+      → (s : Step) → IsOneOf (Answered s) (history k) → WasCalled threads s.ask
+  pub a_mark_only_where_a_device_failed : (k : ℕ) → k < about.shards
+      → is_marked (history k) ≡ true → failed k
   pub after_all_its_pass_had_seen : (a : AnsweredCall) → WasAnswered threads a
       → IsBeginning (seen_at a.knew (shard_at about a)) (items_before about history a)
   pub the_reply : (a : AnsweredCall) → WasAnswered threads a → is_refusal a.reply ≡ false
@@ -99,4 +128,4 @@ pub record IsHeadline (about : About) (threads : List Thread) (history : ℕ →
   pub whatever_crash_comes : (k : ℕ) → k < about.shards → (state : Streams) → replay k state
       → IsReplay about threads k (history k) (writing k) state
   -- It is refused for want of a device or of memory, and for nothing that a crash left.
-  pub replay_gives : (k : ℕ) (fault : OpenFault) → refusal k fault → IsOfDeviceOrMemory fault
+  pub replay_gives : (k : ℕ) (r : RefusedShard) → refusal k r → IsForDeviceOrMemory r

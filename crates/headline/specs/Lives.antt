@@ -5,18 +5,20 @@ use Rattle.accept.specs.declared.history.Ask.{Ask}
 use Rattle.accept.specs.declared.history.Item.{Item}
 use Rattle.accept.specs.Rooms.{Streams}
 use Rattle.disk.specs.Sight.{Sight}
-use Rattle.wal.specs.declared.fault.OpenFault.{OpenFault}
+use Rattle.segment.specs.Segments.{owner_of}
 use Rattle.wal.specs.declared.log.Wal.{Wal}
-use Rattle.wal.specs.Logs.{Follow}
-use Rattle.wal.specs.Opening.{AllFollow}
+use Rattle.wal.specs.Recovery.{Recovers}
+use Rattle.wal.specs.Moments.{Pair, HasFailed}
+use Rattle.wal.specs.Logs.{Follow, slots}
+use Rattle.wal.specs.Opening.{slots_of, AllFollow}
 use Rattle.history.specs.Histories.{doubt_of}
 use Rattle.history.specs.Handles.{about_of}
 use Rattle.owners.specs.Openings.{Opening}
 use Rattle.openings.specs.Findings.{AreOpenedFrom, IsFirstRefused}
 use Rattle.ingester.specs.Closings.{IsHandedOut}
 use Rattle.headline.specs.Threads.{Thread, IsThread, last_passes}
-use Rattle.headline.specs.Headline.{IsOneOf}
-use Rattle.headline.specs.Turns.{Stretch, IsStretch, IsLeftThen, writing_then}
+use Rattle.headline.specs.Headline.{IsOneOf, RefusedShard, IsHeadline}
+use Rattle.headline.specs.Turns.{Stretch, IsStretch, IsLeftThen, shard_then, writing_then}
 
 -- The end of a shard: `Closed::take` handed out its slots, or a crash came at some moment before.
 pub data ShardEnd (D : Type 0) : Type 0 where
@@ -43,6 +45,10 @@ writing_in ends history k = writing_at (slice_get ends k) (history k)
 -- it is where nothing happened in between, and where one of the contents that the old disk may leave is all there is.
 pub record IsLeftBy (old new : Sight) : Type 0 where
   pub crash : (c : List ℕ) → new.may_leave c → old.may_leave c
+
+-- how many calls on slot 0 and slot 1 have failed
+abbrev pub failures_of : Pair → ℕ × ℕ
+failures_of slots = (slots.first.failures, slots.second.failures)
 
 module _ {D : Type 0} (sight : D → Sight) (follows : D → Type 0) where
   -- each disk of these
@@ -89,6 +95,26 @@ module _ {D : Type 0} (sight : D → Sight) (follows : D → Type 0) where
     pub ends_are : (k : ℕ) (end : ShardEnd D) → slice_get life.ends k ≡ Some end
         → IsEnd life.opening life.threads k end
 
+  -- these streams stood in the slots over which shard k was opened
+  pub record WereRead (life : Life D) (k : ℕ) (m : Streams) : Type 0 where
+    pub given : List D
+    pub given_as : slice_get life.given k ≡ Some given
+    pub stood : Recovers (owner_of k (length life.given)) (slots_of sight given).first.seen
+        (slots_of sight given).second.seen m
+
+  -- both slots at the end of a shard, or at the start of the turn that was cut
+  abbrev pub slots_then : ShardEnd D → Pair
+  slots_then (HandedOut it) = slots_of sight it.0
+  slots_then (CutAt st) = slots sight (shard_then st.moment).log
+
+  -- a call on a slot of shard k has failed between the opening and then
+  pub record HasFailedSince (life : Life D) (k : ℕ) : Type 0 where
+    pub opened : Wal D
+    pub opened_as : slice_get life.opening.logs k ≡ Some opened
+    pub end : ShardEnd D
+    pub ended_as : slice_get life.ends k ≡ Some end
+    pub failed : HasFailed (slots sight opened) (slots_then end)
+
   -- a crash left slots over which the next opening has these streams of shard k
   pub record MayBeReplayed (ends : List (ShardEnd D)) (k : ℕ) (state : Streams) : Type 0 where
     pub left : List (List D)
@@ -100,11 +126,22 @@ module _ {D : Type 0} (sight : D → Sight) (follows : D → Type 0) where
     pub follow : LogsFollow logs
     pub there : slice_get states k ≡ Some state
 
-  -- A crash left slots of which the next opening refuses those of shard k first, for this fault. Their disks have
-  -- followed the model.
-  pub record MayBeRefused (ends : List (ShardEnd D)) (k : ℕ) (fault : OpenFault) : Type 0 where
+  -- A crash left slots of which the next opening refuses those of shard k first, for this fault and with these counts.
+  -- Their disks have followed the model.
+  pub record MayBeRefused (ends : List (ShardEnd D)) (k : ℕ) (r : RefusedShard) : Type 0 where
     pub left : List (List D)
     pub crash : AreLeftAt ends left
     pub backs : List (List D)
-    pub refused : IsFirstRefused sight follows (length left) k fault left backs
+    pub refused : IsFirstRefused sight follows (length left) k r.fault left backs
     pub follow : AllFollow follows refused.back
+    pub before : r.failures_before ≡ failures_of (slots_of sight refused.given)
+    pub after : r.failures_after ≡ failures_of (slots_of sight refused.back)
+
+  -- the headline, of this opening and these histories
+  abbrev pub IsHeadlineOf : Life D → (ℕ → List Item) → Type 0
+  IsHeadlineOf life history =
+      IsHeadline life.opening.about life.threads history (writing_in life.ends history)
+      (WereRead life)
+      (HasFailedSince life)
+      (MayBeReplayed life.ends)
+      (MayBeRefused life.ends)

@@ -1,11 +1,12 @@
 -- Passes of an opening, and what happens to them: calls, looks and meetings.
-use Rattle.std.specs.Prelude.{◌≡◌, ◌≢◌, ◌⊎◌, ℕ, ◌<◌, Bool, false, List, [], ◌∷◌, flat_map, Result, Ok, Err}
+use Rattle.std.specs.Prelude.{◌≡◌, ◌≢◌, ◌⊎◌, ℕ, ◌+◌, ◌<◌, Bool, false, List, [], ◌∷◌, flat_map, Result, Ok, Err}
 use Rattle.accept.specs.declared.call.Call.{Call}
 use Rattle.accept.specs.declared.call.Reply.{Reply}
 use Rattle.history.specs.declared.views.Caller.{Caller}
+use Rattle.accept.specs.declared.history.Ask.{Ask}
 use Rattle.accept.specs.declared.history.Item.{Item}
 use Rattle.history.specs.Histories.{IsBeginning, IsLegalAt, IsByPasses}
-use Rattle.history.specs.Plays.{seen_at, look_to, HasStepsOf}
+use Rattle.history.specs.Plays.{seen_at, ask_of, look_to, HasStepsOf}
 use Rattle.history.specs.Handles.{Passed, HaveMet, fresh_pass, with_seen}
 use Rattle.owners.specs.Openings.{Opening}
 use Rattle.ingester.specs.declared.fault.CallFault.{CallFault}
@@ -101,3 +102,12 @@ answers_by c (Met other theirs) = []
 -- all calls that were answered
 abbrev pub calls_answered_to : List Thread → List AnsweredCall
 calls_answered_to threads = flat_map (λ h. answers_by h.before.caller h.what) (happened_to threads)
+
+-- all calls that were made, each under its pass and number, whatever came of them
+abbrev pub calls_by_what : Caller → What → List Ask
+calls_by_what c (Called call outcome) = ask_of c (c.last + 1) call ∷ []
+calls_by_what c (Looked k) = []
+calls_by_what c (Met other theirs) = []
+
+abbrev pub calls_made_by : List Thread → List Ask
+calls_made_by threads = flat_map (λ h. calls_by_what h.before.caller h.what) (happened_to threads)

@@ -8,7 +8,7 @@ ghost use Rattle.owners.specs.Openings.{Opening};
 ghost use Rattle.ingester.specs.Calls.{AreGiven};
 ghost use Rattle.headline.specs.Threads.{Happening, HappenAfter, calls_with};
 ghost use Rattle.headline.specs.Headline.{IsHeadline};
-ghost use Rattle.headline.specs.Lives.{Life, IsLeftBy, IsLife, MayBeReplayed, MayBeRefused, writing_in};
+ghost use Rattle.headline.specs.Lives.{Life, IsLeftBy, IsLife, WereRead, HasFailedSince, MayBeReplayed, MayBeRefused, writing_in};
 ghost use Rattle.headline.specs.Chains.{AreLives, IsHeadlineOfLives};
 
 use accept::{Call, Reply};
@@ -21,6 +21,8 @@ pub fn headline<D: Disk>()
     ensures says { (life : Life D) → IsLife D.sight D.follows life
         → (history : ℕ → List Item)
         × IsHeadline life.opening.about life.threads history (writing_in life.ends history)
+        (WereRead D.sight D.follows life)
+        (HasFailedSince D.sight D.follows life)
         (MayBeReplayed D.sight D.follows life.ends)
         (MayBeRefused D.sight D.follows life.ends) }
     ensures cut { (old new : D) → (D.sight old).may_leave (D.sight new).seen
