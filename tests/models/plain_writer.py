@@ -76,6 +76,8 @@ class File:
 class WrittenLife:
     """Files in a folder of a disk that threads write and sync."""
 
+    who = "a plain writer"
+
     def __init__(self, draw, work, settings=None):
         self.draw, self.files = draw, [File(f"file-{it}") for it in range(FILES)]
         self.leaves_out = int((settings or {}).get("LEAVE_OUT", 0))

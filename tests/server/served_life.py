@@ -145,6 +145,8 @@ class Client(threading.Thread):
 class ServedLife:
     """A server over the folder `log` of a disk: started, served and killed, once or more."""
 
+    who = "a server"
+
     def __init__(self, draw, work, settings=None):
         self.draw, self.work, self.settings = draw, work, settings or {}
         self.shards = draw.choice([1, 2, 3])
