@@ -15,8 +15,9 @@ help: ## prints this
 # (jemalloc where it is installed, else the C library's with threads that keep more freed pieces at hand:
 # docs/BENCHMARKS.md says what a push takes by each)
 JEMALLOC = $(firstword $(wildcard /usr/lib/*/libjemalloc.so.2))
-# (its threads give pages back that are no longer used)
-TUNED = $(if $(JEMALLOC),LD_PRELOAD=$(JEMALLOC) MALLOC_CONF=background_thread:true,GLIBC_TUNABLES=glibc.malloc.tcache_count=1000)
+# (a thread of its own gives pages back that are no longer used; the unit has the same)
+MALLOC_CONF = background_thread:true,max_background_threads:1
+TUNED = $(if $(JEMALLOC),LD_PRELOAD=$(JEMALLOC) MALLOC_CONF=$(MALLOC_CONF),GLIBC_TUNABLES=glibc.malloc.tcache_count=1000)
 
 # (without SHARDS, which stays the same for a folder, ./data keeps the number that it has, and a new one gets 8)
 run: ## the server on port 3100, with its log in ./data (SHARDS=8 WORKERS=64)
