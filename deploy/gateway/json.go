@@ -34,6 +34,10 @@ func decodeJSON(body []byte, found *messages) ([]stream, error) {
 			it.Skip()
 		}
 	})
+	// (what jsoniter doesn't take though it is JSON would be lost without a word)
+	if it.Error != nil {
+		it.fail(badRequest("body can't be read: %s", it.Error))
+	}
 	return it.streams, it.err
 }
 
