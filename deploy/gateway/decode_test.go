@@ -46,6 +46,8 @@ func TestJSON(t *testing.T) {
 		`null`: nil,
 		` {"streams":null,"more":[{"a":[1,2]}]} `: nil,
 		`{"streams":[{}]}`:                        {{}},
+		`{"a":1e5,"b":-0.0E-1,"d":123456789012345678901234567890,"e":[[],{"\u0000":""}],"streams":[{}]}`: {{}},
+		`{"a":` + strings.Repeat("[", 9_000) + strings.Repeat("]", 9_000) + `,"streams":[{}]}`:           {{}},
 		`{"Streams":[{"stream":{"a":"1","b":2.50,"c":true,"d":""},"values":[]}]}`: {
 			{labels: []label{{"a", "1"}, {"b", "2.50"}, {"c", "true"}}},
 		},
@@ -99,6 +101,14 @@ func TestJSONFaults(t *testing.T) {
 		if _, err := decodeJSON([]byte(body), plenty(100)); textOf(err) != wanted {
 			t.Errorf("%.60s: %s", body, textOf(err))
 		}
+	}
+}
+
+// What is JSON, and can't be read by the library, is refused, and not left out.
+func TestJSONUnread(t *testing.T) {
+	found, err := decodeJSON([]byte(`{"more":1E999,"streams":[{}]}`), plenty(100))
+	if !strings.HasPrefix(textOf(err), "400 body can't be read: ") {
+		t.Errorf("%v, %s", plainOf(found), textOf(err))
 	}
 }
 

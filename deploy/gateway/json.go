@@ -34,6 +34,10 @@ func decodeJSON(body []byte, found *messages) ([]stream, error) {
 			it.Skip()
 		}
 	})
+	// (what jsoniter doesn't take though it is JSON would be lost without a word)
+	if it.Error != nil {
+		it.fail(badRequest("body can't be read: %s", it.Error))
+	}
 	return it.streams, it.err
 }
 
@@ -62,7 +66,7 @@ func (it *jsonBody) object(what string, each func(key string)) {
 	} else if it.is(jsoniter.ObjectValue, what, "an object") {
 		it.ReadMapCB(func(_ *jsoniter.Iterator, key string) bool {
 			each(key)
-			return it.err == nil
+			return it.err == nil && it.Error == nil
 		})
 	}
 }
@@ -73,7 +77,7 @@ func (it *jsonBody) array(what string, each func()) {
 	} else if it.is(jsoniter.ArrayValue, what, "an array") {
 		it.ReadArrayCB(func(*jsoniter.Iterator) bool {
 			each()
-			return it.err == nil
+			return it.err == nil && it.Error == nil
 		})
 	}
 }

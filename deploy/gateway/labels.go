@@ -15,7 +15,13 @@ type labelText struct {
 	at   int
 }
 
+// (what is longer has labels that the server refuses, whatever escapes they have)
+const mostLabelText = 1 << 20
+
 func parseLabels(text string) ([]label, error) {
+	if len(text) > mostLabelText {
+		return nil, fmt.Errorf("more than %d bytes", mostLabelText)
+	}
 	it := labelText{text: text}
 	labels, err := it.metric()
 	if err == nil && it.skip() < len(text) {

@@ -81,6 +81,9 @@ func TestLabelsAreCut(t *testing.T) {
 	if err != nil || len(many) != 16 {
 		t.Errorf("%d labels, %v", len(many), err)
 	}
+	if _, err := parseLabels(strings.Repeat(" ", mostLabelText+1)); err == nil || err.Error() != "more than 1048576 bytes" {
+		t.Error(err)
+	}
 	long, err := parseLabels("{" + strings.Repeat("a", 5000) + `="` + strings.Repeat("b", 5000) + `"}`)
 	if err != nil || len(long[0].name) != 1025 || len(long[0].value) != 2049 {
 		t.Errorf("%d, %d, %v", len(long[0].name), len(long[0].value), err)

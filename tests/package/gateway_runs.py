@@ -8,7 +8,7 @@ import sys
 import threading
 
 TOP = os.path.dirname(os.path.dirname(os.path.dirname(os.path.realpath(__file__))))
-SECONDS = 60
+SECONDS = 120
 MOST_TIME = 2**63 - 1
 PUSH = "/loki/api/v1/push"
 
