@@ -153,11 +153,17 @@ module _ {D : Type 0} (sight : D → Sight) (follows : D → Type 0) (only_now :
       let crash : LeftAt sight follows g.end f.given = left_at sight follows ends f.front f.behind f.given g.end (subst (AreLeftAt sight follows ends) f.all_are r.crash) (ap (slice_get ends) number ∙ g.there) in
       let covers = subst (λ (n : ℕ). Covers (owner_of k n) opening.about.limits (slots_of sight f.given) (history_of opening.about k (histories k)) (writing_at (Some g.end) (histories k))) counted (g.good.covers f.given crash) in
       ⊎_elim
-      (λ (e : shown.fault ≡ Device). inl (e, λ same.
-          both_differ (slots_of sight f.given) (slots_of sight f.back) (subst (λ (x : OpenFault). CountsCause x (slots_of sight f.given) (slots_of sight f.back)) e f.refusal.counted) (sym r.after ∙ same ∙ r.before)))
-      (λ (e : shown.fault ≡ Memory). inr (e, r.after
-          ∙ both_same (slots_of sight f.given) (slots_of sight f.back) (subst (λ (x : OpenFault). CountsCause x (slots_of sight f.given) (slots_of sight f.back)) e f.refusal.counted)
-          ∙ sym r.before))
+      (λ (e : shown.fault ≡ Device). inl (
+        e,
+        λ same.
+            both_differ (slots_of sight f.given) (slots_of sight f.back) (subst (λ (x : OpenFault). CountsCause x (slots_of sight f.given) (slots_of sight f.back)) e f.refusal.counted) (sym r.after ∙ same ∙ r.before),
+      ))
+      (λ (e : shown.fault ≡ Memory). inr (
+        e,
+        r.after
+            ∙ both_same (slots_of sight f.given) (slots_of sight f.back) (subst (λ (x : OpenFault). CountsCause x (slots_of sight f.given) (slots_of sight f.back)) e f.refusal.counted)
+            ∙ sym r.before,
+      ))
       (f.refusal.covered r.follow opening.about.limits (history_of opening.about k (histories k)) (writing_at (Some g.end) (histories k)) covers)
 
   pub says : IsHeadlineOf sight follows lived histories
