@@ -69,13 +69,13 @@ drain-check: ALSO = tests/package/drain_to_loki
 gateway-check: BEFORE = deploy/gateway/build race && tests/package/gateway_quick race
 deb-check edge-check gateway-check: gateway
 
-%-check: ## tests/*/NAME_check over built programs: gateway drain sweep after syslog memory edge scale-out metrics fill, as root deb filesystem, alone kit theorem
+%-check: ## tests/*/NAME_check over built programs: clients gateway drain sweep after syslog memory edge scale-out metrics fill, as root deb filesystem, alone kit theorem
 	@$(if $(PROGRAMS),RT='$(RT)' tests/gate/build $(PROGRAMS))
 	@$(BEFORE)
 	@RT='$(RT)' $(or $(wildcard tests/*/$(subst -,_,$*)_check),$(error there is no tests/*/$(subst -,_,$*)_check)) $(WORDS)
 	@$(ALSO)
 
-measure: ## what is timed: soak scale roll start default_shards metrics_cost (NAME=soak WORDS=2)
+measure: ## what is timed: soak scale roll start default_shards metrics_cost drain_cost gateway_speed window (NAME=soak WORDS=2)
 	@RT='$(RT)' tests/gate/build server walcat
 	@tests/measure/run $(NAME) $(WORDS)
 

@@ -27,7 +27,7 @@ const (
 	mostAnswer = 1 << 20
 )
 
-// The server that pushes are sent on to, over connections that are kept: each of them holds one of its workers.
+// The server that pushes are sent on to, over connections that are kept.
 type server struct {
 	address string
 	pushes  *http.Client

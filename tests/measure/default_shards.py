@@ -40,19 +40,14 @@ def load(port, script, connections):
     return float(re.search(r"Requests/sec: +([\d.]+)", said)[1]), float(number) * MILLISECONDS[unit]
 
 
-def roll(filling, slots):
+def roll(filling, folder):
     """How long the slowest of ROLLS pushes took that began a segment."""
     found, cycles = [], 0
     while len(found) < ROLLS:
         cycles += 1
         servers.need(cycles <= 10 * ROLLS, "pushes to a full shard begin segments")
         filling.trim()
-        taken = True
-        while taken:
-            before, began = max(map(full_shards.generation, slots)), time.monotonic()
-            taken = filling.push()
-            if max(map(full_shards.generation, slots)) > before:
-                found.append(time.monotonic() - began)
+        found += [took for took, is_roll in full_shards.pushes(filling, folder) if is_roll]
     return max(found)
 
 
@@ -62,7 +57,7 @@ class Sharing:
     def __init__(self, above, count, mib, how):
         self.folder, self.count, self.mib, self.how = f"{above}/{count}", count, mib, how
         self.settings, self.found = full_shards.settings_for(mib), {}
-        full_shards.fill_slots(self.folder, count, self.settings)
+        servers.fill_slots(self.folder, count, self.settings)
 
     def serve(self, workers):
         return servers.Server(self.folder, self.count, workers, self.settings, **self.how)
@@ -86,7 +81,7 @@ class Sharing:
             left = fillings
             while left:
                 left = full_shards.push_each(left)
-            took = roll(fillings[0], full_shards.slots_of(self.folder, 0))
+            took = roll(fillings[0], self.folder)
         self.note("longest push that begins a segment of a full shard, s", took)
 
     def start(self):

@@ -9,7 +9,7 @@ import subprocess
 import time
 
 import servers
-from order_of_calls import generation_of
+from segments import generation_of
 
 # (as `make run` has it)
 WORKERS = 64
@@ -67,6 +67,15 @@ class Filling:
             servers.need(status == 200, f"a trim is answered {status} {text}")
 
 
+def pushes(filling, folder):
+    """Pushes until there is no room: of each push how long it took, and whether it began a segment."""
+    while True:
+        before, began = servers.generation(folder), time.monotonic()
+        if not filling.push():
+            return
+        yield time.monotonic() - began, servers.generation(folder) > before
+
+
 def push_each(fillings):
     """Pushes to these shards side by side. Returns those that had room."""
     for it in fillings:
@@ -76,30 +85,16 @@ def push_each(fillings):
 
 # ---- slots ---------------------------------------------------------------------------------------------------------
 
-def fill_slots(folder, count, settings):
-    """Makes the slots of `count` shards, at their full length."""
-    words = [f"{servers.TOP}/deploy/fill-slots", folder, str(count)]
-    subprocess.run(words, env={**os.environ, **settings}, check=True)
-
-
-def slots_of(folder, shard):
-    return [f"{folder}/shard-{shard:02}-{slot}.wal" for slot in (0, 1)]
-
-
 def close_slots(folder, count):
     """Makes the shards new ones, whose slots keep their length."""
-    for path in itertools.chain.from_iterable(slots_of(folder, it) for it in range(count)):
+    for path in itertools.chain.from_iterable(servers.slots_of(folder, it) for it in range(count)):
         with open(path, "r+b") as file:
             file.write(b"\0")
 
 
-def generation(path):
-    with open(path, "rb") as file:
-        return generation_of(file.read(HEADER))
-
-
 def slots_in_use(folder, count):
-    return [max(slots_of(folder, it), key=generation) for it in range(count)]
+    newest = lambda slot: generation_of(servers.bytes_of(slot, HEADER))
+    return [max(servers.slots_of(folder, it), key=newest) for it in range(count)]
 
 
 def end_of(slot):
@@ -125,6 +120,15 @@ def drop_from_cache(slots):
         words = ["fincore", "--bytes", "--noheadings", "--output", "RES", *slots]
         said = subprocess.run(words, capture_output=True, check=True).stdout
         servers.need(not sum(map(int, said.split())), "files that were dropped are not in the cache")
+
+
+def used_by(words, **how):
+    """How many seconds a command takes, and those of a processor."""
+    began = time.monotonic()
+    running = subprocess.Popen(words, stdout=subprocess.DEVNULL, stderr=subprocess.DEVNULL, **how)
+    _, running.returncode, used = os.wait4(running.pid, 0)
+    servers.need(not running.returncode, f"{words[0]} ends with {running.returncode}")
+    return time.monotonic() - began, used.ru_utime + used.ru_stime
 
 
 # ---- a start -------------------------------------------------------------------------------------------------------

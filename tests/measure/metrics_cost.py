@@ -8,10 +8,9 @@ bytes. Where the best one of a kind costs more than MOST says, the status is 1."
 import os
 import random
 import shutil
-import subprocess
-import sys
 import tempfile
 
+import full_shards
 from hostile_bytes import TOP, append_bytes, segment_bytes, state_bytes
 
 SHARDS, CAPACITY, LINES, LOOKS = 16, 67_108_864, 10, 5
@@ -42,13 +41,7 @@ def segment(shard, least, most):
 def look(folder, places):
     """The processor seconds of a look."""
     environment = {**os.environ, "CACHE_DIRECTORY": places} if places else {**os.environ}
-    words = [f"{TOP}/deploy/metrics", folder, "9", str(SHARDS)]
-    running = subprocess.Popen(words, env=environment, stdout=subprocess.DEVNULL, stderr=subprocess.DEVNULL)
-    _, status, used = os.wait4(running.pid, 0)
-    running.returncode = status
-    if status:
-        sys.exit(f"a look ends with {status}")
-    return used.ru_utime + used.ru_stime
+    return full_shards.used_by([f"{TOP}/deploy/metrics", folder, "9", str(SHARDS)], env=environment)[1]
 
 
 def set_gates(folder, gates, value):

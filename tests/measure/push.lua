@@ -1,6 +1,8 @@
 -- For wrk: pushes of ten lines of 200 bytes, each thread to streams of its own, at times that rise.
 -- wrk -t2 -c32 -d10 -s tests/measure/push.lua http://127.0.0.1:3100/loki/api/v1/push
 local threads = 0
+-- how many streams a push has, and how many lines each (streams.lua has others)
+streams, lines = streams or 1, lines or 10
 
 function setup(thread)
    threads = threads + 1
@@ -8,8 +10,7 @@ function setup(thread)
 end
 
 function init(args)
-   streams = 8
-   calls = 0
+   calls, written = 0, 0
    line = string.rep("x", 200)
    start = os.time()
    wrk.method = "POST"
@@ -17,15 +18,25 @@ function init(args)
    wrk.headers["X-Scope-OrgID"] = "load"
 end
 
+local function labels_of(at)
+   if streams == 1 then
+      return string.format('{"load":"%d-%d"}', id, calls % 8)
+   end
+   return string.format('{"pod":"%d","load":"%d"}', at, id)
+end
+
 function request()
    calls = calls + 1
-   local values = {}
-   for at = 1, 10 do
-      local micros = calls * 10 + at
-      values[at] = string.format('["%d%06d000","%s"]', start + math.floor(micros / 1000000), micros % 1000000, line)
+   local its = {}
+   for at = 1, streams do
+      local values = {}
+      for of = 1, lines do
+         written = written + 1
+         values[of] = string.format('["%d%06d000","%s"]', start + math.floor(written / 1000000), written % 1000000, line)
+      end
+      its[at] = string.format('{"stream":%s,"values":[%s]}', labels_of(at), table.concat(values, ","))
    end
-   local body = string.format('{"streams":[{"stream":{"load":"%d-%d"},"values":[%s]}]}', id, calls % streams, table.concat(values, ","))
-   return wrk.format(nil, nil, nil, body)
+   return wrk.format(nil, nil, nil, '{"streams":[' .. table.concat(its, ",") .. "]}")
 end
 
 function done(summary, latency)

@@ -18,28 +18,17 @@ LINE, LINES, ROLLS = 260_000, 15, 5
 STEP, DAYS = 15 * 60, 6 * 24 * 3_600
 
 
-def push(filling, slots, usual, rolling):
-    """Whether there was room for one more push. Notes how long it took."""
-    before, began = max(map(full_shards.generation, slots)), time.monotonic()
-    is_taken = filling.push()
-    took = time.monotonic() - began
-    if is_taken:
-        (usual if max(map(full_shards.generation, slots)) == before else rolling).append(took)
-    return is_taken
-
-
 def measure(folder, mib):
-    settings, slots, usual, rolling = full_shards.settings_for(mib), full_shards.slots_of(folder, 0), [], []
+    settings, rolling = full_shards.settings_for(mib), []
     with servers.Server(folder, 1, 1, settings) as server:
-        filling = full_shards.Filling(server.port, 0, 1, int(time.time()) - DAYS, STEP, streams=1, lines=LINES, lengths=(LINE, LINE))
-        while push(filling, slots, usual, rolling):
-            pass
+        first, how = int(time.time()) - DAYS, {"streams": 1, "lines": LINES, "lengths": (LINE, LINE)}
+        filling = full_shards.Filling(server.port, 0, 1, first, STEP, **how)
         # (the first push of all began the first segment)
-        rolling.clear()
+        _, *usual = (took for took, _ in full_shards.pushes(filling, folder))
         while len(rolling) < ROLLS:
             filling.trim()
-            while push(filling, slots, usual, rolling):
-                pass
+            for took, is_roll in full_shards.pushes(filling, folder):
+                (rolling if is_roll else usual).append(took)
         memory = server.memory("VmHWM")
     took, _, replayed, _ = full_shards.start(folder, 1, settings)
     print(f"{mib} MiB: {len(usual)} usual pushes of 3.9 MB {statistics.median(usual):.2f} s, at most {max(usual):.2f} s; "

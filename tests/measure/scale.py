@@ -16,11 +16,8 @@ import tempfile
 import time
 
 import servers
-from order_of_calls import generation_of
 from servers import hold, need
 
-FAULTS = [("there is no memory for an answer of 10 MB", "BREAK_LARGE", str(8 << 20), []),
-          ("there is no memory for a slot of 100 MB", "BREAK_LARGE", str(100_000_000), [])]
 CAPACITY, LARGE = 64 << 20, 224 << 20
 LINES, STREAMS, AT_ONCE, LONG, LONG_LINE, LONG_LINES = 120_000, 25_000, 900, 10, 262_144, 46
 MINUTE = 60 * 10**9
@@ -67,12 +64,7 @@ class Shard:
         return is_so
 
     def generation(self):
-        return max(map(generation_of, self.heads()))
-
-    def heads(self):
-        for slot in (0, 1):
-            with open(f"{self.folder}/shard-00-{slot}.wal", "rb") as file:
-                yield file.read(21)
+        return servers.generation(self.folder)
 
 
 def push_lines(shard, now):

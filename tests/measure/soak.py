@@ -20,12 +20,10 @@ import statistics
 import time
 
 import servers
-from order_of_calls import generation_of
 
 SHARDS, PROCESSES, STREAMS, PACE = 4, 4, 2, 1_500
 LINES, LENGTH, SLICE = 20, 400, 10
 QUARTER = servers.HOUR // 4
-FAULTS = [("it loses memory", "BREAK_MEMORY", "1", ["1"]), ("each sync takes longer", "BREAK_SPEED", "200", ["1"])]
 
 
 def step_of(capacity):
@@ -88,8 +86,7 @@ def high(times):
 
 def rolls_of(folder):
     """The generations of all shards."""
-    slots = [[servers.bytes_of(f"{folder}/shard-{shard:02}-{slot}.wal") for slot in (0, 1)] for shard in range(SHARDS)]
-    return sum(max(map(generation_of, its)) for its in slots)
+    return sum(servers.generation(folder, it) for it in range(SHARDS))
 
 
 def run(folder, server, seconds, step):

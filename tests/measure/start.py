@@ -9,7 +9,6 @@ dropped from it, so what other processes have there stays; the disk may have a c
 """
 import os
 import statistics
-import subprocess
 import tempfile
 import time
 
@@ -28,16 +27,6 @@ def fill(folder, megabytes, count, settings, how):
         for _ in range(max(1, round(megabytes * 1e6 / fillings[0].size))):
             servers.need(full_shards.push_each(fillings) == fillings, "each shard has room")
         return server.memory()
-
-
-def read(slots):
-    """How many seconds `cat` takes to read these files, and those of a processor."""
-    began = time.monotonic()
-    running = subprocess.Popen(["cat", *slots], stdout=subprocess.DEVNULL)
-    _, status, used = os.wait4(running.pid, 0)
-    took, running.returncode = time.monotonic() - began, status
-    servers.need(status == 0, f"cat ends with {status}")
-    return took, used.ru_utime + used.ru_stime
 
 
 def measure(slots, runs):
@@ -70,14 +59,14 @@ def starts(folder, count, settings, programs):
 def run(folder, megabytes, count, programs):
     mib = min(1024, max(64, int(megabytes * 1.1e6) // 2**20 + 1))
     settings = full_shards.settings_for(mib)
-    full_shards.fill_slots(folder, count, settings)
+    servers.fill_slots(folder, count, settings)
     memory = fill(folder, megabytes, count, settings, {"executable": programs[0]})
     slots = full_shards.slots_in_use(folder, count)
     ends = list(map(full_shards.end_of, slots))
     found = measure(slots, starts(folder, count, settings, programs))
     for slot, end in zip(slots, ends):
         os.truncate(slot, end)
-    found.update(measure(slots, {"`cat` of the segments": lambda: read(slots)}))
+    found.update(measure(slots, {"`cat` of the segments": lambda: full_shards.used_by(["cat", *slots])}))
     print(f"{count} shards of {mib} MiB with {sum(ends) / 1e6:,.0f} MB of segments; the server that wrote them had "
           f"{memory / 1e6:,.0f} MB of memory at its end:\n", *table(found, sum(ends)), sep="\n", flush=True)
 

@@ -3,6 +3,7 @@
 It follows docs/DEFINITIONS.md and docs/API.md, and knows nothing of how the programs work; so it is slow, and short. An
 entry is its time, its line, and its metadata as pairs of bytes in the order of their names.
 """
+import itertools
 import json
 import re
 
@@ -47,24 +48,15 @@ def canonical(pairs):
     return b"{" + b", ".join(shown) + b"}"
 
 
+LABEL = rb'([A-Za-z0-9_]+)="((?:[^"\\\n]|\\[\\"n])*)"'
+
+
 def labels_of(text):
     """The labels whose canonical text this is, or None."""
-    if text[:1] != b"{" or text[-1:] != b"}":
+    if not re.fullmatch(rb"\{%b(?:, %b)*\}" % (LABEL, LABEL), text):
         return None
-    label = re.compile(rb'([A-Za-z0-9_]+)="((?:[^"\\\n]|\\[\\"n])*)"')
-    pairs, at, end = [], 1, len(text) - 1
-    while True:
-        found = label.match(text, at, end)
-        if not found:
-            return None
-        value = re.sub(rb"\\(.)", lambda it: b"\n" if it[1] == b"n" else it[1], found[2])
-        pairs.append((found[1], value))
-        at = found.end()
-        if at == end:
-            break
-        if text[at:at + 2] != b", ":
-            return None
-        at += 2
+    plain = lambda value: re.sub(rb"\\(.)", lambda it: b"\n" if it[1] == b"n" else it[1], value)
+    pairs = [(name, plain(value)) for name, value in re.findall(LABEL, text)]
     return pairs if not label_fault(pairs) and canonical(pairs) == text else None
 
 
@@ -100,127 +92,43 @@ class NotJson(Exception):
     """The text is not JSON."""
 
 
-class Reader:
-    """JSON of RFC 8259 from a text: at most 127 arrays and objects in one another, numbers that a float holds, pairs of
-    surrogates that are whole; of members with one name the last one counts."""
+def number_of(text):
+    found = float(text)
+    if found in (float("inf"), float("-inf")):
+        raise NotJson
+    return found
 
-    blank = re.compile(r"[ \t\n\r]*")
-    number = re.compile(r"-?(?:0|[1-9][0-9]*)(?:\.[0-9]+)?(?:[eE][+-]?[0-9]+)?")
-    plain = re.compile(r'[^"\\\x00-\x1f]*')
-    escapes = {'"': '"', "\\": "\\", "/": "/", "b": "\b", "f": "\f", "n": "\n", "r": "\r", "t": "\t"}
 
-    def __init__(self, text):
-        self.text, self.at = text, 0
+def no_number(_):
+    """For NaN and Infinity, which Python takes."""
+    raise NotJson
 
-    def peek(self):
-        self.at = self.blank.match(self.text, self.at).end()
-        return self.text[self.at:self.at + 1]
 
-    def expect(self, word):
-        if not self.text.startswith(word, self.at):
-            raise NotJson
-        self.at += len(word)
+def members_of(pairs):
+    """The members of an object. A surrogate without its other half, in any of them, can't be written as UTF-8."""
+    json.dumps(pairs, ensure_ascii=False).encode()
+    return dict(pairs)
 
-    def document(self):
-        found = self.value(MOST_DEPTH)
-        if self.peek():
-            raise NotJson
-        return found
 
-    def value(self, depth):
-        first = self.peek()
-        if first in ("[", "{") and not depth:
-            raise NotJson
-        if first == "[":
-            return self.items(depth - 1)
-        if first == "{":
-            return self.members(depth - 1)
-        if first == '"':
-            return self.string()
-        for word, what in (("null", None), ("true", True), ("false", False)):
-            if self.text.startswith(word, self.at):
-                self.at += len(word)
-                return what
-        found = self.number.match(self.text, self.at)
-        if not found or float(found[0]) in (float("inf"), float("-inf")):
-            raise NotJson
-        self.at = found.end()
-        return float(found[0])
-
-    def items(self, depth):
-        self.at += 1
-        found = []
-        if self.peek() == "]":
-            self.at += 1
-            return found
-        while True:
-            found.append(self.value(depth))
-            if self.peek() == "]":
-                self.at += 1
-                return found
-            self.expect(",")
-
-    def members(self, depth):
-        self.at += 1
-        found = {}
-        if self.peek() == "}":
-            self.at += 1
-            return found
-        while True:
-            if self.peek() != '"':
-                raise NotJson
-            name = self.string()
-            self.peek()
-            self.expect(":")
-            found[name] = self.value(depth)
-            if self.peek() == "}":
-                self.at += 1
-                return found
-            self.expect(",")
-            self.peek()
-
-    def string(self):
-        self.at += 1
-        parts = []
-        while True:
-            found = self.plain.match(self.text, self.at)
-            parts.append(found[0])
-            self.at = found.end()
-            if self.text[self.at:self.at + 1] == '"':
-                self.at += 1
-                return "".join(parts)
-            self.expect("\\")
-            parts.append(self.escape())
-
-    def escape(self):
-        letter = self.text[self.at:self.at + 1]
-        self.at += 1
-        if letter in self.escapes:
-            return self.escapes[letter]
-        if letter != "u":
-            raise NotJson
-        first = self.unit()
-        if not 0xD800 <= first < 0xE000:
-            return chr(first)
-        self.expect("\\u")
-        second = self.unit()
-        if first >= 0xDC00 or not 0xDC00 <= second < 0xE000:
-            raise NotJson
-        return chr(0x10000 + (first - 0xD800) * 0x400 + second - 0xDC00)
-
-    def unit(self):
-        digits = self.text[self.at:self.at + 4]
-        if not re.fullmatch("[0-9a-fA-F]{4}", digits):
-            raise NotJson
-        self.at += 4
-        return int(digits, 16)
+def depth_of(text):
+    """How many arrays and objects of a JSON text are in one another at most."""
+    signs = re.findall(r"[\[{\]}]", re.sub(r'"(?:[^"\\]|\\.)*"', "", text, flags=re.DOTALL))
+    return max(itertools.accumulate((1 if it in "[{" else -1 for it in signs), initial=0))
 
 
 def read_json(body):
+    """JSON of RFC 8259: at most 127 arrays and objects in one another, numbers that a float holds, pairs of surrogates that
+    are whole; of members with one name the last one counts."""
     try:
-        return Reader(body.decode()).document()
-    except UnicodeDecodeError:
+        text = body.decode()
+        if depth_of(text) > MOST_DEPTH:
+            raise NotJson
+        hooks = {"parse_int": number_of, "parse_float": number_of, "parse_constant": no_number}
+        found = json.loads(text, object_pairs_hook=members_of, **hooks)
+        json.dumps(found, ensure_ascii=False).encode()
+    except ValueError:
         raise NotJson from None
+    return found
 
 
 def write_text(text):

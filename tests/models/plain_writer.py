@@ -80,7 +80,7 @@ class WrittenLife:
 
     def __init__(self, draw, work, settings=None):
         self.draw, self.files = draw, [File(f"file-{it}") for it in range(FILES)]
-        self.leaves_out = int((settings or {}).get("LEAVE_OUT", 0))
+        self.leaves_out = int((settings or {}).get("BREAK_SYNC", 0))
         self.is_filled, self.kind = False, "empty files"
         self.forget()
 

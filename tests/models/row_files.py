@@ -28,6 +28,15 @@ def rows_of(path):
         raise ValueError(f"{path}: the last row has no end")
 
 
+def pieces_of(path):
+    """The pieces of each line of a file, as bytes: between them stands ` | `, and `N*TEXT` is TEXT N times."""
+    with open(path, encoding="utf-8") as file:
+        for line in file:
+            if not line.startswith("#"):
+                parts = (re.fullmatch(r"(?:(\d+)\*)?(.*)", it) for it in line.rstrip("\n").split(" | "))
+                yield [plain(it[2]) * int(it[1] or 1) for it in parts]
+
+
 def plain(text):
     """The bytes of a row's text."""
     pieces = re.split(r"\\(x[0-9a-f]{2}|[rnt\\])", text)

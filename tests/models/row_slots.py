@@ -1,10 +1,15 @@
-"""The bytes of slots that rows speak of, and what rows say of a slot."""
-from hostile_bytes import APPENDED, APPENDED_OF_1, EXAMPLE, EXAMPLE_OF_1, PAIR, PAIRED
+"""The bytes that rows put together, slots above all, and what rows say of a slot."""
+import collections
+import itertools
+
+from hostile_bytes import APPENDED, APPENDED_OF_1, EXAMPLE, EXAMPLE_OF_1, PAIR, PAIRED, key_bytes, segment_bytes
+from row_files import plain
 
 # what an append of the entry of PAIRED puts after a gate
 APPENDED_PAIR = b"\x27" + APPENDED[83:105] + b"\x0a" + APPENDED[106:117] + b"x" + PAIR + b"\0"
 PIECES = {"segment": EXAMPLE, "frame": APPENDED[82:], "segment_of_1": EXAMPLE_OF_1, "frame_of_1": APPENDED_OF_1[80:],
           "segment_with_pair": PAIRED, "frame_with_pair": APPENDED_PAIR, "-": b""}
+EXAMPLES = {"example": APPENDED, "example_of_1": APPENDED_OF_1}
 
 
 def slot_of(words):
@@ -28,16 +33,11 @@ def slot_of(words):
     return found
 
 
-def counted(data, size):
-    return len(data).to_bytes(size, "little") + data
-
-
 def segment_of(keys, shard, count):
     """A segment of generation 1 that has a state of each of these keys, a tenant and a canonical text, as they stand.
     The one entry of each is that of the example."""
-    states = (b"\3" + counted(tenant, 2) + counted(text, 4) + EXAMPLE[41:81] for tenant, text in keys)
-    owner = shard.to_bytes(4, "little") + count.to_bytes(4, "little")
-    return EXAMPLE[:13] + owner + b"\1" + counted(b"".join(states), 4) + b"\0"
+    states = b"".join(b"\3" + key_bytes(*it) + EXAMPLE[41:81] for it in keys)
+    return segment_bytes(b"2", 1, shard, count, [states])
 
 
 def verdict_of(status, output, errors):
@@ -55,24 +55,72 @@ def verdict_of(status, output, errors):
 def places_shown(found):
     """What was said of each place: the same of neighbours as one line."""
     lines, at = [], 0
-    while at < len(found):
-        end = at
-        while end + 1 < len(found) and found[end + 1] == found[at]:
-            end += 1
-        lines.append(f"{at if at == end else f'{at}-{end}'} {found[at]}")
+    for said, alike in itertools.groupby(found):
+        end = at + len(list(alike)) - 1
+        lines.append(f"{at if at == end else f'{at}-{end}'} {said}")
         at = end + 1
     return lines
 
 
-def changes_shown(word, rest, slot, verdict):
-    """What `cuts` says of a slot, cut at each length, or `sets HH ..`, with each byte set to each of these. `verdict`
-    says what a slot is."""
-    places = range(len(slot))
-    if word == "cuts":
-        return places_shown([verdict(slot[:at]) for at in places])
-    lines = []
-    for digits in rest.split():
-        byte = bytes.fromhex(digits)
-        lines.append(f"byte {digits}")
-        lines += places_shown([verdict(slot[:at] + byte + slot[at + 1:]) for at in places])
-    return lines
+class Bytes:
+    """The bytes that the lines of a row put together, and what `walcat` says of them: of a slot, a shard and a number of
+    shards it gives its exit status, output and errors."""
+
+    def __init__(self, walcat):
+        # (the keys are those of the states of the next segment)
+        self.walcat, self.data, self.keys = walcat, b"", []
+
+    def take(self, word, rest):
+        """Changes the bytes. Whether this is a word for that."""
+        if word in ("in", "in*"):
+            count, text = rest.split(" ", 1) if word == "in*" else (1, rest)
+            self.data += plain(text) * int(count)
+        elif word == "hex":
+            self.data += bytes.fromhex(rest)
+        elif word in EXAMPLES:
+            self.data += EXAMPLES[word]
+        elif word == "byte":
+            at, _, digits = rest.partition(" ")
+            at, new = int(at), bytes.fromhex(digits)
+            assert at < len(self.data) and len(new) == 1, "no such place or byte"
+            self.data = self.data[:at] + new + self.data[at + 1:]
+        elif word == "cut":
+            self.data = self.data[:int(rest)]
+        elif word == "slot":
+            self.data = slot_of(rest)
+        elif word == "key":
+            self.keys.append(self.key(rest))
+        elif word == "segment":
+            self.data, self.keys = segment_of(self.keys, *map(int, rest.split(" "))), []
+        else:
+            return False
+        return True
+
+    def key(self, words):
+        """A tenant, and a canonical text, which is the bytes so far where no words follow the tenant."""
+        tenant, _, text = words.partition(" ")
+        text, self.data = (plain(text), self.data) if text else (self.data, b"")
+        return b"" if tenant == "''" else plain(tenant), text
+
+    def verdict(self, slot, owner="0 1"):
+        return verdict_of(*self.walcat(slot, *map(int, owner.split(" "))))
+
+    def said(self, word, rest):
+        """What is said of the bytes, or of the beginnings of a text; None where the word doesn't ask for it."""
+        places = range(len(self.data))
+        if word == "verdict":
+            return [self.verdict(self.data, rest)]
+        if word == "cuts":
+            return places_shown([self.verdict(self.data[:at]) for at in places])
+        if word == "sets":
+            lines = []
+            for digits in rest.split():
+                set_to = (self.data[:at] + bytes.fromhex(digits) + self.data[at + 1:] for at in places)
+                lines += [f"byte {digits}", *places_shown(map(self.verdict, set_to))]
+            return lines
+        if word == "beginnings":
+            tenant, text = self.key(rest)
+            cut = (text.decode()[:at].encode() for at in range(len(text.decode())))
+            said = collections.Counter(self.verdict(segment_of([(tenant, it)], 0, 1)) for it in cut)
+            return [f"{times} times {it}" for it, times in said.items()]
+        return None

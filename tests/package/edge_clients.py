@@ -1,14 +1,70 @@
-"""Clients of an edge, for tests/package/edge_check: one that pushes line after line, and many that send a byte a second."""
+"""An edge: its nginx and logins; clients of it, one that pushes line after line, and many that send a byte a second."""
 import asyncio
 import base64
 import json
+import os
+import shutil
+import socket
 import ssl
+import subprocess
 import time
 
-PUSH = "/loki/api/v1/push"
+from servers import PUSH, TOP, hold
+
 TLS = ssl.SSLContext(ssl.PROTOCOL_TLS_CLIENT)
 # (the certificate is made for one run)
 TLS.check_hostname, TLS.verify_mode = False, ssl.CERT_NONE
+
+
+def find_nginx(work):
+    """The nginx that is installed, or that of Debian's package, unpacked and not installed."""
+    found = shutil.which("nginx", path=f"{os.environ['PATH']}:/usr/sbin")
+    if not found:
+        get = "apt-get -qq -o APT::Sandbox::User=root download nginx && dpkg -x nginx_*.deb nginx"
+        subprocess.run(get, shell=True, check=True, cwd=work, timeout=300)
+        found = f"{work}/nginx/usr/sbin/nginx"
+    return found
+
+
+def write_nginx(folder, name, changes):
+    """A file of deploy/ with the ports of this run, and temporary folders of its own."""
+    os.makedirs(folder, exist_ok=True)
+    kinds = ["client_body", "proxy", "fastcgi", "uwsgi", "scgi"]
+    places = "".join(f"\n    {it}_temp_path {folder}/{it};" for it in kinds)
+    with open(f"{TOP}/{name}", encoding="utf-8") as file:
+        text = file.read()
+    for old, new in [("\nhttp {", f"\nhttp {{{places}"), *changes]:
+        assert text.count(old) == 1, (name, old)
+        text = text.replace(old, new)
+    with open(f"{folder}/nginx.conf", "w", encoding="utf-8") as file:
+        file.write(text)
+
+
+def write_users(folder, users):
+    """A login for each tenant."""
+    how = {"input": "".join(f"secret-{it}\n" for it in users), "capture_output": True, "text": True, "check": True}
+    hashes = subprocess.run(["openssl", "passwd", "-apr1", "-stdin"], **how).stdout.split()
+    with open(f"{folder}/edge.users", "w", encoding="utf-8") as file:
+        file.writelines(f"{user}:{it}\n" for user, it in zip(users, hashes))
+
+
+class Nginx:
+    """An nginx over the file nginx.conf of a folder, until it is ended."""
+
+    def __init__(self, program, folder, port, ends):
+        words = [program, "-p", folder, "-c", f"{folder}/nginx.conf", "-e", f"{folder}/error.log"]
+        self.running = subprocess.Popen([*words, "-g", f"daemon off; pid {folder}/nginx.pid;"])
+        ends.callback(self.end)
+        for _ in range(100):
+            with socket.socket() as it:
+                if not it.connect_ex(("127.0.0.1", port)):
+                    return
+            time.sleep(0.1)
+        hold(False, f"nginx listens: {open(f'{folder}/error.log', encoding='utf-8').read()}")
+
+    def end(self):
+        self.running.terminate()
+        self.running.wait()
 
 
 def push_body(labels, stamp, line):
@@ -56,20 +112,22 @@ class Client:
 
 
 class Pusher:
-    """Pushes one line after another to a tenant's stream, each again until it is answered 204."""
+    """Pushes one line after another to a tenant's stream, each again until it is answered 204. `errors` are the other
+    answers, with their times; `more` are lines of the head."""
 
-    def __init__(self, port, tenant):
-        self.client, self.tenant = Client(port), tenant
+    def __init__(self, port, tenant, labels, more=(), pause=0):
+        self.client, self.tenant, self.labels, self.more, self.pause = Client(port), tenant, labels, more, pause
         self.answered, self.errors, self.is_done = [], [], False
 
     async def run(self):
         while not self.is_done:
             stamp, line = time.time_ns(), f"{self.tenant} line {len(self.answered)}"
-            body = push_body({"from": "edge"}, stamp, line)
-            while (status := await self.client.ask(head(PUSH, self.tenant, len(body)) + body)) != 204:
-                self.errors.append(status)
+            body = push_body(self.labels, stamp, line)
+            while (status := await self.client.ask(head(PUSH, self.tenant, len(body), self.more) + body)) != 204:
+                self.errors.append((time.monotonic(), status))
                 await asyncio.sleep(0.2)
             self.answered.append([str(stamp), line])
+            await asyncio.sleep(self.pause)
         self.client.close()
 
 

@@ -2,74 +2,20 @@
 import http.client
 import json
 import os
-import socket
-import subprocess
 import sys
-import threading
 
-TOP = os.path.dirname(os.path.dirname(os.path.dirname(os.path.realpath(__file__))))
+sys.path.append(f"{os.path.dirname(os.path.realpath(__file__))}/../server")
+import servers
+from servers import PUSH, TOP
+
 SECONDS = 120
-MOST_TIME = 2**63 - 1
-PUSH = "/loki/api/v1/push"
 
 
-def hold(is_so, what):
-    """Says whether something is so, and ends the run where it isn't."""
-    print(f"{'ok' if is_so else 'WRONG'}: {what}", flush=True)
-    if not is_so:
-        sys.exit(1)
-
-
-class Program:
-    """A program that says where it is ready, until it is killed."""
-
-    def __init__(self, words, **settings):
-        self.words, self.settings = words, {**os.environ, **settings}
-        self.start()
-
-    def start(self):
-        self.running = subprocess.Popen(self.words, env=self.settings, stdout=subprocess.PIPE, stderr=subprocess.PIPE)
-        watch = threading.Timer(SECONDS, self.running.kill)
-        watch.start()
-        said = self.running.stdout.readline()
-        watch.cancel()
-        if not said.startswith(b"ready "):
-            sys.exit(f"{self.words[0]}: {self.running.stderr.read().decode()}")
-        self.port = int(said.split()[1].rpartition(b":")[2])
-
-    def kill(self):
-        self.running.kill()
-        self.running.communicate()
-
-    def end(self):
-        """Stops it. Its exit status, and what it wrote to standard error."""
-        self.running.terminate()
-        _, errors = self.running.communicate(timeout=SECONDS)
-        return self.running.returncode, errors.decode()
-
-    def __enter__(self):
-        return self
-
-    def __exit__(self, *_):
-        if self.running.poll() is None:
-            self.kill()
-
-    def memory(self):
-        """How many bytes of memory it has had at most."""
-        with open(f"/proc/{self.running.pid}/status", encoding="ascii") as file:
-            return next(int(line.split()[1]) * 1024 for line in file if line.startswith("VmHWM"))
-
-
-def free_port():
-    with socket.create_server(("127.0.0.1", 0)) as it:
-        return it.getsockname()[1]
-
-
-class Server(Program):
+class Server(servers.Server):
     """A server over a folder. Its port stays the same when it is started again."""
 
     def __init__(self, folder, shards=4):
-        super().__init__([f"{TOP}/crates/server/out/server", folder, str(free_port()), str(shards), "64"])
+        super().__init__(folder, shards, 64, {**os.environ}, port=servers.free_ports(1)[0])
 
     def read(self, tenant, labels):
         """The entries of a stream, past the gateway."""
@@ -83,14 +29,20 @@ class Server(Program):
         return sum(row[1].endswith(f":{self.port:04X}") and row[3] == "01" for row in rows)
 
 
-class Gateway(Program):
+class Gateway(servers.Program):
     """A gateway before a server."""
 
     def __init__(self, server, *more, program="needleazure-gateway"):
-        at, to = f"127.0.0.1:{free_port()}", f"http://127.0.0.1:{server.port}"
+        at, to = f"127.0.0.1:{servers.free_ports(1)[0]}", f"http://127.0.0.1:{server.port}"
         # (which ends it with that status where the race detector has found something)
-        settings = {"GORACE": "exitcode=66 halt_on_error=1"}
-        super().__init__([f"{TOP}/deploy/out/{program}", "--listen", at, "--to", to, *more], **settings)
+        settings = {**os.environ, "GORACE": "exitcode=66 halt_on_error=1"}
+        super().__init__([f"{TOP}/deploy/out/{program}", "--listen", at, "--to", to, *more], settings)
+
+    def stop(self):
+        """Its exit status, and what it wrote to standard error."""
+        self.running.terminate()
+        _, errors = self.running.communicate(timeout=SECONDS)
+        return self.running.returncode, errors.decode()
 
     def metric(self, name):
         with Client(self.port) as client:
@@ -123,6 +75,6 @@ class Client:
         return self.ask("POST", PUSH, body, head, is_chunked)
 
     def read(self, labels):
-        body = json.dumps({"stream": labels, "from": "0", "to": str(MOST_TIME)})
-        status, text = self.ask("POST", "/ingester/v1/read", body, {"Content-Type": "application/json"})
+        body = json.dumps(servers.read_body(labels))
+        status, text = self.ask("POST", servers.READ, body, {"Content-Type": "application/json"})
         return json.loads(text)["values"] if status == 200 else status

@@ -13,19 +13,25 @@
 //           FAIL_SYNC=n: each n-th fdatasync (of files whose path ends with FAIL_NAME) fails. FULL_AT=n: from the n-th
 //           write on none makes its file longer; the first of them writes half.
 // time      FAST=n: what the program waits for, and the clock that it waits by, go n times as fast.
-// broken    BREAK_ADDRESS: it listens on all addresses. BREAK_CLOCK: the clock of the day stands still. BREAK_PAUSE: no
-//           thread sleeps. BREAK_SETTING: there is no NEEDLEAZURE_CAPACITY. BREAK_ACCEPT=n: after n connections none is
-//           accepted. BREAK_SYNC=folder, file, opening or gate: folders are not synced, files are not when they are made,
-//           nothing is before the first write, or every other sync of a slot's bytes is left out. BREAK_LINE=n: in each
-//           n-th write of several bytes the last x is a y. BREAK_MEMORY: each write leaves 256 bytes of memory behind.
+// broken    BREAK_ADDRESS: it listens on all addresses. BREAK_CLOCK: the clock of the day stands still. BREAK_FAST=n: as
+//           FAST. BREAK_PAUSE: no thread sleeps. BREAK_SETTING: there is no NEEDLEAZURE_CAPACITY. BREAK_PROCESSORS: there
+//           is one. BREAK_END=n: it ends well after n connections. BREAK_CLOSE=n: each n-th connection is closed when it
+//           comes. BREAK_DELAY: what is sent may be held back. BREAK_READ: a read that fails is made once more.
+//           BREAK_FAILURE=hidden or quiet: a write or sync that fails is said to be made; standard error gets nothing.
+//           BREAK_SYNC=folder, file, opening or gate: folders are not synced, files are not when they are made, nothing
+//           is before the first write, or every other sync of a slot's bytes is left out; =n: each n-th of these is.
+//           BREAK_LINE=n: in each n-th write of several bytes the last x is a y. BREAK_KEEP=n: the first piece of memory
+//           of n bytes or more is not given back. BREAK_MEMORY: each write leaves 256 bytes of memory behind.
 //           BREAK_SPEED=n: each sync takes n nanoseconds longer than the one before.
 #define _GNU_SOURCE
 #include <arpa/inet.h>
 #include <dlfcn.h>
 #include <errno.h>
 #include <fcntl.h>
-#include <poll.h>
+#include <malloc.h>
+#include <netinet/tcp.h>
 #include <pthread.h>
+#include <sched.h>
 #include <signal.h>
 #include <stdarg.h>
 #include <stdint.h>
@@ -66,7 +72,7 @@ static int refuse(int cause) {
 }
 
 static void make_file(const char *path) {
-    int file = path == NULL ? -1 : NEXT(openat)(AT_FDCWD, path, O_CREAT | O_WRONLY, 0600);
+    int file = path == NULL ? -1 : openat(AT_FDCWD, path, O_CREAT | O_WRONLY, 0600);
     if (file >= 0) {
         close(file);
     }
@@ -109,17 +115,20 @@ void *realloc(void *old, size_t size) {
     return is_refused(size) ? NULL : NEXT(realloc)(old, size);
 }
 
-void *aligned_alloc(size_t alignment, size_t size) {
-    return is_refused(size) ? NULL : NEXT(aligned_alloc)(alignment, size);
-}
-
-int posix_memalign(void **out, size_t alignment, size_t size) {
-    return is_refused(size) ? ENOMEM : NEXT(posix_memalign)(out, alignment, size);
+void free(void *piece) {
+    static void *kept;
+    static int64_t least = -1;
+    least = least < 0 ? (int64_t)number_of("BREAK_KEEP") : least;
+    if (least > 0 && kept == NULL && malloc_usable_size(piece) >= (size_t)least) {
+        kept = piece;
+        return;
+    }
+    NEXT(free)(piece);
 }
 
 // Adds a line with the number of requests to a file, by calls that make none.
 static void note_requests(const char *path) {
-    int file = NEXT(openat)(AT_FDCWD, path, O_CREAT | O_WRONLY | O_APPEND, 0600);
+    int file = openat(AT_FDCWD, path, O_CREAT | O_WRONLY | O_APPEND, 0600);
     char line[24];
     int size = snprintf(line, sizeof line, "%lu\n", (unsigned long)requests);
     if (file >= 0 && NEXT(write)(file, line, (size_t)size) != size) {
@@ -138,6 +147,15 @@ int pthread_create(pthread_t *thread, const pthread_attr_t *attributes, void *(*
     }
     make_file(getenv("THREAD_MARK"));
     return EAGAIN;
+}
+
+int sched_getaffinity(pid_t whose, size_t size, cpu_set_t *to) {
+    int made = NEXT(sched_getaffinity)(whose, size, to);
+    if (made == 0 && getenv("BREAK_PROCESSORS") != NULL) {
+        memset(to, 0, size);
+        CPU_SET_S(0, size, to);
+    }
+    return made;
 }
 
 // ---- streams -------------------------------------------------------------------------------------------------------
@@ -168,6 +186,9 @@ ssize_t write(int file, const void *from, size_t count) {
     if (counts != NULL) {
         note_requests(counts);
     }
+    if (file == STDERR_FILENO && is_said("BREAK_FAILURE", "quiet")) {
+        return (ssize_t)count;
+    }
     const char *room = file == STDOUT_FILENO   ? getenv("OUTPUT_ROOM")
                        : file == STDERR_FILENO ? getenv("ERROR_ROOM")
                                                : NULL;
@@ -188,7 +209,8 @@ ssize_t write(int file, const void *from, size_t count) {
 static int64_t fast(void) {
     static int64_t times;
     if (times == 0) {
-        times = getenv("FAST") == NULL ? 1 : (int64_t)number_of("FAST");
+        uint64_t asked = getenv("BREAK_FAST") == NULL ? number_of("FAST") : number_of("BREAK_FAST");
+        times = asked == 0 ? 1 : (int64_t)asked;
     }
     return times;
 }
@@ -219,36 +241,8 @@ int nanosleep(const struct timespec *asked, struct timespec *left) {
     return getenv("BREAK_PAUSE") != NULL ? 0 : NEXT(nanosleep)(&span, left);
 }
 
-int clock_nanosleep(clockid_t which, int flags, const struct timespec *asked, struct timespec *left) {
-    struct timespec span = span_of(nanoseconds(asked) / fast());
-    return getenv("BREAK_PAUSE") != NULL ? 0 : NEXT(clock_nanosleep)(which, flags, &span, left);
-}
-
-int setsockopt(int file, int level, int name, const void *value, socklen_t size) {
-    if (level == SOL_SOCKET && (name == SO_RCVTIMEO || name == SO_SNDTIMEO) && fast() > 1) {
-        const struct timeval *asked = value;
-        int64_t span = ((int64_t)asked->tv_sec * 1000000 + asked->tv_usec) / fast();
-        struct timeval changed = {span / 1000000, span % 1000000};
-        return NEXT(setsockopt)(file, level, name, &changed, sizeof changed);
-    }
-    return NEXT(setsockopt)(file, level, name, value, size);
-}
-
-static int sooner(int milliseconds) {
-    return milliseconds <= 0 ? milliseconds : (int)((milliseconds + fast() - 1) / fast());
-}
-
-int poll(struct pollfd *files, nfds_t count, int wait) {
-    return NEXT(poll)(files, count, sooner(wait));
-}
-
-int ppoll(struct pollfd *files, nfds_t count, const struct timespec *wait, const sigset_t *mask) {
-    struct timespec span = wait == NULL ? (struct timespec){0, 0} : span_of(nanoseconds(wait) / fast());
-    return NEXT(ppoll)(files, count, wait == NULL ? NULL : &span, mask);
-}
-
 int epoll_wait(int file, struct epoll_event *events, int count, int wait) {
-    return NEXT(epoll_wait)(file, events, count, sooner(wait));
+    return NEXT(epoll_wait)(file, events, count, wait <= 0 ? wait : (int)((wait + fast() - 1) / fast()));
 }
 
 // ---- the network ---------------------------------------------------------------------------------------------------
@@ -263,13 +257,24 @@ int bind(int it, const struct sockaddr *address, socklen_t length) {
     return NEXT(bind)(it, address, length);
 }
 
+int setsockopt(int file, int level, int name, const void *value, socklen_t size) {
+    int is_broken = level == IPPROTO_TCP && name == TCP_NODELAY && getenv("BREAK_DELAY") != NULL;
+    return is_broken ? 0 : NEXT(setsockopt)(file, level, name, value, size);
+}
+
 int accept4(int it, struct sockaddr *address, socklen_t *length, int flags) {
-    static uint64_t made;
-    uint64_t most = number_of("BREAK_ACCEPT");
-    if (most > 0 && ++made > most) {
-        pause();
+    static uint64_t come;
+    uint64_t each = number_of("BREAK_CLOSE");
+    if (getenv("BREAK_END") != NULL && come >= number_of("BREAK_END")) {
+        _exit(0);
     }
-    return NEXT(accept4)(it, address, length, flags);
+    int file = NEXT(accept4)(it, address, length, flags);
+    come += file >= 0;
+    if (file >= 0 && each > 0 && come % each == 0) {
+        close(file);
+        return accept4(it, address, length, flags);
+    }
+    return file;
 }
 
 // ---- the device ----------------------------------------------------------------------------------------------------
@@ -322,7 +327,7 @@ static void put(struct call *call, const void *bytes, size_t length) {
     struct timespec now;
     pthread_mutex_lock(&turn);
     if (notes < 0 && to != NULL) {
-        int file = NEXT(openat)(AT_FDCWD, to, O_WRONLY | O_CREAT | O_APPEND | O_CLOEXEC, 0600);
+        int file = openat(AT_FDCWD, to, O_WRONLY | O_CREAT | O_APPEND | O_CLOEXEC, 0600);
         notes = fcntl(file, F_DUPFD_CLOEXEC, 500);
         close(file);
     }
@@ -379,46 +384,36 @@ static void name_file(struct call *call, int file) {
     call->path[length < 0 ? 0 : length] = 0;
 }
 
-// A path from the folder in which the program runs, or from `folder`.
-static void name_path(struct call *call, int folder, const char *path) {
+// A path from the folder in which the program runs.
+static void name_path(struct call *call, const char *path) {
     call->path[0] = 0;
-    if (path[0] != '/' && folder == AT_FDCWD && getcwd(call->path, sizeof call->path / 2) != NULL) {
+    if (path[0] != '/' && getcwd(call->path, sizeof call->path / 2) != NULL) {
         strcat(call->path, "/");
     }
     strncat(call->path, path, sizeof call->path / 2 - 1);
 }
 
-static int opens(int folder, const char *path, int flags, mode_t mode) {
+int open(const char *path, int flags, ...) {
     struct call call;
-    name_path(&call, folder, path);
+    va_list more;
+    va_start(more, flags);
+    mode_t mode = flags & (O_CREAT | O_TMPFILE) ? va_arg(more, mode_t) : 0;
+    va_end(more);
+    name_path(&call, path);
     begin(&call, 'o', 0, (uint64_t)flags, NULL);
-    return (int)end(&call, NEXT(openat)(folder, path, flags, mode));
+    return (int)end(&call, NEXT(open)(path, flags, mode));
 }
-
-#define OPENS(name, folder, ...) \
-    int name(__VA_ARGS__ const char *path, int flags, ...) { \
-        va_list more; \
-        va_start(more, flags); \
-        mode_t mode = flags & (O_CREAT | O_TMPFILE) ? va_arg(more, mode_t) : 0; \
-        va_end(more); \
-        return opens(folder, path, flags, mode); \
-    }
-
-OPENS(open, AT_FDCWD)
-OPENS(open64, AT_FDCWD)
-OPENS(openat, folder, int folder, )
-OPENS(openat64, folder, int folder, )
 
 int mkdir(const char *path, mode_t mode) {
     struct call call;
-    name_path(&call, AT_FDCWD, path);
+    name_path(&call, path);
     begin(&call, 'm', 0, 0, NULL);
     return (int)end(&call, NEXT(mkdir)(path, mode));
 }
 
 int rename(const char *from, const char *to) {
     struct call call;
-    name_path(&call, AT_FDCWD, from);
+    name_path(&call, from);
     begin(&call, 'r', 0, 0, NULL);
     return (int)end(&call, NEXT(rename)(from, to));
 }
@@ -430,10 +425,6 @@ int ftruncate(int file, off_t length) {
     return (int)end(&call, NEXT(ftruncate)(file, length));
 }
 
-int ftruncate64(int file, off64_t length) {
-    return ftruncate(file, length);
-}
-
 ssize_t pread(int file, void *to, size_t count, off_t at) {
     struct call call = {.is_noted = 0};
     if (getenv("RECORD_READS") != NULL) {
@@ -441,11 +432,8 @@ ssize_t pread(int file, void *to, size_t count, off_t at) {
         begin(&call, 'p', (uint64_t)gettid(), count, NULL);
         take_long(&call);
     }
-    return (ssize_t)end(&call, device_fails() ? -1 : NEXT(pread)(file, to, count, at));
-}
-
-ssize_t pread64(int file, void *to, size_t count, off64_t at) {
-    return pread(file, to, count, at);
+    int fails = device_fails() && getenv("BREAK_READ") == NULL;
+    return (ssize_t)end(&call, fails ? -1 : NEXT(pread)(file, to, count, at));
 }
 
 // How many bytes of a write there is room for; -1 where there is none.
@@ -472,9 +460,15 @@ static char *changed(const void *bytes, size_t count) {
     return copy;
 }
 
+// What is told of a write or a sync with this result.
+static int64_t told(int64_t result, int64_t due) {
+    return result < 0 && is_said("BREAK_FAILURE", "hidden") ? due : result;
+}
+
 static ssize_t write_at(struct call *call, int file, const void *bytes, size_t count, off_t at) {
     static volatile char *left;
-    uint64_t number = call->is_noted || getenv("RECORD_UNDER") == NULL ? __atomic_add_fetch(&writes, 1, __ATOMIC_SEQ_CST) : writes;
+    int counts = call->is_noted || getenv("RECORD_UNDER") == NULL;
+    uint64_t number = counts ? __atomic_add_fetch(&writes, 1, __ATOMIC_SEQ_CST) : writes;
     if (getenv("BREAK_MEMORY") != NULL) {
         left = NEXT(malloc)(256);
         left[0] = 1;
@@ -501,11 +495,7 @@ ssize_t pwrite(int file, const void *bytes, size_t count, off_t at) {
     name_file(&call, file);
     begin(&call, 'w', (uint64_t)at, count, bytes);
     take_long(&call);
-    return (ssize_t)end(&call, write_at(&call, file, bytes, count, at));
-}
-
-ssize_t pwrite64(int file, const void *bytes, size_t count, off64_t at) {
-    return pwrite(file, bytes, count, at);
+    return (ssize_t)told(end(&call, write_at(&call, file, bytes, count, at)), (int64_t)count);
 }
 
 // Whether this sync of a file fails.
@@ -527,16 +517,15 @@ int fdatasync(int file) {
     if (nanoseconds(&more) > 0) {
         NEXT(nanosleep)(&more, NULL);
     }
-    if ((is_said("BREAK_SYNC", "gate") && number % 2 == 0) || (is_said("BREAK_SYNC", "opening") && writes == 0)) {
+    uint64_t each = is_said("BREAK_SYNC", "gate") ? 2 : number_of("BREAK_SYNC");
+    if ((each > 0 && number % each == 0) || (is_said("BREAK_SYNC", "opening") && writes == 0)) {
         return 0;
     }
     name_file(&call, file);
     begin(&call, 's', 0, 0, NULL);
     take_long(&call);
-    if (call.is_noted && sync_fails(call.path)) {
-        return (int)end(&call, refuse(EIO));
-    }
-    return (int)end(&call, device_fails() ? -1 : NEXT(fdatasync)(file));
+    int fails = call.is_noted && sync_fails(call.path);
+    return (int)told(end(&call, fails ? refuse(EIO) : device_fails() ? -1 : NEXT(fdatasync)(file)), 0);
 }
 
 int fsync(int file) {

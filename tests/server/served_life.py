@@ -6,23 +6,18 @@ had after the last answered call, or after the one that was under way then, and 
 import collections
 import os
 import random
-import subprocess
 import sys
 import threading
 import time
 
 sys.dont_write_bytecode = True
 import servers
-from segments import generation_of
+from order_of_calls import Wrong
 
 CLIENTS, STREAMS = 6, 2
 MINUTE = servers.HOUR // 60
 # (from one push of a stream to the next)
 STEP, OLDEST = 6 * MINUTE, 6 * 24 * 60 * MINUTE
-
-
-class Wrong(Exception):
-    """What is there isn't what was answered."""
 
 
 class Call:
@@ -66,10 +61,7 @@ class Stream:
     def read_back(self, found):
         """Takes what is read after a start in the place of what is in doubt."""
         if self.calls and self.calls[-1].answered is None:
-            if found == self.calls[-1].after:
-                self.settle(True)
-            else:
-                self.settle(False)
+            self.settle(found == self.calls[-1].after)
         if found != self.kept:
             raise Wrong(f"after a kill {self.labels} has {len(found)} entries in place of {len(self.kept)}")
 
@@ -77,31 +69,41 @@ class Stream:
         self.first, self.calls = found, []
 
 
-class Client(threading.Thread):
-    """Calls until the server is gone. `fault` is what was wrong."""
+class Caller(threading.Thread):
+    """Makes calls of a life over a connection until the server is gone. `fault` is what was wrong."""
 
-    def __init__(self, life, port, streams, seed):
+    # how often each call is made
+    CALLS = {"push": 70, "trim": 15, "read": 15}
+
+    def __init__(self, life, port, seed):
         super().__init__(daemon=True)
-        self.life, self.port, self.streams, self.draw, self.fault = life, port, streams, random.Random(seed), None
-        self.number = 0
+        self.life, self.port, self.draw, self.fault = life, port, random.Random(seed), None
 
     def run(self):
         try:
             with servers.Client(self.port) as client:
                 while True:
-                    self.draw.choices([self.push, self.trim, self.read], [70, 15, 15])[0](client)
+                    getattr(self, self.draw.choices([*self.CALLS], [*self.CALLS.values()])[0])(client)
         except OSError as error:
             if not self.life.ends.is_set():
                 self.fault = f"a connection ended by itself: {error!r}"
         except Wrong as wrong:
             self.fault = str(wrong)
 
+
+class Client(Caller):
+    """A client with streams of its own."""
+
+    def __init__(self, life, port, streams, seed):
+        super().__init__(life, port, seed)
+        self.streams, self.number = streams, 0
+
     def entries(self, stream):
         stream.time += STEP
         self.number += 1
         found = []
         for at in range(self.draw.choice([1, 1, 2, 3])):
-            length = self.draw.choices([1, 100, 300, 2_000], [20, 50, 25, 5])[0]
+            length = self.draw.choices([*self.life.lengths], [*self.life.lengths.values()])[0]
             pairs = ((b"trace", b"%x" % self.draw.getrandbits(64)),) if self.draw.randrange(3) == 0 else ()
             found.append((stream.time + at, f"{self.number}.{at} ".ljust(length, "x"), pairs))
         return found
@@ -142,6 +144,18 @@ class Client(threading.Thread):
             raise Wrong(f"a read of {stream.labels} isn't what was answered")
 
 
+def read_over(folder, shards, capacity, streams):
+    """What a server has that starts over a folder: the entries of each of these streams."""
+    try:
+        with servers.Server(folder, shards, 1, {"NEEDLEAZURE_CAPACITY": str(capacity)}) as server:
+            with servers.Client(server.port) as client:
+                return client.read_all([it.labels for it in streams])
+    except servers.NotStarted as error:
+        raise Wrong(f"the server does not start: {error}") from error
+    except OSError as error:
+        raise Wrong(f"the server ends while it is read: {error}") from error
+
+
 class ServedLife:
     """A server over the folder `log` of a disk: started, served and killed, once or more."""
 
@@ -152,6 +166,8 @@ class ServedLife:
         self.shards = draw.choice([1, 2, 3])
         self.capacity = draw.choice([81_920, 131_072]) // self.shards
         self.streams = [Stream(str(it)) for it in range(CLIENTS * STREAMS)]
+        # (which lengths lines have, and how often)
+        self.lengths = {1: 20, 100: 50, 300: 25, 2_000: 5}
         self.is_filled, self.kind = False, "empty slots"
         self.forget()
 
@@ -166,22 +182,21 @@ class ServedLife:
     def live(self, disk, seconds):
         folder = f"{disk}/log"
         if self.is_filled and not os.path.exists(f"{folder}/shard-00-0.wal"):
-            subprocess.run([f"{servers.TOP}/deploy/fill-slots", folder, str(self.shards)],
-                           env={**os.environ, **self.environment}, check=True)
+            servers.fill_slots(folder, self.shards, self.environment)
         before = self.generations(folder)
         for number in range(self.draw.choice([1, 1, 2])):
             self.serve(folder, seconds, number)
         self.counts["rolls"] += sum(now - max(1, then) for then, now in zip(before, self.generations(folder)) if now)
 
     def generations(self, folder):
-        return [max(generation_of(servers.bytes_of(f"{folder}/shard-{shard:02}-{it}.wal", 21)) for it in (0, 1))
-                for shard in range(self.shards)]
+        return [servers.generation(folder, it) for it in range(self.shards)]
 
     def serve(self, folder, seconds, number):
         self.ends.clear()
         with servers.Server(folder, self.shards, CLIENTS, self.environment) as server:
             with servers.Client(server.port) as client:
                 for it, found in zip(self.streams, client.read_all([it.labels for it in self.streams])):
+                    self.counts["lines read back"] += len(found)
                     it.read_back(found)
             self.ready = self.ready or time.monotonic_ns()
             clients = [Client(self, server.port, self.streams[at::CLIENTS], self.draw.random()) for at in range(CLIENTS)]
@@ -206,14 +221,7 @@ class ServedLife:
         """What is there after a loss of power at this moment, which raises where it may not be."""
         folder = f"{disk}/log"
         os.makedirs(folder, exist_ok=True)
-        try:
-            with servers.Server(folder, self.shards, 1, {"NEEDLEAZURE_CAPACITY": str(self.capacity)}) as server:
-                with servers.Client(server.port) as client:
-                    found = client.read_all([it.labels for it in self.streams])
-        except servers.NotStarted as error:
-            raise Wrong(f"the server does not start: {error}") from error
-        except OSError as error:
-            raise Wrong(f"the server ends while it is read: {error}") from error
+        found = read_over(folder, self.shards, self.capacity, self.streams)
         return found, self.hold_to(found, moment)
 
     def hold_to(self, found, moment):

@@ -5,9 +5,12 @@ An entry is its time, its line, and its metadata as pairs of bytes in the order 
 import atexit
 import contextlib
 import functools
+import glob
 import json
 import os
+import resource
 import shutil
+import signal
 import socket
 import subprocess
 import sys
@@ -20,6 +23,7 @@ sys.path.append(f"{TOP}/tests/models")
 import judges
 from bodies import MOST_TIME, canonical, entries_of
 from bodies import shard_of as shard_of_key
+from segments import generation_of
 
 SECONDS = 60
 HOUR = judges.HALF_AGE
@@ -55,7 +59,8 @@ def build_library(folder, name="preload"):
 
 def run(words, data=b"", **how):
     """Exit status, output and errors of a program, by its name or path. A server that starts is killed: status None."""
-    words, pipes = [words[0] if "/" in words[0] else program(words[0]), *words[1:]], dict.fromkeys(["stdin", "stdout", "stderr"], subprocess.PIPE)
+    words = [words[0] if "/" in words[0] else program(words[0]), *words[1:]]
+    pipes = dict.fromkeys(["stdin", "stdout", "stderr"], subprocess.PIPE)
     with subprocess.Popen(words, **pipes, **{**how, "env": broken(how.get("env", {}))}) as it:
         watch = threading.Timer(SECONDS, it.kill)
         watch.start()
@@ -76,9 +81,17 @@ def room_in_memory(name, place=None):
 
 def allocator():
     """The settings by which `make run` gives the server its allocator."""
-    found = next((f"/usr/lib/{it}/libjemalloc.so.2" for it in sorted(os.listdir("/usr/lib"))
-                  if os.path.exists(f"/usr/lib/{it}/libjemalloc.so.2")), None)
-    return {"LD_PRELOAD": found} if found else {"GLIBC_TUNABLES": "glibc.malloc.tcache_count=1000"}
+    found = sorted(glob.glob("/usr/lib/*/libjemalloc.so.2"))
+    return {"LD_PRELOAD": found[0]} if found else {"GLIBC_TUNABLES": "glibc.malloc.tcache_count=1000"}
+
+
+def limit_length(length):
+    """What a program is started with whose files may not grow past this length."""
+    def limit():
+        # (a write past the limit fails, in place of ending the process)
+        signal.signal(signal.SIGXFSZ, signal.SIG_IGN)
+        resource.setrlimit(resource.RLIMIT_FSIZE, (length, length))
+    return limit
 
 
 # ---- servers that are broken on purpose ----------------------------------------------------------------------------
@@ -99,30 +112,7 @@ def broken(settings):
     return {**settings, **ways, "LD_PRELOAD": given} if ways else settings
 
 
-def run_again(words, settings):
-    """Runs this script with these words. Returns its exit status, and what it said."""
-    how = {"env": {**os.environ, **settings}, "capture_output": True, "text": True, "check": False}
-    ended = subprocess.run([sys.argv[0], *words], **how)
-    return ended.returncode, (ended.stdout + ended.stderr).strip().splitlines() or [""]
-
-
-def try_faults(faults):
-    """Runs this script over servers that are broken: `faults` has a name, a variable, its value, and the words of each
-    run, which has to end with 1, and with 0 over a server that isn't broken."""
-    is_well = True
-    for words in sorted({tuple(it[3]) for it in faults}):
-        status, said = run_again(words, {})
-        print(f"{'ok' if status == 0 else 'WRONG'}: not broken ({' '.join(words) or 'all'}): {said[-1]}", flush=True)
-        is_well &= status == 0
-    for name, variable, value, words in faults:
-        status, said = run_again(words, {variable: value})
-        why = next((it for it in said if "WRONG" in it), said[-1])
-        print(f"{'found' if status == 1 else 'NOT FOUND'}: {name} ({variable}={value}): {why[:300]}", flush=True)
-        is_well &= status == 1
-    return 0 if is_well else 1
-
-
-# ---- keys ----------------------------------------------------------------------------------------------------------
+# ---- keys and slots ------------------------------------------------------------------------------------------------
 
 def text_of(labels):
     """The canonical text of labels, as bytes."""
@@ -143,27 +133,53 @@ def labels_in(shard, count, tenant="t", name="s"):
         number += 1
 
 
+def slots_of(folder, shard=0):
+    return [f"{folder}/shard-{shard:02}-{slot}.wal" for slot in (0, 1)]
+
+
+def fill_slots(folder, count, settings):
+    """Makes the slots of this many shards, at their full length."""
+    subprocess.run([f"{TOP}/deploy/fill-slots", folder, str(count)], env={**os.environ, **settings}, check=True)
+
+
+def generation(folder, shard=0):
+    """The generation of a shard's log: the greater one of its open slots, 0 where none is open."""
+    return max(generation_of(bytes_of(it, 21)) for it in slots_of(folder, shard))
+
+
+def free_ports(count):
+    """Ports that nobody listens on."""
+    with contextlib.ExitStack() as ends:
+        return [ends.enter_context(socket.create_server(("127.0.0.1", 0))).getsockname()[1] for _ in range(count)]
+
+
 # ---- a server ------------------------------------------------------------------------------------------------------
 
 class NotStarted(Exception):
-    """A server ended before it was ready."""
+    """A server ended before it was ready, with this status and these words on standard error."""
+
+    def __init__(self, status, errors):
+        super().__init__(f"status {status}: {errors.decode().strip()}")
+        self.status, self.errors = status, errors
 
 
-class Server:
-    """A server over a folder, until it is killed. `settings` is all of its environment, `how` goes to Popen."""
+class Program:
+    """A program that says `ready` and where, until it is killed. `settings` is all of its environment."""
 
-    def __init__(self, folder, shards=4, workers=8, settings=None, more=(), **how):
-        words = [program("server"), folder, "0", str(shards), str(workers), *more]
-        how = {"stdout": subprocess.PIPE, "stderr": subprocess.PIPE, "env": broken(settings or {}), **how}
-        self.running = subprocess.Popen(words, **how)
+    def __init__(self, words, settings, **how):
+        self.words, self.how = words, {"stdout": subprocess.PIPE, "stderr": subprocess.PIPE, "env": settings, **how}
+        self.start()
+
+    def start(self):
+        self.running = subprocess.Popen(self.words, **self.how)
         watch = threading.Timer(SECONDS, self.running.kill)
         watch.start()
         said = self.running.stdout.readline()
         watch.cancel()
         if not said.startswith(b"ready "):
-            errors = self.running.stderr.read().decode() if self.running.stderr else ""
-            raise NotStarted(f"status {self.end()}: {errors.strip()}")
-        self.pid, self.port = self.running.pid, int(said.split()[1])
+            errors = self.running.stderr.read() if self.running.stderr else b""
+            raise NotStarted(self.end(), errors)
+        self.pid, self.port = self.running.pid, int(said.split()[1].rpartition(b":")[2])
 
     def __enter__(self):
         return self
@@ -195,11 +211,20 @@ class Server:
         return (int(words[11]) + int(words[12])) / os.sysconf("SC_CLK_TCK")
 
 
+class Server(Program):
+    """A server over a folder."""
+
+    def __init__(self, folder, shards=4, workers=8, settings=None, more=(), port=0, **how):
+        words = [program("server"), folder, str(port), str(shards), str(workers), *more]
+        super().__init__(words, broken(settings or {}), **how)
+
+
 # ---- a connection --------------------------------------------------------------------------------------------------
 
 def request(path, body, tenant="t"):
     body = json.dumps(body).encode()
-    head = [f"POST {path} HTTP/1.1", f"X-Scope-OrgID: {tenant}", "Content-Type: application/json", f"Content-Length: {len(body)}"]
+    head = [f"POST {path} HTTP/1.1", f"X-Scope-OrgID: {tenant}", "Content-Type: application/json",
+            f"Content-Length: {len(body)}"]
     return "\r\n".join([*head, "", ""]).encode() + body
 
 

@@ -1,11 +1,10 @@
-"""Connections as clients use them: kept open, byte by byte, silent, cut, slow, and very many."""
+"""Connections as clients use them: kept open, byte by byte, silent, cut, and very many."""
+import concurrent.futures
 import os
 import resource
 import socket
 import statistics
 import struct
-import subprocess
-import threading
 import time
 
 import pytest
@@ -46,12 +45,13 @@ def test_bytes_one_by_one(client):
 
 
 def test_answers_are_sent_at_once(client):
-    """The second of two answers does not wait until the client has acknowledged the first, which takes it 40 ms."""
+    """A later answer does not wait until the client has acknowledged an earlier one, which takes it 40 ms. They are eight,
+    since one write may have several."""
     took = []
     for _ in range(100):
         began = time.monotonic()
-        client.ends.sendall(2 * READY)
-        assert [client.answer() for _ in range(2)] == [(200, b"ready")] * 2
+        client.ends.sendall(8 * READY)
+        assert [client.answer() for _ in range(8)] == [(200, b"ready")] * 8
         took.append(time.monotonic() - began)
     assert statistics.median(took[50:]) < 0.025
 
@@ -115,85 +115,44 @@ def test_clients_that_leave(serve, is_reset):
             assert client.read(LABELS) in [lines[:at] for at in range(0 if is_reset else whole, whole + 1)], place
 
 
-class Pusher(threading.Thread):
-    """Pushes line after line over one connection, until it is told to end."""
-
-    def __init__(self, port, number):
-        super().__init__(daemon=True)
-        self.client, self.labels, self.lines, self.wrong, self.is_done = servers.Client(port), {"a": f"p{number}"}, [], "", False
-
-    def run(self):
-        try:
-            while not self.is_done and not self.wrong:
-                self.lines.append(entry(f"line {len(self.lines)}"))
-                status, text = self.client.push(self.labels, self.lines[-1:])
-                self.wrong = "" if status == 204 else f"{status} {text}"
-        except OSError as error:
-            self.wrong = repr(error)
-
-
-def test_slow_clients(serve):
-    """Beside 200 clients that send a byte a second, others are answered; one that comes after them, when they are gone."""
-    server, slow = serve(workers=64), push_request({"a": "slow"}, [entry("x" * 1_000)])
-    pushers = [Pusher(server.port, it) for it in range(8)]
-    for it in pushers:
-        it.start()
-    crowd = [socket.create_connection(("127.0.0.1", server.port), SECONDS) for _ in range(200)]
-    for at in range(4):
-        for it in crowd:
-            it.sendall(slow[at:at + 1])
-        time.sleep(1)
-    made = [len(it.lines) for it in pushers]
-    late = servers.Client(server.port)
-    late.send(servers.PUSH, servers.push_body([({"a": "late"}, [entry()])]))
-    for it in crowd:
-        it.close()
-    assert late.answer() == (204, b"")
-    for it in pushers:
-        it.is_done = True
-        it.join(SECONDS)
-        assert not it.wrong and late.read(it.labels) == it.lines
-    assert min(made) > 20 and late.read({"a": "slow"}) == [] and len(late.read({"a": "late"})) == 1
-    late.ends.close()
-
-
-def test_no_descriptors(serve):
-    """A server that has no descriptor left for a while waits, and then answers each connection that waited."""
-    server = serve(workers=64, preexec_fn=lambda: resource.setrlimit(resource.RLIMIT_NOFILE, (40, 40)))
+def test_few_descriptors(serve):
+    """A server that may have few descriptors has as many connections as they allow, and answers the others as these end."""
+    server = serve(workers=4, preexec_fn=lambda: resource.setrlimit(resource.RLIMIT_NOFILE, (60, 60)))
     held = [servers.Client(server.port) for _ in range(60)]
     for number, it in enumerate(held):
         it.send(servers.PUSH, servers.push_body([({"a": str(number)}, [entry()])]))
-    ends = time.monotonic() + SECONDS
-    while len(os.listdir(f"/proc/{server.pid}/fd")) < 40 and time.monotonic() < ends:
-        time.sleep(0.05)
+    assert held[0].answer()[0] == 204
+    time.sleep(1)
+    assert len(os.listdir(f"/proc/{server.pid}/fd")) < 60
     before, began = server.processor(), time.monotonic()
     time.sleep(3)
     used = (server.processor() - before) / (time.monotonic() - began)
     assert used < 0.2, f"it uses {used:.2f} of a processor while it waits"
-    for it in held:
-        assert it.answer()[0] == 204
+    for number, it in enumerate(held):
+        assert number == 0 or it.answer()[0] == 204
         it.ends.close()
     for _ in range(100):
         with servers.Client(server.port) as it:
             assert it.push({"a": "late"}, [entry()])[0] == 204
+    server.end()
+    assert "connections are open: others wait until one ends" in server.errors()
 
 
-def test_many_connections(serve, folder):
-    """Each of very many short connections is answered."""
-    subprocess.run(["cc", "-O1", "-o", f"{folder}/many", f"{servers.TOP}/tests/server/many_connections.c", "-lpthread"], check=True)
+def short_connections(port, count):
+    """So many connections in turn, each answered. Each ends by a reset, so that its port is free at once."""
+    for _ in range(count):
+        with socket.create_connection(("127.0.0.1", port), SECONDS) as it:
+            it.setsockopt(socket.SOL_SOCKET, socket.SO_LINGER, struct.pack("ii", 1, 0))
+            it.sendall(READY)
+            found = it.recv(512)
+        assert found.startswith(b"HTTP/1.1 200") and found.endswith(b"ready"), found
+
+
+def test_many_connections(serve):
+    """Each of very many short connections is answered, by 60 processes side by side."""
     server = serve(workers=64)
-    ended = subprocess.run([f"{folder}/many", str(server.port), str(CONNECTIONS), "60"], capture_output=True, text=True, check=True)
-    assert int(ended.stdout) == CONNECTIONS, ended.stderr
+    counts = [len(range(it, CONNECTIONS, 60)) for it in range(60)]
+    with concurrent.futures.ProcessPoolExecutor(60) as pool:
+        list(pool.map(short_connections, [server.port] * 60, counts))
     with servers.Client(server.port) as client:
         assert client.push(LABELS, [entry()]) == (204, "")
-
-
-def test_counted_connections(serve):
-    """A server with CONNECTIONS ends well after so many."""
-    server = serve(more=["3"])
-    for number in range(3):
-        with servers.Client(server.port) as client:
-            assert client.push(LABELS, [entry(str(number))]) == (204, "")
-    assert server.running.wait(SECONDS) == 0
-    with servers.Client(serve().port) as client:
-        assert len(client.read(LABELS)) == 3

@@ -1,7 +1,5 @@
 """What a server asks of its disk: which files and folders it syncs when, and what it does when a call fails."""
 import os
-import resource
-import signal
 import time
 
 import pytest
@@ -98,15 +96,9 @@ def test_failed_syncs(traced):
         os.remove(it.notes)
 
 
-def limit_files():
-    # (a write past the limit fails, in place of ending the process)
-    signal.signal(signal.SIGXFSZ, signal.SIG_IGN)
-    resource.setrlimit(resource.RLIMIT_FSIZE, (LIMIT, LIMIT))
-
-
 def test_failed_writes(serve):
     """The system refuses what is written behind the first bytes of a file. Two shards say so, once each."""
-    server = serve("log", 4, 1, preexec_fn=limit_files, restore_signals=False)
+    server = serve("log", 4, 1, preexec_fn=servers.limit_length(LIMIT))
     labels = [next(servers.labels_in(it, 4)) for it in range(4)]
     with servers.Client(server.port) as client:
         push = lambda shard, length: client.push(labels[shard], [(time.time_ns(), "x" * length, ())])[0]

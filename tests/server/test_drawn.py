@@ -9,8 +9,6 @@ import concurrent.futures
 import itertools
 import json
 import os
-import shutil
-import subprocess
 import tempfile
 
 import hostile_bytes
@@ -19,7 +17,6 @@ import pytest
 import servers
 from bodies import canonical, label_fault
 from hypothesis import HealthCheck, given, settings, strategies
-from servers import program
 
 NOW, SECONDS = 20, 60
 # the least number of named cases of each kind
@@ -28,17 +25,10 @@ DRAWING = settings(max_examples=int(os.environ.get("DRAWN", 100)), derandomize="
                    database=None, suppress_health_check=list(HealthCheck))
 
 
-def run(words, data=b""):
-    """Exit status, standard output and standard error of a program."""
-    done = subprocess.run(words, input=data, capture_output=True, timeout=SECONDS, env={}, check=False)
-    return done.returncode, done.stdout, done.stderr
-
-
 def walcat(data, shard=0, count=1):
     with tempfile.NamedTemporaryFile(prefix="needleazure-") as file:
-        file.write(data)
-        file.flush()
-        return run([program("walcat"), file.name, str(shard), str(count)])
+        servers.write(file.name, data)
+        return servers.run(["walcat", file.name, str(shard), str(count)])
 
 
 # ---- the kinds: of a case what was said, and what may be said ---------------------------------------------------------
@@ -49,7 +39,7 @@ def try_segment(case):
 
 def try_body(case):
     now, body = case
-    return run([program("ingest1"), str(now)], body), [judges.ingest1(now, body)]
+    return servers.run(["ingest1", str(now)], body), [judges.ingest1(now, body)]
 
 
 def pushed(sets):
@@ -70,13 +60,12 @@ def try_labels(sets):
     if isinstance(sets, bytes):
         data = hostile_bytes.state_of_text(sets)
         return walcat(data), [judges.walcat(data)]
-    slots = tempfile.mkdtemp(prefix="needleazure-")
     streams = [{"stream": {name.decode(): value.decode() for name, value in pairs}, "values": [["10", f"{number}"]]}
                for number, pairs in enumerate(sets)]
     body = json.dumps({"streams": streams}, ensure_ascii=False).encode()
-    _, answer, _ = run([program("ingestctl"), "push", slots, "1", "t", str(NOW)], body)
-    _, printed, _ = run([program("walcat"), f"{slots}/shard-00-1.wal", "0", "1"])
-    shutil.rmtree(slots)
+    with tempfile.TemporaryDirectory(prefix="needleazure-") as slots:
+        _, answer, _ = servers.run(["ingestctl", "push", slots, "1", "t", str(NOW)], body)
+        _, printed, _ = servers.run(["walcat", f"{slots}/shard-00-1.wal", "0", "1"])
     # (without its last line, the place of the end)
     return (answer, printed if printed == b"closed\n" else printed.rpartition(b"\nend ")[0]), [pushed(sets)]
 

@@ -10,35 +10,18 @@ STREAM = {"a": "1"}
 TOO_SOON = (400, "trim bound is above the oldest accepted time")
 
 
-@pytest.mark.parametrize("setting, window", [({}, 3600), ({AGE: "1h30m"}, 2700), ({AGE: "2m"}, 60), ({AGE: "1s"}, 0.5), ({AGE: "0"}, 0)])
-def test_window(serve, setting, window):
+@pytest.mark.parametrize("age, window", [(None, 3600), ("1h30m", 2700), ("2m", 60), ("1s", 0.5), ("0", 0)])
+def test_window(serve, age, window):
     """A line at the edge of the window is taken, and one a nanosecond behind it is not. A trim leaves the window."""
     newest = time.time_ns()
     edge = newest - int(window * SECOND)
     late = f"stream 0 entry 2: too far behind, oldest accepted is {edge}\n"
-    with servers.Client(serve("log", 1, 1, setting).port) as client:
+    with servers.Client(serve("log", 1, 1, {AGE: age} if age else {}).port) as client:
         pushed = [(newest, "newest", ()), (edge, "edge", ()), (edge - 1, "behind", ())]
         assert client.push(STREAM, pushed) == (400, late)
         assert client.read(STREAM) == sorted(pushed[:2], key=lambda it: it[0])
         assert client.trim(STREAM, edge + 1) == TOO_SOON
         assert client.trim(STREAM, edge) == (200, '{"trimmed":0}')
-
-
-def test_smaller_window_after_a_start(serve):
-    """What was stored stays as it was, and all but the newest line may leave. Under the larger one again it is as before."""
-    newest = time.time_ns()
-    lines = [(newest - at * SECOND, f"line {at}", ()) for at in range(9, -1, -1)]
-    with serve("log", 1, 1) as server, servers.Client(server.port) as client:
-        assert client.push(STREAM, lines) == (204, "")
-        assert client.trim(STREAM, newest) == TOO_SOON
-    with serve("log", 1, 1, {AGE: "0"}) as server, servers.Client(server.port) as client:
-        assert client.read(STREAM) == lines
-        assert client.push(STREAM, [(newest - 1, "late", ())])[0] == 400
-        assert client.trim(STREAM, newest) == (200, '{"trimmed":9}')
-        assert client.trim(STREAM, newest + 1) == TOO_SOON
-    with serve("log", 1, 1) as server, servers.Client(server.port) as client:
-        assert client.read(STREAM) == lines[-1:]
-        assert client.push(STREAM, [(newest - SECOND, "late", ())]) == (204, "")
 
 
 def test_old_and_ahead(serve):
@@ -49,13 +32,3 @@ def test_old_and_ahead(serve):
         refused = "stream 0 entry 0: too old\nstream 0 entry 1: too new\n"
         assert client.push(STREAM, pushed) == (400, refused)
         assert client.read(STREAM) == pushed[2:]
-
-
-@pytest.mark.parametrize("name, texts", [(AGE, ("", "2", "1h30", "-1h")), (OLD, ("", "7", "0")), (AHEAD, ("", "10", "0s"))])
-def test_wrong_settings(serve, folder, name, texts):
-    """Exit status 2, a line that names the setting, and no slot."""
-    for text in texts:
-        with pytest.raises(servers.NotStarted, match=f"^status 2: {name} is not .* duration "):
-            serve("log", 1, 1, {name: text})
-    with pytest.raises(FileNotFoundError):
-        servers.os.stat(f"{folder}/log")

@@ -4,7 +4,6 @@ import time
 
 import servers
 from hostile_bytes import segment_bytes, state_bytes
-from segments import generation_of
 
 MOST_BODY, MOST_LINE, MINUTE = 4_194_304, 262_144, 60 * 10**9
 # (each large piece of memory is a map of its own, which goes when it is freed)
@@ -76,9 +75,8 @@ def test_many_turns(serve):
 
 def roll(client, path, stamp):
     """Pushes and trims until the shard has begun another segment. Returns the last time."""
-    generation = lambda: max(generation_of(servers.bytes_of(f"{path}/shard-00-{it}.wal", 21)) for it in (0, 1))
-    before = generation()
-    while generation() == before:
+    before = servers.generation(path)
+    while servers.generation(path) == before:
         stamp += 2 * servers.HOUR
         assert client.push({"a": "rolling"}, lines_from(stamp, 15, 250_000))[0] == 204
         assert client.trim({"a": "rolling"}, stamp - servers.HOUR)[0] == 200
@@ -92,11 +90,11 @@ def test_memory(serve, folder):
         stamp, now = time.time_ns() - 150 * servers.HOUR, time.time_ns()
         for at in range(0, 75, 15):
             assert client.push({"a": "kept"}, lines_from(now + at, 15, 250_000))[0] == 204
-        stamp = roll(client, f"{folder}/log", stamp)
-        before = server.memory()
-        for _ in range(3):
+        unrolled = server.memory()
+        for _ in range(4):
             stamp = roll(client, f"{folder}/log", stamp)
-        assert server.memory() < before + 8_000_000, "after rolls"
+        before = server.memory()
+        assert before < unrolled + 8_000_000, "after rolls"
         for at in range(0, 60, 15):
             assert client.push({"a": "trimmed"}, lines_from(now - 10 * servers.HOUR + at, 15, 250_000))[0] == 204
         assert client.push({"a": "trimmed"}, [(now, "last", ())])[0] == 204

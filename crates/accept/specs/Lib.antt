@@ -4,6 +4,7 @@ pub mod OneStream
 pub mod Rooms
 pub mod Histories
 pub mod Calls
+pub mod Doubts
 pub mod States
 pub mod OneKey
 pub mod Replies

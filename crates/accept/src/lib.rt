@@ -2,6 +2,7 @@
 #![tactic(auto)]
 
 mod call;
+mod fault;
 mod history;
 mod image;
 mod laws;
@@ -12,6 +13,7 @@ mod stream;
 
 pub use call::{Call, END_OF_TIME, MAX_ENTRIES, Reply};
 pub use entries::{Entry, EntryList, KeptEntries, KeptList, Line};
+pub use fault::CallFault;
 pub use history::{Ask, History, Item, Step};
 pub use image::{Image, StreamImage};
 pub use labels::Meta;

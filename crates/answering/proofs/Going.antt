@@ -5,7 +5,7 @@ use Rattle.pushjson.specs.declared.fault.PushFault.{PushFault}
 use Rattle.pushjson.specs.declared.fault.PushFault.TheVariants.{Memory}
 use Rattle.pushjson.specs.declared.push.RawBatch.{RawBatch}
 use Rattle.requests.specs.declared.answer.Answer.{Answer}
-use Rattle.requests.specs.declared.failure.Failure.{Failure}
+use Rattle.accept.specs.declared.fault.CallFault.{CallFault}
 use Rattle.requests.specs.declared.route.Route.{Route}
 use Rattle.requests.specs.declared.route.Route.TheVariants.{Push, Read, Trim}
 use Rattle.answering.specs.declared.responding.Halt.{Halt}
@@ -68,7 +68,7 @@ module _ {H : Type 0} (gives : Giving H) (now : ℕ) (tenant body : List ℕ) wh
       left = record { done = asked ∷ []; more = []; cames = []; last = came; behind = []; split = refl; each = (h', comes, refl); whole = whole; said = says_one route single came said; few = omega arith };
     }
 
-    pub one_fails : (call : Call) (failure : Failure) → IsCallOf tenant asked call → gives false h call (Err failure) h' → RequestEnds gives route now tenant body h (Err (Failed failure)) h'
+    pub one_fails : (call : Call) (failure : CallFault) → IsCallOf tenant asked call → gives false h call (Err failure) h' → RequestEnds gives route now tenant body h (Err (Failed failure)) h'
     one_fails call failure is given = (
       Broken (cames.Failed failure ∷ []) failure,
       record {

@@ -7,9 +7,10 @@ use Rattle.labels.specs.declared.fault.LabelFault.{LabelFault}
 use Rattle.accept.specs.declared.call.Call.{Call}
 use Rattle.accept.specs.declared.call.Reply.{Reply}
 use Rattle.requests.specs.declared.answer.Answer.{Answer}
-use Rattle.requests.specs.declared.failure.Failure.{Failure}
+use Rattle.accept.specs.Doubts.{is_doubt}
+use Rattle.accept.specs.declared.fault.CallFault.{CallFault}
 use Rattle.answering.specs.Asking.{Asked, IsCallOf}
-use Rattle.answering.specs.Calls.{Giving, Came, leaves_doubt, CallsGive, CallsGiveAfter}
+use Rattle.answering.specs.Calls.{Giving, Came, CallsGive, CallsGiveAfter}
 use Rattle.answering.specs.Calls as cames
 use Rattle.answering.specs.declared.lines.PushLines.{PushLines}
 use Rattle.answering.specs.declared.responding.Halt.{Halt}
@@ -81,7 +82,7 @@ streams_split tenant (a ∷ all) (None ∷ ps) qs (c ∷ cs) ds are count =
     let (done, more, split, first, others) = streams_split tenant all ps qs cs ds are.1 (omega (arith, count)) in
     (a ∷ done, more, ap (λ l. a ∷ l) split, (are.0, first), others)
 
-merged_length : (places : List (Option LabelFault)) (outcomes : List (Result Reply Failure)) → called places ≡ length outcomes → length (merged places outcomes) ≡ length places
+merged_length : (places : List (Option LabelFault)) (outcomes : List (Result Reply CallFault)) → called places ≡ length outcomes → length (merged places outcomes) ≡ length places
 merged_length [] outcomes due = refl
 merged_length (Some fault ∷ ps) outcomes due = let same = merged_length ps outcomes due in omega (arith, same)
 merged_length (None ∷ ps) [] due = absurd (omega (arith, due))
@@ -92,11 +93,11 @@ module _ (places : List (Option LabelFault)) (k : ℕ) (within : k < length plac
   cut : (place : Option LabelFault) → get_or places k d ≡ place → drop k places ≡ place ∷ drop (k + 1) places
   cut place is = rw add-one (drop-cons places k d within ∙ ap (λ x. x ∷ drop (suc k) places) is)
 
-  pub next_refused : (fault : LabelFault) (outcomes : List (Result Reply Failure)) → get_or places k d ≡ Some fault
+  pub next_refused : (fault : LabelFault) (outcomes : List (Result Reply CallFault)) → get_or places k d ≡ Some fault
       → (merged (drop k places) outcomes ≡ cames.Refused fault ∷ merged (drop (k + 1) places) outcomes) × (called (drop k places) ≡ called (drop (k + 1) places))
   next_refused fault outcomes is = let at = cut (Some fault) is in (ap (λ l. merged l outcomes) at, ap called at)
 
-  pub next_came : (outcome : Result Reply Failure) (outcomes : List (Result Reply Failure)) → get_or places k d ≡ None
+  pub next_came : (outcome : Result Reply CallFault) (outcomes : List (Result Reply CallFault)) → get_or places k d ≡ None
       → (merged (drop k places) (outcome ∷ outcomes) ≡ came_of outcome ∷ merged (drop (k + 1) places) outcomes) × (called (drop k places) ≡ called (drop (k + 1) places) + 1)
   next_came outcome outcomes is = let at = cut None is in (ap (λ l. merged l (outcome ∷ outcomes)) at, ap called at)
 
@@ -108,7 +109,7 @@ module _ (places : List (Option LabelFault)) (k : ℕ) (within : k < length plac
   next_uncalled None is some = absurd (cc)
   next_uncalled (Some fault) is some = ap called (cut (Some fault) is)
 
-few_behind : (cs : List Came) (failure : Failure) → first_failure cs ≡ Some failure → behind_failure cs < length cs
+few_behind : (cs : List Came) (failure : CallFault) → first_failure cs ≡ Some failure → behind_failure cs < length cs
 few_behind [] failure is = absurd (cc)
 few_behind (cames.Refused f ∷ cs) failure is = let below = few_behind cs failure is in omega arith
 few_behind (cames.Replied r ∷ cs) failure is = let below = few_behind cs failure is in omega arith
@@ -127,7 +128,7 @@ same_behind (cames.Replied r ∷ cs) ds none = same_behind cs ds none
 same_behind (cames.Failed f ∷ cs) ds none = absurd (cc)
 
 -- streams fail as their calls do
-pub same_failure : (places : List (Option LabelFault)) (outcomes : List (Result Reply Failure)) → called places ≡ length outcomes → first_failure (merged places outcomes) ≡ first_failure (map came_of outcomes)
+pub same_failure : (places : List (Option LabelFault)) (outcomes : List (Result Reply CallFault)) → called places ≡ length outcomes → first_failure (merged places outcomes) ≡ first_failure (map came_of outcomes)
 same_failure [] [] due = refl
 same_failure [] (r ∷ rs) due = absurd (omega (arith, due))
 same_failure (Some fault ∷ ps) outcomes due = same_failure ps outcomes due
@@ -162,16 +163,16 @@ module _ (before all : List Came) where
     )
 
 module _ {H : Type 0} (gives : Giving H) (tenant : List ℕ) where
-  came_given : (doubt : Bool) (h h' : H) (asked : Asked) (call : Call) (outcome : Result Reply Failure) → IsCallOf tenant asked call → gives doubt h call outcome h' → StreamGives gives tenant doubt h asked (came_of outcome) h'
+  came_given : (doubt : Bool) (h h' : H) (asked : Asked) (call : Call) (outcome : Result Reply CallFault) → IsCallOf tenant asked call → gives doubt h call outcome h' → StreamGives gives tenant doubt h asked (came_of outcome) h'
   came_given doubt h h' asked call (Ok reply) is given = (call, is, given)
   came_given doubt h h' asked call (Err failure) is given = (call, is, given)
 
-  same_doubt : (doubt : Bool) (outcome : Result Reply Failure) → leaves_doubt outcome ≡ doubt_behind doubt (came_of outcome)
+  same_doubt : (doubt : Bool) (outcome : Result Reply CallFault) → is_doubt outcome ≡ doubt_behind doubt (came_of outcome)
   same_doubt doubt (Ok reply) = refl
   same_doubt doubt (Err failure) = refl
 
   -- where calls were made, what came of their streams is told by the places and the outcomes
-  given_streams : (doubt : Bool) (h h' : H) (asked : List Asked) (places : List (Option LabelFault)) (calls : List Call) (outcomes : List (Result Reply Failure)) → AreStreams tenant asked places calls
+  given_streams : (doubt : Bool) (h h' : H) (asked : List Asked) (places : List (Option LabelFault)) (calls : List Call) (outcomes : List (Result Reply CallFault)) → AreStreams tenant asked places calls
       → CallsGiveAfter gives doubt h calls outcomes h' → StreamsGiveAfter gives tenant doubt h asked (merged places outcomes) h'
   given_streams doubt h h' [] [] [] [] are given = given
   given_streams doubt h h' [] [] [] (r ∷ rs) are given = absurd given
@@ -182,7 +183,7 @@ module _ {H : Type 0} (gives : Giving H) (tenant : List ℕ) where
   given_streams doubt h h' (a ∷ asked) (None ∷ ps) [] outcomes are given = absurd are
   given_streams doubt h h' (a ∷ asked) (None ∷ ps) (c ∷ cs) [] are given = absurd given
   given_streams doubt h h' (a ∷ asked) (None ∷ ps) (c ∷ cs) (r ∷ rs) are (mid, is, given) =
-      let others = given_streams (leaves_doubt r) mid h' asked ps cs rs are.1 given in (
+      let others = given_streams (is_doubt r) mid h' asked ps cs rs are.1 given in (
         mid,
         came_given doubt h mid a c r are.0 is,
         subst (λ (b : Bool). StreamsGiveAfter gives tenant b mid asked (merged ps rs) h') (same_doubt doubt r) others,
@@ -203,7 +204,7 @@ module _ {H : Type 0} (gives : Giving H) (tenant : List ℕ) where
     starts places calls lines are tells = record { done = []; more = all; cames = []; split = refl; left = are; each = refl; whole = refl; tells = tells }
 
     -- what became of a window, in which these calls were made
-    module _ (m m' : H) (window more : List (Option LabelFault)) (old calls left : List Call) (outcomes : List (Result Reply Failure)) (lines new : PushLines)
+    module _ (m m' : H) (window more : List (Option LabelFault)) (old calls left : List Call) (outcomes : List (Result Reply CallFault)) (lines new : PushLines)
         (taken : StreamsAreTaken gives tenant h all m (window ++ more) old lines) (split : old ≡ calls ++ left) (count : length calls ≡ called window) (due : called window ≡ length outcomes)
         (few : length window ≤ 64) (given : CallsGive gives m calls outcomes m') where
       parts : (done : List Asked) × (rest : List Asked) × (all ≡ done ++ rest) × StreamsGive gives tenant h done (taken.cames ++ merged window outcomes) m' × AreStreams tenant rest more left
@@ -243,7 +244,7 @@ module _ {H : Type 0} (gives : Giving H) (tenant : List ℕ) where
         window_taken (Err GivenUp) noted some = absurd (some refl)
 
         -- there was no memory for the lines, and of what is left this one failed first, or none
-        pub window_given_up : (failure : Option Failure) → first_failure behind ≡ failure → Noted (Err GivenUp) → WindowIsTaken gives tenant h all (Err (halt_by failure)) m' more left new
+        pub window_given_up : (failure : Option CallFault) → first_failure behind ≡ failure → Noted (Err GivenUp) → WindowIsTaken gives tenant h all (Err (halt_by failure)) m' more left new
         window_given_up (Some failure) first noted = window_taken (Err (Failed failure)) (λ before tells whole. (noted before tells whole).0 ∙ first) (λ is. cc)
         window_given_up None first noted =
             let (done, rest, is, each, others) = parts in

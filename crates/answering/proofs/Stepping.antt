@@ -4,7 +4,7 @@ use Rattle.accept.specs.declared.call.Call.{Call as Asking}
 use Rattle.accept.specs.declared.call.Reply.{Reply}
 use Rattle.accept.specs.declared.history.Step.{Step}
 use Rattle.pushjson.specs.declared.fault.PushFault.{PushFault}
-use Rattle.requests.specs.declared.failure.Failure.{Failure}
+use Rattle.accept.specs.declared.fault.CallFault.{CallFault}
 use Rattle.requests.specs.declared.verdict.Verdict.{Verdict}
 use Rattle.requests.specs.declared.verdict.Verdict.TheVariants.{Fixed, Call, NoMemory}
 use Rattle.answering.specs.Asking.{Asked, IsCallOf}
@@ -17,7 +17,7 @@ use Rattle.answering.specs.Steps.{AreSteps, AreStepsOf, AreFirstStepsOf, AreStep
 module _ {H : Type 0} (gives : Giving H) (Gains : H → List Step → H → Type 0)
     (none : (h h' : H) → h' ≡ h → Gains h [] h')
     (one : (doubt : Bool) (h h' : H) (call : Asking) (reply : Reply) → gives doubt h call (Ok reply) h' → (step : Step) × (step.ask.call ≡ call) × (step.reply ≡ reply) × Gains h (step ∷ []) h')
-    (kept : (doubt : Bool) (h h' : H) (call : Asking) (failure : Failure) → gives doubt h call (Err failure) h' → Gains h [] h')
+    (kept : (doubt : Bool) (h h' : H) (call : Asking) (failure : CallFault) → gives doubt h call (Err failure) h' → Gains h [] h')
     (both : (h m h' : H) (first others : List Step) → Gains h first m → Gains m others h' → Gains h (first ++ others) h') where
   each : (tenant : List ℕ) (doubt : Bool) (h h' : H) (all : List Asked) (cames : List Came) → StreamsGiveAfter gives tenant doubt h all cames h' → (steps : List Step) × Gains h steps h' × AreSteps tenant all cames steps
   each tenant doubt h h' [] [] same = ([], none h h' same, refl)

@@ -11,7 +11,7 @@ use Rattle.requests.specs.Streams.{Request, ReadsMessage, IsMessage, BeginsRefus
 use Rattle.requests.specs.Writing.{WritesBeginning, Dues, Follows}
 use Rattle.requests.specs.declared.answer.Answer.{Answer}
 use Rattle.requests.specs.declared.answer.Content.{Content}
-use Rattle.requests.specs.declared.failure.Failure.{Failure}
+use Rattle.accept.specs.declared.fault.CallFault.{CallFault}
 use Rattle.requests.specs.declared.fault.ServeFault.{ServeFault}
 use Rattle.requests.specs.declared.fault.ServeFault.TheVariants.{Read, Write, Memory, CutShort}
 use Rattle.requests.specs.declared.fault.Served.{Served}
@@ -57,13 +57,13 @@ module _ (route : Route) (close : Bool) (course : Course) where
       ∙ ap₂ (λ s b. answer_text s (content_for s) None close b) shows.status_is shows.text_is
       ∙ ap (called_text route close course) (sym none)
 
-  pub said_failed : (failure : Failure) → failure_in course ≡ Some failure → failure_text failure ≡ called_text route close course (failure_in course)
+  pub said_failed : (failure : CallFault) → failure_in course ≡ Some failure → failure_text failure ≡ called_text route close course (failure_in course)
   said_failed failure fails = ap (called_text route close course) (sym fails)
 
   pub ends_kept : failure_in course ≡ None → close ≡ (is_failed (failure_in course) || close)
   ends_kept none = ap (λ f. is_failed f || close) (sym none)
 
-  pub ends_failed : (failure : Failure) → failure_in course ≡ Some failure → true ≡ (is_failed (failure_in course) || close)
+  pub ends_failed : (failure : CallFault) → failure_in course ≡ Some failure → true ≡ (is_failed (failure_in course) || close)
   ends_failed failure fails = ap (λ f. is_failed f || close) (sym fails)
 
 module _ {H : Type 0} (gives : Giving H) (now : ℕ) (body : List ℕ) (verdict : Verdict) (close : Bool) (course : Course) (h h' : H) (due due' : Dues H) (before after : Option (List ℕ))

@@ -3,8 +3,8 @@ use Rattle.std.specs.Prelude.{◌≡◌, ℕ, Bool, true, false, List, [], ◌�
 use Rattle.labels.specs.declared.fault.LabelFault.{LabelFault}
 use Rattle.accept.specs.declared.call.Call.{Call}
 use Rattle.accept.specs.declared.call.Reply.{Reply}
-use Rattle.requests.specs.declared.failure.Failure.{Failure}
-use Rattle.requests.specs.declared.failure.Failure.TheVariants.{OutOfMemory, PassClosed, InDoubt, LogSpent}
+use Rattle.accept.specs.Doubts.{is_doubt}
+use Rattle.accept.specs.declared.fault.CallFault.{CallFault}
 
 -- the most calls of a body that are on their way at once
 abbrev pub max_window : ℕ
@@ -13,31 +13,23 @@ max_window = 64
 -- a relation of what a call gives: whether the call before it is in doubt, what was known, the call, what came of it,
 -- and what is known then
 abbrev pub Giving : Type 0 → Type 1
-Giving H = Bool → H → Call → Result Reply Failure → H → Type 0
+Giving H = Bool → H → Call → Result Reply CallFault → H → Type 0
 
 -- what came of a stream: its labels were refused, and no call was made; its call had this reply; or it failed so
 pub data Came : Type 0 where
   Refused : LabelFault → Came
   Replied : Reply → Came
-  Failed : Failure → Came
-
--- whether a call of which this came is in doubt
-abbrev pub leaves_doubt : Result Reply Failure → Bool
-leaves_doubt (Ok reply) = false
-leaves_doubt (Err OutOfMemory) = false
-leaves_doubt (Err PassClosed) = false
-leaves_doubt (Err InDoubt) = true
-leaves_doubt (Err LogSpent) = false
+  Failed : CallFault → Came
 
 module _ {H : Type 0} (gives : Giving H) where
   -- this came of each, from what was known to what is known then; the call before the first is in doubt or not
-  abbrev pub CallsGiveAfter : Bool → H → List Call → List (Result Reply Failure) → H → Type 0
+  abbrev pub CallsGiveAfter : Bool → H → List Call → List (Result Reply CallFault) → H → Type 0
   CallsGiveAfter doubt h [] [] h' = h' ≡ h
   CallsGiveAfter doubt h [] (r ∷ rs) h' = ⊥
   CallsGiveAfter doubt h (call ∷ calls) [] h' = ⊥
   CallsGiveAfter doubt h (call ∷ calls) (r ∷ rs) h' = (mid : H) × gives doubt h call r mid
-      × CallsGiveAfter (leaves_doubt r) mid calls rs h'
+      × CallsGiveAfter (is_doubt r) mid calls rs h'
 
   -- and no call before the first is
-  abbrev pub CallsGive : H → List Call → List (Result Reply Failure) → H → Type 0
+  abbrev pub CallsGive : H → List Call → List (Result Reply CallFault) → H → Type 0
   CallsGive h calls outcomes h' = CallsGiveAfter false h calls outcomes h'

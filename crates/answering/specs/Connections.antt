@@ -4,7 +4,8 @@ use Rattle.requests.specs.declared.fault.ServeFault.{ServeFault}
 use Rattle.answering.specs.declared.visiting.Visited.{Visited}
 use Rattle.answering.specs.declared.visiting.Visited.TheVariants.{More, Unfinished, Closed}
 
--- what has come and is not yet answered, how much more may come, what is to be sent, and whether the connection ends then
+-- what has come and is not yet answered, how much more may come, what is to be sent, and whether the connection ends
+-- then
 pub record Unended : Type 0 where
   pub came : List ℕ
   pub room : ℕ
@@ -15,7 +16,7 @@ pub record Unended : Type 0 where
 abbrev pub with_bytes : List ℕ → Unended → Unended
 with_bytes bytes c = record { came = c.came ++ bytes; room = c.room - length bytes; text = c.text; closes = c.closes }
 
--- so many bytes were sent
+-- the first bytes of its text were sent
 abbrev pub without_bytes : ℕ → Unended → Unended
 without_bytes n c = record { came = c.came; room = c.room; text = drop n c.text; closes = c.closes }
 

@@ -4,25 +4,26 @@ use Rattle.labels.specs.Faults.{first_fault}
 use Rattle.accept.specs.declared.call.Call.{Call}
 use Rattle.pushjson.specs.declared.fault.PushFault.{PushFault}
 use Rattle.pushjson.specs.declared.fault.PushFault.TheVariants.{NotJson, WrongShape, BadTime, TooManyEntries, Memory}
-use Rattle.requests.specs.declared.failure.Failure.{Failure}
-use Rattle.requests.specs.declared.failure.Failure.TheVariants.{OutOfMemory}
+use Rattle.accept.specs.Doubts.{is_doubt}
+use Rattle.accept.specs.declared.fault.CallFault.{CallFault}
+use Rattle.accept.specs.declared.fault.CallFault.TheVariants as faults
 use Rattle.requests.specs.declared.route.Route.{Route}
 use Rattle.requests.specs.declared.route.Route.TheVariants.{Push, Read, Trim}
 use Rattle.answering.specs.Asking.{Asked, AsksFor, IsCallOf}
-use Rattle.answering.specs.Calls.{Giving, Came, Refused, Replied, Failed, leaves_doubt, max_window}
+use Rattle.answering.specs.Calls.{Giving, Came, Refused, Replied, Failed, max_window}
 use Rattle.answering.specs.Lines.{came_lines}
 use Rattle.answering.specs.Replies.{one_text}
 
 -- the failure at a body's form, which is answered by a 500
-abbrev pub fault_failure : PushFault → Option Failure
+abbrev pub fault_failure : PushFault → Option CallFault
 fault_failure NotJson = None
 fault_failure WrongShape = None
 fault_failure (BadTime i j) = None
 fault_failure TooManyEntries = None
-fault_failure Memory = Some OutOfMemory
+fault_failure Memory = Some faults.Memory
 
 -- the first failure of a call
-abbrev pub first_failure : List Came → Option Failure
+abbrev pub first_failure : List Came → Option CallFault
 first_failure [] = None
 first_failure (Refused fault ∷ cs) = first_failure cs
 first_failure (Replied reply ∷ cs) = first_failure cs
@@ -40,13 +41,13 @@ behind_failure (Failed failure ∷ cs) = length cs
 pub data Course : Type 0 where
   Unread : PushFault → Course
   Whole : List Came → Course
-  Broken : List Came → Failure → Course
+  Broken : List Came → CallFault → Course
 
 -- whether the last call is in doubt, where this came of the last stream; one without a call changes nothing of it
 abbrev pub doubt_behind : Bool → Came → Bool
 doubt_behind doubt (Refused fault) = doubt
 doubt_behind doubt (Replied reply) = false
-doubt_behind doubt (Failed failure) = leaves_doubt (Err failure)
+doubt_behind doubt (Failed failure) = is_doubt (Err failure)
 
 -- what the answer to a request of this route says of the stream at this place, of which this came
 abbrev pub said_of : Route → ℕ → Came → List ℕ
@@ -77,7 +78,7 @@ module _ {H : Type 0} (gives : Giving H) (tenant : List ℕ) where
   StreamsGive h all cames h' = StreamsGiveAfter false h all cames h'
 
   -- of a beginning of these streams this came: one failed, and fewer than a window's stand after it
-  pub record BodyFails (h : H) (all : List Asked) (cames : List Came) (failure : Failure)
+  pub record BodyFails (h : H) (all : List Asked) (cames : List Came) (failure : CallFault)
       (h' : H) : Type 0 where
     pub done : List Asked
     pub more : List Asked

@@ -10,8 +10,8 @@ use Rattle.answering.specs.Courses.{Course}
 use Rattle.answering.specs.Serving.{Exchange, World, response, response_text, VerdictGives, ConnectionGives, IsNextResponse}
 
 module _ {H C : Type 0} (gives : Giving H) (ticks : C → ℕ → C → Type 0) where
-  -- This text is the responses to whole requests at the front of these bytes, which have come, and to the next one or to
-  -- what is refused there; the calls of all of them have come back, and this is known of them.
+  -- This text is the responses to whole requests at the front of these bytes, which have come, and to the next one or
+  -- to what is refused there; the calls of all of them have come back, and this is known of them.
   pub record IsDueText (bytes : List ℕ) (w : World H C) (knows : H) (text : List ℕ) : Type 0 where
     pub exchanges : List Exchange
     pub rest : List ℕ

@@ -4,7 +4,8 @@ use Rattle.std.specs.List.{flat_map}
 use Rattle.answering.specs.Calls.{Giving}
 use Rattle.answering.specs.Serving.{Exchange, World, response, closes, IsExchange, ConnectionGives}
 
--- a visit that keeps its connection: what came before it, what was known, what it answered, what was left, what is known then
+-- a visit that keeps its connection: what came before it, what was known, what it answered, what was left, what is
+-- known then
 pub record Stay (H C : Type 0) : Type 0 where
   pub came : List ℕ
   pub before : World H C
@@ -22,7 +23,8 @@ module _ {H C : Type 0} (gives : Giving H) (ticks : C → ℕ → C → Type 0) 
   AreStays old (v ∷ vs) rest = ConnectionGives gives ticks (old ++ v.came) v.before v.exchanges v.rest v.after
       × AreStays v.rest vs rest
 
-  -- the bytes are these requests, none of which closes, and then rest; the calls of each were made from what was known then
+  -- the bytes are these requests, none of which closes, and then rest; the calls of each were made from what was known
+  -- then
   abbrev pub AnswersApart : List ℕ → List Exchange → List ℕ → Type 0
   AnswersApart bytes [] rest = rest ≡ bytes
   AnswersApart bytes (e ∷ es) rest = (mid : List ℕ) × (w : World H C) × (w' : World H C)

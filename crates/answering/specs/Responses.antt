@@ -6,8 +6,8 @@ use Rattle.requests.specs.Answers.{code_of, failure_body}
 use Rattle.requests.specs.declared.answer.Answer.{Answer}
 use Rattle.requests.specs.declared.answer.Content.{Content}
 use Rattle.requests.specs.declared.answer.Content.TheVariants.{Text, Json}
-use Rattle.requests.specs.declared.failure.Failure.{Failure}
-use Rattle.requests.specs.declared.failure.Failure.TheVariants.{OutOfMemory}
+use Rattle.accept.specs.declared.fault.CallFault.{CallFault}
+use Rattle.accept.specs.declared.fault.CallFault.TheVariants as call_faults
 use Rattle.requests.specs.declared.fault.ServeFault.{ServeFault}
 use Rattle.requests.specs.declared.fault.ServeFault.TheVariants as faults
 use Rattle.requests.specs.declared.route.Route.{Route}
@@ -30,7 +30,7 @@ fault_text NotJson = codes "body is not JSON"
 fault_text WrongShape = codes "wrong shape"
 fault_text (BadTime i j) = bad_time_text i j
 fault_text TooManyEntries = codes "more than 10000 entries"
-fault_text Memory = failure_body OutOfMemory
+fault_text Memory = failure_body call_faults.Memory
 
 abbrev pub fault_status : PushFault → Status
 fault_status NotJson = statuses.BadRequest
@@ -72,7 +72,7 @@ text_for route (Whole cames) = cames_text route cames
 text_for route (Broken cames failure) = failure_body failure
 
 -- the failure that ended the calls, which is answered by a 500 that closes
-abbrev pub failure_in : Course → Option Failure
+abbrev pub failure_in : Course → Option CallFault
 failure_in (Unread fault) = fault_failure fault
 failure_in (Whole cames) = None
 failure_in (Broken cames failure) = Some failure
@@ -85,7 +85,7 @@ module _ {H : Type 0} (gives : Giving H) (route : Route) (now : ℕ) (tenant bod
   -- there was no memory before any call, nor for the text that says so
   abbrev pub RequestIsUnsaid : H → H → Type 0
   RequestIsUnsaid h h' = (course : Course) × RequestGives gives route now tenant body h course h'
-      × (failure_in course ≡ Some OutOfMemory) × (h' ≡ h)
+      × (failure_in course ≡ Some call_faults.Memory) × (h' ≡ h)
 
   -- what is answered to a request after its head: the answer of how its calls went; or nothing, where memory ran out
   abbrev pub RequestIsAnswered : H → Result Answer ServeFault → H → Type 0

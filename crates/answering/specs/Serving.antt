@@ -7,8 +7,8 @@ use Rattle.requests.specs.Answers.{answer_text, fixed_text, failure_text, always
 use Rattle.requests.specs.Fields.{fields_of}
 use Rattle.requests.specs.Streams.{Request, ReadsMessage, IsCut, BeginsRefused}
 use Rattle.requests.specs.Verdicts.{IsVerdict, asks_close}
-use Rattle.requests.specs.declared.failure.Failure.{Failure}
-use Rattle.requests.specs.declared.failure.Failure.TheVariants.{OutOfMemory}
+use Rattle.accept.specs.declared.fault.CallFault.{CallFault}
+use Rattle.accept.specs.declared.fault.CallFault.TheVariants as call_faults
 use Rattle.requests.specs.declared.fault.ServeFault.{ServeFault}
 use Rattle.requests.specs.declared.fault.ServeFault.TheVariants as faults
 use Rattle.requests.specs.declared.fault.Served.{Served}
@@ -29,17 +29,17 @@ pub record Exchange : Type 0 where
   pub course : Course
 
 -- the failure that is answered by a 500
-abbrev pub failure_at : Verdict → Course → Option Failure
+abbrev pub failure_at : Verdict → Course → Option CallFault
 failure_at (Fixed answer) course = None
 failure_at (Call route tenant) course = failure_in course
-failure_at NoMemory course = Some OutOfMemory
+failure_at NoMemory course = Some call_faults.Memory
 
-abbrev pub is_failed : Option Failure → Bool
+abbrev pub is_failed : Option CallFault → Bool
 is_failed None = false
 is_failed (Some failure) = true
 
 -- the answer to calls that went so, or that ended at this failure
-abbrev pub called_text : Route → Bool → Course → Option Failure → List ℕ
+abbrev pub called_text : Route → Bool → Course → Option CallFault → List ℕ
 called_text route close course None =
     answer_text (status_for route course) (content_for (status_for route course)) None close
     (text_for route course)
@@ -48,7 +48,7 @@ called_text route close course (Some failure) = failure_text failure
 abbrev pub response_text : Verdict → Bool → Course → List ℕ
 response_text (Fixed answer) close course = fixed_text answer close
 response_text (Call route tenant) close course = called_text route close course (failure_in course)
-response_text NoMemory close course = failure_text OutOfMemory
+response_text NoMemory close course = failure_text call_faults.Memory
 
 -- whether the connection ends after the response, to a request that asks for it or not
 abbrev pub ends_behind : Verdict → Bool → Course → Bool

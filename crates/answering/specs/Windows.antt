@@ -4,7 +4,7 @@ use Rattle.labels.specs.Faults.{first_fault}
 use Rattle.labels.specs.declared.fault.LabelFault.{LabelFault}
 use Rattle.accept.specs.declared.call.Call.{Call}
 use Rattle.accept.specs.declared.call.Reply.{Reply}
-use Rattle.requests.specs.declared.failure.Failure.{Failure}
+use Rattle.accept.specs.declared.fault.CallFault.{CallFault}
 use Rattle.requests.specs.declared.route.Route.TheVariants.{Push}
 use Rattle.answering.specs.declared.lines.PushLines.{PushLines}
 use Rattle.answering.specs.declared.responding.Halt.{Halt}
@@ -58,19 +58,19 @@ pub record FitWindow (places : List (Option LabelFault)) (size left streams : �
   pub few : length places ≤ max_window
   pub counted : streams + length places < 2 ^ 64
 
-abbrev pub came_of : Result Reply Failure → Came
+abbrev pub came_of : Result Reply CallFault → Came
 came_of (Ok reply) = Replied reply
 came_of (Err failure) = Failed failure
 
 -- what came of streams, by their places and what came of the calls
-abbrev pub merged : List (Option LabelFault) → List (Result Reply Failure) → List Came
+abbrev pub merged : List (Option LabelFault) → List (Result Reply CallFault) → List Came
 merged [] outcomes = []
 merged (Some fault ∷ places) outcomes = Refused fault ∷ merged places outcomes
 merged (None ∷ places) [] = []
 merged (None ∷ places) (r ∷ rs) = came_of r ∷ merged places rs
 
 -- a push without memory for its lines ends for the first failure, if there is one
-abbrev pub halt_by : Option Failure → Halt
+abbrev pub halt_by : Option CallFault → Halt
 halt_by None = halts.GivenUp
 halt_by (Some failure) = halts.Failed failure
 

@@ -1,13 +1,12 @@
-ghost use Rattle.std.specs.Prelude.{◌≡◌, ◌≤◌, Bool, false, [], All, Result, map};
+ghost use Rattle.std.specs.Prelude.{◌≡◌, ◌≤◌, Bool, false, [], All, Result};
 ghost use Rattle.std.specs.VecDeque.{deque_len, deque_capacity};
 ghost use Rattle.accept.specs.Calls.{AreNumbers};
 ghost use Rattle.accept.specs.declared.call.Call.{Call};
 ghost use Rattle.accept.specs.declared.call.Reply.{Reply};
-ghost use Rattle.requests.specs.declared.failure.Failure.{Failure};
+ghost use Rattle.accept.specs.declared.fault.CallFault.{CallFault};
 ghost use Rattle.answering.specs.Calls.{CallsGive, max_window};
 
-use accept::{Call, Reply};
-use requests::Failure;
+use accept::{Call, CallFault, Reply};
 use std::alloc::Global;
 use std::collections::VecDeque;
 use std::sync::Wait;
@@ -17,19 +16,13 @@ pub trait Calls {
     /// What a caller keeps from call to call.
     type Pass;
 
-    /// What came of one call of several.
-    type Outcome: Drop;
-
     /// By this pass calls may be made.
     ghost is_ready: { Self → Self.Pass → Type 0 };
 
     /// Relates a pass before a call, the call, what came of it, and the pass after it. A call has a reply, or it fails,
     /// and its request is answered by a status 500. The `Bool` tells whether the call just before it, of those that
     /// are made together, is in doubt.
-    ghost gives: { Self → Bool → Self.Pass → Call → Result Reply Failure → Self.Pass → Type 0 };
-
-    /// What came of a call, by its outcome.
-    ghost told: { Self.Outcome → Result Reply Failure };
+    ghost gives: { Self → Bool → Self.Pass → Call → Result Reply CallFault → Self.Pass → Type 0 };
 
     /// Makes a call.
     ///
@@ -42,7 +35,7 @@ pub trait Calls {
         alloc: Global,
         pass: &mut Self::Pass,
         call: Call,
-    ) -> Result<Reply, Failure>
+    ) -> Result<Reply, CallFault>
         requires ready { is_ready self.now pass.old }
         requires numbers { AreNumbers call }
         ensures ready { is_ready self.now pass.new }
@@ -56,7 +49,7 @@ pub trait Calls {
         alloc: Global,
         pass: &mut Self::Pass,
         calls: &mut VecDeque<Call>,
-        outcomes: &mut VecDeque<Self::Outcome>,
+        outcomes: &mut VecDeque<Result<Reply, CallFault>>,
     )
         requires ready { is_ready self.now pass.old }
         requires few { deque_len calls.old ≤ max_window }
@@ -65,17 +58,9 @@ pub trait Calls {
         requires room { deque_len calls.old ≤ deque_capacity outcomes.old }
         ensures ready { is_ready self.now pass.new }
         ensures given { CallsGive (gives self.now) pass.old calls.old.items
-            (map told outcomes.new.items) pass.new }
+            outcomes.new.items pass.new }
         ensures taken { calls.new.items ≡ [] }
         ensures lens { (deque_len calls.new ≡ 0) × (deque_len outcomes.new ≡ deque_len calls.old) }
         ensures capacities { (deque_capacity calls.new ≡ deque_capacity calls.old)
             × (deque_capacity outcomes.new ≡ deque_capacity outcomes.old) };
-
-    /// What came of a call.
-    ///
-    /// # Errors
-    ///
-    /// Why the request that asks for it ends.
-    fn told(outcome: Self::Outcome) -> Result<Reply, Failure>
-        ensures { result ≡ told outcome };
 }

@@ -74,7 +74,7 @@ impl<P> Connection<P> {
         self.closes
     }
 
-    /// So many bytes of what is to be sent were sent.
+    /// The first `count` bytes of what is to be sent were sent.
     pub fn sent(&mut self, count: usize)
         requires { count ≤ length self.old.text }
         ensures { self.new ≡ without_bytes count self.old }

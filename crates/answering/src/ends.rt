@@ -5,8 +5,9 @@ ghost use Rattle.requests.specs.Streams.{Grows, IsCut, MayStand, MayGrow};
 ghost use Rattle.requests.specs.Writing.{WritesBeginning, Follows};
 ghost use Rattle.answering.specs.Ends.{IsOfAnswer, IsReadOn, IsSameEnd};
 
+use accept::CallFault;
 use requests::{
-    Answer, Answers, Content, Failure, FixedAnswer, Incoming, Outgoing, ServeFault, Served,
+    Answer, Answers, Content, FixedAnswer, Incoming, Outgoing, ServeFault, Served, failure_text,
 };
 use std::io::Read;
 
@@ -133,7 +134,7 @@ impl<'a, O: Answers> WriteEnd<'a, O> {
     }
 
     /// Puts the answer of a failure there. Takes no memory of its own.
-    pub(crate) fn failure(&mut self, knows: &O::Knows, failure: Failure) -> Result<(), ServeFault>
+    pub(crate) fn failure(&mut self, knows: &O::Knows, failure: CallFault) -> Result<(), ServeFault>
         requires due { O.due self.old.writer.now knows.now (failure_text failure) }
         ensures same { IsSameEnd O.through self.old self.new }
         ensures writes { WritesBeginning (O.contents self.old.writer.now)
@@ -144,7 +145,7 @@ impl<'a, O: Answers> WriteEnd<'a, O> {
         ensures follows { OnOk result (Follows (O.due self.old.writer.now)
             (failure_text failure) (O.due self.new.writer.now)) }
     {
-        self.say(knows, failure.text())
+        self.say(knows, failure_text(failure))
     }
 
     fn say(&mut self, knows: &O::Knows, text: &[u8]) -> Result<(), ServeFault>

@@ -5,8 +5,8 @@ ghost use Rattle.answering.specs.Joining.{Stay, AreOneConnection, IsOneText, IsA
 use crate::calls::Calls;
 use crate::clock::Clock;
 
-/// The laws of visits: where a connection is kept from visit to visit, whatever its worker did between them, the texts of
-/// its visits one after another are the responses to the requests in all its bytes, in their order, as those of a
+/// The laws of visits: where a connection is kept from visit to visit, whatever its worker did between them, the texts
+/// of its visits one after another are the responses to the requests in all its bytes, in their order, as those of a
 /// connection that is served in one; and these requests are the same.
 pub fn visits_join<S: Calls, C: Clock>()
     ensures joined { (service : S) (old : List ℕ) (visits : List (Stay S.Pass C))

@@ -20,7 +20,7 @@ pub use connection::Connection;
 pub use ends::Ends;
 pub use laws::visits_join;
 pub use replies::answer_of_read;
-pub use requests::{Answer, Answers, Failure, Outgoing, Route, Sent, ServeFault, Served, Status};
+pub use requests::{Answer, Answers, Outgoing, Route, Sent, ServeFault, Served, Status};
 pub use responding::{RequestBody, answer};
 pub use serving::{serve, serve_to};
 pub use visiting::{Visited, answer_requests};

@@ -17,10 +17,10 @@ use crate::calls::Calls;
 use crate::lines::{PushLines, push_number};
 use crate::replies::{answer_of_moved, answer_of_refusal, answer_of_text};
 use crate::windows::{MAX_WINDOW, Streams, streams_of};
-use accept::Call;
+use accept::{Call, CallFault};
 use labels::Tenant;
 use pushjson::PushFault;
-use requests::{Answer, Failure, Route, ServeFault, Status};
+use requests::{Answer, Route, ServeFault, Status};
 use std::alloc::{AllocError, Global};
 use std::sync::Wait;
 
@@ -31,15 +31,15 @@ const LONGEST_FAILURE: usize = 13;
 #[derive(Clone, Copy)]
 pub(crate) enum Halt {
     /// Its calls ended at a failure, which is answered by a status 500.
-    Failed(Failure),
+    Failed(CallFault),
     /// There was no memory for its answer.
     GivenUp,
 }
 
-impl From<Failure> for Halt {
+impl From<CallFault> for Halt {
     ghost from_gives = { λ failure halt. halt ≡ Failed failure };
 
-    fn from(failure: Failure) -> Halt {
+    fn from(failure: CallFault) -> Halt {
         Halt::Failed(failure)
     }
 }
@@ -90,7 +90,7 @@ fn refuse(alloc: Global, fault: PushFault) -> Result<Answer, Halt>
             Status::BadRequest,
             b"more than 10000 entries",
         ),
-        PushFault::Memory => return Err(Halt::Failed(Failure::OutOfMemory)),
+        PushFault::Memory => return Err(Halt::Failed(CallFault::Memory)),
     };
     Ok(answer?)
 }
@@ -101,7 +101,7 @@ fn take_windows<S: Calls, R: Wait>(
     alloc: Global,
     service: &S,
     pass: &mut S::Pass,
-    streams: Streams<S::Outcome>,
+    streams: Streams,
 ) -> Result<Answer, Halt>
     requires pass { S.is_ready service.now pass.old }
     requires fresh { IsEmptyWindow streams.windows.calls.items streams.windows.outcomes.items }
@@ -211,20 +211,20 @@ pub(crate) fn respond<S: Calls, R: Wait>(
     }
 }
 
-fn failure_body(failure: Failure) -> &'static [u8]
+fn failure_body(failure: CallFault) -> &'static [u8]
     ensures body { result.now ≡ failure_body failure }
     ensures short { length result.now ≤ LONGEST_FAILURE }
 {
     match failure {
-        Failure::OutOfMemory => b"out of memory",
-        Failure::PassClosed => b"pass closed",
-        Failure::InDoubt => b"call in doubt",
-        Failure::LogSpent => b"log spent",
+        CallFault::Memory => b"out of memory",
+        CallFault::PassClosed => b"pass closed",
+        CallFault::InDoubt => b"call in doubt",
+        CallFault::LogSpent => b"log spent",
     }
 }
 
 /// The answer of a failure. Its text has room already.
-fn answer_of_failure(mut text: Vec<u8>, failure: Failure) -> Answer
+fn answer_of_failure(mut text: Vec<u8>, failure: CallFault) -> Answer
     requires empty { text.items ≡ [] }
     requires room { LONGEST_FAILURE ≤ vec_capacity text }
     ensures { IsShown Status.InternalServerError (failure_body failure) result }

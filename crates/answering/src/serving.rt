@@ -99,8 +99,7 @@ fn serve_answers<S, P, R: Wait, C: Clock, I: Read, O: Answers<Knows = P>>(
     clock: &mut C,
     source: &mut ReadEnd<'_, I>,
     answers: &mut O,
-    failed: &mut bool,
-) -> Result<Served, ServeFault>
+) -> (Result<Served, ServeFault>, bool)
 where
     S: Calls<Pass = P>,
     requires pass { S.is_ready service.now pass.old }
@@ -109,26 +108,25 @@ where
     ensures pass { S.is_ready service.now pass.new }
     ensures reader { source.new.reader.ghost_name ≡ source.old.reader.ghost_name }
     ensures through { O.through answers.new ≡ O.through answers.old }
-    ensures told { IfErr result (λ fault. IsOfOneEnd source.new.failed failed.new fault) }
+    ensures told { IfErr result.0 (λ fault. IsOfOneEnd source.new.failed result.1 fault) }
     ensures serves { ConnectionIsServed (S.gives service.now) C.ticks
         (io (I.remaining source.old.reader.now) (O.contents answers.old))
         (world pass.old clock.old)
         (io (I.remaining source.new.reader.now) (O.contents answers.new))
-        (world pass.new clock.new) result }
+        (world pass.new clock.new) result.0 }
 {
     let mut end = WriteEnd {
         writer: answers,
         failed: false,
     };
     let served = serve_ends(rt, alloc, &*service, pass, clock, source, &mut end);
-    *failed = end.failed;
-    served
+    (served, end.failed)
 }
 
 /// Answers the requests of a connection, one after another, until its bytes end between two requests or
 /// an answer closes it. The clock is read once for each whole request. No call is made of a request that was
-/// cut. Nothing is put where answers go but by `say`, and only what is due then: the responses to whole requests that have
-/// come, once their calls have come back.
+/// cut. Nothing is put where answers go but by `say`, and only what is due then: the responses to whole requests that
+/// have come, once their calls have come back.
 ///
 /// # Errors
 ///
@@ -160,8 +158,7 @@ where
         reader: ends.reader,
         failed: false,
     };
-    let mut failed = false;
-    let served = serve_answers(
+    let (served, failed) = serve_answers(
         rt,
         alloc,
         &*service,
@@ -169,7 +166,6 @@ where
         clock,
         &mut source,
         ends.writer,
-        &mut failed,
     );
     ends.reader_failed = source.failed;
     ends.writer_failed = failed;
@@ -185,20 +181,19 @@ fn serve_writer<S: Calls, R: Wait, C: Clock, I: Read, O: Write>(
     clock: &mut C,
     source: &mut ReadEnd<'_, I>,
     writer: &mut O,
-    failed: &mut bool,
-) -> Result<Served, ServeFault>
+) -> (Result<Served, ServeFault>, bool)
     requires pass { S.is_ready service.now pass.old }
     ensures pass { S.is_ready service.now pass.new }
     ensures reader { source.new.reader.ghost_name ≡ source.old.reader.ghost_name }
-    ensures told { IfErr result (λ fault. IsOfOneEnd source.new.failed failed.new fault) }
+    ensures told { IfErr result.0 (λ fault. IsOfOneEnd source.new.failed result.1 fault) }
     ensures serves { ConnectionIsServed (S.gives service.now) C.ticks
         (io (I.remaining source.old.reader.now) (O.contents writer.old))
         (world pass.old clock.old)
         (io (I.remaining source.new.reader.now) (O.contents writer.new))
-        (world pass.new clock.new) result }
+        (world pass.new clock.new) result.0 }
 {
     let mut sent = Sent::new(writer);
-    serve_answers(rt, alloc, service, pass, clock, source, &mut sent, failed)
+    serve_answers(rt, alloc, service, pass, clock, source, &mut sent)
 }
 
 /// Answers the requests of a connection, one after another, until its bytes end between two requests or
@@ -233,8 +228,7 @@ pub fn serve<'a, 'b, 'c, 'd, S: Calls, R: Wait, C: Clock, I: Read, O: Write>(
         reader: ends.reader,
         failed: false,
     };
-    let mut failed = false;
-    let served = serve_writer(
+    let (served, failed) = serve_writer(
         rt,
         alloc,
         &*service,
@@ -242,7 +236,6 @@ pub fn serve<'a, 'b, 'c, 'd, S: Calls, R: Wait, C: Clock, I: Read, O: Write>(
         clock,
         &mut source,
         ends.writer,
-        &mut failed,
     );
     ends.reader_failed = source.failed;
     ends.writer_failed = failed;

@@ -13,10 +13,11 @@ use crate::calls::Calls;
 use crate::clock::Clock;
 use crate::ends::WriteEnd;
 use crate::responding::{Halt, RequestBody, respond};
+use accept::CallFault;
 use labels::Tenant;
 use requests::{
-    Answers, Content, Failure, Incoming, MAX_HEAD, Message, Next, Outgoing, Route, ServeFault,
-    Status, Verdict,
+    Answers, Content, Incoming, MAX_HEAD, Message, Next, Outgoing, Route, ServeFault, Status,
+    Verdict,
 };
 use std::alloc::Global;
 use std::sync::Wait;
@@ -153,7 +154,7 @@ impl<'a, 'b, S: Calls<Pass = P>, P, C: Clock, O: Answers<Knows = P>> Visit<'a, '
                 self.reply_to_call(rt, alloc, now, *route, tenant, message)
             }
             Verdict::NoMemory => {
-                self.end.failure(self.pass, Failure::OutOfMemory)?;
+                self.end.failure(self.pass, CallFault::Memory)?;
                 Ok(true)
             }
         }
@@ -286,9 +287,9 @@ fn visit_end<'a, 'b, S: Calls<Pass = P>, P, R: Wait, C: Clock, O: Answers<Knows 
 }
 
 /// Answers the requests that have come of a connection, at most this many, and drops each from `incoming`. Nothing is
-/// read: where no whole request is left, more is to be taken in before the next visit. Nothing is put where answers go but
-/// by `say`, and only what is due then: the responses to whole requests that have come, once their calls have come back.
-/// Between two visits of a connection the same pass may serve others.
+/// read: where no whole request is left, more is to be taken in before the next visit. Nothing is put where answers go
+/// but by `say`, and only what is due then: the responses to whole requests that have come, once their calls have come
+/// back. Between two visits of a connection the same pass may serve others.
 ///
 /// # Errors
 ///

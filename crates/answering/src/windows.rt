@@ -15,7 +15,7 @@ use crate::calling::{Uncalled, key_of};
 use crate::calls::Calls;
 use crate::lines::PushLines;
 use crate::responding::{Halt, RequestBody};
-use accept::Call;
+use accept::{Call, CallFault, Reply};
 use labels::{LabelFault, Tenant};
 use pushjson::{PushFault, RawBatch, read_push};
 use std::alloc::{AllocError, Global};
@@ -27,19 +27,19 @@ pub(crate) const MAX_WINDOW: usize = 64;
 
 /// The streams of a push.
 #[derive(Drop)]
-pub(crate) struct Streams<O> {
+pub(crate) struct Streams {
     /// At each place of the body, why the labels are refused; or nothing, where there is a call.
     pub(crate) places: Vec<Option<LabelFault>>,
-    pub(crate) windows: Windows<O>,
+    pub(crate) windows: Windows,
 }
 
 /// The calls of a push that were not made yet, in their order, with room for those of a window and for their outcomes.
 #[derive(Drop)]
-pub(crate) struct Windows<O> {
+pub(crate) struct Windows {
     pub(crate) size: usize,
     pub(crate) left: VecDeque<Call>,
     pub(crate) calls: VecDeque<Call>,
-    pub(crate) outcomes: VecDeque<O>,
+    pub(crate) outcomes: VecDeque<Result<Reply, CallFault>>,
     ghost few: { size ≤ max_window },
     ghost calls_fit: { size ≤ deque_capacity calls },
     ghost outcomes_fit: { size ≤ deque_capacity outcomes },
@@ -50,10 +50,7 @@ pub(crate) struct Windows<O> {
 /// # Errors
 ///
 /// Why the body is refused, or `Memory`.
-pub(crate) fn streams_of<O: Drop>(
-    alloc: Global,
-    request: &RequestBody<'_>,
-) -> Result<Streams<O>, PushFault>
+pub(crate) fn streams_of(alloc: Global, request: &RequestBody<'_>) -> Result<Streams, PushFault>
     requires clock { request.now.time < end_of_time }
     ensures ok { IfOk result (λ streams. AsksForStreams request.now.time request.now.tenant.now
         request.now.body.now streams.places.items streams.windows.left.items) }
@@ -105,9 +102,9 @@ fn places_of(
     Ok((places, calls))
 }
 
-impl<O: Drop> Windows<O> {
+impl Windows {
     // Of these calls none was made.
-    fn new(alloc: Global, left: VecDeque<Call>) -> Result<Windows<O>, AllocError>
+    fn new(alloc: Global, left: VecDeque<Call>) -> Result<Windows, AllocError>
         ensures left { IfOk result (λ windows. windows.left ≡ left) }
         ensures fresh { IfOk result (λ windows.
             IsEmptyWindow windows.calls.items windows.outcomes.items) }
@@ -147,16 +144,12 @@ impl<O: Drop> Windows<O> {
 
     // Takes what came of the streams at these places into the lines, up to one that failed, or for which there is no
     // memory.
-    fn note<S: Calls<Outcome = O>>(
-        &mut self,
-        places: &[Option<LabelFault>],
-        lines: &mut PushLines,
-    ) -> Result<(), Halt>
+    fn note(&mut self, places: &[Option<LabelFault>], lines: &mut PushLines) -> Result<(), Halt>
         requires due { called places.now ≡ deque_len self.old.outcomes }
         requires few { lines.old.streams + length places.now < 2 ^ 64 }
         ensures noted { (before : List Came) → Tells before lines.old → first_failure before ≡ None
-            → AreNoted before (merged places.now (map S.told self.old.outcomes.items))
-            (map came_of (map S.told self.new.outcomes.items)) result lines.new }
+            → AreNoted before (merged places.now self.old.outcomes.items)
+            (map came_of self.new.outcomes.items) result lines.new }
         ensures count { IfOk result (λ _.
             lines.new.streams ≡ lines.old.streams + length places.now) }
         ensures fresh { IfOk result (λ _. self.new.outcomes.items ≡ []) }
@@ -171,7 +164,7 @@ impl<O: Drop> Windows<O> {
                     let Some(outcome) = self.outcomes.pop_front() else {
                         unreachable!()
                     };
-                    note_outcome::<S>(lines, outcome)?;
+                    note_outcome(lines, outcome)?;
                 }
             }
         }
@@ -179,7 +172,7 @@ impl<O: Drop> Windows<O> {
     }
 
     /// Makes the calls of the next places, and takes what came of their streams into the lines.
-    pub(crate) fn take<S: Calls<Outcome = O>, R: Wait>(
+    pub(crate) fn take<S: Calls, R: Wait>(
         &mut self,
         rt: &R,
         alloc: Global,
@@ -210,32 +203,32 @@ impl<O: Drop> Windows<O> {
     {
         self.fill(places);
         service.call_all(rt, alloc, pass, &mut self.calls, &mut self.outcomes);
-        match self.note::<S>(places, lines) {
+        match self.note(places, lines) {
             Ok(()) => Ok(()),
             Err(Halt::Failed(failure)) => Err(Halt::Failed(failure)),
-            Err(Halt::GivenUp) => Err(halt_of::<S>(&mut self.outcomes)),
+            Err(Halt::GivenUp) => Err(halt_of(&mut self.outcomes)),
         }
     }
 }
 
 // Takes what came of a call into the lines, unless it failed.
-fn note_outcome<S: Calls>(lines: &mut PushLines, outcome: S::Outcome) -> Result<(), Halt>
+fn note_outcome(lines: &mut PushLines, outcome: Result<Reply, CallFault>) -> Result<(), Halt>
     requires few { lines.old.streams + 1 < 2 ^ 64 }
-    ensures noted { CameIsNoted (came_of (S.told outcome)) lines.old result lines.new }
+    ensures noted { CameIsNoted (came_of outcome) lines.old result lines.new }
     ensures count { IfOk result (λ _. lines.new.streams ≡ lines.old.streams + 1) }
 {
-    let reply = S::told(outcome)?;
+    let reply = outcome?;
     lines.note_reply(&reply)?;
     Ok(())
 }
 
 // Why a push ends that has no memory for its lines, where these outcomes are left: for the first failure among them.
-fn halt_of<S: Calls>(outcomes: &mut VecDeque<S::Outcome>) -> Halt
-    ensures halt { result ≡ halt_by (first_failure (map came_of (map S.told outcomes.old.items))) }
+fn halt_of(outcomes: &mut VecDeque<Result<Reply, CallFault>>) -> Halt
+    ensures halt { result ≡ halt_by (first_failure (map came_of outcomes.old.items)) }
     ensures capacity { deque_capacity outcomes.new ≡ deque_capacity outcomes.old }
 {
     while let Some(outcome) = outcomes.pop_front() {
-        if let Err(failure) = S::told(outcome) {
+        if let Err(failure) = outcome {
             return Halt::Failed(failure);
         }
     }

@@ -5,10 +5,10 @@ ghost use Rattle.accept.specs.contracts.image.Image as image;
 ghost use Rattle.history.specs.Handles.{Passed};
 ghost use Rattle.ingester.specs.Calls.{IsPassOf};
 
-use accept::Reply;
+use accept::{CallFault, Reply};
 use anyhow::{Result, bail};
 use call_words::{Counted, Ended, Gathered, Settings, call_of, number_of, write_outcome};
-use ingester::{CallFault, Closed, Ingester, OpenFault, Pass};
+use ingester::{Closed, Ingester, OpenFault, Pass};
 use memory_disk::MemDisk;
 use rows::{Said, word_of};
 use std::alloc::Global;

@@ -2,8 +2,8 @@
 use crate::plan::Visit;
 use crate::script::{Script, Told};
 use crate::visits::{Came, Ticking};
-use accept::{Call, Outcome, Reply};
-use answering::{Calls, Ends, Failure, serve};
+use accept::{Call, CallFault, Outcome, Reply};
+use answering::{Calls, Ends, serve};
 use anyhow::{Result, bail};
 use std::alloc::Global;
 use std::collections::VecDeque;
@@ -20,13 +20,9 @@ pub struct Listed;
 impl Calls for Listed {
     type Pass = Script;
 
-    type Outcome = Result<Reply, Failure>;
-
     ghost is_ready = { λ _ _. Unit {0} };
 
     ghost gives = { λ _ _ _ _ _ _. Unit {0} };
-
-    ghost told = { λ outcome. outcome };
 
     fn call<R: Wait>(
         &self,
@@ -34,7 +30,7 @@ impl Calls for Listed {
         alloc: Global,
         pass: &mut Script,
         call: Call,
-    ) -> Result<Reply, Failure> {
+    ) -> Result<Reply, CallFault> {
         pass.make(alloc, call)
     }
 
@@ -44,15 +40,11 @@ impl Calls for Listed {
         alloc: Global,
         pass: &mut Script,
         calls: &mut VecDeque<Call>,
-        outcomes: &mut VecDeque<Result<Reply, Failure>>,
+        outcomes: &mut VecDeque<Result<Reply, CallFault>>,
     ) {
         while let Some(call) = calls.pop_front() {
             outcomes.push_back_reserved(pass.make(alloc, call));
         }
-    }
-
-    fn told(outcome: Result<Reply, Failure>) -> Result<Reply, Failure> {
-        outcome
     }
 }
 

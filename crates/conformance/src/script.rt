@@ -1,6 +1,5 @@
 //! What comes of calls, as a list says.
-use accept::{Call, EntryList, Outcome, OutcomeList, Reply};
-use answering::Failure;
+use accept::{Call, CallFault, EntryList, Outcome, OutcomeList, Reply};
 use anyhow::{Result, bail};
 use std::alloc::{AllocError, Global};
 
@@ -14,7 +13,7 @@ pub enum Told {
     NoStream,
     TrimTooNew,
     /// It fails.
-    Fails(Failure),
+    Fails(CallFault),
 }
 
 impl Told {
@@ -31,18 +30,18 @@ impl Told {
             "unavailable" => Told::Unavailable,
             "no_stream" => Told::NoStream,
             "trim_too_new" => Told::TrimTooNew,
-            "memory" => Told::Fails(Failure::OutOfMemory),
-            "closed" => Told::Fails(Failure::PassClosed),
-            "doubt" => Told::Fails(Failure::InDoubt),
-            "spent" => Told::Fails(Failure::LogSpent),
+            "memory" => Told::Fails(CallFault::Memory),
+            "closed" => Told::Fails(CallFault::PassClosed),
+            "doubt" => Told::Fails(CallFault::InDoubt),
+            "spent" => Told::Fails(CallFault::LogSpent),
             _ => bail!("nothing of this name comes of a call"),
         })
     }
 
-    fn reply(self, alloc: Global, call: &Call) -> Result<Reply, Failure> {
+    fn reply(self, alloc: Global, call: &Call) -> Result<Reply, CallFault> {
         match self {
             Told::Each(outcome) => {
-                reply_of_each(alloc, call, outcome).map_err(|_| Failure::OutOfMemory)
+                reply_of_each(alloc, call, outcome).map_err(|_| CallFault::Memory)
             }
             Told::NoRoom => Ok(Reply::NoRoom),
             Told::Unavailable => Ok(Reply::Unavailable),
@@ -94,7 +93,7 @@ impl Script {
     ///
     /// # Errors
     /// It fails.
-    pub fn make(&mut self, alloc: Global, call: Call) -> Result<Reply, Failure> {
+    pub fn make(&mut self, alloc: Global, call: Call) -> Result<Reply, CallFault> {
         let told = self.list.get(self.made).copied().unwrap_or(self.after);
         self.made = self.made.saturating_add(1);
         told.reply(alloc, &call)

@@ -39,8 +39,8 @@ MakesItsFirstCalls ticks bytes w w' =
     → (steps : List Step) × Gains w.knows steps w'.knows
     × AreFirstStepsBy left.now left.request.body left.verdict steps
 
--- the text is the responses to these requests, and perhaps what refuses the next one; the pass has made the steps of the
--- calls of all of them
+-- the text is the responses to these requests, and perhaps what refuses the next one; the pass has made the steps of
+-- the calls of all of them
 pub record AnswersAfterSteps (old new : Passed) (text : List ℕ) : Type 0 where
   pub exchanges : List Exchange
   pub refusal : List ℕ

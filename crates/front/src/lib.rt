@@ -11,4 +11,4 @@ pub use answering::{
 };
 pub use full::{FullShards, Untold};
 pub use laws::{answers_after_steps, one_step_a_call};
-pub use serving::{answer, serve, serve_and_tell, serve_to, visit};
+pub use serving::{Service, answer, serve, serve_to};

@@ -7,16 +7,16 @@ ghost use Rattle.answering.specs.Due.{AreDueTexts};
 ghost use Rattle.answering.specs.Responses.{RequestIsAnswered};
 ghost use Rattle.answering.specs.Serving.{ConnectionIsServed, world, io};
 ghost use Rattle.answering.specs.Visits.{IsVisit};
-ghost use Rattle.front.specs.Calls.{CallGives, failure_of, reply_told};
+ghost use Rattle.front.specs.Calls.{CallGives};
 
 use crate::full::{FullShards, Untold};
-use accept::{Call, Reply};
+use accept::{Call, CallFault, Reply};
 use answering::{
-    Answer, Answers, Calls, Clock, Connection, Ends, Failure, Outgoing, RequestBody, Route,
-    ServeFault, Served, Visited,
+    Answer, Answers, Calls, Clock, Connection, Ends, Outgoing, RequestBody, Route, ServeFault,
+    Served, Visited,
 };
 use disk::Disk;
-use ingester::{CallFault, Ingester, Pass};
+use ingester::{Ingester, Pass};
 use labels::{MAX_SHARDS, Tenant, shard_of};
 use std::alloc::Global;
 use std::collections::VecDeque;
@@ -28,9 +28,9 @@ const WINDOW: usize = 64;
 
 /// An ingester, by which the calls of requests are made, and who is told of full shards.
 #[derive(Drop)]
-struct Service<'a, D: Disk + Drop, F> {
-    ingester: &'a Ingester<D>,
-    full: &'a F,
+pub struct Service<'a, D: Disk + Drop, F> {
+    pub ingester: &'a Ingester<D>,
+    pub full: &'a F,
 }
 
 // The shard of a call.
@@ -65,27 +65,12 @@ fn tell_of_full<R: Wait, F: FullShards>(
     }
 }
 
-fn failure_of(fault: CallFault) -> Failure
-    ensures { result ≡ failure_of fault }
-{
-    match fault {
-        CallFault::Memory => Failure::OutOfMemory,
-        CallFault::PassClosed => Failure::PassClosed,
-        CallFault::LogSpent => Failure::LogSpent,
-        CallFault::InDoubt => Failure::InDoubt,
-    }
-}
-
 impl<'a, D: Disk + Drop, F: FullShards> Calls for Service<'a, D, F> {
     type Pass = Pass;
-
-    type Outcome = Result<Reply, CallFault>;
 
     ghost is_ready = { λ service. IsPassOf service.ingester.now };
 
     ghost gives = { λ _. CallGives };
-
-    ghost told = { reply_told };
 
     fn call<R: Wait>(
         &self,
@@ -93,17 +78,13 @@ impl<'a, D: Disk + Drop, F: FullShards> Calls for Service<'a, D, F> {
         alloc: Global,
         pass: &mut Pass,
         call: Call,
-    ) -> Result<Reply, Failure> {
+    ) -> Result<Reply, CallFault> {
         let shard = shard_in(self.ingester, &call);
-        match self.ingester.call(rt, alloc, pass, call) {
-            Ok(reply) => {
-                if matches!(&reply, Reply::NoRoom) {
-                    self.full.found_no_room(rt, shard);
-                }
-                Ok(reply)
-            }
-            Err(fault) => Err(failure_of(fault)),
+        let outcome = self.ingester.call(rt, alloc, pass, call);
+        if let Ok(Reply::NoRoom) = &outcome {
+            self.full.found_no_room(rt, shard);
         }
+        outcome
     }
 
     fn call_all<R: Wait>(
@@ -118,12 +99,33 @@ impl<'a, D: Disk + Drop, F: FullShards> Calls for Service<'a, D, F> {
         self.ingester.call_all(rt, alloc, pass, calls, outcomes);
         tell_of_full(rt, self.full, &shards, outcomes);
     }
+}
 
-    fn told(outcome: Result<Reply, CallFault>) -> Result<Reply, Failure> {
-        match outcome {
-            Ok(reply) => Ok(reply),
-            Err(fault) => Err(failure_of(fault)),
-        }
+impl<'a, D: Disk + Drop, F: FullShards> Service<'a, D, F> {
+    /// Answers the requests that have come of a connection, at most this many: `Connection::answer` by the calls of
+    /// this ingester.
+    ///
+    /// # Errors
+    ///
+    /// As `Connection::answer`.
+    pub fn visit<R: Wait, C: Clock>(
+        &self,
+        rt: &R,
+        alloc: Global,
+        pass: &mut Pass,
+        clock: &mut C,
+        connection: &mut Connection<Pass>,
+        outgoing: &mut Outgoing,
+        most: u32,
+    ) -> Result<Visited, ServeFault>
+        requires pass { IsPassOf self.now.ingester.now pass.old }
+        ensures pass { IsPassOf self.now.ingester.now pass.new }
+        ensures left { IsLeftSo result connection.old connection.new }
+        ensures visits { IsVisit CallGives C.ticks (λ _ _. Unit {0}) (λ _ _. Unit {0})
+            (Some connection.old.text) (Some connection.new.text) connection.old.came
+            (world pass.old clock.old) connection.new.came (world pass.new clock.new) result }
+    {
+        connection.answer(rt, alloc, self, pass, clock, outgoing, most)
     }
 }
 
@@ -191,37 +193,16 @@ pub fn serve<D: Disk + Drop, R: Wait, C: Clock, I: Read, O: Write>(
         (io (I.remaining reader.old) (O.contents writer.old)) (world pass.old clock.old)
         (io (I.remaining reader.new) (O.contents writer.new)) (world pass.new clock.new) result }
 {
-    serve_and_tell(rt, alloc, ingester, &Untold, pass, clock, reader, writer)
-}
-
-/// Answers the requests of a connection as `serve` does, and tells `full` of each call that found no room in its shard.
-///
-/// # Errors
-///
-/// Those of `serve`.
-pub fn serve_and_tell<D: Disk + Drop, R: Wait, F: FullShards, C: Clock, I: Read, O: Write>(
-    rt: &R,
-    alloc: Global,
-    ingester: &Ingester<D>,
-    full: &F,
-    pass: &mut Pass,
-    clock: &mut C,
-    reader: &mut I,
-    writer: &mut O,
-) -> Result<Served, ServeFault>
-    requires pass { IsPassOf ingester.now pass.old }
-    ensures pass { IsPassOf ingester.now pass.new }
-    ensures serves { ConnectionIsServed CallGives C.ticks
-        (io (I.remaining reader.old) (O.contents writer.old)) (world pass.old clock.old)
-        (io (I.remaining reader.new) (O.contents writer.new)) (world pass.new clock.new) result }
-{
-    let service = Service { ingester, full };
+    let service = Service {
+        ingester,
+        full: &Untold,
+    };
     let mut ends = Ends::new(reader, writer);
     answering::serve(rt, alloc, &service, pass, clock, &mut ends)
 }
 
-/// Answers the requests of a connection as `serve` does, to where answers are put. Nothing is put there but by `say`, and only what is due then: the responses to whole
-/// requests that have come, once their calls have come back.
+/// Answers the requests of a connection as `serve` does, to where answers are put. Nothing is put there but by `say`,
+/// and only what is due then: the responses to whole requests that have come, once their calls have come back.
 ///
 /// # Errors
 ///
@@ -250,34 +231,4 @@ pub fn serve_to<D: Disk + Drop, R: Wait, C: Clock, I: Read, A: Answers<Knows = P
     };
     let mut ends = Ends::new(reader, answers);
     answering::serve_to(rt, alloc, &service, pass, clock, &mut ends)
-}
-
-/// Answers the requests that have come of a connection, at most this many: `Connection::answer` by the calls of an
-/// ingester.
-///
-/// # Errors
-///
-/// As `Connection::answer`.
-pub fn visit<D: Disk + Drop, R: Wait, C: Clock>(
-    rt: &R,
-    alloc: Global,
-    ingester: &Ingester<D>,
-    pass: &mut Pass,
-    clock: &mut C,
-    connection: &mut Connection<Pass>,
-    outgoing: &mut Outgoing,
-    most: u32,
-) -> Result<Visited, ServeFault>
-    requires pass { IsPassOf ingester.now pass.old }
-    ensures pass { IsPassOf ingester.now pass.new }
-    ensures left { IsLeftSo result connection.old connection.new }
-    ensures visits { IsVisit CallGives C.ticks (λ _ _. Unit {0}) (λ _ _. Unit {0})
-        (Some connection.old.text) (Some connection.new.text) connection.old.came
-        (world pass.old clock.old) connection.new.came (world pass.new clock.new) result }
-{
-    let service = Service {
-        ingester,
-        full: &Untold,
-    };
-    connection.answer(rt, alloc, &service, pass, clock, outgoing, most)
 }

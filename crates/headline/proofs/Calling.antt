@@ -1,5 +1,5 @@
 -- Each step of a pass is of a call that it made.
-use Rattle.std.proofs.Common.{◌≡◌, ◌⊎◌, ℕ, ◌+◌, ◌<◌, Bool, true, false, cond, eqb, List, [], ◌∷◌, ◌++◌, refl, sym, ap, ◌∙◌, subst, inl, inr, ⊎_elim, append_assoc, eq-eqb}
+use Rattle.std.proofs.Common.{◌≡◌, ℕ, ◌+◌, ◌<◌, Bool, true, false, cond, eqb, List, [], ◌∷◌, ◌++◌, refl, sym, ap, ◌∙◌, subst, inl, inr, ⊎_elim, append_assoc, eq-eqb}
 use Rattle.std.specs.Prelude.{Result, Ok, Err, flat_map}
 use Rattle.std.proofs.lemmas.Bool.{false≢true}
 use Rattle.accept.specs.declared.call.Call.{Call}
@@ -13,10 +13,10 @@ use Rattle.history.specs.Histories.{IsByPasses, IsAmong, AreAmong, behind_first,
 use Rattle.history.specs.Plays.{HasStepsOf, ask_of}
 use Rattle.history.specs.Handles.{Passed, fresh_pass}
 use Rattle.owners.specs.Openings.{Opening}
-use Rattle.ingester.specs.declared.fault.CallFault.{CallFault}
-use Rattle.ingester.specs.declared.fault.CallFault.TheVariants.{Memory, PassClosed, LogSpent, InDoubt}
+use Rattle.accept.specs.declared.fault.CallFault.{CallFault}
+use Rattle.accept.specs.declared.fault.CallFault.TheVariants.{Memory, PassClosed, LogSpent, InDoubt}
 use Rattle.ingester.specs.Calls.{IsAnswered, IsRefused, IsGiven, IsGivenAfter, next_step}
-use Rattle.headline.specs.Threads.{What, Called, Looked, Met, Happening, Happens, HappenAfter, Thread, IsThread, leaves_call_in_doubt, calls_by_what, happened_to, calls_made_by}
+use Rattle.headline.specs.Threads.{What, Called, Looked, Met, Closed, Happening, Happens, HappenAfter, Thread, IsThread, leaves_call_in_doubt, calls_by_what, happened_to, calls_made_by}
 use Rattle.headline.specs.Headline.{IsOneOf, HaveThreads, WasCalled}
 use Rattle.headline.proofs.Among.{among_left, among_right, among_split}
 use Rattle.headline.proofs.Living.{grows_on, fresh_sound}
@@ -84,6 +84,7 @@ module _ {D : Type 0} (opening : Opening D) (asks : List Ask) where
   one_more lost old new (Called call outcome) all c is = given_after asks old new c lost call outcome (all (ask_of old.caller (old.caller.last + 1) call) (inl refl)) is
   one_more lost old new (Looked k) all c is = kept asks old new c (ap (λ (p : Passed). p.caller.made) is.pass) (ap (λ (p : Passed). p.caller.pending) is.pass)
   one_more lost old new (Met other theirs) all c is = kept asks old new c (ap (λ (p : Passed). p.caller.made) is.pass) (ap (λ (p : Passed). p.caller.pending) is.pass)
+  one_more lost old new Closed all c is = kept asks old new c (ap (λ (p : Passed). p.caller.made) is) (ap (λ (p : Passed). p.caller.pending) is)
 
   to_the_end : (lost : Bool) (start end : Passed) (hs : List Happening) → ((a : Ask) → IsOneOf a (flat_map (λ h. calls_by_what h.before.caller h.what) hs) → IsOneOf a asks) → AreCalls asks start → HappenAfter lost opening start hs end → AreCalls asks end
   to_the_end lost start end [] all c is = subst (AreCalls asks) (sym is) c
@@ -95,7 +96,7 @@ module _ {D : Type 0} (opening : Opening D) (asks : List Ask) where
       is.2
 
 -- a step of a pass among these items
-step_by : (p : ℕ) (s : Step) (items : List Item) → p ≡ s.ask.pass → IsOneOf (Answered s) items → IsOneOf s (steps_by p items)
+pub step_by : (p : ℕ) (s : Step) (items : List Item) → p ≡ s.ask.pass → IsOneOf (Answered s) items → IsOneOf s (steps_by p items)
 step_by p s [] e one = absurd one
 step_by p s (Failed asks ∷ items) e one = ⊎_elim (λ (f : Answered s ≡ Failed asks). absurd (cc)) (λ (t : IsOneOf (Answered s) items). step_by p s items e t) one
 step_by p s (Answered r ∷ items) e one = ⊎_elim
@@ -110,7 +111,7 @@ step_by p s (Answered r ∷ items) e one = ⊎_elim
     later true t = inr t
     later false t = t
 
-step_on : (about : About) (k : ℕ) (s : Step) (steps : List Step) → IsOneOf s (steps_on about k steps) → IsOneOf s steps
+pub step_on : (about : About) (k : ℕ) (s : Step) (steps : List Step) → IsOneOf s (steps_on about k steps) → IsOneOf s steps
 step_on about k s [] one = one
 step_on about k s (r ∷ steps) one = here (eqb k (shard_in about r.ask)) (step_on about k s steps) one
   where

@@ -1,5 +1,5 @@
 -- The headline of an opening, until it is closed or cut.
-use Rattle.std.proofs.Common.{◌≡◌, ◌⊎◌, ℕ, suc, ◌+◌, ◌<◌, ◌≤◌, List, [], ◌∷◌, true, length, refl, inl, inr, sym, ap, ◌∙◌, subst, ⊎_elim, arith, Option, Some, None, length-append}
+use Rattle.std.proofs.Common.{◌≡◌, ℕ, suc, ◌+◌, ◌<◌, ◌≤◌, List, [], ◌∷◌, true, length, refl, inl, inr, sym, ap, ◌∙◌, subst, ⊎_elim, arith, Option, Some, None, length-append}
 use Rattle.std.specs.Prelude.{slice_get}
 use Rattle.std.proofs.lemmas.Option.{slice_get_cases}
 use Rattle.accept.specs.declared.history.Item.{Item}
@@ -23,18 +23,19 @@ use Rattle.owners.specs.Openings.{Opening}
 use Rattle.owners.specs.Places.{opened_shard}
 use Rattle.ingester.specs.Closings.{IsHandedOut}
 use Rattle.headline.specs.Threads.{Thread, last_passes}
-use Rattle.headline.specs.Headline.{RefusedShard, IsForDeviceOrMemory}
+use Rattle.headline.specs.Headline.{RefusedShard, IsForDeviceOrMemory, IsReplay}
 use Rattle.headline.specs.Turns.{Moment, Between, Within, IsMoment, FollowThen, shard_then}
 use Rattle.headline.specs.Lives.{Life, ShardEnd, HandedOut, CutAt, IsLife, IsEnd, WereRead, HasFailedSince, MayBeReplayed, MayBeRefused, IsHeadlineOf, failures_of, slots_then, LeftAt, AreLeftAt, writing_at, writing_in}
 use Rattle.headline.proofs.Leaving.{covered_left, found_at, left_length, left_at, opened_at, given_at}
 use Rattle.headline.proofs.Marking.{lead_marks, lead_follows, fresh_marks, turn_follows}
 use Rattle.headline.proofs.Saying.{IsKnown, end_among, says as said}
-use Rattle.headline.proofs.Turning.{index_get, stretch_covers}
+use Rattle.headline.proofs.Turning.{index_get, stretch_rests, stretch_covers}
+use Rattle.headline.proofs.Having.{thread_told}
 
-both_same : (old new : Pair) → HasNoFailure old new → failures_of new ≡ failures_of old
+pub both_same : (old new : Pair) → HasNoFailure old new → failures_of new ≡ failures_of old
 both_same old new h = λ i. (h.0 i, h.1 i)
 
-both_differ : (old new : Pair) → HasFailed old new → failures_of new ≡ failures_of old → ⊥
+pub both_differ : (old new : Pair) → HasFailed old new → failures_of new ≡ failures_of old → ⊥
 both_differ old new (inl f) e = f (ap (λ (c : ℕ × ℕ). c.0) e)
 both_differ old new (inr f) e = f (ap (λ (c : ℕ × ℕ). c.1) e)
 
@@ -81,15 +82,16 @@ module _ {D : Type 0} (sight : D → Sight) (follows : D → Type 0) (only_now :
       )
   good_end k (CutAt st) is = (
     (shard_then st.moment).book.items,
-    record {
-      known = record { legal = is.legal; by_passes = is.by_passes; told = is.told };
-      covers = λ left l. stretch_covers sight follows only_now opening threads (length given) life.capacity k st left is life.shards
-          (opened_at sight follows (length given) life.capacity k given opening.logs opening.about.bases is.opened life.found is.opened_as) l;
-      opened = is.opened;
-      opened_as = is.opened_as;
-      follow = lead_follows sight follows (opened_shard opening k is.opened) (shard_then st.moment) st.turns is.turned (follow_before st.moment is.moment is.follow);
-      marks = (lead_marks sight follows is.opened (opened_shard opening k is.opened) (shard_then st.moment) st.turns (fresh_marks sight follows is.opened (fresh_book opening.table opening.about k) refl) is.turned).marked;
-    },
+    let o = opened_at sight follows (length given) life.capacity k given opening.logs opening.about.bases is.opened life.found is.opened_as in
+        let rests = stretch_rests sight follows only_now opening threads (length given) life.capacity k st is life.shards o in
+        record {
+          known = record { legal = rests.legal; by_passes = rests.by_passes; told = λ t h. thread_told opening t k (shard_then st.moment).book.items (life.threads_are t h) rests.legal (is.in_time t h) };
+          covers = λ left l. stretch_covers sight follows only_now opening threads (length given) life.capacity k st left is life.shards o l;
+          opened = is.opened;
+          opened_as = is.opened_as;
+          follow = lead_follows sight follows (opened_shard opening k is.opened) (shard_then st.moment) st.turns is.turned (follow_before st.moment is.moment is.follow);
+          marks = (lead_marks sight follows is.opened (opened_shard opening k is.opened) (shard_then st.moment) st.turns (fresh_marks sight follows is.opened (fresh_book opening.table opening.about k) refl) is.turned).marked;
+        },
   )
 
   pub record IsGoodAt (k : ℕ) (items : List Item) : Type 0 where
@@ -168,3 +170,8 @@ module _ {D : Type 0} (sight : D → Sight) (follows : D → Type 0) (only_now :
 
   pub says : IsHeadlineOf sight follows lived histories
   says = said opening threads life.threads_are some_shard histories (λ k lt. ((history_at k).1 lt).good.known) (writing_in ends histories) (WereRead sight follows lived) reads (HasFailedSince sight follows lived) marks (MayBeReplayed sight follows ends) after (MayBeRefused sight follows ends) gives
+
+  -- what is found after the history, and after a beginning of the calls that were being written, is a replay
+  pub replays : (k : ℕ) → k < opening.about.shards → (state : Streams) → IsAfter opening.about.limits (history_of opening.about k (histories k)) (writing_in ends histories k) state → IsReplay opening.about threads k (histories k) (writing_in ends histories k) state
+  replays = (said opening threads life.threads_are some_shard histories (λ k lt. ((history_at k).1 lt).good.known) (writing_in ends histories) (WereRead sight follows lived) reads (HasFailedSince sight follows lived) marks
+      (λ k state. IsAfter opening.about.limits (history_of opening.about k (histories k)) (writing_in ends histories k) state) (λ k lt state r. r) (MayBeRefused sight follows ends) gives).whatever_crash_comes

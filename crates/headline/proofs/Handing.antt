@@ -1,13 +1,13 @@
 -- Slots that were handed out end a stretch: nobody has to say which turns were made.
-use Rattle.std.proofs.Common.{◌≡◌, ℕ, List, Bool, subst}
+use Rattle.std.proofs.Common.{ℕ, List, Bool, subst}
 use Rattle.disk.specs.Sight.{Sight}
 use Rattle.wal.specs.Opening.{AllFollow}
-use Rattle.history.specs.Histories.{IsLegalAt, IsByPasses}
 use Rattle.openings.proofs.Ordered.{ordered}
 use Rattle.owners.specs.Openings.{Opening}
-use Rattle.ingester.specs.Closings.{IsTold, IsHandedOut}
+use Rattle.ingester.specs.Closings.{IsHandedOut}
 use Rattle.headline.specs.Threads.{Thread, last_passes}
-use Rattle.headline.specs.Turns.{Between, IsStretch}
+use Rattle.headline.specs.Turns.{Between, IsInTime, IsStretch}
+use Rattle.headline.proofs.Owning.{in_time_told}
 use Rattle.headline.proofs.Saying.{end_among}
 
 module _ {D : Type 0} (sight : D → Sight) (follows : D → Type 0) where
@@ -19,7 +19,5 @@ module _ {D : Type 0} (sight : D → Sight) (follows : D → Type 0) where
     turned = h.turned;
     moment = tt;
     follow = (ordered sight follows h.shard.log it.0 h.slots_are).both f;
-    legal = subst (IsLegalAt opening.about k) h.items_are h.legal;
-    by_passes = subst (IsByPasses opening.about.passes) h.items_are h.by_passes;
-    told = λ t one. let i = end_among t threads one in subst (λ l. IsTold k l t.end) h.items_are (h.told i.0 t.end i.1);
+    in_time = λ t one. let i = end_among t threads one in subst (λ l. IsInTime k l t.end) h.items_are (in_time_told t.end k h.items (h.told i.0 t.end i.1));
   }

@@ -1,3 +1,6 @@
+pub mod Rising
+pub mod Owning
+pub mod Having
 pub mod Handing
 pub mod Among
 pub mod Counting
@@ -11,4 +14,7 @@ pub mod Ending
 pub mod Telling
 pub mod Sample
 pub mod Together
+pub mod Untouched
 pub mod Refusing
+pub mod Pairing
+pub mod Going

@@ -15,10 +15,10 @@ use Rattle.history.specs.Handles.{Passed, is_closed_pass, HaveMet, fresh_pass}
 use Rattle.history.proofs.Lists.{begins_same, begins_front, begins_trans}
 use Rattle.history.proofs.Past.{below_more, below_last, rising_last}
 use Rattle.owners.specs.Openings.{Opening}
-use Rattle.ingester.specs.declared.fault.CallFault.{CallFault}
-use Rattle.ingester.specs.declared.fault.CallFault.TheVariants.{Memory, PassClosed, LogSpent, InDoubt}
+use Rattle.accept.specs.declared.fault.CallFault.{CallFault}
+use Rattle.accept.specs.declared.fault.CallFault.TheVariants.{Memory, PassClosed, LogSpent, InDoubt}
 use Rattle.ingester.specs.Calls.{IsAnswered, IsRefused, IsGiven, IsGivenAfter, next_step, shard_for, without_next, with_next, closed_now}
-use Rattle.headline.specs.Threads.{What, Called, Looked, Met, Happening, Happens, HappenAfter, IsLooked, IsMet, leaves_call_in_doubt}
+use Rattle.headline.specs.Threads.{What, Called, Looked, Met, Closed, Happening, Happens, HappenAfter, IsLooked, IsMet, leaves_call_in_doubt}
 use Rattle.headline.specs.Headline.{IsOneOf}
 use Rattle.headline.proofs.Counting.{AreFrom}
 
@@ -182,6 +182,10 @@ module _ {D : Type 0} (opening : Opening D) where
   given_up : (old new : Passed) (call : Call) (reply : Reply) → IsGiven old call (Ok reply) new → is_closed_pass old ≡ false
   given_up old new call reply is = open_by (is_closed_pass old) (λ e. not_spent reply PassClosed (is.closed.1 e))
 
+  -- an answered call was made by a pass that was not closed
+  pub given_open : (old new : Passed) (call : Call) (reply : Reply) → IsGiven old call (Ok reply) new → old.closed ≡ false
+  given_open old new call reply is = up_of old.closed _ (given_up old new call reply is)
+
   -- an answered call was answered by its contract
   pub given_answer : (lost : Bool) (old new : Passed) (call : Call) (reply : Reply) → IsGivenAfter lost old call (Ok reply) new → IsAnswered old new call reply × (is_closed_pass old ≡ false)
   given_answer false old new call reply is = (is.answered, given_up old new call reply is)
@@ -275,10 +279,15 @@ module _ {D : Type 0} (opening : Opening D) where
     closed = λ e. absurd (false≢true e);
   }
 
-  goes : (lost : Bool) (old new : Passed) (what : What) → ClosedIf lost old → IsSound opening.about old → Happens lost opening old what new → Goes opening.about old new (leaves_call_in_doubt what)
+  pub goes : (lost : Bool) (old new : Passed) (what : What) → ClosedIf lost old → IsSound opening.about old → Happens lost opening old what new → Goes opening.about old new (leaves_call_in_doubt what)
   goes lost old new (Called call outcome) up s is = called lost old new call outcome up s is
   goes lost old new (Looked k) up s is = looked old new k s is
   goes lost old new (Met other theirs) up s is = met old new other theirs s is
+  goes lost old new Closed up s is = record {
+    sound = sound_as opening.about (closed_now old) new is (sound_closed opening.about old s);
+    grows = grows_as old (closed_now old) new is (grows_kept old (closed_now old) refl refl refl);
+    closed = λ e. absurd (false≢true e);
+  }
 
   -- to the end
   pub grows_on : (lost : Bool) (start end : Passed) (hs : List Happening) → ClosedIf lost start → IsSound opening.about start → HappenAfter lost opening start hs end → Grows start end

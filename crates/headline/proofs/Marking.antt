@@ -1,5 +1,5 @@
 -- A mark stands in a history only where a device failed, and slots that follow the model did so from the opening on.
-use Rattle.std.proofs.Common.{◌≡◌, ◌⊎◌, ℕ, Bool, true, false, cond, List, [], ◌∷◌, ◌++◌, refl, sym, ap, ◌∙◌, subst, inl, inr, ⊎_elim}
+use Rattle.std.proofs.Common.{◌≡◌, ◌⊎◌, Bool, true, false, cond, List, [], ◌∷◌, ◌++◌, refl, sym, ap, ◌∙◌, subst, inl, inr, ⊎_elim}
 use Rattle.std.proofs.lemmas.Bool.{false≢true}
 use Rattle.accept.specs.declared.history.Ask.{Ask}
 use Rattle.accept.specs.declared.history.Item.TheVariants.{Failed}
@@ -15,7 +15,7 @@ use Rattle.history.proofs.Past.{marked_step, marked_mark}
 use Rattle.shard.specs.Calls.{reply_in, IsCommitted, IsMarkedInDoubt}
 use Rattle.shard.specs.Groups.{with_step, with_steps, changing_of, marked_by}
 use Rattle.shard.specs.Shards.{Sharded}
-use Rattle.shard.specs.Turns.{Turn, AreTogether, IsAlone, IsTurn}
+use Rattle.shard.specs.Turns.{Turn, AreTogether, IsTurn}
 use Rattle.shard.specs.Leads.{Lead}
 use Rattle.shard.proofs.Applied.{both_not}
 use Rattle.shard.proofs.Groups.{steps_marked}

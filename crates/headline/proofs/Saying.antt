@@ -26,7 +26,7 @@ use Rattle.history.proofs.Sharding.{shard_below}
 use Rattle.owners.specs.Openings.{Opening}
 use Rattle.ingester.specs.Calls.{IsAnswered, shard_for}
 use Rattle.ingester.specs.Closings.{IsTold}
-use Rattle.headline.specs.Threads.{What, Called, Looked, Met, Happening, Happens, Thread, IsThread, AnsweredCall, answers_by, last_passes, happened_to}
+use Rattle.headline.specs.Threads.{What, Called, Looked, Met, Closed, Happening, Happens, Thread, IsThread, AnsweredCall, answers_by, last_passes, happened_to}
 use Rattle.headline.specs.Headline.{IsOneOf, ask_for, shard_at, step_for, steps_for, before_step, WasAnswered, is_refusal, RefusedShard, IsForDeviceOrMemory, IsReplay, IsHeadline}
 use Rattle.headline.proofs.Among.{among_right, among_part}
 use Rattle.headline.proofs.Calling.{step_called}
@@ -114,6 +114,7 @@ called c (Called call (Ok reply)) a h = ⊎_elim (λ (e : a ≡ record { knew = 
 called c (Called call (Err fault)) a h = absurd h
 called c (Looked k) a h = absurd h
 called c (Met other theirs) a h = absurd h
+called c Closed a h = absurd h
 
 -- what is known of the history of a shard
 pub record IsKnown {D : Type 0} (opening : Opening D) (threads : List Thread) (k : ℕ) (items : List Item) : Type 0 where

@@ -99,7 +99,7 @@ module _ (terms : Terms) (base : Streams) where
       (either (is_refusal s.reply))
 
   -- and so with calls in doubt after it
-  plain_more : (items : List Item) (more : List Ask) (h : History) → IsLegal terms (over base items) → IsWithin terms.limits h → meaning h ≡ base → meaning (answered_to terms.limits (over base items) more) ≡ meaning (answered_to terms.limits h (answered_in items ++ more))
+  pub plain_more : (items : List Item) (more : List Ask) (h : History) → IsLegal terms (over base items) → IsWithin terms.limits h → meaning h ≡ base → meaning (answered_to terms.limits (over base items) more) ≡ meaning (answered_to terms.limits h (answered_in items ++ more))
   plain_more items more h legal within is =
       let same : meaning (over base items) ≡ meaning (answered_to terms.limits h (answered_in items)) =
       plain [] items h legal (record { first = within-nothing terms.limits base; second = within; alike = meaning-nothing base ∙ sym is }) in

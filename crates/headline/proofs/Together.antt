@@ -5,7 +5,7 @@ use Rattle.accept.specs.declared.call.Call.{Call}
 use Rattle.accept.specs.declared.call.Reply.{Reply}
 use Rattle.history.specs.Handles.{Passed}
 use Rattle.owners.specs.Openings.{Opening}
-use Rattle.ingester.specs.declared.fault.CallFault.{CallFault}
+use Rattle.accept.specs.declared.fault.CallFault.{CallFault}
 use Rattle.ingester.specs.Calls.{AreGivenAfter}
 use Rattle.headline.specs.Threads.{Called, Happening, HappenAfter, calls_with}
 

@@ -19,9 +19,9 @@ use Rattle.wal.specs.Moments.{pair}
 use Rattle.wal.specs.Opening.{slots_of}
 use Rattle.wal.proofs.OneImage.{settled_covers}
 use Rattle.history.specs.declared.views.About.{About}
-use Rattle.history.specs.Histories.{base_at, terms_of, history_of, reply_of, step_of, doubt_of, doubt_or}
+use Rattle.history.specs.Histories.{IsLegalAt, IsByPasses, base_at, terms_of, history_of, reply_of, step_of, doubt_of, doubt_or}
 use Rattle.history.specs.Handles.{Booked, history_in, asks_of, fresh_book}
-use Rattle.history.proofs.Past.{doubt_marked, doubt_unmarked}
+use Rattle.history.proofs.Past.{doubt_marked, doubt_unmarked, legal_none}
 use Rattle.shard.specs.Calls.{MayLeave, IsCommitted, IsMarkedInDoubt}
 use Rattle.shard.specs.Groups.{items_with, with_steps, changing_of, marked_by, MayLeaveAll}
 use Rattle.shard.specs.Keeping.{owner_in, IsAllowed, KeepsHistory}
@@ -143,12 +143,21 @@ module _ {D : Type 0} (sight : D → Sight) (follows : D → Type 0) (only_now :
   pub record Rests (about : About) (k : ℕ) (s : Sharded D) : Type 0 where
     pub about_is : s.book.about ≡ about
     pub number : s.book.shard ≡ k
+    pub legal : IsLegalAt about k s.book.items
+    pub by_passes : IsByPasses about.passes s.book.items
     pub covers : Follow follows s.log → KeepsHistory (slots sight s.log) s.book (doubt_of s.book.items)
 
   made_rests : (about : About) (k : ℕ) (t : Turn D) → Rests about k t.old → IsMade sight follows t → Rests about k t.new
   made_rests about k t r m =
       let same = same_book sight follows t m.turn in
-      record { about_is = same.0 ∙ r.about_is; number = same.1 ∙ r.number; covers = m.covered }
+      let of : t.new.book.about ≡ about = same.0 ∙ r.about_is in
+      record {
+        about_is = of;
+        number = same.1 ∙ r.number;
+        legal = subst (λ (a : About). IsLegalAt a k t.new.book.items) of (subst (λ (j : ℕ). IsLegalAt t.new.book.about j t.new.book.items) (same.1 ∙ r.number) m.legal);
+        by_passes = subst (λ (a : About). IsByPasses a.passes t.new.book.items) of m.by_passes;
+        covers = m.covered;
+      }
 
   lead_rests : (about : About) (k : ℕ) (start end : Sharded D) (ts : List (Turn D)) → Rests about k start → Lead sight follows start ts end → Rests about k end
   lead_rests about k start end [] r l = subst (Rests about k) (sym l) r
@@ -160,6 +169,8 @@ module _ {D : Type 0} (sight : D → Sight) (follows : D → Type 0) (only_now :
   start_rests opening count capacity k log counted o = record {
     about_is = refl;
     number = refl;
+    legal = legal_none opening.about k;
+    by_passes = tt;
     covers = λ f.
         let base : base_at opening.about k ≡ o.m = index_get opening.about.bases k _ o.m o.there in
         let means : o.m ≡ meaning (history_of opening.about k []) = sym (meaning-nothing (base_at opening.about k) ∙ base) in
@@ -228,7 +239,7 @@ module _ {D : Type 0} (sight : D → Sight) (follows : D → Type 0) (only_now :
   stretch_covers opening threads count capacity k st left is counted o l =
       let r = stretch_rests opening threads count capacity k st is counted o in
       let book : Booked = (shard_then st.moment).book in
-      let legal : IsWithin opening.about.limits (history_of opening.about k book.items) = legal-within (terms_of opening.about k) (history_of opening.about k book.items) is.legal.is in
+      let legal : IsWithin opening.about.limits (history_of opening.about k book.items) = legal-within (terms_of opening.about k) (history_of opening.about k book.items) r.legal.is in
       let within : IsWithin book.about.limits (history_in book) =
       subst (λ (x : About). IsWithin x.limits (history_of x book.shard book.items)) (sym r.about_is) (subst (λ (j : ℕ). IsWithin opening.about.limits (history_of opening.about j book.items)) (sym r.number) legal) in
       moment_covers opening.about k st.moment left r is.moment is.follow within l

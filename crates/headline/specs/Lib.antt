@@ -3,3 +3,4 @@ pub mod Headline
 pub mod Turns
 pub mod Lives
 pub mod Chains
+pub mod Events

@@ -10,7 +10,7 @@ use Rattle.wal.specs.declared.log.Wal.{Wal}
 use Rattle.wal.specs.Recovery.{Recovers}
 use Rattle.wal.specs.Moments.{Pair, HasFailed}
 use Rattle.wal.specs.Logs.{Follow, slots}
-use Rattle.wal.specs.Opening.{slots_of, AllFollow}
+use Rattle.wal.specs.Opening.{slots_of, AllFollow, PairRests}
 use Rattle.history.specs.Histories.{doubt_of}
 use Rattle.history.specs.Handles.{about_of}
 use Rattle.owners.specs.Openings.{Opening}
@@ -145,3 +145,17 @@ module _ {D : Type 0} (sight : D → Sight) (follows : D → Type 0) where
       (HasFailedSince life)
       (MayBeReplayed life.ends)
       (MayBeRefused life.ends)
+
+  -- its owner had made no turn when shard k ended so
+  abbrev pub MadeNoTurn : (opening : Opening D) (threads : List Thread) (k : ℕ) (end : ShardEnd D)
+      → IsEnd opening threads k end → Type 0
+  MadeNoTurn opening threads k (HandedOut it) is = is.0.turns ≡ []
+  MadeNoTurn opening threads k (CutAt st) is = st.turns ≡ []
+
+  -- From the beginning of the opening until a shard's first turn nothing is written: at each moment a crash leaves of
+  -- its slots only what it could have left when the opening began.
+  abbrev pub WritesNothingBefore : (life : Life D) → IsLife life → Type 0
+  WritesNothingBefore life is = (k : ℕ) (end : ShardEnd D) (ends : slice_get life.ends k ≡ Some end)
+      → MadeNoTurn life.opening life.threads k end (is.ends_are k end ends)
+      → (given : List D) → slice_get life.given k ≡ Some given
+      → PairRests (slots_of sight given) (slots_then end)

@@ -1,4 +1,4 @@
--- Passes of an opening, and what happens to them: calls, looks and meetings.
+-- Passes of an opening, and what happens to them: calls, looks, meetings and their end.
 use Rattle.std.specs.Prelude.{◌≡◌, ◌≢◌, ◌⊎◌, ℕ, ◌+◌, ◌<◌, Bool, false, List, [], ◌∷◌, flat_map, Result, Ok, Err}
 use Rattle.accept.specs.declared.call.Call.{Call}
 use Rattle.accept.specs.declared.call.Reply.{Reply}
@@ -9,14 +9,16 @@ use Rattle.history.specs.Histories.{IsBeginning, IsLegalAt, IsByPasses}
 use Rattle.history.specs.Plays.{seen_at, ask_of, look_to, HasStepsOf}
 use Rattle.history.specs.Handles.{Passed, HaveMet, fresh_pass, with_seen}
 use Rattle.owners.specs.Openings.{Opening}
-use Rattle.ingester.specs.declared.fault.CallFault.{CallFault}
-use Rattle.ingester.specs.Calls.{IsGivenAfter, is_doubt}
+use Rattle.accept.specs.Doubts.{is_doubt}
+use Rattle.accept.specs.declared.fault.CallFault.{CallFault}
+use Rattle.ingester.specs.Calls.{IsGivenAfter, closed_now}
 
--- a call, and what came of it; a look at a shard; a meeting with another pass, which has seen this then
+-- a call, and what came of it; a look at a shard; a meeting with another pass, which has seen this then; or its end
 pub data What : Type 0 where
   Called : Call → Result Reply CallFault → What
   Looked : ℕ → What
   Met : Caller → List (List Item) → What
+  Closed : What
 
 -- something that happened to a pass: what it knew before, and what it knows then
 pub record Happening : Type 0 where
@@ -48,12 +50,14 @@ abbrev pub Happens : {D : Type 0} → Bool → Opening D → Passed → What →
 Happens lost opening old (Called call outcome) new = IsGivenAfter lost old call outcome new
 Happens lost opening old (Looked k) new = IsLooked opening old k new
 Happens lost opening old (Met other theirs) new = IsMet opening old other theirs new
+Happens lost opening old Closed new = new ≡ closed_now old
 
 -- whether it was a call that is in doubt
 abbrev pub leaves_call_in_doubt : What → Bool
 leaves_call_in_doubt (Called call outcome) = is_doubt outcome
 leaves_call_in_doubt (Looked k) = false
 leaves_call_in_doubt (Met other theirs) = false
+leaves_call_in_doubt Closed = false
 
 -- these happened to a pass, one after another
 abbrev pub HappenAfter : {D : Type 0} → Bool → Opening D → Passed → List Happening → Passed → Type 0
@@ -98,6 +102,7 @@ answers_by c (Called call (Ok reply)) = record { knew = c; call = call; reply = 
 answers_by c (Called call (Err fault)) = []
 answers_by c (Looked k) = []
 answers_by c (Met other theirs) = []
+answers_by c Closed = []
 
 -- all calls that were answered
 abbrev pub calls_answered_to : List Thread → List AnsweredCall
@@ -108,6 +113,7 @@ abbrev pub calls_by_what : Caller → What → List Ask
 calls_by_what c (Called call outcome) = ask_of c (c.last + 1) call ∷ []
 calls_by_what c (Looked k) = []
 calls_by_what c (Met other theirs) = []
+calls_by_what c Closed = []
 
 abbrev pub calls_made_by : List Thread → List Ask
 calls_made_by threads = flat_map (λ h. calls_by_what h.before.caller h.what) (happened_to threads)

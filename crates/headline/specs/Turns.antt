@@ -1,20 +1,22 @@
 -- A shard between its opening and its end: the turns that its owner made, and what a crash then leaves.
-use Rattle.std.specs.Prelude.{◌≡◌, ℕ, List, [], ◌∷◌, drop, length, Some, slice_get}
+use Rattle.std.specs.Prelude.{◌≡◌, ◌⊎◌, ℕ, ◌≤◌, List, [], ◌∷◌, ◌++◌, drop, length, Some, slice_get}
 use Rattle.accept.specs.declared.history.Ask.{Ask}
+use Rattle.accept.specs.declared.history.Step.{Step}
 use Rattle.accept.specs.declared.history.Item.{Item}
 use Rattle.accept.specs.declared.history.Item.TheVariants.{Answered, Failed}
 use Rattle.disk.specs.Sight.{Sight}
 use Rattle.wal.specs.declared.log.Wal.{Wal}
 use Rattle.wal.specs.Logs.{Follow, slots}
 use Rattle.wal.specs.Opening.{slots_of}
-use Rattle.history.specs.Histories.{IsLegalAt, IsByPasses, doubt_of, doubt_or}
+use Rattle.history.specs.Histories.{IsBeginning, doubt_of, doubt_or, steps_by, asks_by}
+use Rattle.history.specs.Plays.{seen_at, AreHis}
+use Rattle.history.specs.Handles.{Passed}
 use Rattle.shard.specs.Groups.{changing_of}
 use Rattle.shard.specs.Shards.{Sharded}
 use Rattle.shard.specs.Turns.{Turn}
 use Rattle.shard.specs.Leads.{IsMade, Lead}
 use Rattle.owners.specs.Openings.{Opening}
 use Rattle.owners.specs.Places.{opened_shard}
-use Rattle.ingester.specs.Closings.{IsTold}
 use Rattle.headline.specs.Threads.{Thread}
 use Rattle.headline.specs.Headline.{IsOneOf}
 
@@ -48,6 +50,25 @@ abbrev pub writing_then : {D : Type 0} → Moment D → List Ask
 writing_then (Between s) = doubt_of s.book.items
 writing_then (Within t) = doubt_or t.old.book.items (changing_of t.old.book (made_in t))
 
+-- the calls of these steps
+abbrev pub calls_of_steps : List Step → List Ask
+calls_of_steps [] = []
+calls_of_steps (s ∷ steps) = s.ask ∷ calls_of_steps steps
+
+-- the calls of a pass that stand in these items, as steps and in the mark's list
+abbrev pub calls_by : ℕ → List Item → List Ask
+calls_by p items = calls_of_steps (steps_by p items) ++ asks_by p items
+
+-- A pass and the book of shard k, which nobody compares where a crash comes, know one history and are in time: of what
+-- the pass has seen and what stands in the book one begins the other, what it has seen stood there by then, and what
+-- stands there of it, it had announced and not taken back.
+pub record IsInTime (k : ℕ) (items : List Item) (pass : Passed) : Type 0 where
+  pub one_history : IsBeginning (seen_at pass.caller k) items
+      ⊎ IsBeginning items (seen_at pass.caller k)
+  pub stood_when_seen : length (seen_at pass.caller k) ≤ length items
+  pub announced_when_added : AreHis pass.caller.made pass.caller.pending
+      (calls_by pass.caller.pass items)
+
 module _ {D : Type 0} (sight : D → Sight) (follows : D → Type 0) where
   -- of a moment, what there is to say of the turn that it is in
   abbrev pub IsMoment : Moment D → Type 0
@@ -59,7 +80,7 @@ module _ {D : Type 0} (sight : D → Sight) (follows : D → Type 0) where
   FollowThen (Between s) = Follow follows s.log
   FollowThen (Within t) = Follow follows t.new.log
 
-  -- Shard k from the opening on. The book was compared with each of the passes (`Shard::settle`).
+  -- Shard k from the opening on, in time with each of the passes.
   pub record IsStretch (opening : Opening D) (threads : List Thread) (k : ℕ)
       (st : Stretch D) : Type 0 where
     pub opened : Wal D
@@ -67,9 +88,8 @@ module _ {D : Type 0} (sight : D → Sight) (follows : D → Type 0) where
     pub turned : Lead sight follows (opened_shard opening k opened) st.turns (shard_then st.moment)
     pub moment : IsMoment st.moment
     pub follow : FollowThen st.moment
-    pub legal : IsLegalAt opening.about k (shard_then st.moment).book.items
-    pub by_passes : IsByPasses opening.about.passes (shard_then st.moment).book.items
-    pub told : (t : Thread) → IsOneOf t threads → IsTold k (shard_then st.moment).book.items t.end
+    pub in_time : (t : Thread) → IsOneOf t threads
+        → IsInTime k (shard_then st.moment).book.items t.end
 
   -- what a crash leaves of both slots: now, or at any moment from the turn's start on
   abbrev pub MayBeLeft : Moment D → List ℕ → List ℕ → Type 0

@@ -3,4 +3,4 @@
 
 mod laws;
 
-pub use laws::{calls_happen_in_order, headline, headline_of_openings};
+pub use laws::{calls_happen_in_order, headline, headline_of_openings, opening_writes_nothing};

@@ -15,10 +15,11 @@ use Rattle.history.specs.Handles.{Passed, is_closed_pass}
 use Rattle.shard.specs.declared.fault.ApplyFault.{ApplyFault}
 use Rattle.shard.specs.declared.fault.ApplyFault.TheVariants.{Memory, GenerationSpent}
 use Rattle.owners.specs.Openings.{Opening}
-use Rattle.ingester.specs.declared.fault.CallFault.{CallFault}
-use Rattle.ingester.specs.declared.fault.CallFault.TheVariants as faults
+use Rattle.accept.specs.Doubts.{is_doubt}
+use Rattle.accept.specs.declared.fault.CallFault.{CallFault}
+use Rattle.accept.specs.declared.fault.CallFault.TheVariants as faults
 use Rattle.ingester.specs.Faults.{fault_of}
-use Rattle.ingester.specs.Calls.{IsPassOf, IsRefused, IsGiven, AreGivenAfter, AreGiven, is_doubt, next_step, shard_for, without_next, with_next, closed_now}
+use Rattle.ingester.specs.Calls.{IsPassOf, IsRefused, IsGiven, AreGivenAfter, AreGiven, next_step, shard_for, without_next, with_next, closed_now}
 use Rattle.ingester.specs.Batches.{IsTakenBack, doubts, AreAnnounced, IsCollected, IsWithdrawn, IsTakenBy, IsTaken, AreTaken}
 use Rattle.ingester.proofs.Refusing.{first_only}
 

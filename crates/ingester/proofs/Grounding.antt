@@ -1,6 +1,6 @@
 -- Shards that are made of opened logs with their books.
-use Rattle.std.proofs.Common.{◌≡◌, ◌≢◌, ℕ, zero, suc, ◌+◌, ◌<◌, ◌≤◌, ◌^◌, List, [], ◌∷◌, ◌++◌, length, length-append, get_or, map, refl, sym, ap, ◌∙◌, subst, ⊎_elim, append_assoc, arith}
-use Rattle.std.specs.Prelude.{Option, Some, None, slice_get}
+use Rattle.std.proofs.Common.{◌≡◌, ◌≢◌, Bool, true, false, ℕ, zero, suc, ◌+◌, ◌<◌, ◌≤◌, ◌^◌, List, [], ◌∷◌, ◌++◌, length, length-append, get_or, map, refl, sym, ap, ◌∙◌, subst, ⊎_elim, append_assoc, arith}
+use Rattle.std.specs.Prelude.{Option, Some, None, slice_get, if◌then◌else◌}
 use Rattle.std.proofs.lemmas.Option.{none-some, same_Some, slice_get_within, slice_get_read, get_or_from_slice_get}
 use Rattle.std.specs.FinMap as finite
 use Rattle.std.proofs.lemmas.List.{append-nil}
@@ -13,7 +13,10 @@ use Rattle.disk.specs.Sight.{Sight}
 use Rattle.segment.specs.Segments.{owner_of}
 use Rattle.segment.specs.Fitting.{FitStreams}
 use Rattle.wal.specs.declared.log.Wal.{Wal}
-use Rattle.wal.specs.Opening.{disks}
+use Rattle.wal.specs.Logs.{slots}
+use Rattle.wal.specs.Moments.{pair, HasNoFailure}
+use Rattle.wal.specs.Recovery.{is_even}
+use Rattle.wal.specs.Opening.{disks, slots_of}
 use Rattle.wal.specs.Opened.{IsOpenedFrom}
 use Rattle.history.specs.declared.views.About.{About}
 use Rattle.history.specs.Handles.{Booked, Passed, about_of, fresh_book, fresh_books, fresh_pass, fresh_passes}
@@ -24,6 +27,7 @@ use Rattle.openings.proofs.Trying.{logs_returned}
 use Rattle.owners.specs.Openings.{Opening, opening_of}
 use Rattle.owners.specs.Places.{AreShardsOf, IsShardAt}
 use Rattle.owners.proofs.Each.{each_of}
+use Rattle.ingester.specs.Findings.{AreUnfailed}
 use Rattle.ingester.specs.Openings.{AreFresh}
 use Rattle.ingester.specs.Calls.{IsPassOf}
 use Rattle.shard.specs.Shards.{IsGround}
@@ -84,10 +88,24 @@ are_fresh opening n passes e = record {
 }
 
 module _ {D : Type 0} (sight : D → Sight) (follows : D → Type 0) where
+  -- no call on the slots of a log has failed
+  none_failed_by : (given : List D) (log : Wal D) (b : Bool) → is_even log.generation ≡ b → HasNoFailure (slots_of sight given) (slots sight log) → HasNoFailure (slots_of sight given) (slots_of sight (if b then log.active ∷ log.spare ∷ [] else log.spare ∷ log.active ∷ []))
+  none_failed_by given log true e none = subst (λ (x : Bool). HasNoFailure (slots_of sight given) (pair x (sight log.active) (sight log.spare))) e none
+  none_failed_by given log false e none = subst (λ (x : Bool). HasNoFailure (slots_of sight given) (pair x (sight log.active) (sight log.spare))) e none
+
+  unfailed : (count capacity k : ℕ) (all : List (List D)) (logs : List (Wal D)) (ms : List Streams) → AreOpenedFrom sight follows count capacity k all logs ms → AreUnfailed sight all (map disks logs)
+  unfailed count capacity k [] [] [] h = tt
+  unfailed count capacity k [] [] (m ∷ ms) h = absurd h
+  unfailed count capacity k [] (log ∷ logs) ms h = absurd h
+  unfailed count capacity k (given ∷ all) [] ms h = absurd h
+  unfailed count capacity k (given ∷ all) (log ∷ logs) [] h = absurd h
+  unfailed count capacity k (given ∷ all) (log ∷ logs) (m ∷ ms) h = (none_failed_by given log (is_even log.generation) refl h.0.not_failed, unfailed count capacity (k + 1) all logs ms h.1)
+
   -- all that was opened comes back
-  pub returned_all : (count capacity : ℕ) (all back left : List (List D)) (logs : List (Wal D)) (ms : List Streams) → AreOpenedFrom sight follows count capacity 0 all logs ms → left ≡ [] → back ≡ map disks logs ++ left → AreReturned sight follows all back
+  pub returned_all : (count capacity : ℕ) (all back left : List (List D)) (logs : List (Wal D)) (ms : List Streams) → AreOpenedFrom sight follows count capacity 0 all logs ms → left ≡ [] → back ≡ map disks logs ++ left → AreReturned sight follows all back × AreUnfailed sight all back
   returned_all count capacity all back left logs ms h none is =
-      subst (AreReturned sight follows all) (sym (is ∙ (ap (λ l. map disks logs ++ l) none ∙ append-nil (map disks logs)))) (logs_returned sight follows count capacity 0 all logs ms h)
+      let same : map disks logs ≡ back = sym (is ∙ (ap (λ l. map disks logs ++ l) none ∙ append-nil (map disks logs))) in
+      (subst (AreReturned sight follows all) same (logs_returned sight follows count capacity 0 all logs ms h), subst (AreUnfailed sight all) same (unfailed count capacity 0 all logs ms h))
 
   -- the log of a shard and the streams that stood in it
   record IsFoundAt (count capacity k : ℕ) (log : Wal D) (m : Streams) : Type 0 where

@@ -21,7 +21,7 @@ use Rattle.owners.specs.Openings.{Opening, home_of}
 use Rattle.owners.specs.Seeds.{IsRow, IsSeatAt}
 use Rattle.owners.specs.Ways.{AreIdleWays, IsIdleWay, IsLoaded, HasSameRest}
 use Rattle.owners.proofs.Each.{each_of}
-use Rattle.ingester.specs.declared.fault.CallFault.{CallFault}
+use Rattle.accept.specs.declared.fault.CallFault.{CallFault}
 use Rattle.ingester.specs.Batches.{HasIdleWays}
 use Rattle.ingester.specs.Calls.{IsPassOf, IsGiven, shard_for, with_next}
 use Rattle.ingester.specs.Openings.{AreFresh}

@@ -11,8 +11,8 @@ use Rattle.history.specs.Histories.{behind_first}
 use Rattle.history.specs.Plays.{IsRested}
 use Rattle.history.specs.Handles.{Passed}
 use Rattle.owners.specs.Openings.{Opening}
-use Rattle.ingester.specs.declared.fault.CallFault.{CallFault}
-use Rattle.ingester.specs.declared.fault.CallFault.TheVariants.{Memory, LogSpent, PassClosed, InDoubt}
+use Rattle.accept.specs.declared.fault.CallFault.{CallFault}
+use Rattle.accept.specs.declared.fault.CallFault.TheVariants.{Memory, LogSpent, PassClosed, InDoubt}
 use Rattle.ingester.specs.Calls.{IsPassOf, IsRefused, AreGiven, with_next, closed_now}
 use Rattle.ingester.specs.Batches.{doubts, IsTakenBack, AreAnnounced, AreCountedFrom, AreSomeOpen, IsCollected, IsWithdrawn, IsTaken, AreTaken, AreReceived, AreLost, AreEnded, IsNextRefused}
 use Rattle.ingester.proofs.Chaining.{AreDone, taken_more, some_given, all_lost, given_append}

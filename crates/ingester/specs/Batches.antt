@@ -19,8 +19,8 @@ use Rattle.owners.specs.Calls.{IsBatch}
 use Rattle.owners.specs.Openings.{Opening, home_of}
 use Rattle.owners.specs.Ways.{AreReadyWays, AreIdleWays}
 use Rattle.ingester.specs.declared.announcing.Round.{Round}
-use Rattle.ingester.specs.declared.fault.CallFault.{CallFault}
-use Rattle.ingester.specs.declared.fault.CallFault.TheVariants.{InDoubt}
+use Rattle.accept.specs.declared.fault.CallFault.{CallFault}
+use Rattle.accept.specs.declared.fault.CallFault.TheVariants.{InDoubt}
 use Rattle.ingester.specs.Faults.{fault_of}
 use Rattle.ingester.specs.Calls.{IsPassOf, IsGiven, with_next, closed_now}
 

@@ -8,8 +8,9 @@ use Rattle.history.specs.declared.views.Caller.{Caller}
 use Rattle.history.specs.Histories.{IsLegalAt, IsByPasses, shard_in, step_of}
 use Rattle.history.specs.Plays.{seen_at, ask_of, announce_to, collect_to, Extends}
 use Rattle.history.specs.Handles.{Passed, is_closed_pass}
-use Rattle.ingester.specs.declared.fault.CallFault.{CallFault}
-use Rattle.ingester.specs.declared.fault.CallFault.TheVariants.{Memory, PassClosed, LogSpent, InDoubt}
+use Rattle.accept.specs.Doubts.{is_doubt}
+use Rattle.accept.specs.declared.fault.CallFault.{CallFault}
+use Rattle.accept.specs.declared.fault.CallFault.TheVariants.{Memory, PassClosed, LogSpent, InDoubt}
 use Rattle.owners.specs.Openings.{Opening}
 
 -- The pass is of this opening, and waits for no answer. One that was closed may have calls whose answers are lost.
@@ -82,14 +83,6 @@ pub record IsGiven (old : Passed) (call : Call) (outcome : Result Reply CallFaul
   pub answered : IfOk outcome (λ reply. IsAnswered old new call reply)
   pub refused : IfErr outcome (λ fault. IsRefused old call new fault)
   pub closed : IsErrOf outcome PassClosed ↔ (is_closed_pass old ≡ true)
-
--- whether the call is in doubt
-abbrev pub is_doubt : Result Reply CallFault → Bool
-is_doubt (Ok reply) = false
-is_doubt (Err Memory) = false
-is_doubt (Err LogSpent) = false
-is_doubt (Err PassClosed) = false
-is_doubt (Err InDoubt) = true
 
 -- This came of a call of a pass. Where the one before it is in doubt, this one was announced too, and may be lost with
 -- it: then it stays open.

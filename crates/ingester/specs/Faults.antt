@@ -3,8 +3,8 @@ use Rattle.shard.specs.declared.fault.ApplyFault.{ApplyFault}
 use Rattle.shard.specs.declared.fault.ApplyFault.TheVariants as causes
 use Rattle.owners.specs.declared.team.StartFault.{StartFault}
 use Rattle.owners.specs.declared.team.StartFault.TheVariants as starts
-use Rattle.ingester.specs.declared.fault.CallFault.{CallFault}
-use Rattle.ingester.specs.declared.fault.CallFault.TheVariants as faults
+use Rattle.accept.specs.declared.fault.CallFault.{CallFault}
+use Rattle.accept.specs.declared.fault.CallFault.TheVariants as faults
 use Rattle.ingester.specs.declared.refusal.OpenFault.{OpenFault}
 use Rattle.ingester.specs.declared.refusal.OpenFault.TheVariants as refusals
 

@@ -4,8 +4,8 @@ use Rattle.accept.specs.declared.call.Reply.{Reply}
 use Rattle.history.specs.Handles.{Passed}
 use Rattle.shard.specs.declared.group.Settled.{Settled}
 use Rattle.shard.specs.declared.group.Settled.TheVariants.{Answered, GivenBack}
-use Rattle.ingester.specs.declared.fault.CallFault.{CallFault}
-use Rattle.ingester.specs.declared.fault.CallFault.TheVariants.{InDoubt}
+use Rattle.accept.specs.declared.fault.CallFault.{CallFault}
+use Rattle.accept.specs.declared.fault.CallFault.TheVariants.{InDoubt}
 use Rattle.ingester.specs.Faults.{fault_of}
 use Rattle.ingester.specs.Calls.{closed_now}
 use Rattle.ingester.specs.Batches.{IsTaken, IsTakenBack}

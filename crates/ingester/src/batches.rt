@@ -12,10 +12,10 @@ ghost use Rattle.ingester.specs.Batches.{HasLetters, HasIdleWays, IsUnderWay, Is
 ghost use Rattle.ingester.specs.Settling.{told_of};
 
 use crate::announcing::Round;
-use crate::fault::CallFault;
+use crate::fault::fault_of;
 use crate::opened::Ingester;
 use crate::passes::Pass;
-use accept::{Call, Reply};
+use accept::{Call, CallFault, Reply};
 use disk::Disk;
 use history::Pass as Seat;
 use owners::{Way, clear_letters, receive_letters, send_letters};
@@ -63,7 +63,7 @@ impl<D: Disk + Drop> Ingester<D> {
             }
             Settled::GivenBack(fault, ticket) => {
                 self.history.withdraw(pass, ticket);
-                Err(CallFault::from(fault))
+                Err(fault_of(fault))
             }
         }
     }
@@ -188,7 +188,7 @@ impl<D: Disk + Drop> Ingester<D> {
                 self.history.withdraw(pass, ticket);
                 CallFault::Memory
             }
-            Err(spent) => CallFault::from(spent),
+            Err(_) => CallFault::PassClosed,
         }
     }
 

@@ -11,12 +11,11 @@ ghost use Rattle.owners.specs.Openings.{home_of};
 ghost use Rattle.owners.specs.Ways.{IsWay, IsLoaded, IsIdleWay};
 ghost use Rattle.ingester.specs.Calls.{IsPassOf, IsAnswered, IsRefused, IsGiven, shard_for};
 ghost use Rattle.ingester.specs.Settling.{IsSettled};
-ghost use Rattle.ingester.specs.declared.fault.CallFault.TheVariants as faults;
+ghost use Rattle.accept.specs.declared.fault.CallFault.TheVariants as faults;
 
-use crate::fault::CallFault;
 use crate::opened::Ingester;
 use crate::passes::Pass;
-use accept::{Call, Reply};
+use accept::{Call, CallFault, Reply};
 use disk::Disk;
 use history::Pass as Seat;
 use labels::shard_of;
@@ -35,8 +34,8 @@ pub(crate) fn shard_number(call: &Call, shards: u32) -> usize
 }
 
 impl<D: Disk + Drop> Ingester<D> {
-    // Takes in what became of the only open call of a pass, which has this number. Where its answer is lost, the pass is
-    // closed.
+    // Takes in what became of the only open call of a pass, which has this number. Where its answer is lost, the pass
+    // is closed.
     fn settle(&self, pass: &mut Seat, way: &mut Way, number: u64) -> Result<Reply, CallFault>
         requires table { pass.old.table ≡ self.now.table }
         requires about { pass.old.caller.about ≡ self.now.about }

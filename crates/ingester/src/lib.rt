@@ -16,7 +16,6 @@ mod settings;
 mod sizes;
 
 pub use closing::Closed;
-pub use fault::CallFault;
 pub use opened::Ingester;
 pub use passes::Pass;
 pub use refusal::OpenFault;

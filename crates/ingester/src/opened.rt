@@ -69,8 +69,8 @@ pub(crate) struct Opened<D: Disk + Drop> {
 
 impl<D: Disk + Drop> Ingester<D> {
     /// Opens a shard over each pair of slots, and starts a thread for each shard that owns it. `handle` is what these
-    /// threads wait by. What the slots hold is the base of the shard's history; nothing is written. The slots of several
-    /// shards are read side by side, by as many threads as there are processors at most.
+    /// threads wait by. What the slots hold is the base of the shard's history; nothing is written. The slots of
+    /// several shards are read side by side, by as many threads as there are processors at most.
     ///
     /// # Errors
     ///

@@ -1,58 +1,132 @@
 //! How the server's workers serve connections.
-ghost use Rattle.std.specs.Prelude.{not};
+ghost use Rattle.std.specs.Prelude.{◌≡◌, ◌≤◌, length, not};
 ghost use Rattle.history.specs.Handles.{is_closed_pass};
 ghost use Rattle.ingester.specs.Calls.{IsPassOf};
+ghost use Rattle.answering.specs.Serving.{world};
+ghost use Rattle.ingesterd.specs.Visiting.{session_seen, IsVisitOf, WasVisited};
 
 use disk::Disk;
-use front::{Clock, FullShards, serve_and_tell};
+use front::{Clock, Connection, FullShards, Outgoing, ServeFault, Service};
 use ingester::{Ingester, Pass};
 use std::alloc::Global;
-use std::net::TcpStream;
+use std::marker::PhantomData;
 use std::sync::Wait;
-use workers::Serve;
+use workers::{Progress, Serve, Session};
 
-/// Serves connections as `front` does, by a clock. A connection that fails, or does nothing for 60 seconds, is closed,
-/// and its worker takes the next; what it was answered stands. A pass is closed when its numbers are used up or a call
-/// of it is in doubt, and its worker then takes no other connection and ends. It tells `full` of calls that find no room.
+/// The most requests of a connection that are answered in one visit: with two, a client that pipelines gets no more of
+/// its worker than others do, and the one request of any other client takes one visit.
+const MOST: u32 = 2;
+
+/// A connection as its worker keeps it. `C` is the clock by which it is served.
+#[derive(Drop)]
+pub struct KeptConnection<C> {
+    connection: Connection<Pass>,
+    of: PhantomData<C>,
+}
+
+impl<C: Clock> Session for KeptConnection<C> {
+    ghost seen = { λ kept. session_seen kept.connection };
+
+    ghost visited = { λ old new. WasVisited C.ticks old.connection new.connection };
+
+    fn open(alloc: Global) -> KeptConnection<C> {
+        KeptConnection {
+            connection: Connection::new(alloc),
+            of: PhantomData,
+        }
+    }
+
+    fn room(&self) -> usize {
+        self.connection.room()
+    }
+
+    fn held(&self) -> usize {
+        self.connection.held()
+    }
+
+    fn text(&self) -> &[u8] {
+        self.connection.text()
+    }
+
+    fn closes(&self) -> bool {
+        self.connection.closes()
+    }
+
+    fn take_in(&mut self, bytes: &[u8]) -> bool {
+        self.connection.take_in(bytes).is_ok()
+    }
+
+    fn sent(&mut self, count: usize) {
+        self.connection.sent(count);
+    }
+}
+
+// What a worker is told of a visit.
+fn told_by(visited: &Result<front::Visited, ServeFault>) -> Progress {
+    match visited {
+        Ok(front::Visited::More) => Progress::More,
+        _ => Progress::Done,
+    }
+}
+
+/// Serves connections as `front` does, by a clock. What a connection was answered stands when it fails. A pass is
+/// closed when its numbers are used up or a call of it is in doubt, and its worker then ends. It tells `full` of calls
+/// that find no room.
 #[derive(Drop)]
 pub struct Connections<'a, C: Clock, F: FullShards> {
     clock: C,
     full: &'a F,
+    outgoing: Outgoing,
 }
 
 impl<'a, C: Clock, F: FullShards> Connections<'a, C, F> {
     /// Serves connections by this clock, and tells `full` of shards that have no room.
-    pub fn new(clock: C, full: &'a F) -> Connections<'a, C, F> {
-        Connections { clock, full }
+    pub fn new(alloc: Global, clock: C, full: &'a F) -> Connections<'a, C, F> {
+        Connections {
+            clock,
+            full,
+            outgoing: Outgoing::new(alloc),
+        }
     }
 }
 
 impl<'a, D: Disk + Drop, C: Clock, F: FullShards> Serve<Ingester<D>, Pass>
     for Connections<'a, C, F> {
+    type Session = KeptConnection<C>;
+
     ghost is_pass_of = { IsPassOf };
 
     ghost may_go_on = { λ pass. not (is_closed_pass pass) };
 
-    fn serve<R: Wait>(
+    ghost visits = { λ ingester server pass kept server' pass' kept'.
+        IsVisitOf C.ticks (world pass server.clock) kept.connection
+        (world pass' server'.clock) kept'.connection };
+
+    fn visit<R: Wait>(
         &mut self,
         rt: &R,
         alloc: Global,
         ingester: &Ingester<D>,
         pass: &mut Pass,
-        stream: &TcpStream,
-    ) -> bool {
-        let (mut reader, mut writer) = (stream, stream);
-        let (clock, full) = (&mut self.clock, self.full);
-        let _ = serve_and_tell(
+        session: &mut KeptConnection<C>,
+    ) -> Progress {
+        let service = Service {
+            ingester,
+            full: self.full,
+        };
+        let visited = service.visit(
             rt,
             alloc,
-            ingester,
-            full,
             pass,
-            clock,
-            &mut reader,
-            &mut writer,
+            &mut self.clock,
+            &mut session.connection,
+            &mut self.outgoing,
+            MOST,
         );
+        told_by(&visited)
+    }
+
+    fn may_go_on(&self, pass: &Pass) -> bool {
         !pass.is_closed()
     }
 }

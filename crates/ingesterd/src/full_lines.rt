@@ -7,7 +7,7 @@ use std::rt::Clock;
 use std::sync::{Mutex, Wait};
 use std::time::Instant;
 
-/// For so many seconds after a line of a shard no other line of it is written.
+/// For this many seconds after a line of a shard no other line of it is written.
 const QUIET: u64 = 60;
 
 /// The most shards.

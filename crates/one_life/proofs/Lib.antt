@@ -1,2 +1,4 @@
 pub mod Living
 pub mod Turning
+pub mod Ending
+pub mod Cutting

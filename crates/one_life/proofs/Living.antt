@@ -8,7 +8,7 @@ use Rattle.disk.specs.Sight.{Sight}
 use Rattle.wal.specs.Opening.{AllFollow}
 use Rattle.history.specs.Handles.{Passed, about_of, fresh_pass}
 use Rattle.owners.specs.Openings.{Opening}
-use Rattle.ingester.specs.declared.fault.CallFault.{CallFault}
+use Rattle.accept.specs.declared.fault.CallFault.{CallFault}
 use Rattle.ingester.specs.Calls.{IsGiven, IsPassOf}
 use Rattle.ingester.specs.Closings.{Handed, IsHandedOut}
 use Rattle.openings.specs.Findings.{AreOpenedFrom}

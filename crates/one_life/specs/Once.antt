@@ -4,7 +4,7 @@ use Rattle.accept.specs.declared.call.Call.{Call}
 use Rattle.accept.specs.declared.call.Reply.{Reply}
 use Rattle.disk.specs.Sight.{Sight}
 use Rattle.wal.specs.Opening.{AllFollow}
-use Rattle.ingester.specs.declared.fault.CallFault.{CallFault}
+use Rattle.accept.specs.declared.fault.CallFault.{CallFault}
 use Rattle.headline.specs.Threads.{Called, happened_to}
 use Rattle.headline.specs.Lives.{Life, HandedOut, IsLife}
 

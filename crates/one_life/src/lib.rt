@@ -1,10 +1,14 @@
 //! A small life of an ingester and a turn of a shard, by their public calls: they promise what the headline asks for.
 #![tactic(auto)]
 
+mod called;
+mod laws;
 mod once;
 mod seen;
 mod turned;
 
+pub use called::{Tray, call_once};
+pub use laws::cut_turn_ends_a_life;
 pub use once::live_once;
-pub use seen::{look_once, meet_once};
+pub use seen::{close_once, look_once, meet_once};
 pub use turned::turn_once;

@@ -4,9 +4,9 @@ ghost use Rattle.accept.specs.OneStream.{AreLimits};
 ghost use Rattle.accept.specs.Calls.{AreNumbers};
 ghost use Rattle.one_life.specs.Once.{IsLivedOnce};
 
-use accept::{Call, Limits, Reply};
+use accept::{Call, CallFault, Limits, Reply};
 use disk::Disk;
-use ingester::{CallFault, Ingester, Settings};
+use ingester::{Ingester, Settings};
 use std::alloc::Global;
 use std::sync::Wait;
 use std::thread::Threads;

@@ -1,7 +1,7 @@
-//! A look, and a meeting.
-ghost use Rattle.std.specs.Prelude.{◌<◌};
+//! A look, a meeting, and the end of a pass.
+ghost use Rattle.std.specs.Prelude.{◌<◌, false};
 ghost use Rattle.ingester.specs.Calls.{IsPassOf};
-ghost use Rattle.headline.specs.Threads.{IsLooked, IsMet};
+ghost use Rattle.headline.specs.Threads.{IsLooked, IsMet, Happens, Closed};
 
 use disk::Disk;
 use ingester::{Ingester, Pass};
@@ -23,4 +23,13 @@ pub fn meet_once<D: Disk + Drop>(ingester: &Ingester<D>, one: &mut Pass, two: &m
     ensures two { IsMet ingester.now two.old one.old.caller one.new.caller.seen two.new }
 {
     ingester.meet(one, two);
+}
+
+/// A pass makes no call from now on.
+pub fn close_once<D: Disk + Drop>(ingester: &Ingester<D>, pass: &mut Pass)
+    requires pass { IsPassOf ingester.now pass.old }
+    ensures { Happens false ingester.now pass.old Closed pass.new }
+{
+    let _ = ingester;
+    pass.close();
 }

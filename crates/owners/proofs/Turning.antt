@@ -24,7 +24,7 @@ use Rattle.shard.specs.Turns.{Turn, span_of, AreReady, AreStepped, IsAlone, IsGi
 use Rattle.shard.proofs.Turning.{pass_turn_more}
 use Rattle.owners.specs.Calls.{AreSureTickets, AreWaiting, AreOfCalls}
 use Rattle.owners.specs.Openings.{Opening}
-use Rattle.shard.specs.Leads.{Lead}
+use Rattle.shard.specs.Leads.{IsMade, Lead}
 use Rattle.owners.specs.Places.{IsOf, opened_shard}
 use Rattle.shard.proofs.Leading.{lead_more}
 
@@ -132,9 +132,9 @@ module _ {D : Type 0} (sight : D → Sight) (follows : D → Type 0) (opening : 
       record { table = ap (λ (s : Sharded D). s.book.table) e; about = ap (λ (s : Sharded D). s.book.about) e; shard = ap (λ (s : Sharded D). s.book.shard) e; opened = ap (λ (s : Sharded D). s.opened) e }
 
   -- the shard is that of its lock
-  pub turn_of : (k : ℕ) → IsTurn sight follows turn → (Follow follows turn.new.log → KeepsHistory (slots sight turn.new.log) turn.new.book (doubt_of turn.new.book.items)) → IsOf sight follows opening k turn.old → IsOf sight follows opening k turn.new
-  turn_of k h covered is =
-      let s = turn_same h in
+  pub turn_of : (k : ℕ) → IsMade sight follows turn → IsOf sight follows opening k turn.old → IsOf sight follows opening k turn.new
+  turn_of k made is =
+      let s = turn_same made.turn in
       record {
         table = s.table ∙ is.table;
         about = s.about ∙ is.about;
@@ -142,7 +142,7 @@ module _ {D : Type 0} (sight : D → Sight) (follows : D → Type 0) (opening : 
         opened = is.opened ∙ ap Some (sym s.opened);
         turns = is.turns ++ turn ∷ [];
         turned = subst (λ (log : Wal D). Lead sight follows (opened_shard opening k log) (is.turns ++ turn ∷ []) turn.new) (sym s.opened)
-            (lead_more sight follows (opened_shard opening k turn.old.opened) turn.old is.turns turn is.turned refl (record { turn = h; covered = covered }));
+            (lead_more sight follows (opened_shard opening k turn.old.opened) turn.old is.turns turn is.turned refl made);
       }
 
   -- the calls that are left are open

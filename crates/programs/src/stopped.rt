@@ -2,7 +2,8 @@
 ghost use Rattle.std.specs.Prelude.{◌≡◌, ◌≢◌, ◌≤◌};
 ghost use Rattle.programs.specs.declared.stopped.Stopped.TheVariants as stops;
 
-use ingester::{CallFault, OpenFault};
+use accept::CallFault;
+use ingester::OpenFault;
 use slots::SlotsFault;
 use std::alloc::AllocError;
 use thiserror::Error;

@@ -8,8 +8,8 @@ use Rattle.requests.specs.declared.status.Status.TheVariants as statuses
 use Rattle.requests.specs.declared.fixed.Method.{Method}
 use Rattle.requests.specs.declared.fixed.FixedAnswer.{FixedAnswer}
 use Rattle.requests.specs.declared.fixed.FixedAnswer.TheVariants.{BadRequest, HeadTooLarge, TransferEncoding, BadLength, LengthRequired, BodyTooLarge, NotFound, MethodNotAllowed, Ready, NoOrgId, BadTenant, ContentEncoding, ContentType}
-use Rattle.requests.specs.declared.failure.Failure.{Failure}
-use Rattle.requests.specs.declared.failure.Failure.TheVariants.{OutOfMemory, PassClosed, InDoubt, LogSpent}
+use Rattle.accept.specs.declared.fault.CallFault.{CallFault}
+use Rattle.accept.specs.declared.fault.CallFault.TheVariants as faults
 
 abbrev pub crlf : List ℕ
 crlf = 13 ∷ 10 ∷ []
@@ -139,28 +139,28 @@ fixed_text answer closes =
     answer_text (status_of answer) Text (allow_of answer) (always_closes answer || closes)
     (body_of answer)
 
-abbrev pub failure_body : Failure → List ℕ
-failure_body OutOfMemory = codes "out of memory"
-failure_body PassClosed = codes "pass closed"
-failure_body InDoubt = codes "call in doubt"
-failure_body LogSpent = codes "log spent"
+abbrev pub failure_body : CallFault → List ℕ
+failure_body faults.Memory = codes "out of memory"
+failure_body faults.PassClosed = codes "pass closed"
+failure_body faults.InDoubt = codes "call in doubt"
+failure_body faults.LogSpent = codes "log spent"
 
 -- the whole text of an answer of status 500
-unfoldable pub failure_text : Failure → List ℕ
+unfoldable pub failure_text : CallFault → List ℕ
 failure_text failure = answer_text statuses.InternalServerError Text None true
     (failure_body failure)
 
 -- the same text, written out
-abbrev pub failure_bytes : Failure → List ℕ
-failure_bytes OutOfMemory = codes "HTTP/1.1 500 Internal Server Error" ++ crlf
+abbrev pub failure_bytes : CallFault → List ℕ
+failure_bytes faults.Memory = codes "HTTP/1.1 500 Internal Server Error" ++ crlf
     ++ codes "Content-Type: text/plain; charset=utf-8" ++ crlf ++ codes "Content-Length: 13" ++ crlf
     ++ codes "Connection: close" ++ crlf ++ crlf ++ codes "out of memory"
-failure_bytes PassClosed = codes "HTTP/1.1 500 Internal Server Error" ++ crlf
+failure_bytes faults.PassClosed = codes "HTTP/1.1 500 Internal Server Error" ++ crlf
     ++ codes "Content-Type: text/plain; charset=utf-8" ++ crlf ++ codes "Content-Length: 11" ++ crlf
     ++ codes "Connection: close" ++ crlf ++ crlf ++ codes "pass closed"
-failure_bytes InDoubt = codes "HTTP/1.1 500 Internal Server Error" ++ crlf
+failure_bytes faults.InDoubt = codes "HTTP/1.1 500 Internal Server Error" ++ crlf
     ++ codes "Content-Type: text/plain; charset=utf-8" ++ crlf ++ codes "Content-Length: 13" ++ crlf
     ++ codes "Connection: close" ++ crlf ++ crlf ++ codes "call in doubt"
-failure_bytes LogSpent = codes "HTTP/1.1 500 Internal Server Error" ++ crlf
+failure_bytes faults.LogSpent = codes "HTTP/1.1 500 Internal Server Error" ++ crlf
     ++ codes "Content-Type: text/plain; charset=utf-8" ++ crlf ++ codes "Content-Length: 9" ++ crlf
     ++ codes "Connection: close" ++ crlf ++ crlf ++ codes "log spent"

@@ -83,8 +83,8 @@ fn push_text(all: &mut Vec<u8>, text: &[u8]) -> Result<(), ServeFault>
     }
 }
 
-/// A text that is to be sent: answers are put there, and whoever has the connection sends it from its front. `P` is what
-/// is known of the calls. Contracts see the text.
+/// A text that is to be sent: answers are put there, and whoever has the connection sends it from its front. `P` is
+/// what is known of the calls. Contracts see the text.
 #[derive(Drop)]
 pub struct Outbox<P> {
     text: Vec<u8>,

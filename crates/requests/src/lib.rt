@@ -23,7 +23,7 @@ mod writing;
 
 pub use answer::{Answer, Content};
 pub use answers::{Answers, Outbox, Sent};
-pub use failure::Failure;
+pub use failure::failure_text;
 pub use fault::{ServeFault, Served};
 pub use fixed::{FixedAnswer, Method};
 pub use framing::MAX_BODY;

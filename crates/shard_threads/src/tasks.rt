@@ -4,8 +4,8 @@ ghost use Rattle.accept.specs.Calls.{AreNumbers};
 ghost use Rattle.ingester.specs.Calls.{IsPassOf};
 
 use crate::course::{Course, Pushes, Task};
-use accept::{Call, Entry, EntryList, Line, Meta, Outcome, Reply};
-use ingester::{CallFault, Pass};
+use accept::{Call, CallFault, Entry, EntryList, Line, Meta, Outcome, Reply};
+use ingester::Pass;
 use labels::{LabelPairs, LabelSet, StreamKey, Tenant};
 use std::alloc::Global;
 use std::collections::VecDeque;

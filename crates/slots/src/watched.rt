@@ -32,7 +32,8 @@ impl<D: Disk> Watched<D> {
     }
 }
 
-// Says that a shard stops answering, and why as the system says it, in one write, since several shards may stop at once.
+// Says that a shard stops answering, and why as the system says it, in one write, since several shards may stop at
+// once.
 fn say_unavailable(errors: Option<Stderr>, shard: u32, cause: Option<io::Error>) {
     let Some(errors) = errors else {
         return;

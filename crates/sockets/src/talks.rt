@@ -15,7 +15,7 @@ use std::rt::Clock;
 use std::sync::Wait;
 use std::test::*;
 use std::thread::{Threads, join};
-use workers::serve_listener;
+use workers::{Bounds, Watch, serve_listener};
 
 /// How many bytes a segment may have.
 const CAPACITY: u64 = 4_096;
@@ -49,7 +49,7 @@ const X_ALONE: &str =
 type Slot = GateDisk<MemDisk>;
 
 /// What a client asks, and what it must be told.
-struct Talk {
+struct Dialogue {
     name: &'static str,
     /// The shards: whether the gate holds their syncs.
     held: &'static [bool],
@@ -61,8 +61,8 @@ struct Talk {
     answers: &'static [&'static str],
 }
 
-const TALKS: [Talk; 4] = [
-    Talk {
+const DIALOGUES: [Dialogue; 4] = [
+    Dialogue {
         name: "gate_two_connections",
         held: &[true, false],
         workers: 2,
@@ -71,7 +71,7 @@ const TALKS: [Talk; 4] = [
         steps: &[Step::Hold(SAMPLE, OTHER)],
         answers: &[NO_CONTENT, NO_CONTENT],
     },
-    Talk {
+    Dialogue {
         name: "the sample and its repeat",
         held: &[false],
         workers: 2,
@@ -84,7 +84,7 @@ const TALKS: [Talk; 4] = [
         ],
         answers: &[NO_CONTENT, NO_CONTENT, X_ALONE],
     },
-    Talk {
+    Dialogue {
         name: "a client leaves inside a body",
         held: &[false],
         workers: 1,
@@ -93,7 +93,7 @@ const TALKS: [Talk; 4] = [
         steps: &[Step::Leave(LOST), Step::Ask(&[SAMPLE, READ_X])],
         answers: &[NO_CONTENT, X_ALONE],
     },
-    Talk {
+    Dialogue {
         name: "failed accepts are not counted",
         held: &[false],
         workers: 1,
@@ -114,6 +114,15 @@ impl front::Clock for Standing {
     fn now(&mut self) -> u64 {
         20
     }
+}
+
+/// Nobody is told that connections have to wait.
+struct Quiet;
+
+impl Watch for Quiet {
+    fn no_room(&self) {}
+
+    fn all_busy(&self) {}
 }
 
 /// An empty slot with this gate for its syncs.
@@ -177,7 +186,7 @@ fn servers_of<'a>(
 ) -> Result<Vec<Connections<'a, Standing, Untold>>, AllocError> {
     let mut servers = Vec::new(alloc);
     for _ in 0..workers {
-        servers.push(Connections::new(Standing, full))?;
+        servers.push(Connections::new(alloc, Standing, full))?;
     }
     Ok(servers)
 }
@@ -208,14 +217,14 @@ where
             ensures { (i : ℕ) (pass : Passed) → slice_get result.0.items i ≡ Some pass
                 → IsPassOf ingester.entry.now pass }
         {
-            let (passes, served) = serve_listener(
-                rt,
-                alloc,
-                ingester,
-                passes,
-                servers,
-                listener,
+            let bounds = Bounds {
                 connections,
+                open: 1_000,
+                half_sent: 8_388_608,
+                watch: &Quiet,
+            };
+            let (passes, served) = serve_listener(
+                rt, alloc, ingester, passes, servers, listener, &bounds,
             );
             (passes, served.is_ok())
         },
@@ -227,34 +236,34 @@ where
     }
 }
 
-/// What the client of a talk is told. The workers' passes come back, and the slots are closed.
-fn told_in<R>(rt: &R, alloc: Global, talk: &Talk) -> Result<String, Fail>
+/// What the client of a dialogue is told. The workers' passes come back, and the slots are closed.
+fn told_in<R>(rt: &R, alloc: Global, dialogue: &Dialogue) -> Result<String, Fail>
 where
     R: Net<Listener = TcpListener, Stream = TcpStream> + Threads + Wait + Clock,
     R: Copy + Send + Sync + 'static,
 {
     let gate = Gate::new(alloc)?;
     let listener = listen(rt)?;
-    listener.set_nonblocking(talk.accepts_fail)?;
+    listener.set_nonblocking(dialogue.accepts_fail)?;
     let full = Untold;
-    let servers = servers_of(alloc, talk.workers, &full)?;
+    let servers = servers_of(alloc, dialogue.workers, &full)?;
     let client = Client {
         rt,
         alloc,
         address: listener.local_addr()?,
         gate: &gate,
-        steps: talk.steps,
+        steps: dialogue.steps,
     };
-    let (ingester, passes) = open(rt, alloc, &gate, talk.held, talk.workers)?;
+    let (ingester, passes) = open(rt, alloc, &gate, dialogue.held, dialogue.workers)?;
     let (passes, told) = talk_and_serve(
         client,
         &ingester,
         passes,
         servers,
         &listener,
-        talk.connections,
+        dialogue.connections,
     );
-    if passes.len() != talk.workers as usize || passes.is_empty() {
+    if passes.len() != dialogue.workers as usize || passes.is_empty() {
         return Err("a pass is lost".into());
     }
     drop(ingester.close(rt, passes));
@@ -275,9 +284,13 @@ fn is_told(told: &str, answers: &[&str]) -> bool {
 
 #[test]
 fn clients_are_answered(rt: HostRuntime) -> Result<(), Fail> {
-    for talk in &TALKS {
-        let told = told_in(&rt, rt.alloc(), talk)?;
-        assert!(rt; is_told(told.as_str(), talk.answers), "{}", talk.name);
+    for dialogue in &DIALOGUES {
+        let told = told_in(&rt, rt.alloc(), dialogue)?;
+        assert!(rt;
+            is_told(told.as_str(), dialogue.answers),
+            "{}",
+            dialogue.name
+        );
     }
     Ok(())
 }

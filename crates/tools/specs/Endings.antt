@@ -82,8 +82,8 @@ pub data CallEnds (D : Type 0) (words : List (String Global)) (environment : Env
   stopped_call : (stop : Stopped) → (stop ≡ Output) ⊎ (after ≡ before) → status ≡ stop_status stop
       → CallEnds D words environment input before after status
 
--- How `ingest1` ended: its word or a setting was wrong; or the answer that is due to a push of its input at the time of its word was
--- written, and what was read back; or it stopped, and where its opening was refused, nothing was written.
+-- How `ingest1` ended: its word or a setting was wrong; or the answer that is due to a push of its input at the time of
+-- its word was written, and what was read back; or it stopped, and where its opening was refused, nothing was written.
 pub data PushEnds (words : List (String Global)) (environment : Environment)
     (input before after : Option (List ℕ))
     (status : ℕ) : Type 0 where

@@ -138,3 +138,24 @@ GivesCapacity (Some text) = IsNumberIn 4096 1073741824 text
 abbrev pub capacity_of : Option (List ℕ) → ℕ
 capacity_of None = 67108864
 capacity_of (Some text) = value text
+
+-- what the environment says of open connections: nothing, or 1 to 1,000,000 of them
+abbrev pub GivesOpen : Option (List ℕ) → Type 0
+GivesOpen None = Unit {0}
+GivesOpen (Some text) = IsNumberIn 1 1000000 text
+
+-- how many may be open
+abbrev pub open_of : Option (List ℕ) → ℕ
+open_of None = 10000
+open_of (Some text) = value text
+
+-- what it says of the bytes of requests that have not come whole: nothing, or a head and a body of the greatest length,
+-- to 2^40
+abbrev pub GivesHalfSent : Option (List ℕ) → Type 0
+GivesHalfSent None = Unit {0}
+GivesHalfSent (Some text) = IsNumberIn 4210688 1099511627776 text
+
+-- how many may be held
+abbrev pub half_sent_of : Option (List ℕ) → ℕ
+half_sent_of None = 268435456
+half_sent_of (Some text) = value text

@@ -17,6 +17,10 @@ pub struct Environment {
     pub reject_old_samples_max_age: Option<String>,
     /// `NEEDLEAZURE_CREATION_GRACE_PERIOD`: how far after the clock a line may be.
     pub creation_grace_period: Option<String>,
+    /// `NEEDLEAZURE_OPEN_CONNECTIONS`: how many connections may be open.
+    pub open_connections: Option<String>,
+    /// `NEEDLEAZURE_HALF_SENT`: how many bytes of requests that have not come whole may be held.
+    pub half_sent: Option<String>,
 }
 
 /// A variable that sets a limit.

@@ -10,7 +10,7 @@ mod said;
 ghost use Rattle.std.specs.Prelude.{◌≡◌, ◌<◌, ◌≤◌, ◌^◌, None, Some, IsTrue, IfOk, IfSome, MatchOption, option_map};
 ghost use Rattle.labels.specs.Tenants.{is_tenant};
 ghost use Rattle.accept.specs.OneStream.{end_of_time};
-ghost use Rattle.words.specs.Words.{value, IsNumberIn, NameShard, GiveShard, SaysPlace, GiveClock, SaysClock, NameServer, SaysOfServer, GiveServer, SaysServer, verb_of, IsVerb, NameCall, SaysOfCall, GiveCall, SaysCall, GivesCapacity, capacity_of};
+ghost use Rattle.words.specs.Words.{value, IsNumberIn, NameShard, GiveShard, SaysPlace, GiveClock, SaysClock, NameServer, SaysOfServer, GiveServer, SaysServer, verb_of, IsVerb, NameCall, SaysOfCall, GiveCall, SaysCall, GivesCapacity, capacity_of, GivesOpen, open_of, GivesHalfSent, half_sent_of};
 
 pub use about::{VERSION, tell_about};
 pub use durations::duration_in;
@@ -43,6 +43,21 @@ const LEAST_CAPACITY: u64 = 4_096;
 /// The greatest capacity that the environment may say.
 const GREATEST_CAPACITY: u64 = 1 << 30;
 
+/// How many connections may be open where the environment does not say.
+const OPEN_CONNECTIONS: u64 = 10_000;
+
+/// The most that the environment may say.
+const MOST_OPEN_CONNECTIONS: u64 = 1_000_000;
+
+/// How many bytes of requests that have not come whole may be held where the environment does not say.
+const HALF_SENT: u64 = 268_435_456;
+
+/// The fewest that the environment may say: those of a head and a body of the greatest length.
+const LEAST_HALF_SENT: u64 = 4_210_688;
+
+/// The most that the environment may say.
+const MOST_HALF_SENT: u64 = 1 << 40;
+
 /// The words after the program's name. There are none where one of them is not text, since a program has no such words.
 pub fn words_of<R: Env + AllocGlobal>(rt: &R) -> Result<Vec<String>, AllocError> {
     match read_words(rt) {
@@ -67,7 +82,11 @@ pub fn environment_of<R: Env + AllocGlobal>(rt: &R) -> Result<Environment, Alloc
     let max_chunk_age = variable_of(rt, "NEEDLEAZURE_MAX_CHUNK_AGE")?;
     let reject_old_samples_max_age = variable_of(rt, "NEEDLEAZURE_REJECT_OLD_SAMPLES_MAX_AGE")?;
     let creation_grace_period = variable_of(rt, "NEEDLEAZURE_CREATION_GRACE_PERIOD")?;
+    let open_connections = variable_of(rt, "NEEDLEAZURE_OPEN_CONNECTIONS")?;
+    let half_sent = variable_of(rt, "NEEDLEAZURE_HALF_SENT")?;
     Ok(Environment {
+        open_connections,
+        half_sent,
         capacity,
         max_chunk_age,
         reject_old_samples_max_age,
@@ -149,6 +168,33 @@ pub fn capacity_in(setting: Option<&str>) -> Option<u64>
     match setting {
         Some(text) => number_in(text, LEAST_CAPACITY, GREATEST_CAPACITY),
         None => Some(CAPACITY),
+    }
+}
+
+/// How many connections may be open by the environment: 1 to 1,000,000, and 10,000 where it says nothing. `None` where it
+/// says anything else.
+pub fn open_connections_in(setting: Option<&str>) -> Option<u64>
+    ensures given { MatchOption result (¬ GivesOpen (option_map (λ s. s.now) setting.entry))
+        (λ _. GivesOpen (option_map (λ s. s.now) setting.entry)) }
+    ensures says { IfSome result (λ number. number ≡ open_of (option_map (λ s. s.now) setting.entry)) }
+{
+    match setting {
+        Some(text) => number_in(text, 1, MOST_OPEN_CONNECTIONS),
+        None => Some(OPEN_CONNECTIONS),
+    }
+}
+
+/// How many bytes of requests that have not come whole may be held by the environment: 4,210,688 to 2^40, and
+/// 268,435,456 where it says nothing. `None` where it says anything else.
+pub fn half_sent_in(setting: Option<&str>) -> Option<u64>
+    ensures given { MatchOption result (¬ GivesHalfSent (option_map (λ s. s.now) setting.entry))
+        (λ _. GivesHalfSent (option_map (λ s. s.now) setting.entry)) }
+    ensures says { IfSome result (λ bytes. bytes
+        ≡ half_sent_of (option_map (λ s. s.now) setting.entry)) }
+{
+    match setting {
+        Some(text) => number_in(text, LEAST_HALF_SENT, MOST_HALF_SENT),
+        None => Some(HALF_SENT),
     }
 }
 

@@ -1,135 +1,87 @@
-//! The server's loop: one acceptor, and workers with a pass each.
-ghost use Rattle.std.specs.Prelude.{◌≡◌, ℕ, Bool, Some, All, slice_get, IfOk};
+//! The threads of the workers.
+ghost use Rattle.std.specs.Prelude.{◌≡◌, ℕ, Some, All, slice_get, IfOk, OnOk};
+ghost use Rattle.workers.specs.Talks.{ArePassesLeft, HasEnded, IsServedFor, WasServed, with_starts};
 
+use crate::accepting::{AcceptEnd, Acceptor, Bounds, Link, Watch, close};
+use crate::clerk::Clerk;
+use crate::event_loop::{EventLoop, WAKER};
 use crate::fault::WorkersFault;
-use crossbeam_channel::{Receiver, Sender, bounded};
+use crate::inbox::Inbox;
+use crate::serve::Serve;
+use crate::session::Session;
+use crate::shared::{Shared, WorkerLoad};
+use crate::worker::{OfService, Worker, WorkerEnd, work};
+use crossbeam_channel::bounded;
+use mio::{Poll, Waker};
 use std::alloc::Global;
-use std::marker::PhantomData;
-use std::net::{TcpListener, TcpStream};
-use std::rt;
-use std::snapshot::Snapshot;
-use std::sync::Wait;
-use std::thread::{self, Promise, PromisedHandle, Scope, Threads};
-use std::time::Duration;
+use std::net::{Net, TcpListener};
+use std::rt::Clock;
+use std::sync::{Arc, Wait};
+use std::thread::{self, PromisedHandle, Scope, Threads};
 
-/// For how many seconds a connection may send nothing, or take nothing, before it is closed.
-const IDLE_SECONDS: u64 = 60;
-
-/// How many connections may wait for a worker, beside those that wait for the acceptor.
+/// How many connections may wait for a worker.
 const WAITING: usize = 64;
 
-/// For how many milliseconds the acceptor waits when it could not accept a connection.
-const PAUSE_MILLIS: u64 = 10;
-
-/// How a worker serves connections: over the service `I`, which all workers share, and by a pass `P` of its own. A
-/// higher crate implements it and says what the two are: this crate needs no more of them.
-pub trait Serve<I, P> {
-    /// The pass is one of this service's.
-    ghost is_pass_of: { I → P → Type 0 };
-
-    /// Whether a worker with this pass may take another connection.
-    ghost may_go_on: { P → Bool };
-
-    /// Serves a connection until it ends, whatever goes wrong with it. Tells whether the worker may take another.
-    fn serve<R: Wait>(
-        &mut self,
-        rt: &R,
-        alloc: Global,
-        service: &I,
-        pass: &mut P,
-        stream: &TcpStream,
-    ) -> bool
-        requires { is_pass_of service.now pass.old }
-        ensures pass { is_pass_of service.now pass.new }
-        ensures told { result ≡ may_go_on pass.new };
-}
-
-// Sets that a connection is closed that does nothing for long, and that what is written is sent at once.
-fn limit_waits(stream: &TcpStream) {
-    let idle = Duration::from_secs(IDLE_SECONDS);
-    let _ = stream.set_nodelay(true);
-    let _ = stream.set_read_timeout(Some(idle));
-    let _ = stream.set_write_timeout(Some(idle));
-}
-
-// What a worker's thread is given.
-#[derive(Drop)]
-struct Worker<'a, I, P, S, R> {
-    rt: &'a R,
-    alloc: Global,
-    service: &'a I,
-    pass: P,
-    server: S,
-    streams: Receiver<TcpStream>,
-}
-
-// What a worker hands back is a pass of its service.
-#[derive(Drop)]
-struct OfService<I, P, S: Serve<I, P>> {
-    service: Snapshot<I>,
-    of: PhantomData<(P, S)>,
-}
-
-impl<I, P, S: Serve<I, P>> Promise<P> for OfService<I, P, S> {
-    ghost kept_by = { λ promise pass. S.is_pass_of promise.service.value pass };
-}
-
 // A worker's thread.
-type Thread<I, P, S> = PromisedHandle<P, OfService<I, P, S>>;
+type Thread<I, P, S> = PromisedHandle<WorkerEnd<P>, OfService<I, P, S>>;
 
-// The passes that no worker has, and the workers' threads.
+// The passes that no worker has, the workers' threads, and the acceptor's sides of the workers.
 #[derive(Drop)]
 struct Crew<I, P: Drop, S: Serve<I, P>> {
     passes: Vec<P>,
     threads: Vec<Thread<I, P, S>>,
+    links: Vec<Link>,
 }
 
-// Serves connections until no more come, or the worker may take no other. Gives the pass back.
-fn work<I, P, S: Serve<I, P> + Drop, R: Wait>(worker: Worker<I, P, S, R>) -> P
-    requires { S.is_pass_of worker.service.now worker.pass }
-    ensures { S.is_pass_of worker.entry.service.now result }
-{
-    let Worker {
-        rt,
-        alloc,
-        service,
-        mut pass,
-        mut server,
-        streams,
-    } = worker;
-    for stream in streams.iter(rt) {
-        limit_waits(&stream);
-        if !server.serve(rt, alloc, service, &mut pass, &stream) {
-            break;
-        }
-    }
-    pass
+// What every worker is given.
+#[derive(Drop)]
+struct Site<'s, I, R> {
+    rt: &'s R,
+    alloc: Global,
+    service: &'s I,
+    shared: Arc<Shared>,
 }
 
-// Accepts a connection. Where none can be accepted, for example for want of file descriptors, it waits a little before
-// it tries again.
-fn accept_one<R: Wait + rt::Clock>(rt: &R, listener: &TcpListener) -> TcpStream {
-    for _turn in rt.forever() {
-        if let Ok((stream, _)) = listener.accept() {
-            return stream;
-        }
-        thread::sleep(rt, Duration::from_millis(PAUSE_MILLIS));
-    }
-    unreachable!()
-}
-
-// Hands each connection that comes to the workers, at most `connections`, until no worker is left.
-fn accept<R: Wait + rt::Clock>(
+// Where each of `count` workers waits, and what it tells the others.
+fn make_polls<R: Net>(
     rt: &R,
-    listener: &TcpListener,
-    connections: u64,
-    workers: Sender<TcpStream>,
-) {
-    for _connection in 0..connections {
-        if workers.send(rt, accept_one(rt, listener)).is_err() {
-            break;
+    alloc: Global,
+    count: usize,
+) -> Result<(Vec<Poll>, Vec<Arc<WorkerLoad>>), WorkersFault> {
+    let mut polls = Vec::with_capacity(alloc, count)?;
+    let mut loads = Vec::with_capacity(alloc, count)?;
+    for _ in 0..count {
+        let Ok(poll) = Poll::new(rt) else {
+            return Err(WorkersFault::Thread);
+        };
+        let Ok(waker) = Waker::new(poll.registry(), WAKER) else {
+            return Err(WorkersFault::Thread);
+        };
+        let Ok(load) = Arc::new(alloc, WorkerLoad::new(waker)) else {
+            return Err(WorkersFault::Memory);
+        };
+        if polls.push(poll).is_err() || loads.push(load).is_err() {
+            return Err(WorkersFault::Memory);
         }
     }
+    Ok((polls, loads))
+}
+
+// The connections of a worker, and the acceptor's side of it.
+fn make<T: Session + Drop>(
+    alloc: Global,
+    poll: Poll,
+    load: &Arc<WorkerLoad>,
+    shared: &Arc<Shared>,
+) -> Result<(EventLoop<T>, Link), WorkersFault> {
+    let (sender, receiver) = bounded(alloc, WAITING)?;
+    let (own, shared) = (Arc::try_clone(load)?, Arc::try_clone(shared)?);
+    let event_loop = EventLoop::new(alloc, poll, Inbox::new(receiver), own, shared)?;
+    let link = Link {
+        arrivals: Some(sender),
+        load: Arc::try_clone(load)?,
+    };
+    Ok((event_loop, link))
 }
 
 // Starts a worker.
@@ -141,18 +93,20 @@ where
     I: Sync + 's,
     P: Drop + Send + 's,
     S: Serve<I, P> + Drop + Send + 's,
-    R: Threads + Wait + Sync,
-    requires pass { S.is_pass_of worker.service.now worker.pass }
-    ensures promise { IfOk result (λ thread. thread.promise.service.value
-        ≡ worker.entry.service.now) }
+    S::Session: Send,
+    R: Threads + Wait + Clock + Net + Sync,
+    requires pass { S.is_pass_of worker.clerk.service.now worker.clerk.pass }
+    ensures service { IfOk result (λ thread. thread.promise.service.value
+        ≡ worker.entry.clerk.service.now) }
+    ensures start { IfOk result (λ thread. thread.promise.start.value ≡ worker.entry.clerk.pass) }
 {
-    let promise = OfService {
-        service: Snapshot::of(worker.service),
-        of: PhantomData,
-    };
-    let run = move || -> P
-        requires { S.is_pass_of worker.service.now worker.pass }
-        ensures { S.is_pass_of worker.entry.service.now result }
+    let promise = OfService::of(&worker);
+    let run = move || -> WorkerEnd<P>
+        requires { S.is_pass_of worker.clerk.service.now worker.clerk.pass }
+        ensures { S.is_pass_of worker.entry.clerk.service.now result.pass
+            × HasEnded S.may_go_on result.why result.pass
+            × WasServed S.visits worker.entry.clerk.service.now worker.entry.clerk.server
+            worker.entry.clerk.pass result.pass }
     { work(worker) };
     match scope.spawn_with(promise, run) {
         Ok(thread) => Ok(thread),
@@ -163,39 +117,48 @@ where
 // Starts a worker for the next pass, and adds its thread to the others. Tells whether a pass was left for it.
 fn start_next<'s, E, I, P, S, R>(
     scope: &'s Scope<'s, E>,
-    rt: &'s R,
-    alloc: Global,
-    service: &'s I,
+    site: &Site<'s, I, R>,
     crew: &mut Crew<I, P, S>,
     server: S,
-    streams: &Receiver<TcpStream>,
+    poll: Poll,
+    load: &Arc<WorkerLoad>,
 ) -> Result<bool, WorkersFault>
 where
     I: Sync + 's,
     P: Drop + Send + 's,
     S: Serve<I, P> + Drop + Send + 's,
-    R: Threads + Wait + Sync,
-    requires passes { All (S.is_pass_of service.now) crew.old.passes.items }
+    S::Session: Send,
+    R: Threads + Wait + Clock + Net + Sync,
+    requires passes { All (S.is_pass_of site.now.service.now) crew.old.passes.items }
     requires threads { All (λ thread. thread.promise.service.value
-        ≡ service.now) crew.old.threads.items }
-    ensures passes { All (S.is_pass_of service.now) crew.new.passes.items }
+        ≡ site.now.service.now) crew.old.threads.items }
+    ensures passes { All (S.is_pass_of site.now.service.now) crew.new.passes.items }
     ensures threads { All (λ thread. thread.promise.service.value
-        ≡ service.now) crew.new.threads.items }
+        ≡ site.now.service.now) crew.new.threads.items }
+    ensures order { OnOk result (with_starts (λ thread. thread.promise.start.value) crew.new.passes.items
+        crew.new.threads.items ≡ with_starts (λ thread. thread.promise.start.value)
+        crew.old.passes.items crew.old.threads.items) }
 {
-    let streams = streams.clone()?;
+    let (event_loop, link) = make(site.alloc, poll, load, &site.shared)?;
     let Some(pass) = crew.passes.pop() else {
         return Ok(false);
     };
-    let worker = Worker {
-        rt,
-        alloc,
-        service,
+    let clerk = Clerk {
+        service: site.service,
         pass,
         server,
-        streams,
+    };
+    let worker = Worker {
+        rt: site.rt,
+        alloc: site.alloc,
+        clerk,
+        event_loop,
     };
     let thread = start(scope, worker)?;
     if crew.threads.push(thread).is_err() {
+        return Err(WorkersFault::Memory);
+    }
+    if crew.links.push(link).is_err() {
         return Err(WorkersFault::Memory);
     }
     Ok(true)
@@ -204,102 +167,187 @@ where
 // Starts a worker for each pass, and adds its thread to the others. Leaves the passes for which no worker was started.
 fn start_all<'s, E, I, P, S, R>(
     scope: &'s Scope<'s, E>,
-    rt: &'s R,
-    alloc: Global,
-    service: &'s I,
+    site: &Site<'s, I, R>,
     crew: &mut Crew<I, P, S>,
     mut servers: Vec<S>,
-    streams: Receiver<TcpStream>,
+    mut polls: Vec<Poll>,
 ) -> Result<(), WorkersFault>
 where
     I: Sync + 's,
     P: Drop + Send + 's,
     S: Serve<I, P> + Drop + Send + 's,
-    R: Threads + Wait + Sync,
-    requires passes { All (S.is_pass_of service.now) crew.old.passes.items }
+    S::Session: Send,
+    R: Threads + Wait + Clock + Net + Sync,
+    requires passes { All (S.is_pass_of site.now.service.now) crew.old.passes.items }
     requires threads { All (λ thread. thread.promise.service.value
-        ≡ service.now) crew.old.threads.items }
-    ensures passes { All (S.is_pass_of service.now) crew.new.passes.items }
+        ≡ site.now.service.now) crew.old.threads.items }
+    ensures passes { All (S.is_pass_of site.now.service.now) crew.new.passes.items }
     ensures threads { All (λ thread. thread.promise.service.value
-        ≡ service.now) crew.new.threads.items }
+        ≡ site.now.service.now) crew.new.threads.items }
+    ensures order { OnOk result (with_starts (λ thread. thread.promise.start.value) crew.new.passes.items
+        crew.new.threads.items ≡ with_starts (λ thread. thread.promise.start.value)
+        crew.old.passes.items crew.old.threads.items) }
 {
     while let Some(server) = servers.pop() {
-        if !start_next(scope, rt, alloc, service, crew, server, &streams)? {
+        let Some(poll) = polls.pop() else {
+            break;
+        };
+        let Some(load) = site.shared.loads.get(polls.len()) else {
+            break;
+        };
+        if !start_next(scope, site, crew, server, poll, load)? {
             break;
         }
     }
     Ok(())
 }
 
-// Waits until all workers have ended. Gives all passes.
+// Waits until all workers have ended. Gives all passes, in the order in which they were before the workers were
+// started, or says that there was no memory for one.
 fn join_all<I, P: Drop, S: Serve<I, P>, R: Threads>(
     rt: &R,
     service: &I,
     crew: Crew<I, P, S>,
-) -> Vec<P>
+) -> (Vec<P>, Result<(), WorkersFault>)
     requires passes { All (S.is_pass_of service.now) crew.passes.items }
     requires threads { All (λ thread. thread.promise.service.value
         ≡ service.now) crew.threads.items }
-    ensures passes { All (S.is_pass_of service.now) result.items }
+    ensures passes { All (S.is_pass_of service.now) result.0.items }
+    ensures left { OnOk result.1 (ArePassesLeft S.visits service.now
+        (with_starts (λ thread. thread.promise.start.value) crew.passes.items crew.threads.items)
+        result.0.items) }
 {
     let _ = service;
     let Crew {
         mut passes,
         mut threads,
+        links: _links,
     } = crew;
+    let mut joined = Ok(());
     while let Some(thread) = threads.pop() {
-        let pass = thread.join(rt);
-        let _ = passes.push(pass);
+        let WorkerEnd { pass, .. } = thread.join(rt);
+        if passes.push(pass).is_err() {
+            joined = Err(WorkersFault::Memory);
+        }
     }
-    passes
+    (passes, joined)
 }
 
-/// Serves the connections that come to a listener, at most `connections`. One thread accepts them. For each pass a
-/// worker serves one connection after another, with its server. Gives the passes back once all workers have ended;
-/// after an error one of them may be missing.
+// Starts the workers, hands them the connections that come, and waits until all have ended.
+fn serve_in<'s, E, I, P, S, R, W: Watch>(
+    scope: &'s Scope<'s, E>,
+    site: &Site<'s, I, R>,
+    crew: Crew<I, P, S>,
+    servers: Vec<S>,
+    polls: Vec<Poll>,
+    listener: &TcpListener,
+    bounds: &Bounds<'_, W>,
+) -> (Vec<P>, Result<AcceptEnd, WorkersFault>)
+where
+    I: Sync + 's,
+    P: Drop + Send + 's,
+    S: Serve<I, P> + Drop + Send + 's,
+    S::Session: Send,
+    R: Threads + Wait + Clock + Net + Sync,
+    requires passes { All (S.is_pass_of site.now.service.now) crew.passes.items }
+    requires threads { All (λ thread. thread.promise.service.value
+        ≡ site.now.service.now) crew.threads.items }
+    ensures passes { All (S.is_pass_of site.now.service.now) result.0.items }
+    ensures left { OnOk result.1 (ArePassesLeft S.visits site.now.service.now
+        (with_starts (λ thread. thread.promise.start.value) crew.passes.items
+        crew.threads.items) result.0.items) }
+    ensures served { IfOk result.1 (IsServedFor bounds.now.connections) }
+{
+    let mut crew = crew;
+    let served = match start_all(scope, site, &mut crew, servers, polls) {
+        Ok(()) => accept(site, listener, crew.links.as_slice(), bounds),
+        Err(fault) => Err(fault),
+    };
+    close(crew.links.as_mut_slice());
+    let (passes, joined) = join_all(site.rt, site.service, crew);
+    match (served, joined) {
+        (Ok(end), Ok(())) => (passes, Ok(end)),
+        (Err(fault), _) | (Ok(_), Err(fault)) => (passes, Err(fault)),
+    }
+}
+
+// Hands the connections that come to the workers.
+fn accept<I, R: Wait + Clock + Net, W: Watch>(
+    site: &Site<'_, I, R>,
+    listener: &TcpListener,
+    links: &[Link],
+    bounds: &Bounds<'_, W>,
+) -> Result<AcceptEnd, WorkersFault>
+    ensures { IfOk result (IsServedFor bounds.now.connections) }
+{
+    let mut acceptor = Acceptor::new(site.rt, site.alloc, listener, links, &site.shared, bounds)?;
+    Ok(acceptor.accept(site.rt))
+}
+
+/// Serves the connections that come to a listener, at most as many as its bounds say. One thread accepts them, and
+/// hands each to the worker with the fewest. For each pass a worker serves many connections, with its server: a
+/// connection stays with its worker from its first byte to its last, and costs memory and no worker while it is idle.
+/// Gives the passes back once all workers have ended, in their order, each as the visits by it left it; after an error
+/// one of them may be missing.
 ///
 /// It ends when this many connections have come and each has ended. A worker ends once its server tells that it may
-/// take no other connection: where no worker is left, all ends with the next one that comes. It ends at once, with an
-/// error, where there is no memory or a thread cannot be started. Each read and write of a connection waits 60 seconds
-/// at most. A connection that could not be accepted is not counted, and costs 10 milliseconds.
-pub fn serve_listener<I, P, S, R>(
+/// not go on: what it has answered is still sent, and its other connections are closed. Where no worker is left, all
+/// ends within a second. It ends at once, with an error, where there is no memory or a thread cannot be started. A
+/// connection is closed after 60 seconds without a byte either way, and five minutes after the first byte of a request
+/// that has not come whole. A connection that could not be accepted is not counted, and costs 10 milliseconds.
+pub fn serve_listener<I, P, S, R, W: Watch>(
     rt: &R,
     alloc: Global,
     service: &I,
     passes: Vec<P>,
     servers: Vec<S>,
     listener: &TcpListener,
-    connections: u64,
-) -> (Vec<P>, Result<(), WorkersFault>)
+    bounds: &Bounds<'_, W>,
+) -> (Vec<P>, Result<AcceptEnd, WorkersFault>)
 where
     I: Sync,
     P: Drop + Send,
     S: Serve<I, P> + Drop + Send,
-    R: Threads + Wait + rt::Clock + Sync,
+    S::Session: Send,
+    R: Threads + Wait + Clock + Net + Sync,
     requires passes { (i : ℕ) (pass : P) → slice_get passes.items i ≡ Some pass
         → S.is_pass_of service.now pass }
     ensures passes { (i : ℕ) (pass : P) → slice_get result.0.items i ≡ Some pass
         → S.is_pass_of service.now pass }
+    ensures left { OnOk result.1
+        (ArePassesLeft S.visits service.now passes.items result.0.items) }
+    ensures served { IfOk result.1 (IsServedFor bounds.now.connections) }
 {
-    let Ok((sender, receiver)) = bounded(alloc, WAITING) else {
+    let count = passes.len().min(servers.len());
+    let (polls, loads) = match make_polls(rt, alloc, count) {
+        Ok(made) => made,
+        Err(fault) => return (passes, Err(fault)),
+    };
+    let Ok(shared) = Arc::new(alloc, Shared::new(rt, loads, bounds.half_sent)) else {
         return (passes, Err(WorkersFault::Memory));
+    };
+    let site = Site {
+        rt,
+        alloc,
+        service,
+        shared,
     };
     thread::scope(
         thread::scope_env(),
         rt,
-        |scope| -> (Vec<P>, Result<(), WorkersFault>)
-            requires { All (S.is_pass_of service.now) passes.items }
-            ensures { All (S.is_pass_of service.entry.now) result.0.items }
+        |scope| -> (Vec<P>, Result<AcceptEnd, WorkersFault>)
+            requires { All (S.is_pass_of site.service.now) passes.items }
+            ensures { All (S.is_pass_of site.entry.service.now) result.0.items
+                × OnOk result.1 (ArePassesLeft S.visits site.entry.service.now passes.items
+                result.0.items)
+                × IfOk result.1 (IsServedFor bounds.entry.now.connections) }
         {
-            let threads = Vec::new(alloc);
-            let mut crew = Crew { passes, threads };
-            let started = start_all(scope, rt, alloc, service, &mut crew, servers, receiver);
-            if started.is_ok() {
-                accept(rt, listener, connections, sender);
-            } else {
-                drop(sender);
-            }
-            (join_all(rt, service, crew), started)
+            let crew = Crew {
+                passes,
+                threads: Vec::new(alloc),
+                links: Vec::new(alloc),
+            };
+            serve_in(scope, &site, crew, servers, polls, listener, bounds)
         },
     )
 }

@@ -5,10 +5,10 @@ use Rattle.answering.specs.Windows.{came_of}
 use Rattle.answering.proofs.windows.halt_of.Given as goal
 
 abbrev pub invariant-loop-outcome : goal.invariant-loop-outcome
-invariant-loop-outcome g l = record {
-  first : first_failure (map came_of (map g.S.Calls.told l.initial.outcomes.items)) ≡ first_failure (map came_of (map g.S.Calls.told l.outcomes.items));
+invariant-loop-outcome l = record {
+  first : first_failure (map came_of l.initial.outcomes.items) ≡ first_failure (map came_of l.outcomes.items);
   capacity : deque_capacity l.outcomes ≡ deque_capacity l.initial.outcomes;
 }
 
 abbrev pub decreases-loop-outcome : goal.decreases-loop-outcome
-decreases-loop-outcome g l = deque_len l.outcomes
+decreases-loop-outcome l = deque_len l.outcomes

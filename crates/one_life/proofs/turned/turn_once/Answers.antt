@@ -25,9 +25,9 @@ returns g c =
       ended = made.result;
     } in
     let old = one.shard ∙ c.in-Ok.ensures.ok in
-    let before = compared c.in-Ok.shard c.settle.new.self c.args.pass.now pass one.shard one.pass one.begins one.legal one.steps one.by_passes in
-    let after = compared made.new.self made.new.self pass pass refl refl two.begins two.legal two.steps two.by_passes in
-    let is = turns_once g.D.Disk.sight g.D.Disk.follows c.args.log c.args.book c.requires.only c.requires.ground.fresh (turn c.settle.new.self made.new.self) pass old made.ensures.turn made.ensures.covered before after in
+    let before = compared c.in-Ok.shard c.settle.new.self c.args.pass.now pass one.shard one.pass one.begins one.steps in
+    let after = compared made.new.self made.new.self pass pass refl refl two.begins two.steps in
+    let is = turns_once g.D.Disk.sight g.D.Disk.follows c.args.log c.args.book c.requires.only c.requires.ground.fresh (turn c.settle.new.self made.new.self) pass old (record { turn = made.ensures.turn; covered = made.ensures.covered; legal = made.ensures.legal; by_passes = made.ensures.by_passes }) before after in
     subst (λ (s : Sharded g.row.D.Denot). IsTurnedOnce g.D.Disk.sight g.D.Disk.follows opening (turn s c.settle-2.new.self) c.settle-2.new.pass) old
     (subst (λ (s : Sharded g.row.D.Denot). IsTurnedOnce g.D.Disk.sight g.D.Disk.follows opening (turn c.settle.new.self s) c.settle-2.new.pass) (sym two.shard)
     (subst (IsTurnedOnce g.D.Disk.sight g.D.Disk.follows opening (turn c.settle.new.self made.new.self)) (sym two.pass) is))

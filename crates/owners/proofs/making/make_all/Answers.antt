@@ -62,7 +62,7 @@ loop-alloc-preserved g c =
           let was = inv.of o is_of at_desk in
           let settled = turn_settled g.D.Disk.sight g.D.Disk.follows o turn made.turn was.1 inv.settled in
           let there = subst (λ v. AreOfCalls o.table v.items) (sym c.replace-settled.ensures.value) settled in (
-            turn_of g.D.Disk.sight g.D.Disk.follows o turn c.args.state.now.book.shard made.turn made.covered was.0,
+            turn_of g.D.Disk.sight g.D.Disk.follows o turn c.args.state.now.book.shard (record { turn = made.turn; covered = made.covered; legal = made.legal; by_passes = made.by_passes }) was.0,
             turn_open g.D.Disk.sight g.D.Disk.follows o turn made.turn was.1,
             out.places (home_of o) there was.2,
           );

@@ -8,4 +8,4 @@ scoped-requires g c =
     search rules
 
 pub returns : goal.returns
-returns g c = record { passes = at_each_place c.scoped.result.0.items (g.S.Serve.is_pass_of c.args.service.now) c.scoped.ensures.1 }
+returns g c = record { passes = at_each_place c.scoped.result.0.items (g.S.Serve.is_pass_of c.args.service.now) c.scoped.ensures.1.0; left = c.scoped.ensures.1.1; served = c.scoped.ensures.1.2 }

@@ -1,9 +1,11 @@
 use Rattle.std.proofs.Common.{◌≡◌, vec_len, All}
+use Rattle.workers.specs.Talks.{with_starts}
 use Rattle.workers.proofs.serving.start_all.Given as goal
 
 abbrev pub invariant-loop-server : goal.invariant-loop-server
-invariant-loop-server g l = All (g.S.Serve.is_pass_of l.service) l.crew.passes.items
-    × All (λ thread. thread.promise.service.value ≡ l.service) l.crew.threads.items
+invariant-loop-server g l = All (g.S.Serve.is_pass_of l.fn.site.service.now) l.crew.passes.items
+    × All (λ thread. thread.promise.service.value ≡ l.fn.site.service.now) l.crew.threads.items
+    × (with_starts (λ thread. thread.promise.start.value) l.crew.passes.items l.crew.threads.items ≡ with_starts (λ thread. thread.promise.start.value) l.initial.crew.passes.items l.initial.crew.threads.items)
 
 abbrev pub decreases-loop-server : goal.decreases-loop-server
 decreases-loop-server g l = vec_len l.servers

@@ -5,19 +5,25 @@ use Rattle.workers.proofs.Lists.{pushed}
 use Rattle.workers.proofs.serving.start_next.Goals as goal
 
 pub returns-in_default-clause-passes : goal.returns-in_default-clause-passes
-returns-in_default-clause-passes g c = (All-pop (g.S.Serve.is_pass_of c.args.service.now) c.args.crew.now.passes.items c.pop.new.self.items c.pop.result c.pop.ensures.items c.requires.passes).0
+returns-in_default-clause-passes g c = (All-pop (g.S.Serve.is_pass_of c.args.site.now.service.now) c.args.crew.now.passes.items c.pop.new.self.items c.pop.result c.pop.ensures.items c.requires.passes).0
 
 pub returns-in_err-thread-clause-passes : goal.returns-in_err-thread-clause-passes
-returns-in_err-thread-clause-passes g c = (All-pop (g.S.Serve.is_pass_of c.args.service.now) c.args.crew.now.passes.items c.pop.new.self.items c.pop.result c.pop.ensures.items c.requires.passes).0
+returns-in_err-thread-clause-passes g c = (All-pop (g.S.Serve.is_pass_of c.args.site.now.service.now) c.args.crew.now.passes.items c.pop.new.self.items c.pop.result c.pop.ensures.items c.requires.passes).0
 
 pub returns-then-is_err-clause-passes : goal.returns-then-is_err-clause-passes
-returns-then-is_err-clause-passes g c = (All-pop (g.S.Serve.is_pass_of c.args.service.now) c.args.crew.now.passes.items c.pop.new.self.items c.pop.result c.pop.ensures.items c.requires.passes).0
+returns-then-is_err-clause-passes g c = (All-pop (g.S.Serve.is_pass_of c.args.site.now.service.now) c.args.crew.now.passes.items c.pop.new.self.items c.pop.result c.pop.ensures.items c.requires.passes).0
 
 pub returns-then-is_err-clause-threads : goal.returns-then-is_err-clause-threads
-returns-then-is_err-clause-threads g c = pushed c.args.crew.now.threads.items c.push.new.self.items (λ thread. thread.promise.service.value ≡ c.args.service.now) (is_ok c.push.result) c.in_ok-thread.thread c.push.ensures.items c.requires.threads c.in_ok-thread.ensures.promise
+returns-then-is_err-clause-threads g c = pushed c.args.crew.now.threads.items c.push.new.self.items (λ thread. thread.promise.service.value ≡ c.args.site.now.service.now) (is_ok c.push.result) c.in_ok-thread.thread c.push.ensures.items c.requires.threads c.in_ok-thread.ensures.service
 
 pub returns-clause-passes : goal.returns-clause-passes
-returns-clause-passes g c = (All-pop (g.S.Serve.is_pass_of c.args.service.now) c.args.crew.now.passes.items c.pop.new.self.items c.pop.result c.pop.ensures.items c.requires.passes).0
+returns-clause-passes g c = (All-pop (g.S.Serve.is_pass_of c.args.site.now.service.now) c.args.crew.now.passes.items c.pop.new.self.items c.pop.result c.pop.ensures.items c.requires.passes).0
 
 pub returns-clause-threads : goal.returns-clause-threads
-returns-clause-threads g c = pushed c.args.crew.now.threads.items c.push.new.self.items (λ thread. thread.promise.service.value ≡ c.args.service.now) (is_ok c.push.result) c.in_ok-thread.thread c.push.ensures.items c.requires.threads c.in_ok-thread.ensures.promise
+returns-clause-threads g c = pushed c.args.crew.now.threads.items c.push.new.self.items (λ thread. thread.promise.service.value ≡ c.args.site.now.service.now) (is_ok c.push.result) c.in_ok-thread.thread c.push.ensures.items c.requires.threads c.in_ok-thread.ensures.service
+
+pub returns-then-is_err-2-clause-passes : goal.returns-then-is_err-2-clause-passes
+returns-then-is_err-2-clause-passes g c = (All-pop (g.S.Serve.is_pass_of c.args.site.now.service.now) c.args.crew.now.passes.items c.pop.new.self.items c.pop.result c.pop.ensures.items c.requires.passes).0
+
+pub returns-then-is_err-2-clause-threads : goal.returns-then-is_err-2-clause-threads
+returns-then-is_err-2-clause-threads g c = pushed c.args.crew.now.threads.items c.push.new.self.items (λ thread. thread.promise.service.value ≡ c.args.site.now.service.now) (is_ok c.push.result) c.in_ok-thread.thread c.push.ensures.items c.requires.threads c.in_ok-thread.ensures.service

@@ -4,7 +4,7 @@ use Rattle.answering.proofs.windows.Windows.fill.Goals.{then-is_none+in-Some, el
 use Rattle.answering.proofs.windows.Windows.fill.Goals as goal
 
 pub loop-place-preserved : goal.loop-place-preserved
-loop-place-preserved g c =
+loop-place-preserved c =
     let inv = c.loop-place.invariant in
     let places = c.args.places.now in
     let k = c.loop-place.place-index in
@@ -35,7 +35,7 @@ loop-place-preserved g c =
     ]
 
 pub push_back_reserved-requires : goal.push_back_reserved-requires
-push_back_reserved-requires g c =
+push_back_reserved-requires c =
     let inv = c.loop-place.invariant in
     let next = next_called c.args.places.now c.loop-place.place-index c.loop-place-test.true _ _ refl (c.is_none.ensures ∙ ap not c.if-is_none.true) in
     omega (arith, inv.count, next, c.requires.room, c.loop-place.self.calls_fit, inv.size)

@@ -7,10 +7,10 @@ use Rattle.answering.specs.Windows.{called, merged, AreNotedTo}
 use Rattle.answering.proofs.windows.Windows.note.Given as goal
 
 abbrev pub invariant-loop-place : goal.invariant-loop-place
-invariant-loop-place g l = record {
+invariant-loop-place l = record {
   due : called (drop l.place-index l.places) ≡ deque_len l.self.outcomes;
   noted : (before : List Came) → Tells before l.initial.lines → first_failure before ≡ None
-      → AreNotedTo before (merged l.places (map g.S.Calls.told l.initial.self.outcomes.items)) (merged (drop l.place-index l.places) (map g.S.Calls.told l.self.outcomes.items)) l.lines;
+      → AreNotedTo before (merged l.places l.initial.self.outcomes.items) (merged (drop l.place-index l.places) l.self.outcomes.items) l.lines;
   count : l.lines.streams ≡ l.initial.lines.streams + l.place-index;
   left : l.self.left ≡ l.initial.self.left;
   calls : l.self.calls ≡ l.initial.self.calls;

@@ -1,14 +1,15 @@
-use Rattle.std.proofs.Common.{◌≡◌, Bool, false, List, [], ◌∷◌, ◌++◌, length, map, Result, refl, sym, ap, ◌∙◌, subst, append_assoc, arith}
+use Rattle.std.proofs.Common.{◌≡◌, Bool, false, List, [], ◌∷◌, ◌++◌, length, Result, refl, sym, ap, ◌∙◌, subst, append_assoc, arith}
 use Rattle.std.proofs.lemmas.Grind.{common_steps}
 use Rattle.std.proofs.lemmas.List.{append-nil}
 use Rattle.accept.specs.declared.call.Call.{Call}
 use Rattle.accept.specs.declared.call.Reply.{Reply}
-use Rattle.requests.specs.declared.failure.Failure.{Failure}
-use Rattle.answering.specs.Calls.{CallsGiveAfter, leaves_doubt}
+use Rattle.accept.specs.Doubts.{is_doubt}
+use Rattle.accept.specs.declared.fault.CallFault.{CallFault}
+use Rattle.answering.specs.Calls.{CallsGiveAfter}
 use Rattle.conformance.specs.declared.script.Script.{Script}
 use Rattle.conformance.proofs.listed.ListedCalls.call_all.Goals as goal
 
-abbrev Given : Bool → Script → List Call → List (Result Reply Failure) → Script → Type 0
+abbrev Given : Bool → Script → List Call → List (Result Reply CallFault) → Script → Type 0
 Given = CallsGiveAfter (λ doubt old call told new. Unit {0})
 
 pub loop-call-init : goal.loop-call-init
@@ -27,11 +28,11 @@ loop-call-preserved g c =
     let r = c.make.result in
     record {
       given = (
-        leaves_doubt r,
+        is_doubt r,
         λ rs h given.
-            let more = so_far (r ∷ rs) h (subst (λ l. Given doubt c.loop-call.pass l (map (λ x. x) (r ∷ rs)) h) (sym c.in-Some.ensures.items) (c.make.new.self, tt, given)) in
+            let more = so_far (r ∷ rs) h (subst (λ l. Given doubt c.loop-call.pass l (r ∷ rs) h) (sym c.in-Some.ensures.items) (c.make.new.self, tt, given)) in
             let same : c.push_back_reserved.new.self.items ++ rs ≡ c.loop-call.outcomes.items ++ r ∷ rs = ap (λ l. l ++ rs) c.push_back_reserved.ensures.items ∙ append_assoc c.loop-call.outcomes.items (r ∷ []) rs in
-            subst (λ l. Given false c.args.pass.now c.args.calls.now.items (map (λ x. x) l) h) (sym same) more,
+            subst (λ l. Given false c.args.pass.now c.args.calls.now.items l h) (sym same) more,
       );
       lens = omega (arith, inv.lens, c.in-Some.ensures.len, c.push_back_reserved.ensures.len);
       room = omega (arith, inv.room, c.in-Some.ensures.len, c.push_back_reserved.ensures.len, c.push_back_reserved.ensures.capacity);
@@ -45,4 +46,4 @@ returns-clause-given g c =
     let (doubt, so_far) = inv.given in
     let none : c.loop-call.calls.items ≡ [] = grind (arith, common_steps) in
     let given = so_far [] c.loop-call.pass (subst (λ l. Given doubt c.loop-call.pass l [] c.loop-call.pass) (sym none) refl) in
-    subst (λ l. Given false c.args.pass.now c.args.calls.now.items (map (λ x. x) l) c.loop-call.pass) (append-nil c.loop-call.outcomes.items) given
+    subst (λ l. Given false c.args.pass.now c.args.calls.now.items l c.loop-call.pass) (append-nil c.loop-call.outcomes.items) given

@@ -4,7 +4,7 @@ use Rattle.std.proofs.lemmas.Option.{slice_get-get_or}
 use Rattle.owners.specs.Openings.{home_of}
 use Rattle.owners.specs.Ways.{IsWay}
 use Rattle.owners.proofs.Each.{ways_set}
-use Rattle.ingester.specs.declared.fault.CallFault.TheVariants.{InDoubt}
+use Rattle.accept.specs.declared.fault.CallFault.TheVariants.{InDoubt}
 use Rattle.ingester.specs.Batches.{doubts}
 use Rattle.ingester.proofs.Batching.{below_at}
 use Rattle.ingester.proofs.Receiving.{doubts_more}

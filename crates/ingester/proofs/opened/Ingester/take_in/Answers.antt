@@ -5,5 +5,5 @@ returns-in-GivenBack-clause-taken g c =
     record {
       first = c.in-GivenBack.ticket.ask;
       is_first = c.withdraw.ensures.first;
-      by = record { cause = c.in-GivenBack.fault; fault_is = c.from.ensures; pass = c.withdraw.ensures.pass };
+      by = record { cause = c.in-GivenBack.fault; fault_is = c.fault_of.ensures; pass = c.withdraw.ensures.pass };
     }

@@ -1,0 +1,222 @@
+-- A line that a push stored, or that repeats the last one of its stream, stays in the stream until it is trimmed.
+use Rattle.std.proofs.Common.{◌≡◌, ◌⊎◌, ℕ, ◌<◌, ◌≤◌, Bool, true, false, cond, not, max, List, [], ◌∷◌, ◌++◌, filter, Option, None, Some, option_map, refl, sym, ap, ◌∙◌, subst, inl, inr, ⊎_elim, append_assoc, append-nil, arith}
+use Rattle.std.specs.Prelude.{nat_le}
+use Rattle.std.specs.FinMap as finite
+use Rattle.std.proofs.lemmas.Bool.{false≢true, cases_lt, leb-false}
+use Rattle.labels.specs.Keys.{same_key}
+use Rattle.labels.specs.declared.key.StreamKey.{StreamKey}
+use Rattle.entries.specs.declared.entry.Entry.{Entry}
+use Rattle.accept.specs.declared.call.Call.{Call}
+use Rattle.accept.specs.declared.call.Call.TheVariants.{Push, Read, Trim}
+use Rattle.accept.specs.declared.call.Reply.{Reply}
+use Rattle.accept.specs.declared.call.Reply.TheVariants.{Verdict, Entries, Trimmed, TrimTooNew, NoStream, NoRoom, Unavailable}
+use Rattle.accept.specs.declared.outcome.Outcome.{Outcome}
+use Rattle.accept.specs.declared.outcome.Outcome.TheVariants.{TooLong, BadMetadata, TooOld, TooNew, Repeat, TooFarBehind, Stored}
+use Rattle.accept.specs.declared.history.Ask.{Ask}
+use Rattle.accept.specs.declared.history.Step.{Step}
+use Rattle.accept.specs.declared.history.Item.{Item}
+use Rattle.accept.specs.declared.history.Item.TheVariants.{Answered, Failed}
+use Rattle.accept.specs.declared.history.History.{History}
+use Rattle.accept.specs.declared.image.StreamImage.{StreamImage}
+use Rattle.accept.specs.declared.limits.Limits.{Limits}
+use Rattle.accept.specs.OneStream.{stored_of, last_or, base_last, base_kept, highest_of, last_of, oldest_of, kept_of, image_of, same_entry, outcome, outcomes}
+use Rattle.accept.specs.Histories.{stored_by, bound_by, stored_in, bound_in, stored, greatest_bound, base_of, answer, then_step, answered_to, MayFollow}
+use Rattle.accept.proofs.Growing.{stored-append}
+use Rattle.accept.proofs.KeyOrder.{same_key_itself, same_key-is}
+use Rattle.accept.proofs.Legal.{legal-last}
+use Rattle.history.specs.declared.views.About.{About}
+use Rattle.history.specs.Histories.{IsBeginning, IsLegalAt, base_at, terms_of, history_of}
+use Rattle.history.proofs.Past.{legal_front}
+use Rattle.headline.specs.Headline.{IsOneOf, is_refusal}
+use Rattle.headline.proofs.Among.{among_left, among_right, among_split}
+use Rattle.headline.proofs.Saying.{not_refused}
+use Rattle.whole.specs.Whole.{IsTrimAbove, IsSameLine}
+
+either : (b : Bool) → (b ≡ true) ⊎ (b ≡ false)
+either true = inl refl
+either false = inr refl
+
+-- Of one stream.
+
+some_last : (e : Entry) (es : List Entry) → (f : Entry) × (last_or (Some e) es ≡ Some f)
+some_last e [] = (e, refl)
+some_last e (x ∷ es) = some_last x es
+
+some_of : (before : Option Entry) (es : List Entry) (x : Entry) → IsOneOf x es → (f : Entry) × (last_or before es ≡ Some f)
+some_of before [] x one = absurd one
+some_of before (e ∷ es) x one = some_last e es
+
+last_within : (before : Option Entry) (es : List Entry) (y : Entry) → last_or before es ≡ Some y → IsOneOf y es ⊎ (before ≡ Some y)
+last_within before [] y e = inr e
+last_within before (x ∷ es) y e = ⊎_elim
+    (λ (t : IsOneOf y es). inl (inr t))
+    (λ (s : Some x ≡ Some y). let same : x ≡ y = cc in inl (inl (sym same)))
+    (last_within (Some x) es y e)
+
+one_filtered : (p : Entry → Bool) (xs : List Entry) (x : Entry) → IsOneOf x xs → p x ≡ true → IsOneOf x (filter p xs)
+one_filtered p [] x one holds = absurd one
+one_filtered p (y ∷ ys) x (inl e) holds = subst (λ (b : Bool). IsOneOf x (cond b (y ∷ filter p ys) (filter p ys))) (sym (ap p (sym e) ∙ holds)) (inl e)
+one_filtered p (y ∷ ys) x (inr t) holds = later (p y) (one_filtered p ys x t holds)
+  where
+    later : (b : Bool) → IsOneOf x (filter p ys) → IsOneOf x (cond b (y ∷ filter p ys) (filter p ys))
+    later true one = inr one
+    later false one = one
+
+-- what was stored is kept, or below a bound
+pub kept_or_below : (base : Option StreamImage) (all : List Entry) (bound : ℕ) (x : Entry) → IsOneOf x all → IsOneOf x (base_kept (image_of base all bound)) ⊎ (x.time < bound)
+kept_or_below base all bound x one =
+    let last = some_of (base_last base) all x one in
+    ⊎_elim
+    (λ (holds : nat_le bound x.time ≡ true). inl (subst
+    (λ (o : Option Entry). IsOneOf x (base_kept (option_map (λ e. record { highest = highest_of base all; last = e; kept = kept_of base all bound }) o)))
+    (sym last.1)
+    (one_filtered (λ e. nat_le bound e.time) (base_kept base ++ all) x (among_right x (base_kept base) all one) holds)))
+    (λ (fails : nat_le bound x.time ≡ false). inr (leb-false bound x.time fails))
+    (either (nat_le bound x.time))
+
+-- each entry of a batch was stored, or repeated the last one
+abbrev pub IsTaken : Outcome → Type 0
+IsTaken o = (o ≡ Stored) ⊎ (o ≡ Repeat)
+
+abbrev pub AreTaken : List Outcome → Type 0
+AreTaken [] = Unit {0}
+AreTaken (o ∷ os) = IsTaken o × AreTaken os
+
+repeat_by : (long bad old new same behind : Bool) (n : ℕ) → cond long TooLong (cond bad BadMetadata (cond old TooOld (cond new TooNew (cond same Repeat (cond behind (TooFarBehind n) Stored))))) ≡ Repeat → same ≡ true
+repeat_by true bad old new same behind n e = absurd (cc)
+repeat_by false true old new same behind n e = absurd (cc)
+repeat_by false false true new same behind n e = absurd (cc)
+repeat_by false false false true same behind n e = absurd (cc)
+repeat_by false false false false true behind n e = refl
+repeat_by false false false false false true n e = absurd (cc)
+repeat_by false false false false false false n e = absurd (cc)
+
+module _ (limits : Limits) (base : Option StreamImage) (now : ℕ) where
+  -- the line is there, or it repeats the last one of the base
+  abbrev IsThere : List Entry → Entry → Type 0
+  IsThere all x = (y : Entry) × IsSameLine x y × (IsOneOf y all ⊎ (base_last base ≡ Some y))
+
+  there_more : (all more : List Entry) (x : Entry) → IsThere all x → IsThere (all ++ more) x
+  there_more all more x t = (t.0, t.1, ⊎_elim (λ (one : IsOneOf t.0 all). inl (among_left t.0 all more one)) (λ (e : base_last base ≡ Some t.0). inr e) t.2)
+
+  repeats : (all : List Entry) (x : Entry) (o : Option Entry) → last_of base all ≡ o → same_entry x o ≡ true → IsThere all x
+  repeats all x None e holds = absurd (false≢true holds)
+  repeats all x (Some y) e holds = (y, inr holds, last_within (base_last base) all y e)
+
+  was_repeat : (all : List Entry) (x : Entry) → outcome limits base all now x ≡ Repeat → IsThere all x
+  was_repeat all x e = repeats all x (last_of base all) refl (repeat_by _ _ _ _ _ _ _ e)
+
+  one_taken : (all : List Entry) (e : Entry) (es : List Entry) (o : Outcome) → outcome limits base all now e ≡ o → IsTaken o
+      → ((more : List Entry) → AreTaken (outcomes limits base more now es) → (x : Entry) → IsOneOf x es → IsThere (more ++ stored_of es (outcomes limits base more now es)) x)
+      → AreTaken (outcomes limits base (all ++ stored_of (e ∷ []) (o ∷ [])) now es) → (x : Entry) → IsOneOf x (e ∷ es)
+      → IsThere (all ++ stored_of (e ∷ es) (o ∷ outcomes limits base (all ++ stored_of (e ∷ []) (o ∷ [])) now es)) x
+  one_taken all e es Stored is t ih taken x (inl same) = (e, inl same, inl (among_right e all (e ∷ _) (inl refl)))
+  one_taken all e es Stored is t ih taken x (inr one) =
+      subst (λ l. IsThere l x) (append_assoc all (e ∷ []) (stored_of es (outcomes limits base (all ++ e ∷ []) now es))) (ih (all ++ e ∷ []) taken x one)
+  one_taken all e es Repeat is t ih taken x (inl same) =
+      there_more all (stored_of es (outcomes limits base (all ++ []) now es)) x (subst (IsThere all) (sym same) (was_repeat all e is))
+  one_taken all e es Repeat is t ih taken x (inr one) =
+      subst (λ l. IsThere l x) (ap (λ l. l ++ stored_of es (outcomes limits base (all ++ []) now es)) (append-nil all)) (ih (all ++ []) taken x one)
+  one_taken all e es TooLong is (inl t) ih taken x one = absurd (cc)
+  one_taken all e es TooLong is (inr t) ih taken x one = absurd (cc)
+  one_taken all e es BadMetadata is (inl t) ih taken x one = absurd (cc)
+  one_taken all e es BadMetadata is (inr t) ih taken x one = absurd (cc)
+  one_taken all e es TooOld is (inl t) ih taken x one = absurd (cc)
+  one_taken all e es TooOld is (inr t) ih taken x one = absurd (cc)
+  one_taken all e es TooNew is (inl t) ih taken x one = absurd (cc)
+  one_taken all e es TooNew is (inr t) ih taken x one = absurd (cc)
+  one_taken all e es (TooFarBehind n) is (inl t) ih taken x one = absurd (cc)
+  one_taken all e es (TooFarBehind n) is (inr t) ih taken x one = absurd (cc)
+
+  all_taken : (all entries : List Entry) → AreTaken (outcomes limits base all now entries) → (x : Entry) → IsOneOf x entries → IsThere (all ++ stored_of entries (outcomes limits base all now entries)) x
+  all_taken all [] taken x one = absurd one
+  all_taken all (e ∷ es) taken x one = one_taken all e es (outcome limits base all now e) refl taken.0 (λ more t y of. all_taken more es t y of) taken.1 x one
+
+-- Of a history.
+
+lt_max : (n a b : ℕ) → n < max a b → (n < a) ⊎ (n < b)
+lt_max n a b lt = ⊎_elim (λ (l : n < a). inl l) (λ (le : a ≤ n). inr (omega arith)) (cases_lt n a)
+
+module _ (key : StreamKey) (n : ℕ) where
+  by_key : (k : StreamKey) (bound : ℕ) (b : Bool) → same_key key k ≡ b → n < cond b bound 0 → IsTrimAbove key n (Trim k bound)
+  by_key k bound true e l = (bound, ap (λ q. Trim q bound) (sym (same_key-is key k e)), l)
+  by_key k bound false e l = absurd (omega arith)
+
+  by_call : (call : Call) (r : Reply) → n < bound_by key call r → IsTrimAbove key n call
+  by_call (Push k now entries) r l = absurd (omega arith)
+  by_call (Read k from to) r l = absurd (omega arith)
+  by_call (Trim k bound) (Trimmed m) l = by_key k bound (same_key key k) refl l
+  by_call (Trim k bound) (Verdict os) l = absurd (omega arith)
+  by_call (Trim k bound) (Entries es) l = absurd (omega arith)
+  by_call (Trim k bound) TrimTooNew l = absurd (omega arith)
+  by_call (Trim k bound) NoStream l = absurd (omega arith)
+  by_call (Trim k bound) NoRoom l = absurd (omega arith)
+  by_call (Trim k bound) Unavailable l = absurd (omega arith)
+
+  by_item : (i : Item) → n < bound_in key i → (s : Step) × (Answered s ≡ i) × IsTrimAbove key n s.ask.call
+  by_item (Failed doubt) l = absurd (omega arith)
+  by_item (Answered s) l = (s, refl, by_call s.ask.call s.reply l)
+
+  -- where there is a bound above, there is a trim
+  pub trimmed_by : (items : List Item) → n < greatest_bound items key → (s : Step) × IsOneOf (Answered s) items × IsTrimAbove key n s.ask.call
+  trimmed_by [] l = absurd (omega arith)
+  trimmed_by (i ∷ items) l = ⊎_elim
+      (λ (a : n < bound_in key i). let t = by_item i a in (t.0, inl t.1, t.2))
+      (λ (b : n < greatest_bound items key). let t = trimmed_by items b in (t.0, inr t.1, t.2))
+      (lt_max n (bound_in key i) (greatest_bound items key) l)
+
+-- the items of a history with calls answered after it
+pub record IsLonger (h : History) (asks : List Ask) (new : History) : Type 0 where
+  pub more : List Item
+  pub items : new.items ≡ h.items ++ more
+  pub asked : (s : Step) → IsOneOf (Answered s) more → IsOneOf s.ask asks
+  pub base : new.base ≡ h.base
+
+pub answered_longer : (limits : Limits) (h : History) (asks : List Ask) → IsLonger h asks (answered_to limits h asks)
+answered_longer limits h [] = record { more = []; items = sym (append-nil h.items); asked = λ s one. absurd one; base = refl }
+answered_longer limits h (a ∷ asks) =
+    let first : Step = record { ask = a; reply = answer limits h a.call } in
+    let rest = answered_longer limits (then_step h a (answer limits h a.call)) asks in
+    record {
+      more = Answered first ∷ rest.more;
+      items = rest.items ∙ append_assoc h.items (Answered first ∷ []) rest.more;
+      asked = λ s one. ⊎_elim
+          (λ (e : Answered s ≡ Answered first). let same : s ≡ first = cc in inl (ap (λ (t : Step). t.ask) same))
+          (λ (t : IsOneOf (Answered s) rest.more). inr (rest.asked s t))
+          one;
+      base = rest.base;
+    }
+
+split_at : (i : Item) (items : List Item) → IsOneOf i items → (front : List Item) × (back : List Item) × (items ≡ front ++ i ∷ back)
+split_at i [] one = absurd one
+split_at i (j ∷ items) (inl e) = ([], items, ap (λ x. x ∷ items) (sym e))
+split_at i (j ∷ items) (inr t) = let s = split_at i items t in (j ∷ s.0, s.1, ap (λ l. j ∷ l) s.2)
+
+-- in a legal history, each line of a push that was not refused, and of which each line was taken, is stored, or repeats
+-- the last one of the base
+pub line_stored : (about : About) (k : ℕ) (items : List Item) (s : Step) (key : StreamKey) (now : ℕ) (entries : List Entry) → IsLegalAt about k items → IsOneOf (Answered s) items → s.ask.call ≡ Push key now entries → is_refusal s.reply ≡ false → ((os : List Outcome) → s.reply ≡ Verdict os → AreTaken os)
+    → (x : Entry) → IsOneOf x entries → (y : Entry) × IsSameLine x y × (IsOneOf y (stored items key) ⊎ (base_last (finite.get (base_at about k) key) ≡ Some y))
+line_stored about k items s key now entries legal one call answered taken x of =
+    let at = split_at (Answered s) items one in
+    let front : List Item = at.0 in
+    let back : List Item = at.1 in
+    let h : History = history_of about k front in
+    let parts : items ≡ (front ++ Answered s ∷ []) ++ back = at.2 ∙ sym (append_assoc front (Answered s ∷ []) back) in
+    let upto : IsLegalAt about k (front ++ Answered s ∷ []) = legal_front about k (front ++ Answered s ∷ []) items (record { rest = back; is = parts }) legal in
+    let may : MayFollow (terms_of about k) h (Answered s) = legal-last (terms_of about k) h (Answered s) upto.is in
+    let os : List Outcome = outcomes about.limits (base_of h key) (stored front key) now entries in
+    let reply : s.reply ≡ Verdict os = not_refused _ _ s.reply (answer about.limits h s.ask.call) may.0 answered ∙ ap (answer about.limits h) call in
+    let there = all_taken about.limits (base_of h key) now (stored front key) entries (taken os reply) x of in
+    let own : stored_in key (Answered s) ≡ stored_of entries os =
+    ap (λ (c : Call). stored_by key c s.reply) call ∙ ap (stored_by key (Push key now entries)) reply ∙ ap (λ b. cond b (stored_of entries os) []) (same_key_itself key) in
+    let all : stored items key ≡ (stored front key ++ stored_of entries os) ++ stored back key =
+    ap (λ l. stored l key) at.2 ∙ stored-append front (Answered s ∷ back) key
+    ∙ ap (λ l. stored front key ++ (l ++ stored back key)) own
+    ∙ sym (append_assoc (stored front key) (stored_of entries os) (stored back key)) in (
+      there.0,
+      there.1,
+      ⊎_elim
+          (λ (l : IsOneOf there.0 (stored front key ++ stored_of entries os)). inl (subst (IsOneOf there.0) (sym all) (among_left there.0 (stored front key ++ stored_of entries os) (stored back key) l)))
+          (λ (e : base_last (base_of h key) ≡ Some there.0). inr e)
+          there.2,
+    )

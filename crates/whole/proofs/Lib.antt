@@ -1,0 +1,9 @@
+pub mod Happening
+pub mod Visiting
+pub mod Joining
+pub mod Working
+pub mod Standing
+pub mod Lasting
+pub mod Saving
+pub mod Wholes
+pub mod Refusing

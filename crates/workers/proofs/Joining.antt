@@ -1,0 +1,55 @@
+-- The passes in their order, while threads take them and give them back.
+use Rattle.std.proofs.Common.{◌≡◌, ◌⊎◌, inl, List, [], ◌∷◌, ◌++◌, map, reverse, Result, Ok, Err, OnOk, refl, sym, ap, ◌∙◌, subst}
+use Rattle.std.proofs.lemmas.List.{append-nil, append_assoc, map-append, reverse-append}
+use Rattle.workers.specs.Talks.{ArePassesLeft, IsPassLeft, with_starts}
+
+module _ {P T : Type 0} (start : T → P) where
+  last_first : (threads : List T) (t : T) → reverse (map start (threads ++ t ∷ [])) ≡ start t ∷ reverse (map start threads)
+  last_first threads t = ap reverse (map-append start threads (t ∷ [])) ∙ reverse-append (map start threads) (start t ∷ [])
+
+  -- a thread took the last pass
+  pub taken : (old new : List P) (threads threads' : List T) (t : T) → old ≡ new ++ start t ∷ [] → threads' ≡ threads ++ t ∷ [] → with_starts start new threads' ≡ with_starts start old threads
+  taken old new threads threads' t was is =
+      ap (λ ts. new ++ reverse (map start ts)) is ∙ ap (λ l. new ++ l) (last_first threads t)
+      ∙ sym (append_assoc new (start t ∷ []) (reverse (map start threads)))
+      ∙ sym (ap (λ l. l ++ reverse (map start threads)) was)
+
+module _ {I S P T : Type 0} (visits : I → S → P → T → S → P → T → Type 0) (service : I) where
+  pub same_left : (ps : List P) → ArePassesLeft visits service ps ps
+  same_left [] = tt
+  same_left (p ∷ ps) = (inl refl, same_left ps)
+
+  one_more : (ps qs : List P) (p q : P) → ArePassesLeft visits service ps qs → IsPassLeft visits service p q → ArePassesLeft visits service (ps ++ p ∷ []) (qs ++ q ∷ [])
+  one_more [] [] p q all this = (this, tt)
+  one_more [] (y ∷ ys) p q all this = absurd all
+  one_more (x ∷ xs) [] p q all this = absurd all
+  one_more (x ∷ xs) (y ∷ ys) p q all this = (all.0, one_more xs ys p q all.1 this)
+
+  module _ {H : Type 0} (start : H → P) where
+    -- of all passes these threads have theirs, and the others are back, each as it was left
+    abbrev pub IsJoined : List P → List P → List H → Type 0
+    IsJoined all passes threads = (ps : List P) × ArePassesLeft visits service ps passes × (with_starts start ps threads ≡ all)
+
+    pub none_joined : (passes : List P) (threads : List H) → IsJoined (with_starts start passes threads) passes threads
+    none_joined passes threads = (passes, same_left passes, refl)
+
+    pub one_joined : (all passes passes' : List P) (threads threads' : List H) (t : H) (pass : P) → threads ≡ threads' ++ t ∷ [] → passes' ≡ passes ++ pass ∷ [] → IsPassLeft visits service (start t) pass
+        → IsJoined all passes threads → IsJoined all passes' threads'
+    one_joined all passes passes' threads threads' t pass was more this (ps, left, is) = (
+      ps ++ start t ∷ [],
+      subst (λ qs. ArePassesLeft visits service (ps ++ start t ∷ []) qs) (sym more) (one_more ps passes (start t) pass left this),
+      sym (taken start (ps ++ start t ∷ []) ps threads' threads t refl was) ∙ is,
+    )
+
+    pub all_joined : (all passes : List P) (threads : List H) → threads ≡ [] → IsJoined all passes threads → ArePassesLeft visits service all passes
+    all_joined all passes threads none (ps, left, is) =
+        subst (λ qs. ArePassesLeft visits service qs passes) (sym (append-nil ps) ∙ sym (ap (λ ts. ps ++ reverse (map start ts)) none) ∙ is) left
+
+    pub still_joined : {E : Type 0} (r : Result (Unit {0}) E) (all passes passes' : List P) (threads threads' : List H) (t : H) (pass : P) → threads ≡ threads' ++ t ∷ [] → passes' ≡ passes ++ pass ∷ []
+        → IsPassLeft visits service (start t) pass → OnOk r (IsJoined all passes threads) → OnOk r (IsJoined all passes' threads')
+    still_joined (Ok told) all passes passes' threads threads' t pass was more this so_far = one_joined all passes passes' threads threads' t pass was more this so_far
+    still_joined (Err fault) all passes passes' threads threads' t pass was more this so_far = tt
+
+    pub joined_on : {E : Type 0} (r : Result (Unit {0}) E) (all passes : List P) (threads : List H) → threads ≡ [] → OnOk r (IsJoined all passes threads) → OnOk r (ArePassesLeft visits service all passes)
+    joined_on (Ok told) all passes threads none so_far = all_joined all passes threads none so_far
+    joined_on (Err fault) all passes threads none so_far = tt

@@ -1,0 +1,102 @@
+-- A connection of a worker: what its session was, and what was said to it.
+use Rattle.std.specs.Prelude.{◌≡◌, ◌⊎◌, ℕ, ◌≤◌, ◌-◌, Bool, false, List, [], ◌∷◌, ◌++◌, length, map, reverse, take, drop}
+use Rattle.workers.specs.Sockets.{SocketCall, heard_in, said_in}
+use Rattle.workers.specs.declared.accepting.AcceptEnd.{AcceptEnd}
+use Rattle.workers.specs.declared.accepting.AcceptEnd.TheVariants.{All, NoWorker}
+use Rattle.workers.specs.declared.worker.Why.{Why}
+use Rattle.workers.specs.declared.worker.Why.TheVariants.{NoMore, PassClosed}
+
+-- a session: what has come and is not answered, how much more may come, what is to be sent, and whether it ends then
+pub record Seen : Type 0 where
+  pub came : List ℕ
+  pub room : ℕ
+  pub text : List ℕ
+  pub closes : Bool
+
+-- nothing has come, and nothing is to be sent
+abbrev pub HasNothing : Seen → Type 0
+HasNothing s = (s.came ≡ []) × (s.text ≡ []) × (s.closes ≡ false)
+
+-- nothing was changed, or how much may come to one of which nothing has come
+abbrev pub IsSame : Seen → Seen → Type 0
+IsSame s s' = (s' ≡ s) ⊎ (HasNothing s × HasNothing s')
+
+-- these bytes came
+abbrev pub with_heard : List ℕ → Seen → Seen
+with_heard bytes s = record { came = s.came ++ bytes; room = s.room - length bytes; text = s.text; closes = s.closes }
+
+-- the first bytes of its text were sent
+abbrev pub with_said : ℕ → Seen → Seen
+with_said n s = record { came = s.came; room = s.room; text = drop n s.text; closes = s.closes }
+
+module _ {T : Type 0} (seen : T → Seen) (visited : T → T → Type 0) where
+  -- One step of a connection, from what its session was, what had come and what was said: bytes came, no more than may;
+  -- or it was visited, where it goes on; or a beginning of what was to be sent was said; or its memory was let go.
+  abbrev pub Steps : T → List ℕ → List ℕ → T → List ℕ → List ℕ → Type 0
+  Steps t heard said t' heard' said' =
+      ((bytes : List ℕ) × (length bytes ≤ (seen t).room) × (seen t' ≡ with_heard bytes (seen t))
+      × (heard' ≡ heard ++ bytes) × (said' ≡ said))
+      ⊎ ((((seen t).closes ≡ false) × visited t t' × (heard' ≡ heard) × (said' ≡ said))
+      ⊎ (((n : ℕ) × (n ≤ length (seen t).text) × (seen t' ≡ with_said n (seen t)) × (heard' ≡ heard)
+      × (said' ≡ said ++ take n (seen t).text))
+      ⊎ (IsSame (seen t) (seen t') × (heard' ≡ heard) × (said' ≡ said))))
+
+  -- so it came to this session, from one of which nothing has come, in as many steps as the list is long
+  abbrev pub TalksFor : List (Unit {0}) → T → List ℕ → List ℕ → Type 0
+  TalksFor [] t heard said = HasNothing (seen t) × (heard ≡ []) × (said ≡ [])
+  TalksFor (u ∷ us) t' heard' said' = (t : T) × (heard : List ℕ) × (said : List ℕ)
+      × TalksFor us t heard said × Steps t heard said t' heard' said'
+
+  -- Of this connection these bytes came and this was said, and this is its session: each text is what a visit put
+  -- there, and each visit was of what had come of it.
+  abbrev pub HasTalked : T → List ℕ → List ℕ → Type 0
+  HasTalked t heard said = (steps : List (Unit {0})) × TalksFor steps t heard said
+
+-- Passes that no thread has, and those with which threads started, the last thread first: so they stood before the
+-- threads were started, each with the last pass that was left.
+abbrev pub with_starts : {P T : Type 0} → (T → P) → List P → List T → List P
+with_starts start passes threads = passes ++ reverse (map start threads)
+
+module _ {I S P T : Type 0} (visits : I → S → P → T → S → P → T → Type 0) (service : I) where
+  -- from one server and pass to another by visits of sessions, one after another
+  abbrev pub HaveVisited : S → P → List (T × T) → S → P → Type 0
+  HaveVisited server pass [] server' pass' = (server' ≡ server) × (pass' ≡ pass)
+  HaveVisited server pass (t ∷ ts) server' pass' = (mid : S) × (between : P)
+      × visits service server pass t.0 mid between t.1
+      × HaveVisited mid between ts server' pass'
+
+  -- by some visits
+  abbrev pub Visits : S → P → S → P → Type 0
+  Visits server pass server' pass' = (ts : List (T × T)) × HaveVisited server pass ts server' pass'
+
+  -- and so a pass, by whichever server it is then
+  abbrev pub WasServed : S → P → P → Type 0
+  WasServed server pass pass' = (server' : S) × Visits server pass server' pass'
+
+  -- a pass as visits by some server left it, or as it was
+  abbrev pub IsPassLeft : P → P → Type 0
+  IsPassLeft pass pass' = (pass' ≡ pass) ⊎ ((server : S) × WasServed server pass pass')
+
+  -- passes, each so in its place
+  abbrev pub ArePassesLeft : List P → List P → Type 0
+  ArePassesLeft [] [] = Unit {0}
+  ArePassesLeft (p ∷ ps) (q ∷ qs) = IsPassLeft p q × ArePassesLeft ps qs
+  ArePassesLeft ps qs = ⊥
+
+-- A socket did this for a session: what came was taken in, but what came once it was over; and it took what the session
+-- had to say.
+abbrev pub IsOfTalk : {T : Type 0} → (T → Seen) → (T → T → Type 0) → T → Bool → List SocketCall
+    → Type 0
+IsOfTalk seen visited t over calls = (heard : List ℕ) × (dropped : List ℕ)
+    × HasTalked seen visited t heard (said_in calls) × (heard_in calls ≡ heard ++ dropped)
+    × (over ≡ false → dropped ≡ [])
+
+-- why a worker ended: nobody sends it connections any more, or it may not go on with its pass
+abbrev pub HasEnded : {P : Type 0} → (P → Bool) → Why → P → Type 0
+HasEnded may_go_on (NoMore told) pass = Unit {0}
+HasEnded may_go_on PassClosed pass = may_go_on pass ≡ false
+
+-- why no more connections are accepted: all came that were to come, or no worker is left
+abbrev pub IsServedFor : ℕ → AcceptEnd → Type 0
+IsServedFor connections (All n) = n ≡ connections
+IsServedFor connections NoWorker = Unit {0}

@@ -1,0 +1,232 @@
+//! A connection of a worker, with its times.
+
+use crate::session::Session;
+use crate::socket::Stalled;
+use crate::talk::Talk;
+use std::alloc::Global;
+
+/// The most bytes that may wait to be sent while more is read.
+const UNSENT: usize = 1 << 20;
+
+/// For how many seconds a connection may send nothing, or take nothing, before it is closed.
+const IDLE_SECONDS: u64 = 60;
+
+/// How many seconds there may be between a request's first byte and its last.
+const REQUEST_SECONDS: u64 = 300;
+
+/// For how many seconds what still comes is dropped, so that the last answer arrives.
+const LEAVING_SECONDS: u64 = 2;
+
+/// After how many idle seconds a connection lets go of memory.
+const REST_SECONDS: u64 = 2;
+
+/// What is left of a connection after a turn.
+#[derive(Clone, Copy, PartialEq, Eq)]
+pub(crate) enum Left {
+    /// Nothing, until its socket says so.
+    Nothing,
+    /// There is more to do now.
+    More,
+    /// The connection ends.
+    Over,
+}
+
+/// How far a connection is.
+#[derive(Clone, Copy, PartialEq, Eq)]
+enum Phase {
+    /// Requests are read and answered.
+    Open,
+    /// No more is read. It ends once all is sent.
+    Ending,
+    /// All is sent since this second, and what still comes is dropped.
+    Leaving(u64),
+}
+
+/// A connection of a worker. Times are in seconds since the worker began.
+#[derive(Drop)]
+pub(crate) struct Peer<T: Session + Drop> {
+    pub(crate) talk: Talk<T>,
+    phase: Phase,
+    /// When its last byte came or went.
+    heard: u64,
+    /// When the first byte came of a request that has not come whole.
+    began: Option<u64>,
+    /// How many bytes have come of it.
+    pub(crate) held: usize,
+    /// Whether it is among those whose turn comes.
+    queued: bool,
+    /// Whether bytes may be there to be read.
+    readable: bool,
+    /// Whether the other end may have ended: then it is read until it has.
+    hung_up: bool,
+    /// Whether whole requests may stand in the session.
+    more: bool,
+    /// Whether the session may keep memory.
+    warm: bool,
+}
+
+impl<T: Session + Drop> Peer<T> {
+    /// Nothing has come yet.
+    pub(crate) fn new(talk: Talk<T>, now: u64) -> Peer<T> {
+        Peer {
+            talk,
+            phase: Phase::Open,
+            heard: now,
+            began: None,
+            held: 0,
+            queued: false,
+            readable: false,
+            hung_up: false,
+            more: false,
+            warm: false,
+        }
+    }
+
+    /// Notes what its socket says. Whether it was not among those whose turn comes.
+    pub(crate) fn note(&mut self, readable: bool, hung_up: bool) -> bool {
+        self.readable |= readable || hung_up;
+        self.hung_up |= hung_up;
+        let first = !self.queued;
+        self.queued = true;
+        first
+    }
+
+    /// Begins a turn.
+    pub(crate) fn begin(&mut self) {
+        self.queued = false;
+    }
+
+    /// Whether what still comes is dropped.
+    pub(crate) fn is_leaving(&self) -> bool {
+        matches!(self.phase, Phase::Leaving(_))
+    }
+
+    /// Whether requests may be read and answered now.
+    pub(crate) fn is_open(&self) -> bool {
+        self.phase == Phase::Open && self.talk.session.text().len() <= UNSENT
+    }
+
+    /// Reads no more.
+    pub(crate) fn end(&mut self) {
+        if self.phase == Phase::Open {
+            self.phase = Phase::Ending;
+        }
+    }
+
+    /// Takes in what has come, by one read at most. Whether there may be something to answer; `None` where the
+    /// connection ends at once.
+    pub(crate) fn receive(&mut self, space: &mut [u8], now: u64) -> Option<bool> {
+        if self.more {
+            return Some(true);
+        }
+        if !self.readable {
+            return Some(false);
+        }
+        let room = self.talk.session.room().min(space.len());
+        match self.talk.receive(space) {
+            Ok(0) => {
+                self.phase = Phase::Ending;
+                Some(false)
+            }
+            Ok(count) => {
+                self.heard = now;
+                self.warm = true;
+                self.readable = count == room || self.hung_up;
+                Some(true)
+            }
+            Err(Stalled::Blocked) => {
+                self.readable = false;
+                Some(false)
+            }
+            Err(Stalled::Interrupted) => Some(false),
+            Err(Stalled::Failed) => None,
+        }
+    }
+
+    /// Notes what a visit left.
+    pub(crate) fn visited(&mut self, more: bool, answered: bool, now: u64) {
+        self.more = more;
+        let session = &self.talk.session;
+        let (closes, held) = (session.closes(), session.held());
+        if closes {
+            self.phase = Phase::Ending;
+        }
+        if held == 0 || more {
+            self.began = None;
+        } else if answered || self.began.is_none() {
+            self.began = Some(now);
+        }
+    }
+
+    /// Sends what is to be sent, as far as that goes without waiting. Whether the connection goes on.
+    pub(crate) fn send(&mut self, now: u64) -> bool {
+        for _turn in 0..u64::MAX {
+            if self.talk.session.text().is_empty() {
+                return true;
+            }
+            match self.talk.send_some() {
+                Ok(0) => return false,
+                Ok(_) => self.heard = now,
+                Err(Stalled::Blocked) => return true,
+                Err(Stalled::Interrupted) => {}
+                Err(Stalled::Failed) => return false,
+            }
+        }
+        false
+    }
+
+    /// What is left to do. A connection that ends hangs up once all is sent, and what still comes is dropped.
+    pub(crate) fn left(&mut self, now: u64) -> Left {
+        let unsent = !self.talk.session.text().is_empty();
+        match self.phase {
+            Phase::Open if self.is_open() && (self.more || self.readable) => Left::More,
+            Phase::Ending if !unsent && !self.talk.session.closes() => Left::Over,
+            Phase::Ending if !unsent => {
+                self.talk.hang_up();
+                self.phase = Phase::Leaving(now);
+                Left::More
+            }
+            _ => Left::Nothing,
+        }
+    }
+
+    /// Drops what still comes, by one read.
+    pub(crate) fn drop_some(&mut self, space: &mut [u8]) -> Left {
+        match self.talk.drop_some(space) {
+            Ok(0) => Left::Over,
+            Ok(count) if count < space.len() && !self.hung_up => Left::Nothing,
+            Ok(_) => Left::More,
+            Err(Stalled::Blocked) => Left::Nothing,
+            Err(Stalled::Interrupted) => Left::More,
+            Err(Stalled::Failed) => Left::Over,
+        }
+    }
+
+    /// Whether its time is up.
+    pub(crate) fn is_late(&self, now: u64) -> bool {
+        let is_slow = match self.began {
+            Some(began) => now.saturating_sub(began) >= REQUEST_SECONDS,
+            None => false,
+        };
+        let has_left = match self.phase {
+            Phase::Leaving(since) => now.saturating_sub(since) >= LEAVING_SECONDS,
+            _ => false,
+        };
+        is_slow || has_left || now.saturating_sub(self.heard) >= IDLE_SECONDS
+    }
+
+    /// Lets go of memory where it is idle.
+    pub(crate) fn rest(&mut self, alloc: Global, now: u64) {
+        if self.warm && now.saturating_sub(self.heard) >= REST_SECONDS {
+            self.warm = false;
+            self.talk.rest(alloc);
+        }
+    }
+
+    /// How many bytes a second its request comes, in thousandths: `None` where no request has begun to come.
+    pub(crate) fn pace(&self, now: u64) -> Option<u64> {
+        let began = self.began?;
+        let seconds = now.saturating_sub(began).saturating_add(1);
+        Some((self.held as u64).saturating_mul(1_000) / seconds)
+    }
+}

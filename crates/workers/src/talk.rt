@@ -1,0 +1,94 @@
+//! A socket with the session that answers it.
+ghost use Rattle.std.specs.Prelude.{◌≡◌};
+ghost use Rattle.workers.specs.Talks.{HasNothing, IsOfTalk, Visits};
+
+use crate::serve::{Progress, Serve};
+use crate::session::Session;
+use crate::socket::{NewSocket, Socket, Stalled};
+use std::alloc::Global;
+use std::net::Shutdown;
+use std::sync::Wait;
+
+/// A socket, and the session of all that came from it. What it took is what the session had to say, in its order, and
+/// nothing twice; what the session had to say is what visits of it put there. Once it is over, what comes is dropped.
+#[derive(Drop)]
+pub(crate) struct Talk<T: Session + Drop> {
+    pub(crate) socket: Socket,
+    pub(crate) session: T,
+    over: bool,
+    ghost talked: { ∥ IsOfTalk T.seen T.visited session over socket.noted.calls ∥₁ },
+}
+
+impl<T: Session + Drop> Talk<T> {
+    /// Nothing has come yet.
+    pub(crate) fn new(new: NewSocket, session: T) -> Talk<T>
+        requires { HasNothing (T.seen session) }
+    {
+        Talk {
+            socket: new.socket,
+            session,
+            over: false,
+        }
+    }
+
+    /// Takes in what has come, as much as may come before the next visit and there is space for. It gives 0 only at the
+    /// end.
+    pub(crate) fn receive(&mut self, space: &mut [u8]) -> Result<usize, Stalled> {
+        let most = self.session.room().min(space.len());
+        if most == 0 || self.over {
+            return Err(Stalled::Failed);
+        }
+        let space = &mut space[..most];
+        let count = self.socket.read_some(space)?;
+        if self.session.take_in(&space[..count]) {
+            return Ok(count);
+        }
+        self.over = true;
+        Err(Stalled::Failed)
+    }
+
+    /// Reads what still comes, and drops it.
+    pub(crate) fn drop_some(&mut self, space: &mut [u8]) -> Result<usize, Stalled> {
+        self.over = true;
+        self.socket.read_some(space)
+    }
+
+    /// Sends a beginning of what is to be sent.
+    pub(crate) fn send_some(&mut self) -> Result<usize, Stalled> {
+        let count = self.socket.write_some(self.session.text())?;
+        self.session.sent(count);
+        Ok(count)
+    }
+
+    /// Tells the other end that nothing more is sent.
+    pub(crate) fn hang_up(&self) {
+        let _ = self.socket.stream.shutdown(Shutdown::Write);
+    }
+
+    /// Lets go of memory, where nothing has come that is not answered, and nothing is to be sent.
+    pub(crate) fn rest(&mut self, alloc: Global) {
+        let session = &self.session;
+        if session.held() == 0 && session.text().is_empty() && !session.closes() {
+            self.session = T::open(alloc);
+        }
+    }
+
+    /// Answers some of the requests that have come, where the connection goes on.
+    pub(crate) fn visit<I, P, S: Serve<I, P, Session = T>, R: Wait>(
+        &mut self,
+        rt: &R,
+        alloc: Global,
+        service: &I,
+        pass: &mut P,
+        server: &mut S,
+    ) -> Progress
+        requires { S.is_pass_of service.now pass.old }
+        ensures pass { S.is_pass_of service.now pass.new }
+        ensures visits { Visits S.visits service.now server.old pass.old server.new pass.new }
+    {
+        if self.session.closes() {
+            return Progress::Done;
+        }
+        server.visit(rt, alloc, service, pass, &mut self.session)
+    }
+}
