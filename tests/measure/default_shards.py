@@ -11,9 +11,7 @@ medians; of the pushes that began a segment, of the longest in a round. It takes
 and 6 GiB of temporary files.
 """
 import os
-import re
 import statistics
-import subprocess
 import sys
 import tempfile
 import time
@@ -27,17 +25,6 @@ LOADS = [("one stream", "push.lua", 1), ("one stream", "push.lua", 32),
 ROUNDS, SECONDS, ROLLS = 3, 2, 3
 # (from one push to the next, so that there is something to trim: a trim leaves the last hour)
 STEP = 180
-MILLISECONDS = {"us": 0.001, "ms": 1, "s": 1_000}
-
-
-def load(port, script, connections):
-    """Pushes a second, and the 99th percentile of a push in milliseconds."""
-    words = ["wrk", f"-t{min(2, connections)}", f"-c{connections}", f"-d{SECONDS}", "--latency", "-s",
-             f"{servers.TOP}/tests/measure/{script}", f"http://127.0.0.1:{port}{servers.PUSH}"]
-    said = subprocess.run(words, capture_output=True, text=True, check=True).stdout
-    servers.need("refused: 0, errors of sockets: 0" in said, f"each push of wrk is answered 204\n{said}")
-    number, unit = re.search(r"99% +([\d.]+)(us|ms|s)", said).groups()
-    return float(re.search(r"Requests/sec: +([\d.]+)", said)[1]), float(number) * MILLISECONDS[unit]
 
 
 def roll(filling, folder):
@@ -68,7 +55,7 @@ class Sharing:
     def push(self, body, script, connections):
         full_shards.close_slots(self.folder, self.count)
         with self.serve(connections) as server:
-            rate, high = load(server.port, script, connections)
+            rate, high = full_shards.wrk(server.port, script, connections, SECONDS)
         name = f"{body}, {connections} connection{'s' * (connections > 1)}"
         self.note(f"{name}: pushes a second", rate)
         self.note(f"{name}: 99th percentile, ms", high)
@@ -105,8 +92,8 @@ def table(sharings):
         yield f"| {name} | {' | '.join(f'{it:,.0f}' if it >= 100 else f'{it:.2f}' for it in medians)} |"
 
 
-def run(how):
-    began = time.monotonic()
+def main(words):
+    how, began = {"executable": os.path.abspath(words[0]) if words else servers.program("server")}, time.monotonic()
     with tempfile.TemporaryDirectory(prefix="needleazure-shards-", dir=os.environ.get("MEASURE_DIR")) as above:
         sharings = [Sharing(above, count, mib, how) for count, mib in SHARINGS]
         for number in range(ROUNDS):
@@ -115,7 +102,3 @@ def run(how):
                 took = time.monotonic() - began
                 print(f"round {number + 1}, {it.count} shards: {took:.0f} s", file=sys.stderr, flush=True)
     print(*table(sharings), sep="\n", flush=True)
-
-
-def main(words):
-    run({"executable": os.path.abspath(words[0]) if words else servers.program("server")})

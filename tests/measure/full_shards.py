@@ -3,6 +3,7 @@ import itertools
 import mmap
 import os
 import random
+import re
 import shutil
 import string
 import subprocess
@@ -15,6 +16,7 @@ from segments import generation_of
 WORKERS = 64
 STREAMS, LINES, LEAST, MOST = 50, 10, 100, 300
 HEADER = 21
+MILLISECONDS = {"us": 0.001, "ms": 1, "s": 1_000}
 # stands in a push for its second
 SECOND = "##########"
 
@@ -23,8 +25,6 @@ def settings_for(mib):
     """The environment of a server whose shards have this room, with the allocator that `make run` gives it."""
     return {"NEEDLEAZURE_CAPACITY": str(mib << 20), **servers.allocator()}
 
-
-# ---- pushes --------------------------------------------------------------------------------------------------------
 
 class Filling:
     """Pushes to a shard over a connection of its own, a step of seconds from one to the next.
@@ -76,14 +76,22 @@ def pushes(filling, folder):
         yield time.monotonic() - began, servers.generation(folder) > before
 
 
+def wrk(port, script, connections, seconds):
+    """Has wrk push over so many connections: pushes a second, and the 99th percentile of a push in milliseconds."""
+    words = ["wrk", f"-t{min(2, connections)}", f"-c{connections}", f"-d{seconds}", "--latency", "-s",
+             f"{servers.TOP}/tests/measure/{script}", f"http://127.0.0.1:{port}{servers.PUSH}"]
+    said = subprocess.run(words, capture_output=True, text=True, check=True).stdout
+    servers.need("refused: 0, errors of sockets: 0" in said, f"each push of wrk is answered 204\n{said}")
+    number, unit = re.search(r"99% +([\d.]+)(us|ms|s)", said).groups()
+    return float(re.search(r"Requests/sec: +([\d.]+)", said)[1]), float(number) * MILLISECONDS[unit]
+
+
 def push_each(fillings):
     """Pushes to these shards side by side. Returns those that had room."""
     for it in fillings:
         it.send()
     return [it for it in fillings if it.is_taken()]
 
-
-# ---- slots ---------------------------------------------------------------------------------------------------------
 
 def close_slots(folder, count):
     """Makes the shards new ones, whose slots keep their length."""
@@ -130,8 +138,6 @@ def used_by(words, **how):
     servers.need(not running.returncode, f"{words[0]} ends with {running.returncode}")
     return time.monotonic() - began, used.ru_utime + used.ru_stime
 
-
-# ---- a start -------------------------------------------------------------------------------------------------------
 
 def start(folder, count, settings, **how):
     """How many seconds a server takes to be ready, those of a processor, the most memory it has till then, and what it

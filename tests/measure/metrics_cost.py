@@ -1,10 +1,11 @@
 """metrics_cost: what a look of deploy/metrics costs over 16 full shards of 64 MiB, with 10 lines a push.
 
-The slots are 2 GiB of temporary files. A first
-look goes through whole segments; each further one goes on from where the last one ended, here over a fifteenth of each
-segment, what a minute brings where a segment is full in a quarter of an hour. It is the processor time of the command:
-the best and the worst of five looks of each kind. Once the pushes have equal lengths, and once lines of 100 to 300
-bytes. Where the best one of a kind costs more than MOST says, the status is 1."""
+The slots are 2 GiB of temporary files. A first look goes through whole segments; each further one goes on from where
+the last one ended, here over a fifteenth of each segment, what a minute brings where a segment is full in a quarter of
+an hour. It is the processor time of the command: the best and the worst of five looks of each kind. Once the pushes have
+equal lengths, and once lines of 100 to 300 bytes. Where the best one of a kind costs more than MOST says, the status
+is 1.
+"""
 import os
 import random
 import shutil
@@ -12,6 +13,7 @@ import tempfile
 
 import full_shards
 from hostile_bytes import TOP, append_bytes, segment_bytes, state_bytes
+from servers import hold
 
 SHARDS, CAPACITY, LINES, LOOKS = 16, 67_108_864, 10, 5
 # (where blocks differ in length, a first look has to read each of half a million places in memory by itself)
@@ -78,12 +80,8 @@ def measure(above, least, most):
 
 
 def main(words):
-    status = 0
     for least, most in ((200, 200), (100, 300)):
         with tempfile.TemporaryDirectory(prefix="needleazure-cost-", dir=os.environ.get("MEASURE_DIR")) as above:
             for kind, took in measure(above, least, most).items():
-                is_so = min(took) <= MOST[kind]
-                print(f"{'ok' if is_so else 'WRONG'}: a {kind} look {min(took):.3f} to {max(took):.3f} s of a processor, "
-                      f"at most {MOST[kind]} s are wanted", flush=True)
-                status |= not is_so
-    return status
+                hold(min(took) <= MOST[kind], f"a {kind} look {min(took):.3f} to {max(took):.3f} s of a processor, "
+                                              f"at most {MOST[kind]} s are wanted")

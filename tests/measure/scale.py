@@ -7,8 +7,8 @@ server is killed and started again, and walcat lists the slot in use. Each line 
 
 It needs curl and jq, 1 GB of memory, and as much of temporary files.
 """
-import gzip
-import json
+import collections
+import contextlib
 import os
 import re
 import subprocess
@@ -27,15 +27,12 @@ def labels_of(name):
     return {"job": name}
 
 
-class Shard:
+class Shard(contextlib.AbstractContextManager):
     """A server with one shard, a connection to it, and what each stream has."""
 
     def __init__(self, folder, capacity):
-        self.folder, self.capacity, self.there = folder, capacity, {}
+        self.folder, self.capacity, self.there = folder, capacity, collections.defaultdict(list)
         self.start()
-
-    def __enter__(self):
-        return self
 
     def __exit__(self, *_):
         self.server.end()
@@ -49,10 +46,9 @@ class Shard:
         """Pushes entries to streams by their names."""
         body = servers.push_body([(labels_of(name), entries) for name, entries in streams])
         status, text = self.client.ask(servers.PUSH, body)
-        if status != 204:
-            hold(False, f"a push is answered {status} {text[:200]}")
+        need(status == 204, f"a push is answered {status} {text[:200]}")
         for name, entries in streams:
-            self.there.setdefault(name, []).extend(entries)
+            self.there[name] += entries
 
     def read_each(self, names):
         """Whether each of these streams has just what was answered."""
@@ -109,8 +105,7 @@ def roll(shard, now):
         slowest = max(slowest, time.monotonic() - began)
         if shard.generation() > before:
             break
-        status, _ = shard.client.trim(labels_of("rolling"), stamp - servers.HOUR)
-        need(status == 200, f"a trim is answered {status}")
+        need(shard.client.trim(labels_of("rolling"), stamp - servers.HOUR)[0] == 200, "each trim is answered 200")
         shard.there["rolling"] = [it for it in shard.there["rolling"] if it[0] >= stamp - servers.HOUR]
         stamp += 2 * servers.HOUR
     hold(shard.read_each(shard.there), f"the log has rolled, and has all lines; the slowest push took {slowest:.2f} s")
@@ -129,30 +124,14 @@ def list_slot(path):
     return int(lines[-1].split()[1]), len({it[1] for it in named}), sum(int(it[2]) for it in named)
 
 
-def drain(work, shard):
-    """The lines that drain takes away, by stream."""
-    os.makedirs(f"{work}/programs")
-    os.symlink(servers.program("walcat"), f"{work}/programs/walcat")
-    environment = {**os.environ, "PATH": f"{work}/programs:{os.environ['PATH']}", "TMPDIR": work}
-    words = [f"{servers.TOP}/deploy/drain", shard.folder, str(shard.server.port), "1", f"{work}/lines"]
-    return subprocess.run(words, env=environment, capture_output=True, text=True, check=False)
-
-
-def drained(work):
-    found = {}
-    for folder, _, names in os.walk(f"{work}/lines"):
-        for name in sorted(it for it in names if it.endswith(".gz")):
-            with gzip.open(f"{folder}/{name}", "rt", encoding="utf-8") as file:
-                for it in map(json.loads, file):
-                    found.setdefault(it["stream"]["job"], []).append((int(it["time"]), it["line"], ()))
-    return found
-
-
 def check_drain(work, shard):
-    began = time.monotonic()
-    ended = drain(work, shard)
+    environment, began = {**os.environ, "PATH": servers.WITH_WALCAT, "TMPDIR": work}, time.monotonic()
+    words = [f"{servers.TOP}/deploy/drain", shard.folder, str(shard.server.port), "1", f"{work}/lines"]
+    ended = subprocess.run(words, env=environment, capture_output=True, text=True, check=False)
     hold(ended.returncode == 0, f"drain ends well ({time.monotonic() - began:.0f} s) {ended.stderr[:300]}")
-    taken = drained(work)
+    taken = collections.defaultdict(list)
+    for _, _, it in servers.drained(f"{work}/lines"):
+        taken[it["stream"]["job"]].append((int(it["time"]), it["line"], ()))
     due = {name: [it for it in entries if it[0] < entries[-1][0] - servers.HOUR] for name, entries in shard.there.items()}
     count = sum(map(len, taken.values()))
     hold(taken == {name: its for name, its in due.items() if its}, f"it took {count} lines of {len(taken)} streams, each once")

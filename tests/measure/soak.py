@@ -26,12 +26,6 @@ LINES, LENGTH, SLICE = 20, 400, 10
 QUARTER = servers.HOUR // 4
 
 
-def step_of(capacity):
-    """From one push of a stream to the next, so that an hour and a quarter of its streams fills three quarters of a shard."""
-    hour = 0.75 * capacity / 1.25 / (PROCESSES * STREAMS / SHARDS)
-    return int(servers.HOUR * LINES * (LENGTH + 13) / hour)
-
-
 class Load:
     """The streams of a process, each with its connection."""
 
@@ -84,11 +78,6 @@ def high(times):
     return sorted(times)[len(times) * 999 // 1_000] * 1_000
 
 
-def rolls_of(folder):
-    """The generations of all shards."""
-    return sum(servers.generation(folder, it) for it in range(SHARDS))
-
-
 def run(folder, server, seconds, step):
     """What each process told, how much memory the server had at which second, and how many rolls there were."""
     full, begins, ends = multiprocessing.Semaphore(0), multiprocessing.Event(), multiprocessing.Queue()
@@ -98,13 +87,14 @@ def run(folder, server, seconds, step):
         it.start()
     for it in processes:
         full.acquire()
-    rolls, began, memory = rolls_of(folder), time.monotonic(), []
+    generations = lambda: sum(servers.generation(folder, it) for it in range(SHARDS))
+    rolls, began, memory = generations(), time.monotonic(), []
     begins.set()
     while (now := time.monotonic() - began) < seconds:
         memory.append((now, server.memory()))
         time.sleep(0.2)
     found = [ends.get(timeout=60) for _ in processes]
-    return found, memory, rolls_of(folder) - rolls
+    return found, memory, generations() - rolls
 
 
 def judge(found, memory, rolls, seconds):
@@ -130,5 +120,7 @@ def main(words):
     with servers.room_in_memory("soak", os.environ.get("MEASURE_DIR")) as folder:
         settings = {"NEEDLEAZURE_CAPACITY": str(capacity), **servers.allocator()}
         with servers.Server(folder, SHARDS, PROCESSES * STREAMS, settings) as server:
-            found = run(folder, server, 60 * minutes, step_of(capacity))
+            # (an hour and a quarter of its streams fills three quarters of a shard)
+            hour = 0.75 * capacity / 1.25 / (PROCESSES * STREAMS / SHARDS)
+            found = run(folder, server, 60 * minutes, int(servers.HOUR * LINES * (LENGTH + 13) / hour))
         judge(*found, 60 * minutes)

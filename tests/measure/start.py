@@ -7,6 +7,7 @@ each SERVER in turn, which have to take the same slots. At last `cat` reads the 
 files in the system's cache and without, and the figures are medians of RUNS. Without the cache only these files are
 dropped from it, so what other processes have there stays; the disk may have a cache of its own.
 """
+import functools
 import os
 import statistics
 import tempfile
@@ -49,13 +50,6 @@ def table(found, length):
         yield f"| {name} | {took:.2f} | {length / took / 1e6:,.0f} | {processor:.2f} | {most} | {ready} |"
 
 
-def starts(folder, count, settings, programs):
-    """A start of each of these servers, by its name."""
-    names = programs if len(programs) > 1 else ["a start"]
-    return {name: lambda path=path: full_shards.start(folder, count, settings, executable=path)
-            for name, path in zip(names, programs)}
-
-
 def run(folder, megabytes, count, programs):
     mib = min(1024, max(64, int(megabytes * 1.1e6) // 2**20 + 1))
     settings = full_shards.settings_for(mib)
@@ -63,7 +57,9 @@ def run(folder, megabytes, count, programs):
     memory = fill(folder, megabytes, count, settings, {"executable": programs[0]})
     slots = full_shards.slots_in_use(folder, count)
     ends = list(map(full_shards.end_of, slots))
-    found = measure(slots, starts(folder, count, settings, programs))
+    start = functools.partial(full_shards.start, folder, count, settings)
+    names = programs if len(programs) > 1 else ["a start"]
+    found = measure(slots, {name: functools.partial(start, executable=it) for name, it in zip(names, programs)})
     for slot, end in zip(slots, ends):
         os.truncate(slot, end)
     found.update(measure(slots, {"`cat` of the segments": lambda: full_shards.used_by(["cat", *slots])}))

@@ -3,8 +3,11 @@
 It follows docs/DEFINITIONS.md and docs/API.md, and knows nothing of how the programs work; so it is slow, and short. An
 entry is its time, its line, and its metadata as pairs of bytes in the order of their names.
 """
+import codecs
+import contextlib
 import itertools
 import json
+import math
 import re
 
 MOST_TIME = 2**63 - 1
@@ -71,12 +74,12 @@ def shard_of(tenant, text, count):
     return found % count
 
 
-def is_utf8(text):
-    try:
-        text.decode()
+def is_utf8(text, is_whole=True):
+    """Whether the bytes are UTF-8, or more bytes may make them so."""
+    with contextlib.suppress(UnicodeDecodeError):
+        codecs.getincrementaldecoder("utf-8")().decode(text, is_whole)
         return True
-    except UnicodeDecodeError:
-        return False
+    return False
 
 
 # ---- metadata ------------------------------------------------------------------------------------------------------
@@ -88,20 +91,15 @@ def is_short(pairs):
 
 # ---- JSON ----------------------------------------------------------------------------------------------------------
 
-class NotJson(Exception):
-    """The text is not JSON."""
+class Fault(Exception):
+    """A body is refused as a whole, with this text."""
 
 
 def number_of(text):
-    found = float(text)
-    if found in (float("inf"), float("-inf")):
-        raise NotJson
-    return found
-
-
-def no_number(_):
-    """For NaN and Infinity, which Python takes."""
-    raise NotJson
+    """A number that a float holds. (Python takes NaN and Infinity, too.)"""
+    if not math.isfinite(float(text)):
+        raise ValueError
+    return float(text)
 
 
 def members_of(pairs):
@@ -116,19 +114,19 @@ def depth_of(text):
     return max(itertools.accumulate((1 if it in "[{" else -1 for it in signs), initial=0))
 
 
-def read_json(body):
+def tree_of(body):
     """JSON of RFC 8259: at most 127 arrays and objects in one another, numbers that a float holds, pairs of surrogates that
     are whole; of members with one name the last one counts."""
+    hooks = dict.fromkeys(["parse_int", "parse_float", "parse_constant"], number_of)
     try:
         text = body.decode()
         if depth_of(text) > MOST_DEPTH:
-            raise NotJson
-        hooks = {"parse_int": number_of, "parse_float": number_of, "parse_constant": no_number}
+            raise ValueError
         found = json.loads(text, object_pairs_hook=members_of, **hooks)
         json.dumps(found, ensure_ascii=False).encode()
+        return found
     except ValueError:
-        raise NotJson from None
-    return found
+        raise Fault("body is not JSON") from None
 
 
 def write_text(text):
@@ -138,10 +136,6 @@ def write_text(text):
 
 
 # ---- bodies --------------------------------------------------------------------------------------------------------
-
-class Fault(Exception):
-    """A body is refused as a whole, with this text."""
-
 
 def time_of(text):
     """The time that a text says, or None."""
@@ -162,13 +156,6 @@ def is_value(value):
 def is_stream(value):
     return (isinstance(value, dict) and set(value) == {"stream", "values"} and is_texts(value["stream"])
             and isinstance(value["values"], list) and all(map(is_value, value["values"])))
-
-
-def tree_of(body):
-    try:
-        return read_json(body)
-    except NotJson:
-        raise Fault("body is not JSON") from None
 
 
 def pairs_of(members):

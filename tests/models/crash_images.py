@@ -23,20 +23,22 @@ class Note:
         self.slot = (int(found[1]), int(found[2])) if found else None
 
 
-def notes_of(path):
-    """The notes in their order. One that was cut is of a call that was not made."""
+def records_of(path, head, length_of):
+    """The records of a file: of each the fields of its head, and as many bytes as these say; but none that was cut."""
     with open(path, "rb") as file:
         text = file.read()
-    found, at = [], 0
-    while at + HEAD.size <= len(text):
-        fields = HEAD.unpack_from(text, at)
-        path_end = at + HEAD.size + fields[5]
-        end = path_end + fields[8]
-        if end > len(text):
-            break
-        found.append(Note(fields, text[at + HEAD.size:path_end].decode(), text[path_end:end]))
-        at = end
-    return found
+    at = 0
+    while at + head.size <= len(text):
+        fields, begin = head.unpack_from(text, at), at + head.size
+        at = begin + length_of(fields)
+        if at <= len(text):
+            yield fields, text[begin:at]
+
+
+def notes_of(path):
+    """The notes in their order. One that was cut is of a call that was not made."""
+    found = records_of(path, HEAD, lambda fields: fields[5] + fields[8])
+    return [Note(fields, data[:fields[5]].decode(), data[fields[5]:]) for fields, data in found]
 
 
 class Slot:
@@ -64,7 +66,7 @@ class Slot:
 
     def copy(self):
         """The slot as it is now, for an image."""
-        it = Slot(b"")
+        it = Slot(self.seen)
         it.kept, it.pending, it.longest = self.kept, list(self.pending), self.longest
         return it
 
@@ -82,37 +84,17 @@ class Slot:
 
 
 def any_bytes(draw, count, stock):
-    kind = draw.randrange(5)
-    if kind < 3:
-        return bytes([kind and 2 ** (8 * kind - 8) % 256]) * count if kind < 2 else b"\xff" * count
-    if kind == 3 or not stock:
-        return draw.randbytes(count)
-    other = draw.choice(stock)
-    return (other * (count // max(1, len(other)) + 1))[:count]
+    other = draw.choice(stock or [b"\0"])
+    written = (other * (count // max(1, len(other)) + 1))[:count]
+    return draw.choice([bytes(count), b"\1" * count, b"\xff" * count, draw.randbytes(count), written])
 
 
 def left_of(draw, old, new, at, stock):
     """What may stand in a range that was written and not synced."""
     if len(new) == 1:
         return draw.choice([old, new, new, new, b"\0", b"\1", b"\2", b"\x7f", b"\xff", draw.randbytes(1)])
-    kind, cut = draw.randrange(7), draw.randint(0, len(new))
-    if kind == 0:
-        return old
-    if kind == 1:
-        return new
-    if kind == 2:
-        return new[:cut] + old[cut:]
-    if kind == 3:
-        return old[:cut] + new[cut:]
-    if kind < 6:
-        return sectors(draw, old, new, at)
-    return any_bytes(draw, len(new), stock)
-
-
-def sectors(draw, old, new, at):
-    found, start = b"", 0
-    while start < len(new):
-        end = min(len(new), start + SECTOR - (at + start) % SECTOR)
-        found += draw.choice([old, new])[start:end]
-        start = end
-    return found
+    edges = [0, *range(SECTOR - at % SECTOR, len(new), SECTOR), len(new)]
+    sectors = b"".join(draw.choice([old, new])[start:end] for start, end in zip(edges, edges[1:]))
+    cut = draw.randint(0, len(new))
+    cases = [old, new, new[:cut] + old[cut:], old[:cut] + new[cut:], sectors, sectors]
+    return draw.choice([*cases, any_bytes(draw, len(new), stock)])

@@ -11,6 +11,8 @@ import os
 import re
 import struct
 
+from crash_images import records_of
+
 HEAD = struct.Struct("<QQQIcB")
 SECTOR = 512
 EVENT = re.compile(r" (\d+)\.(\d{6}): (block_\w+): \d+,\d+ (\w+) (?:\d+ )?(?:\(.*?\) )?(\d+) \+ (\d+)")
@@ -30,16 +32,8 @@ class Note:
 
 def notes_of(path):
     """The notes in their order."""
-    with open(path, "rb") as file:
-        text = file.read()
-    found, at = [], 0
-    while at + HEAD.size <= len(text):
-        fields = HEAD.unpack_from(text, at)
-        at += HEAD.size
-        length = fields[3] if fields[4] == b"w" and not fields[5] else 0
-        found.append(Note(fields, text[at:at + length]))
-        at += length
-    return found
+    found = records_of(path, HEAD, lambda fields: fields[3] if fields[4] == b"w" and not fields[5] else 0)
+    return [Note(*it) for it in found]
 
 
 # ---- FUA -----------------------------------------------------------------------------------------------------------

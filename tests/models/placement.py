@@ -1,4 +1,4 @@
-#!/usr/bin/env python3
+#!/usr/bin/env -S python3 -B
 """placement.py: how nginx's `hash .. consistent` spreads shippers over servers, in figures.
 
 The model knows nothing of nginx's code but its documented points: each server has 160 times its weight of them on a

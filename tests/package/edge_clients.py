@@ -9,7 +9,8 @@ import ssl
 import subprocess
 import time
 
-from servers import PUSH, TOP, hold
+import servers
+from servers import PUSH, hold
 
 TLS = ssl.SSLContext(ssl.PROTOCOL_TLS_CLIENT)
 # (the certificate is made for one run)
@@ -19,33 +20,29 @@ TLS.check_hostname, TLS.verify_mode = False, ssl.CERT_NONE
 def find_nginx(work):
     """The nginx that is installed, or that of Debian's package, unpacked and not installed."""
     found = shutil.which("nginx", path=f"{os.environ['PATH']}:/usr/sbin")
-    if not found:
-        get = "apt-get -qq -o APT::Sandbox::User=root download nginx && dpkg -x nginx_*.deb nginx"
-        subprocess.run(get, shell=True, check=True, cwd=work, timeout=300)
-        found = f"{work}/nginx/usr/sbin/nginx"
-    return found
+    return found or f"{servers.unpacked(f'{work}/nginx', 'nginx')}/usr/sbin/nginx"
+
+
+def temporary(folder):
+    kinds = ["client_body", "proxy", "fastcgi", "uwsgi", "scgi"]
+    return "".join(f"    {it}_temp_path {folder}/{it};\n" for it in kinds)
 
 
 def write_nginx(folder, name, changes):
     """A file of deploy/ with the ports of this run, and temporary folders of its own."""
     os.makedirs(folder, exist_ok=True)
-    kinds = ["client_body", "proxy", "fastcgi", "uwsgi", "scgi"]
-    places = "".join(f"\n    {it}_temp_path {folder}/{it};" for it in kinds)
-    with open(f"{TOP}/{name}", encoding="utf-8") as file:
-        text = file.read()
-    for old, new in [("\nhttp {", f"\nhttp {{{places}"), *changes]:
+    text = servers.text_at(name)
+    for old, new in [("\nhttp {\n", f"\nhttp {{\n{temporary(folder)}"), *changes]:
         assert text.count(old) == 1, (name, old)
         text = text.replace(old, new)
-    with open(f"{folder}/nginx.conf", "w", encoding="utf-8") as file:
-        file.write(text)
+    servers.write(f"{folder}/nginx.conf", text.encode())
 
 
 def write_users(folder, users):
     """A login for each tenant."""
     how = {"input": "".join(f"secret-{it}\n" for it in users), "capture_output": True, "text": True, "check": True}
     hashes = subprocess.run(["openssl", "passwd", "-apr1", "-stdin"], **how).stdout.split()
-    with open(f"{folder}/edge.users", "w", encoding="utf-8") as file:
-        file.writelines(f"{user}:{it}\n" for user, it in zip(users, hashes))
+    servers.write(f"{folder}/edge.users", "".join(f"{user}:{it}\n" for user, it in zip(users, hashes)).encode())
 
 
 class Nginx:
@@ -60,7 +57,7 @@ class Nginx:
                 if not it.connect_ex(("127.0.0.1", port)):
                     return
             time.sleep(0.1)
-        hold(False, f"nginx listens: {open(f'{folder}/error.log', encoding='utf-8').read()}")
+        hold(False, f"nginx listens: {servers.bytes_of(f'{folder}/error.log').decode()}")
 
     def end(self):
         self.running.terminate()

@@ -10,7 +10,6 @@ import sys
 import threading
 import time
 
-sys.dont_write_bytecode = True
 TOP = os.path.dirname(os.path.dirname(os.path.dirname(os.path.realpath(__file__))))
 SECONDS = 60
 INSIDE = "NEEDLEAZURE_IN_NAMESPACE"
@@ -63,7 +62,7 @@ def enter_namespace():
     words = ["unshare", "--mount", "--propagation", "slave", "--pid", "--fork", "--kill-child", "--mount-proc"]
     # (a signal of the terminal comes to the script inside too)
     signal.signal(signal.SIGINT, signal.SIG_IGN)
-    with subprocess.Popen([*words, sys.executable, *sys.argv], env={**os.environ, INSIDE: "1"},
+    with subprocess.Popen([*words, sys.executable, "-B", *sys.argv], env={**os.environ, INSIDE: "1"},
                           preexec_fn=lambda: signal.signal(signal.SIGINT, signal.SIG_DFL)) as outer:
         signal.signal(signal.SIGTERM, lambda *_: stop_inside(outer.pid))
         sys.exit(outer.wait())

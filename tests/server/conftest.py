@@ -1,13 +1,9 @@
 """What the tests here share: a folder, a server, a client, and the library that is preloaded."""
 import contextlib
 import os
-import sys
 
 import pytest
-
-sys.dont_write_bytecode = True
-HERE = os.path.dirname(os.path.realpath(__file__))
-sys.path += [HERE, f"{HERE}/../models"]
+# (it knows where the models are)
 import servers
 
 

@@ -10,7 +10,7 @@
 // notes     RECORD_TO: each call on what stands below the folder RECORD_UNDER (a real path) is noted there, once before it
 //           is made, with the bytes of a write, and once after it, with its result; crash_images.py reads it. RECORD_READS:
 //           reads too, with the thread in place of `at`. RECORD_SLOW=n: what is noted takes n microseconds longer.
-//           FAIL_SYNC=n: each n-th fdatasync (of files whose path ends with FAIL_NAME) fails. FULL_AT=n: from the n-th
+//           FAIL_SYNC=n: each n-th fdatasync (of files whose path has FAIL_NAME) fails. FULL_AT=n: from the n-th
 //           write on none makes its file longer; the first of them writes half.
 // time      FAST=n: what the program waits for, and the clock that it waits by, go n times as fast.
 // broken    BREAK_ADDRESS: it listens on all addresses. BREAK_CLOCK: the clock of the day stands still. BREAK_FAST=n: as
@@ -71,11 +71,15 @@ static int refuse(int cause) {
     return -1;
 }
 
-static void make_file(const char *path) {
-    int file = path == NULL ? -1 : openat(AT_FDCWD, path, O_CREAT | O_WRONLY, 0600);
-    if (file >= 0) {
-        close(file);
+// Adds a line with a number to a file, by calls that request no memory.
+static void tell(const char *path, uint64_t number) {
+    char line[24];
+    int size = snprintf(line, sizeof line, "%lu\n", (unsigned long)number);
+    int file = path == NULL ? -1 : openat(AT_FDCWD, path, O_CREAT | O_WRONLY | O_APPEND, 0600);
+    if (file >= 0 && NEXT(write)(file, line, (size_t)size) != size) {
+        abort();
     }
+    close(file);
 }
 
 __attribute__((constructor)) static void forget_setting(void) {
@@ -89,19 +93,11 @@ __attribute__((constructor)) static void forget_setting(void) {
 static uint64_t requests;
 
 static int is_refused(size_t size) {
-    static uint64_t at, most;
-    static int is_known;
-    if (!is_known) {
-        at = number_of("MEMORY_AT");
-        most = getenv("BREAK_LARGE") == NULL ? UINT64_MAX : number_of("BREAK_LARGE");
-        is_known = 1;
-    }
     uint64_t number = __atomic_add_fetch(&requests, 1, __ATOMIC_SEQ_CST);
-    if (size <= most && number != at) {
+    if (number == number_of("MEMORY_AT")) {
+        tell(getenv("MEMORY_MARK"), number);
+    } else if (getenv("BREAK_LARGE") == NULL || size <= number_of("BREAK_LARGE")) {
         return 0;
-    }
-    if (number == at) {
-        make_file(getenv("MEMORY_MARK"));
     }
     errno = ENOMEM;
     return 1;
@@ -117,24 +113,12 @@ void *realloc(void *old, size_t size) {
 
 void free(void *piece) {
     static void *kept;
-    static int64_t least = -1;
-    least = least < 0 ? (int64_t)number_of("BREAK_KEEP") : least;
-    if (least > 0 && kept == NULL && malloc_usable_size(piece) >= (size_t)least) {
+    uint64_t least = number_of("BREAK_KEEP");
+    if (least > 0 && kept == NULL && malloc_usable_size(piece) >= least) {
         kept = piece;
         return;
     }
     NEXT(free)(piece);
-}
-
-// Adds a line with the number of requests to a file, by calls that make none.
-static void note_requests(const char *path) {
-    int file = openat(AT_FDCWD, path, O_CREAT | O_WRONLY | O_APPEND, 0600);
-    char line[24];
-    int size = snprintf(line, sizeof line, "%lu\n", (unsigned long)requests);
-    if (file >= 0 && NEXT(write)(file, line, (size_t)size) != size) {
-        abort();
-    }
-    close(file);
 }
 
 // ---- threads -------------------------------------------------------------------------------------------------------
@@ -145,7 +129,7 @@ int pthread_create(pthread_t *thread, const pthread_attr_t *attributes, void *(*
     if (at == 0 || __atomic_add_fetch(&asked, 1, __ATOMIC_SEQ_CST) != at) {
         return NEXT(pthread_create)(thread, attributes, start, argument);
     }
-    make_file(getenv("THREAD_MARK"));
+    tell(getenv("THREAD_MARK"), at);
     return EAGAIN;
 }
 
@@ -182,16 +166,14 @@ ssize_t read(int file, void *to, size_t count) {
 
 ssize_t write(int file, const void *from, size_t count) {
     static size_t taken[STDERR_FILENO + 1];
-    const char *counts = file == STDOUT_FILENO ? getenv("MEMORY_COUNT_TO") : NULL;
-    if (counts != NULL) {
-        note_requests(counts);
+    const char *rooms[] = {NULL, getenv("OUTPUT_ROOM"), getenv("ERROR_ROOM")};
+    const char *room = file >= 0 && file <= STDERR_FILENO ? rooms[file] : NULL;
+    if (file == STDOUT_FILENO) {
+        tell(getenv("MEMORY_COUNT_TO"), requests);
     }
     if (file == STDERR_FILENO && is_said("BREAK_FAILURE", "quiet")) {
         return (ssize_t)count;
     }
-    const char *room = file == STDOUT_FILENO   ? getenv("OUTPUT_ROOM")
-                       : file == STDERR_FILENO ? getenv("ERROR_ROOM")
-                                               : NULL;
     if (room == NULL || count == 0) {
         return NEXT(write)(file, from, count);
     }
@@ -207,12 +189,8 @@ ssize_t write(int file, const void *from, size_t count) {
 // ---- time ----------------------------------------------------------------------------------------------------------
 
 static int64_t fast(void) {
-    static int64_t times;
-    if (times == 0) {
-        uint64_t asked = getenv("BREAK_FAST") == NULL ? number_of("FAST") : number_of("BREAK_FAST");
-        times = asked == 0 ? 1 : (int64_t)asked;
-    }
-    return times;
+    uint64_t times = number_of(getenv("BREAK_FAST") == NULL ? "FAST" : "BREAK_FAST");
+    return times == 0 ? 1 : (int64_t)times;
 }
 
 static int64_t nanoseconds(const struct timespec *it) {
@@ -295,12 +273,7 @@ static int device_fails(void) {
 }
 
 __attribute__((destructor)) static void tell_device_calls(void) {
-    const char *to = getenv("DEVICE_COUNT_TO");
-    FILE *file = to == NULL ? NULL : fopen(to, "w");
-    if (file != NULL) {
-        fprintf(file, "%lu\n", (unsigned long)device_calls);
-        fclose(file);
-    }
+    tell(getenv("DEVICE_COUNT_TO"), device_calls);
 }
 
 struct note {
@@ -345,13 +318,39 @@ static void put(struct call *call, const void *bytes, size_t length) {
     pthread_mutex_unlock(&turn);
 }
 
+// Notes a call whose path is known. A read, a write or a data sync takes longer where that is asked.
 static void begin(struct call *call, char kind, uint64_t at, uint64_t length, const void *bytes) {
     const char *under = getenv("RECORD_UNDER");
     call->is_noted = under != NULL && strncmp(call->path, under, strlen(under)) == 0;
     if (call->is_noted) {
-        call->note = (struct note){.at = at, .length = length, .kind = kind, .path_length = (uint16_t)strlen(call->path)};
+        uint16_t path_length = (uint16_t)strlen(call->path);
+        call->note = (struct note){.at = at, .length = length, .kind = kind, .path_length = path_length};
         put(call, bytes, bytes == NULL ? 0 : length);
     }
+    if (call->is_noted && strchr("pws", kind) != NULL && getenv("RECORD_SLOW") != NULL) {
+        usleep((useconds_t)number_of("RECORD_SLOW"));
+    }
+}
+
+static struct call begin_on(int file, char kind, uint64_t at, uint64_t length, const void *bytes) {
+    struct call call;
+    char link[64];
+    snprintf(link, sizeof link, "/proc/self/fd/%d", file);
+    ssize_t found = getenv("RECORD_UNDER") == NULL ? 0 : readlink(link, call.path, sizeof call.path - 1);
+    call.path[found < 0 ? 0 : found] = 0;
+    begin(&call, kind, at, length, bytes);
+    return call;
+}
+
+// The same of a path from the folder in which the program runs.
+static struct call begin_of(const char *path, char kind, uint64_t length) {
+    struct call call = {.path = ""};
+    if (path[0] != '/' && getcwd(call.path, sizeof call.path / 2) != NULL) {
+        strcat(call.path, "/");
+    }
+    strncat(call.path, path, sizeof call.path / 2 - 1);
+    begin(&call, kind, 0, length, NULL);
+    return call;
 }
 
 // Hands the result on, and the cause of a failure.
@@ -366,71 +365,34 @@ static int64_t end(struct call *call, int64_t result) {
     return result;
 }
 
-// Waits in a call that was begun.
-static void take_long(const struct call *call) {
-    if (call->is_noted && getenv("RECORD_SLOW") != NULL) {
-        usleep((useconds_t)number_of("RECORD_SLOW"));
-    }
-}
-
-static void name_file(struct call *call, int file) {
-    char link[64];
-    if (getenv("RECORD_UNDER") == NULL) {
-        call->path[0] = 0;
-        return;
-    }
-    snprintf(link, sizeof link, "/proc/self/fd/%d", file);
-    ssize_t length = readlink(link, call->path, sizeof call->path - 1);
-    call->path[length < 0 ? 0 : length] = 0;
-}
-
-// A path from the folder in which the program runs.
-static void name_path(struct call *call, const char *path) {
-    call->path[0] = 0;
-    if (path[0] != '/' && getcwd(call->path, sizeof call->path / 2) != NULL) {
-        strcat(call->path, "/");
-    }
-    strncat(call->path, path, sizeof call->path / 2 - 1);
-}
-
 int open(const char *path, int flags, ...) {
-    struct call call;
     va_list more;
     va_start(more, flags);
     mode_t mode = flags & (O_CREAT | O_TMPFILE) ? va_arg(more, mode_t) : 0;
     va_end(more);
-    name_path(&call, path);
-    begin(&call, 'o', 0, (uint64_t)flags, NULL);
+    struct call call = begin_of(path, 'o', (uint64_t)flags);
     return (int)end(&call, NEXT(open)(path, flags, mode));
 }
 
 int mkdir(const char *path, mode_t mode) {
-    struct call call;
-    name_path(&call, path);
-    begin(&call, 'm', 0, 0, NULL);
+    struct call call = begin_of(path, 'm', 0);
     return (int)end(&call, NEXT(mkdir)(path, mode));
 }
 
 int rename(const char *from, const char *to) {
-    struct call call;
-    name_path(&call, from);
-    begin(&call, 'r', 0, 0, NULL);
+    struct call call = begin_of(from, 'r', 0);
     return (int)end(&call, NEXT(rename)(from, to));
 }
 
 int ftruncate(int file, off_t length) {
-    struct call call;
-    name_file(&call, file);
-    begin(&call, 't', 0, (uint64_t)length, NULL);
+    struct call call = begin_on(file, 't', 0, (uint64_t)length, NULL);
     return (int)end(&call, NEXT(ftruncate)(file, length));
 }
 
 ssize_t pread(int file, void *to, size_t count, off_t at) {
     struct call call = {.is_noted = 0};
     if (getenv("RECORD_READS") != NULL) {
-        name_file(&call, file);
-        begin(&call, 'p', (uint64_t)gettid(), count, NULL);
-        take_long(&call);
+        call = begin_on(file, 'p', (uint64_t)gettid(), count, NULL);
     }
     int fails = device_fails() && getenv("BREAK_READ") == NULL;
     return (ssize_t)end(&call, fails ? -1 : NEXT(pread)(file, to, count, at));
@@ -491,10 +453,7 @@ static ssize_t write_at(struct call *call, int file, const void *bytes, size_t c
 }
 
 ssize_t pwrite(int file, const void *bytes, size_t count, off_t at) {
-    struct call call;
-    name_file(&call, file);
-    begin(&call, 'w', (uint64_t)at, count, bytes);
-    take_long(&call);
+    struct call call = begin_on(file, 'w', (uint64_t)at, count, bytes);
     return (ssize_t)told(end(&call, write_at(&call, file, bytes, count, at)), (int64_t)count);
 }
 
@@ -503,7 +462,7 @@ static int sync_fails(const char *path) {
     static uint64_t made;
     uint64_t each = number_of("FAIL_SYNC");
     const char *name = getenv("FAIL_NAME");
-    if (each == 0 || (name != NULL && (strlen(path) < strlen(name) || strcmp(path + strlen(path) - strlen(name), name)))) {
+    if (each == 0 || (name != NULL && strstr(path, name) == NULL)) {
         return 0;
     }
     return __atomic_add_fetch(&made, 1, __ATOMIC_SEQ_CST) % each == 0;
@@ -511,7 +470,6 @@ static int sync_fails(const char *path) {
 
 int fdatasync(int file) {
     static uint64_t made;
-    struct call call;
     uint64_t number = __atomic_add_fetch(&made, 1, __ATOMIC_SEQ_CST);
     struct timespec more = span_of((int64_t)(number_of("BREAK_SPEED") * number));
     if (nanoseconds(&more) > 0) {
@@ -521,21 +479,17 @@ int fdatasync(int file) {
     if ((each > 0 && number % each == 0) || (is_said("BREAK_SYNC", "opening") && writes == 0)) {
         return 0;
     }
-    name_file(&call, file);
-    begin(&call, 's', 0, 0, NULL);
-    take_long(&call);
+    struct call call = begin_on(file, 's', 0, 0, NULL);
     int fails = call.is_noted && sync_fails(call.path);
     return (int)told(end(&call, fails ? refuse(EIO) : device_fails() ? -1 : NEXT(fdatasync)(file)), 0);
 }
 
 int fsync(int file) {
     struct stat its;
-    struct call call;
     if ((is_said("BREAK_SYNC", "opening") && writes == 0) ||
         (fstat(file, &its) == 0 && is_said("BREAK_SYNC", S_ISDIR(its.st_mode) ? "folder" : "file"))) {
         return 0;
     }
-    name_file(&call, file);
-    begin(&call, 'f', 0, 0, NULL);
+    struct call call = begin_on(file, 'f', 0, 0, NULL);
     return (int)end(&call, NEXT(fsync)(file));
 }

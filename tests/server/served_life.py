@@ -6,11 +6,9 @@ had after the last answered call, or after the one that was under way then, and 
 import collections
 import os
 import random
-import sys
 import threading
 import time
 
-sys.dont_write_bytecode = True
 import servers
 from order_of_calls import Wrong
 
@@ -64,9 +62,6 @@ class Stream:
             self.settle(found == self.calls[-1].after)
         if found != self.kept:
             raise Wrong(f"after a kill {self.labels} has {len(found)} entries in place of {len(self.kept)}")
-
-    def go_on_from(self, found):
-        self.first, self.calls = found, []
 
 
 class Caller(threading.Thread):
@@ -221,11 +216,7 @@ class ServedLife:
         """What is there after a loss of power at this moment, which raises where it may not be."""
         folder = f"{disk}/log"
         os.makedirs(folder, exist_ok=True)
-        found = read_over(folder, self.shards, self.capacity, self.streams)
-        return found, self.hold_to(found, moment)
-
-    def hold_to(self, found, moment):
-        seen = collections.Counter()
+        found, seen = read_over(folder, self.shards, self.capacity, self.streams), collections.Counter()
         for it, its in zip(self.streams, found):
             allowed = it.allowed(moment)
             if its not in allowed:
@@ -234,7 +225,7 @@ class ServedLife:
             if len(allowed) > 1 and allowed[0] != allowed[1]:
                 seen["calls under way"] += 1
                 seen["that are there"] += its == allowed[1]
-        return seen
+        return found, seen
 
     def difference(self, stream, found, allowed):
         if not isinstance(found, list):
@@ -245,4 +236,4 @@ class ServedLife:
 
     def go_on_from(self, found):
         for it, its in zip(self.streams, found):
-            it.go_on_from(its)
+            it.first, it.calls = its, []

@@ -6,6 +6,8 @@ import atexit
 import contextlib
 import functools
 import glob
+import gzip
+import itertools
 import json
 import os
 import resource
@@ -16,8 +18,8 @@ import subprocess
 import sys
 import tempfile
 import threading
+import time
 
-sys.dont_write_bytecode = True
 TOP = os.path.dirname(os.path.dirname(os.path.dirname(os.path.realpath(__file__))))
 sys.path.append(f"{TOP}/tests/models")
 import judges
@@ -28,8 +30,7 @@ from segments import generation_of
 SECONDS = 60
 HOUR = judges.HALF_AGE
 PUSH, READ, TRIM = "/loki/api/v1/push", "/ingester/v1/read", "/ingester/v1/trim"
-# the libraries that this run has built
-BUILT = set()
+READY = b"GET /ready HTTP/1.1\r\n\r\n"
 
 
 def program(name):
@@ -49,27 +50,38 @@ def need(is_so, what):
         hold(is_so, what)
 
 
-def build_library(folder, name="preload"):
-    """The library of preload.c, which is preloaded. Two names are two libraries."""
-    path, source = f"{folder}/{name}.so", f"{TOP}/tests/server/preload.c"
+def end_by_term(number, _):
+    """Ends the run so that its servers and folders go, and lets no second signal stop that (`timeout` sends two)."""
+    signal.signal(number, signal.SIG_IGN)
+    sys.exit(128 + number)
+
+
+def run_script(main, *words):
+    signal.signal(signal.SIGTERM, end_by_term)
+    sys.exit(main(*words))
+
+
+def build_library(folder):
+    """The library of preload.c, which is preloaded."""
+    path, source = f"{folder}/preload.so", f"{TOP}/tests/server/preload.c"
     subprocess.run(["cc", "-shared", "-fPIC", "-O1", "-o", path, source, "-ldl", "-lpthread"], check=True)
-    BUILT.add(path)
     return path
 
 
 def run(words, data=b"", **how):
     """Exit status, output and errors of a program, by its name or path. A server that starts is killed: status None."""
     words = [words[0] if "/" in words[0] else program(words[0]), *words[1:]]
-    pipes = dict.fromkeys(["stdin", "stdout", "stderr"], subprocess.PIPE)
-    with subprocess.Popen(words, **pipes, **{**how, "env": broken(how.get("env", {}))}) as it:
+    how = {**dict.fromkeys(["stdin", "stdout", "stderr"], subprocess.PIPE), **how, "env": broken(how.get("env", {}))}
+    # (without a buffer, so that what comes after the line is left for the rest)
+    with subprocess.Popen(words, bufsize=0, **how) as it, contextlib.ExitStack() as ends:
         watch = threading.Timer(SECONDS, it.kill)
         watch.start()
+        ends.callback(watch.cancel)
         said = it.stdout.readline() if words[0].endswith("server") else b""
         if said.startswith(b"ready"):
             it.kill()
             return None, b"ready", b""
         output, errors = it.communicate(data)
-        watch.cancel()
         return it.returncode, said + output, errors
 
 
@@ -107,7 +119,7 @@ def broken(settings):
     """The settings of a server, which is broken where this run's environment has variables of preload.c."""
     ways = {name: value for name, value in os.environ.items() if name.startswith("BREAK_")}
     given = settings.get("LD_PRELOAD", "")
-    if ways and not BUILT & {*given.split()}:
+    if ways and "/preload.so" not in given:
         given = f"{breaking_library()} {given}".strip()
     return {**settings, **ways, "LD_PRELOAD": given} if ways else settings
 
@@ -125,12 +137,8 @@ def shard_of(tenant, labels, count):
 
 def labels_in(shard, count, tenant="t", name="s"):
     """Labels of streams of a shard, without end."""
-    number = 0
-    while True:
-        labels = {name: str(number)}
-        if shard_of(tenant, labels, count) == shard:
-            yield labels
-        number += 1
+    labels = ({name: str(number)} for number in itertools.count())
+    return (it for it in labels if shard_of(tenant, it, count) == shard)
 
 
 def slots_of(folder, shard=0):
@@ -163,7 +171,7 @@ class NotStarted(Exception):
         self.status, self.errors = status, errors
 
 
-class Program:
+class Program(contextlib.AbstractContextManager):
     """A program that says `ready` and where, until it is killed. `settings` is all of its environment."""
 
     def __init__(self, words, settings, **how):
@@ -180,9 +188,6 @@ class Program:
             errors = self.running.stderr.read() if self.running.stderr else b""
             raise NotStarted(self.end(), errors)
         self.pid, self.port = self.running.pid, int(said.split()[1].rpartition(b":")[2])
-
-    def __enter__(self):
-        return self
 
     def __exit__(self, *_):
         self.end()
@@ -201,13 +206,12 @@ class Program:
 
     def memory(self, which="VmRSS"):
         """How many bytes of memory it has now, or with VmHWM has had at most."""
-        with open(f"/proc/{self.pid}/status", encoding="ascii") as file:
-            return next(int(line.split()[1]) * 1024 for line in file if line.startswith(which))
+        lines = bytes_of(f"/proc/{self.pid}/status").decode().splitlines()
+        return next(int(line.split()[1]) * 1024 for line in lines if line.startswith(which))
 
     def processor(self):
         """For how many seconds it has had a processor."""
-        with open(f"/proc/{self.pid}/stat", encoding="ascii") as file:
-            words = file.read().rpartition(")")[2].split()
+        words = bytes_of(f"/proc/{self.pid}/stat").rpartition(b")")[2].split()
         return (int(words[11]) + int(words[12])) / os.sysconf("SC_CLK_TCK")
 
 
@@ -240,20 +244,26 @@ def push_body(streams):
     return {"streams": [{"stream": labels, "values": list(map(value_of, entries))} for labels, entries in streams]}
 
 
+def push_request(labels, entries, tenant="t"):
+    return request(PUSH, push_body([(labels, entries)]), tenant)
+
+
+def entry(line="x"):
+    """An entry of now."""
+    return time.time_ns(), line, ()
+
+
 def read_body(labels, first=0, last=MOST_TIME):
     return {"stream": labels, "from": str(first), "to": str(last)}
 
 
-class Client:
+class Client(contextlib.AbstractContextManager):
     """A connection to a server. Requests may be sent before the answers to earlier ones are taken."""
 
     def __init__(self, port, tenant="t", seconds=SECONDS):
-        self.tenant, self.found = tenant, b""
+        self.tenant, self.found = tenant, bytearray()
         self.ends = socket.create_connection(("127.0.0.1", port), seconds)
         self.ends.setsockopt(socket.IPPROTO_TCP, socket.TCP_NODELAY, 1)
-
-    def __enter__(self):
-        return self
 
     def __exit__(self, *_):
         self.ends.close()
@@ -266,18 +276,15 @@ class Client:
 
     def answer(self):
         """Status and body of the next answer."""
-        while b"\r\n\r\n" not in self.found:
+        while (begin := self.found.find(b"\r\n\r\n") + 4) < 4:
             self.more()
-        head, _, self.found = self.found.partition(b"\r\n\r\n")
-        lengths = [int(it[15:]) for it in head.split(b"\r\n") if it.startswith(b"Content-Length:")]
-        length, pieces = sum(lengths), [self.found]
-        while length > sum(map(len, pieces)):
-            self.found = b""
+        head = self.found[:begin].split(b"\r\n")
+        end = begin + sum(int(it[15:]) for it in head if it.startswith(b"Content-Length:"))
+        while len(self.found) < end:
             self.more()
-            pieces.append(self.found)
-        whole = b"".join(pieces)
-        self.found = whole[length:]
-        return int(head.split()[1]), whole[:length]
+        body = bytes(self.found[begin:end])
+        del self.found[:end]
+        return int(head[0].split()[1]), body
 
     def send(self, path, body):
         self.ends.sendall(request(path, body, self.tenant))
@@ -303,6 +310,47 @@ class Client:
     def trim(self, labels, bound):
         status, text = self.ask(TRIM, {"stream": labels, "bound": str(bound)})
         return status, text.decode()
+
+
+# ---- the drain -----------------------------------------------------------------------------------------------------
+
+# (deploy/drain and deploy/sweep run walcat)
+WITH_WALCAT = f"{os.path.dirname(program('walcat'))}:{os.environ['PATH']}"
+
+
+def drained(folder):
+    """The lines of the drain's files below a folder: of each its tenant, its file's name, and what it has."""
+    for path in sorted(glob.glob(f"{folder}/*/*.gz")):
+        with gzip.open(path, "rt", encoding="utf-8") as file:
+            for it in map(json.loads, file):
+                yield *path.split("/")[-2:], it
+
+
+def last_run(folder):
+    """What the last run of the drain left of what it did."""
+    lines = bytes_of(f"{folder}/.last-run").decode().splitlines()
+    return {name: float(value) for name, value in map(str.split, lines)}
+
+
+# ---- files ---------------------------------------------------------------------------------------------------------
+
+def text_at(path):
+    """The text of a file of the repository, by its path there."""
+    return bytes_of(f"{TOP}/{path}").decode()
+
+
+def write_program(path, text):
+    os.makedirs(os.path.dirname(path), exist_ok=True)
+    write(path, text.encode())
+    os.chmod(path, 0o755)
+
+
+def unpacked(folder, *packages):
+    """A folder with Debian's packages, which are not installed."""
+    os.makedirs(folder)
+    get = f"apt-get -qq -o APT::Sandbox::User=root download {' '.join(packages)}"
+    subprocess.run(f"{get} && for it in *.deb; do dpkg -x $it .; done", shell=True, check=True, cwd=folder, timeout=300)
+    return folder
 
 
 def write(path, data):

@@ -1,5 +1,6 @@
 """Connections as clients use them: kept open, byte by byte, silent, cut, and very many."""
 import concurrent.futures
+import contextlib
 import os
 import resource
 import socket
@@ -10,18 +11,11 @@ import time
 import pytest
 import servers
 from hostile_bytes import exchange
+from servers import READY, entry, push_request
 
-LABELS, READY, SECONDS = {"a": "1"}, b"GET /ready HTTP/1.1\r\n\r\n", 60
+LABELS, SECONDS = {"a": "1"}, 60
 # one more than any number that a loop of the server's could have
 CONNECTIONS = int(os.environ.get("CONNECTIONS", 101_000))
-
-
-def entry(line="x"):
-    return time.time_ns(), line, ()
-
-
-def push_request(labels, entries, tenant="t"):
-    return servers.request(servers.PUSH, servers.push_body([(labels, entries)]), tenant)
 
 
 def test_requests_in_turn(client):
@@ -59,11 +53,9 @@ def test_answers_are_sent_at_once(client):
 def closes(ends):
     """What comes on a connection until the server closes it, and after how long."""
     began, found = time.monotonic(), b""
-    try:
+    with contextlib.suppress(ConnectionError):
         while piece := ends.recv(65_536):
             found += piece
-    except ConnectionError:
-        pass
     return found, time.monotonic() - began
 
 

@@ -31,17 +31,6 @@ def walcat(data, shard=0, count=1):
         return servers.run(["walcat", file.name, str(shard), str(count)])
 
 
-# ---- the kinds: of a case what was said, and what may be said ---------------------------------------------------------
-
-def try_segment(case):
-    return walcat(*case), [judges.walcat(*case)]
-
-
-def try_body(case):
-    now, body = case
-    return servers.run(["ingest1", str(now)], body), [judges.ingest1(now, body)]
-
-
 def pushed(sets):
     """What a push of these labels, one line for each, is answered, and what `walcat` then prints of its slot."""
     lines, records = [], []
@@ -71,12 +60,15 @@ def try_labels(sets):
 
 
 @pytest.fixture(scope="module")
-def try_head(tmp_path_factory):
+def tries(tmp_path_factory):
     with servers.Server(f"{tmp_path_factory.mktemp('drawn')}/log", 4, 64) as server:
         # (addresses of its own, so that ports suffice)
-        numbers = itertools.count()
-        yield lambda data: (hostile_bytes.exchange(server.port, data, SECONDS, f"127.0.1.{next(numbers) % 250 + 1}"),
-                            judges.connection(data))
+        addresses = itertools.cycle(f"127.0.1.{it}" for it in range(1, 251))
+        exchange = lambda data: hostile_bytes.exchange(server.port, data, SECONDS, next(addresses))
+        yield {"segments": lambda case: (walcat(*case), [judges.walcat(*case)]),
+               "bodies": lambda case: (servers.run(["ingest1", str(case[0])], case[1]), [judges.ingest1(*case)]),
+               "labels": try_labels,
+               "heads": lambda data: (exchange(data), judges.connection(data))}
 
 
 def hold(tried, name=""):
@@ -84,34 +76,17 @@ def hold(tried, name=""):
     assert said in wanted, name
 
 
-@DRAWING
-@given(strategies.randoms(use_true_random=False))
-def test_drawn_segments(draw):
-    hold(try_segment(hostile_bytes.drawn_segment(draw)))
-
-
-@DRAWING
-@given(strategies.randoms(use_true_random=False))
-def test_drawn_bodies(draw):
-    hold(try_body(hostile_bytes.drawn_body(draw)))
-
-
-@DRAWING
-@given(strategies.randoms(use_true_random=False))
-def test_drawn_labels(draw):
-    hold(try_labels(hostile_bytes.drawn_labels(draw)))
-
-
+@pytest.mark.parametrize("kind", hostile_bytes.DRAWN)
 @DRAWING
 @given(draw=strategies.randoms(use_true_random=False))
-def test_drawn_heads(try_head, draw):
-    hold(try_head(hostile_bytes.drawn_head(draw)))
+def test_drawn(tries, kind, draw):
+    hold(tries[kind](hostile_bytes.DRAWN[kind](draw)))
 
 
 @pytest.mark.by_hand
 @pytest.mark.parametrize("kind", FLOORS)
-def test_named(try_head, kind):
-    tries, made = {"segments": try_segment, "bodies": try_body, "heads": try_head}, 0
+def test_named(tries, kind):
+    made = 0
     with concurrent.futures.ThreadPoolExecutor(os.cpu_count()) as pool:
         cases = hostile_bytes.NAMED[kind]()
         while part := list(itertools.islice(cases, 1_000)):

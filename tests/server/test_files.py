@@ -9,7 +9,6 @@ import re
 import resource
 import shutil
 import signal
-import socket
 import stat
 import struct
 import subprocess
@@ -55,15 +54,6 @@ def lawful(slot):
     return APPENDED if slot == 1 else APPENDED[:5] + struct.pack("<Q", 2) + APPENDED[13:]
 
 
-def put_socket(path, slot, _):
-    here = os.getcwd()
-    with socket.socket(socket.AF_UNIX) as it:
-        # (the name of a socket is short)
-        os.chdir(os.path.dirname(path))
-        it.bind(os.path.basename(path))
-        os.chdir(here)
-
-
 def locked(how):
     def put(path, slot, ends):
         servers.write(path, lawful(slot))
@@ -80,10 +70,10 @@ def with_rights(rights, owner=NOBODY, of_folder=0o777):
     return put
 
 
-def of_length(length, change):
+def too_long(change):
     def put(path, slot, _):
         servers.write(path, change(lawful(slot)))
-        os.truncate(path, length)
+        os.truncate(path, LONGEST + 1)
     return put
 
 
@@ -97,14 +87,14 @@ KINDS = {
     "a link to the other slot": (lambda path, slot, _: os.symlink(f"shard-00-{1 - slot}.wal", path), SECOND),
     "the other slot itself": (lambda path, slot, _: os.link(path.replace(f"-{slot}.wal", f"-{1 - slot}.wal"), path), SECOND),
     "a pipe": (lambda path, slot, _: os.mkfifo(path), THIS),
-    "a socket": (put_socket, THIS),
+    "a socket": (lambda path, slot, _: os.mknod(path, 0o666 | stat.S_IFSOCK), THIS),
     "locked by another process": (locked(fcntl.LOCK_EX), THIS),
     "read under a lock by another process": (locked(fcntl.LOCK_SH), THIS),
     # (the block begins inside the first 2^30 bytes, and its closing gate is the byte behind them)
-    "of 2^30 + 1 bytes, one block": (of_length(LONGEST + 1, lambda data: data[:22] + struct.pack("<I", LONGEST - 26)),
-                                        (3, "shard 0: slot {slot} damaged at 21")),
-    "of 2^30 + 1 bytes, a segment in front": (of_length(LONGEST + 1, lambda data: data), b'["10","x"],["11","y"]'),
-    "of 2^30 + 1 bytes, closed": (of_length(LONGEST + 1, lambda data: b""), b""),
+    "of 2^30 + 1 bytes, one block": (too_long(lambda data: data[:22] + struct.pack("<I", LONGEST - 26)),
+                                     (3, "shard 0: slot {slot} damaged at 21")),
+    "of 2^30 + 1 bytes, a segment in front": (too_long(lambda data: data), b'["10","x"],["11","y"]'),
+    "of 2^30 + 1 bytes, closed": (too_long(lambda data: b""), b""),
 }
 # the programs are started by a user who may do little, but for the device
 ROOT_KINDS = {
@@ -118,12 +108,17 @@ ROOT_KINDS = {
 }
 
 
-def try_slot(folder, programs, slot, put, due, **user):
+@pytest.mark.parametrize("slot", [0, 1])
+@pytest.mark.parametrize("kind", [*(pytest.param(it, marks=[pytest.mark.by_hand] * ("2^30" in it)) for it in KINDS),
+                                  *(pytest.param(it, marks=as_root) for it in ROOT_KINDS)])
+def test_slots(folder, programs, kind, slot):
     """The server and ingestctl name the slot, or have its lines, and leave every file as it was."""
+    put, due = {**KINDS, **ROOT_KINDS}[kind]
+    user = {"user": NOBODY, "group": NOBODY, "extra_groups": []} if kind in ROOT_KINDS and kind != "a device" else {}
     folder = f"{folder}/log"
     os.mkdir(folder)
     os.chmod(folder, 0o777)
-    paths = [f"{folder}/shard-00-{it}.wal" for it in (0, 1)]
+    paths = servers.slots_of(folder)
     servers.write(paths[1 - slot], b"")
     os.chmod(paths[1 - slot], 0o666)
     with contextlib.ExitStack() as ends:
@@ -134,20 +129,6 @@ def try_slot(folder, programs, slot, put, due, **user):
         for words, right in zip((["server", folder, "0", "1", "1"], ["ingestctl", "read", folder, "1", "t", "20"]), wanted):
             assert servers.run([f"{programs}/{words[0]}", *words[1:]], READ, **user) == right
             assert files_of(folder) == before
-
-
-@pytest.mark.parametrize("slot", [0, 1])
-@pytest.mark.parametrize("kind", [pytest.param(it, marks=[pytest.mark.by_hand] * ("2^30" in it)) for it in KINDS])
-def test_slots(folder, programs, kind, slot):
-    try_slot(folder, programs, slot, *KINDS[kind])
-
-
-@as_root
-@pytest.mark.parametrize("slot", [0, 1])
-@pytest.mark.parametrize("kind", ROOT_KINDS)
-def test_slots_of_others(folder, programs, kind, slot):
-    user = {} if kind == "a device" else {"user": NOBODY, "group": NOBODY, "extra_groups": []}
-    try_slot(folder, programs, slot, *ROOT_KINDS[kind], **user)
 
 
 @pytest.mark.parametrize("name", ["file", "file/slots", "link", "n" * 256, "n/" * 2_100])

@@ -1,4 +1,4 @@
-"""A server's address, its clock, and the threads that it is refused."""
+"""A server's address, its clock, which lines it takes by its settings, and the threads that it is refused."""
 import os
 import shutil
 import socket
@@ -36,20 +36,41 @@ def test_clock(client):
     assert client.push({"a": "again"}, [(old, "x", ())]) == (400, "stream 0 entry 0: too old\n")
 
 
-REFUSED_THREAD = (3, b"", b"thread not started\n")
+@pytest.mark.parametrize("age, window", [(None, 3600), ("1h30m", 2700), ("2m", 60), ("1s", 0.5), ("0", 0)])
+def test_window(serve, age, window):
+    """A line at the edge of the window is taken, and one a nanosecond behind it is not. A trim leaves the window."""
+    newest = time.time_ns()
+    edge = newest - int(window * SECOND)
+    late = f"stream 0 entry 2: too far behind, oldest accepted is {edge}\n"
+    with servers.Client(serve("log", 1, 1, {"NEEDLEAZURE_MAX_CHUNK_AGE": age} if age else {}).port) as client:
+        pushed = [(newest, "newest", ()), (edge, "edge", ()), (edge - 1, "behind", ())]
+        assert client.push(LABELS, pushed) == (400, late)
+        assert client.read(LABELS) == sorted(pushed[:2], key=lambda it: it[0])
+        assert client.trim(LABELS, edge + 1) == (400, "trim bound is above the oldest accepted time")
+        assert client.trim(LABELS, edge) == (200, '{"trimmed":0}')
 
 
-@pytest.mark.parametrize("name", ["ingestctl", "server"])
-def test_refused_threads(folder, preload, name):
+def test_old_and_ahead(serve):
+    """By the server's clock, to ten seconds."""
+    settings = {"NEEDLEAZURE_REJECT_OLD_SAMPLES_MAX_AGE": "1m", "NEEDLEAZURE_CREATION_GRACE_PERIOD": "1m30s"}
+    with servers.Client(serve("log", 1, 1, settings).port) as client:
+        now = time.time_ns()
+        pushed = [(now + at * SECOND, str(at), ()) for at in (-70, 100, -50, 80)]
+        refused = "stream 0 entry 0: too old\nstream 0 entry 1: too new\n"
+        assert client.push(LABELS, pushed) == (400, refused)
+        assert client.read(LABELS) == pushed[2:]
+
+
+@pytest.mark.parametrize("words", ["ingestctl push {} 4 t 20", "server {} 0 4 3"])
+def test_refused_threads(folder, preload, words):
     """The thread of each shard is refused in turn: the program ends, changes nothing, and the slots open again."""
     body = b'{"streams":[{"stream":{"a":"1"},"values":[["20","x"]]}]}'
-    push = lambda slots, **how: servers.run(["ingestctl", "push", slots, "4", "t", "20"], body, **how)
+    push = lambda slots: servers.run(["ingestctl", "push", slots, "4", "t", "20"], body)
     assert push(f"{folder}/slots") == (0, b"204\n", b"")
     files = lambda slots: {it: servers.bytes_of(f"{slots}/{it}") for it in os.listdir(slots)}
     for number in range(1, 5):
         mark, slots = f"{folder}/mark{number}", shutil.copytree(f"{folder}/slots", f"{folder}/{number}")
         settings = {"THREAD_AT": str(number), "THREAD_MARK": mark, "LD_PRELOAD": preload}
-        served = lambda: servers.run(["server", slots, "0", "4", "3"], env=settings)
-        found = push(slots, env=settings) if name == "ingestctl" else served()
-        assert found == REFUSED_THREAD and os.path.exists(mark) and files(slots) == files(f"{folder}/slots")
+        assert servers.run(words.format(slots).split(), body, env=settings) == (3, b"", b"thread not started\n")
+        assert os.path.exists(mark) and files(slots) == files(f"{folder}/slots")
         assert push(slots) == (0, b"204\n", b"")

@@ -5,6 +5,7 @@ import time
 
 import pytest
 import servers
+from servers import entry
 
 LABELS = {"a": "1"}
 PLACE = ", then start the server again as docs/OPERATING.md says under \"After a failed disk\"."
@@ -13,7 +14,6 @@ PLACE = ", then start the server again as docs/OPERATING.md says under \"After a
 def lines_of(serve, name, length, make_room=lambda: None, **how):
     """Pushes until the only shard is unavailable. What the server said until its end. When there is room again, what was
     answered is there, with the line that wasn't or without it, and the shard goes on."""
-    entry = lambda line: (time.time_ns(), line, ())
     server, answered, status = serve(name, 1, 1, **how), [], 204
     with servers.Client(server.port) as client:
         while status == 204:
@@ -31,7 +31,7 @@ def lines_of(serve, name, length, make_room=lambda: None, **how):
 
 def line_with(cause):
     what = f"shard 00 is unavailable: a call on its disk failed: {cause}."
-    return f"{what} Its requests are answered 503 from now on. See to the disk{PLACE}"
+    return f"{what} Its requests are answered 503 from now on. Fix the disk{PLACE}"
 
 
 @pytest.mark.parametrize("length", [50, 4_000, 60_000])

@@ -93,23 +93,23 @@ impl<'a, O: Answers> WriteEnd<'a, O> {
         &mut self,
         knows: &O::Knows,
         outgoing: &mut Outgoing,
-        answer: &Answer,
+        answer: Answer,
         content: Content,
         closes: bool,
     ) -> Result<(), ServeFault>
         requires due { O.due self.old.writer.now knows.now
-            (answer_text answer.now.status content None closes answer.now.body.items) }
+            (answer_text answer.status content None closes answer.body.items) }
         ensures same { IsSameEnd O.through self.old self.new }
         ensures writes { WritesBeginning (O.contents self.old.writer.now)
             (O.contents self.new.writer.now)
-            (answer_text answer.now.status content None closes answer.now.body.items) result }
+            (answer_text answer.status content None closes answer.body.items) result }
         ensures told { IfErr result (λ fault. IsOfAnswer self.new fault) }
         ensures follows { OnOk result (Follows (O.due self.old.writer.now)
-            (answer_text answer.now.status content None closes answer.now.body.items)
+            (answer_text answer.status content None closes answer.body.items)
             (O.due self.new.writer.now)) }
     {
         outgoing.answer(answer, content, closes)?;
-        self.say(knows, outgoing.text())
+        self.say_answer(knows, outgoing)
     }
 
     /// Puts a fixed answer there.
@@ -130,7 +130,7 @@ impl<'a, O: Answers> WriteEnd<'a, O> {
             (fixed_text answer closes) (O.due self.new.writer.now)) }
     {
         outgoing.fixed(answer, closes)?;
-        self.say(knows, outgoing.text())
+        self.say_answer(knows, outgoing)
     }
 
     /// Puts the answer of a failure there. Takes no memory of its own.
@@ -145,20 +145,22 @@ impl<'a, O: Answers> WriteEnd<'a, O> {
         ensures follows { OnOk result (Follows (O.due self.old.writer.now)
             (failure_text failure) (O.due self.new.writer.now)) }
     {
-        self.say(knows, failure_text(failure))
+        let said = self.writer.say(knows, failure_text(failure));
+        self.failed = said.is_err();
+        said
     }
 
-    fn say(&mut self, knows: &O::Knows, text: &[u8]) -> Result<(), ServeFault>
-        requires due { O.due self.old.writer.now knows.now text.now }
+    fn say_answer(&mut self, knows: &O::Knows, outgoing: &mut Outgoing) -> Result<(), ServeFault>
+        requires due { O.due self.old.writer.now knows.now outgoing.old }
         ensures same { IsSameEnd O.through self.old self.new }
         ensures writes { WritesBeginning (O.contents self.old.writer.now)
-            (O.contents self.new.writer.now) text.now result }
+            (O.contents self.new.writer.now) outgoing.old result }
         ensures fault { IfErr result (λ e. e ≡ ServeFault.Write) }
         ensures told { IfErr result (λ fault. IsOfAnswer self.new fault) }
-        ensures follows { OnOk result (Follows (O.due self.old.writer.now) text.now
+        ensures follows { OnOk result (Follows (O.due self.old.writer.now) outgoing.old
             (O.due self.new.writer.now)) }
     {
-        let said = self.writer.say(knows, text);
+        let said = self.writer.say_answer(knows, outgoing);
         self.failed = said.is_err();
         said
     }

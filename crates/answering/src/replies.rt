@@ -1,10 +1,10 @@
 //! The answers to reads and trims, and what a reply to any call is answered by.
-ghost use Rattle.std.specs.Prelude.{◌≡◌, ◌≢◌, ◌∷◌, ◌++◌, [], IfOk, IfErr, OnErr, map, decimal};
-ghost use Rattle.serde_json.specs.Data.{string, array, object};
-ghost use Rattle.serde_json.specs.View.{view, items_of};
-ghost use Rattle.serde_json.specs.Written.{compact_text};
+ghost use Rattle.std.specs.Prelude.{◌≡◌, ◌≢◌, ◌∷◌, ◌++◌, [], IfOk, IfErr, OnOk, OnErr, map};
+ghost use Rattle.json.specs.Token.{Token as SpecToken};
+ghost use Rattle.json.specs.Tree.{json_tokens, items_tokens, members_tokens};
+ghost use Rattle.serde_json.specs.View.{items_of};
+ghost use Rattle.serde_json.specs.Written.{compact_text, outline, items_outline, members_outline};
 ghost use Rattle.labels.specs.Labels.{label_of};
-ghost use Rattle.labels.specs.Canonical.{NamesRise};
 ghost use Rattle.pushjson.specs.Bodies.{labels_tree};
 ghost use Rattle.answering.specs.Calls.{Refused, Replied};
 ghost use Rattle.answering.specs.Lines.{push_status, lines_from};
@@ -12,11 +12,17 @@ ghost use Rattle.answering.specs.Replies.{meta_tree, entry_tree, read_tree, trim
 ghost use Rattle.answering.specs.Showing.{IsShown};
 
 use crate::lines::{PushLines, push_number};
-use accept::{Entry, EntryList, Line, Reply};
+use accept::{Entry, EntryList, Reply};
+use json::Writer;
 use labels::LabelFault;
-use requests::{Answer, ServeFault, Status};
-use serde_json::{Map, Value};
+use requests::{Answer, ROOM_FOR_HEAD, ServeFault, Status};
 use std::alloc::{AllocError, Global};
+
+/// `["TIME","LINE"],` has at most so many bytes beside the line, and the brackets and the comma of metadata.
+const ENTRY_ROOM: usize = 32;
+
+/// `"NAME":"VALUE",` has so many bytes beside the two.
+const PAIR_ROOM: usize = 6;
 
 /// Status and body of the answer to a read that got this reply, as `answer` gives them. A value is a time and a line,
 /// and where the line has structured metadata a third element, the object of its pairs.
@@ -110,81 +116,102 @@ fn answer_of_entries(alloc: Global, entries: EntryList) -> Result<Answer, AllocE
     })
 }
 
+/// Each entry is let go of once it is written.
 fn body_of_entries(alloc: Global, entries: EntryList) -> Result<Vec<u8>, AllocError>
     ensures { IfOk result (λ body. body.items ≡ compact_text (read_tree entries)) }
 {
-    object_of_entries(alloc, entries)?.to_vec(alloc)
+    let entries = entries.into_vec();
+    let room = room_for(entries.as_slice());
+    let mut out = Writer::new(Vec::with_capacity(alloc, room)?);
+    write_read(&mut out, entries)?;
+    Ok(out.into_inner())
 }
 
-fn object_of_entries(alloc: Global, entries: EntryList) -> Result<Value, AllocError>
-    ensures { IfOk result (λ v. view v ≡ read_tree entries) }
-{
-    let mut members = Map::new(alloc);
-    let values = values_of_entries(alloc, entries.into_vec())?;
-    members.insert("values".to_string(alloc)?, Value::Array(values))?;
-    Ok(Value::Object(members))
-}
-
-fn values_of_entries(alloc: Global, entries: Vec<Entry>) -> Result<Vec<Value>, AllocError>
-    ensures { IfOk result (λ values. map view values.items ≡ map entry_tree entries.items) }
-{
-    let mut values = Vec::with_capacity(alloc, entries.len())?;
+/// About how many bytes the answer has: more only by the bytes of lines that are escaped.
+fn room_for(entries: &[Entry]) -> usize {
+    let mut room = ROOM_FOR_HEAD;
     for entry in entries {
-        values.push(value_of_entry(alloc, entry)?)?;
+        let mut length = entry.line.as_str().len().saturating_add(ENTRY_ROOM);
+        for (name, value) in entry.meta.as_slice() {
+            length = length.saturating_add(
+                name.len()
+                    .saturating_add(value.len())
+                    .saturating_add(PAIR_ROOM),
+            );
+        }
+        room = room.saturating_add(length);
     }
-    Ok(values)
+    room
+}
+
+fn write_read(out: &mut Writer, entries: Vec<Entry>) -> Result<(), AllocError>
+    ensures before { out.new.before ≡ out.old.before }
+    ensures tokens { OnOk result (out.new.tokens
+        ≡ out.old.tokens ++ json_tokens (outline (read_tree entries.items))) }
+{
+    out.begin_object()?;
+    out.key("values")?;
+    out.begin_array()?;
+    write_entries(out, entries)?;
+    out.end_object()
+}
+
+/// The entries, and the bracket behind them.
+fn write_entries(out: &mut Writer, entries: Vec<Entry>) -> Result<(), AllocError>
+    ensures before { out.new.before ≡ out.old.before }
+    ensures tokens { OnOk result (out.new.tokens
+        ≡ out.old.tokens ++ items_tokens (items_outline (items_of (map entry_tree entries.items)))) }
+{
+    for entry in entries {
+        write_entry(out, &entry)?;
+    }
+    out.end_array()
 }
 
 /// A time, a line, and metadata where there is some.
-fn value_of_entry(alloc: Global, entry: Entry) -> Result<Value, AllocError>
-    ensures { IfOk result (λ v. view v ≡ entry_tree entry) }
+fn write_entry(out: &mut Writer, entry: &Entry) -> Result<(), AllocError>
+    ensures before { out.new.before ≡ out.old.before }
+    ensures tokens { OnOk result (out.new.tokens
+        ≡ out.old.tokens ++ json_tokens (outline (entry_tree entry.now))) }
 {
-    let Entry { time, line, meta } = entry;
-    value_of_parts(alloc, time, line, meta.as_slice())
+    out.begin_array()?;
+    out.quoted_u64(entry.time)?;
+    out.string(entry.line.as_str())?;
+    write_meta(out, entry.meta.as_slice())?;
+    out.end_array()
 }
 
-fn value_of_parts(
-    alloc: Global,
-    time: u64,
-    line: Line,
-    pairs: &[(String, String)],
-) -> Result<Value, AllocError>
-    requires { NamesRise (map label_of pairs.now) }
-    ensures { IfOk result (λ v. view v ≡ array (items_of
-        (string (decimal time) ∷ string line ∷ meta_tree (map label_of pairs.now)))) }
+fn write_meta(out: &mut Writer, pairs: &[(String, String)]) -> Result<(), AllocError>
+    ensures before { out.new.before ≡ out.old.before }
+    ensures tokens { OnOk result (out.new.tokens ++ SpecToken.end_array ∷ [] ≡ out.old.tokens
+        ++ items_tokens (items_outline (items_of (meta_tree (map label_of pairs.now))))) }
 {
-    let mut value = Vec::with_capacity(alloc, if pairs.is_empty() { 2 } else { 3 })?;
-    value.push(Value::String(time.to_string(alloc)?))?;
-    value.push(Value::String(line.into_string()))?;
-    push_pairs(alloc, &mut value, pairs)?;
-    Ok(Value::Array(value))
-}
-
-fn push_pairs(
-    alloc: Global,
-    value: &mut Vec<Value>,
-    pairs: &[(String, String)],
-) -> Result<(), AllocError>
-    requires { NamesRise (map label_of pairs.now) }
-    ensures { IfOk result (λ _. map view value.new.items
-        ≡ map view value.old.items ++ meta_tree (map label_of pairs.now)) }
-{
-    if !pairs.is_empty() {
-        value.push(object_of_pairs(alloc, pairs)?)?;
+    if pairs.is_empty() {
+        return Ok(());
     }
-    Ok(())
+    out.begin_object()?;
+    write_pairs(out, pairs)
 }
 
-/// The object of these pairs, whose names rise.
-fn object_of_pairs(alloc: Global, pairs: &[(String, String)]) -> Result<Value, AllocError>
-    requires { NamesRise (map label_of pairs.now) }
-    ensures { IfOk result (λ v. view v ≡ object (labels_tree (map label_of pairs.now))) }
+/// The pairs, and the bracket behind them.
+fn write_pairs(out: &mut Writer, pairs: &[(String, String)]) -> Result<(), AllocError>
+    ensures before { out.new.before ≡ out.old.before }
+    ensures tokens { OnOk result (out.new.tokens ≡ out.old.tokens
+        ++ members_tokens (members_outline (labels_tree (map label_of pairs.now)))) }
 {
-    let mut members = Map::new(alloc);
     for (name, value) in pairs {
-        members.insert(name.clone()?, Value::String(value.clone()?))?;
+        write_pair(out, name.as_str(), value.as_str())?;
     }
-    Ok(Value::Object(members))
+    out.end_object()
+}
+
+fn write_pair(out: &mut Writer, name: &str, value: &str) -> Result<(), AllocError>
+    ensures before { out.new.before ≡ out.old.before }
+    ensures tokens { OnOk result (out.new.tokens
+        ≡ out.old.tokens ++ SpecToken.key name.now ∷ SpecToken.string value.now ∷ []) }
+{
+    out.key(name)?;
+    out.string(value)
 }
 
 /// An answer of this text.

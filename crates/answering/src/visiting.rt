@@ -107,7 +107,7 @@ impl<'a, 'b, S: Calls<Pass = P>, P, C: Clock, O: Answers<Knows = P>> Visit<'a, '
             Ok(answer) => {
                 let content = content_for(answer.status);
                 self.end
-                    .answer(self.pass, self.outgoing, &answer, content, message.closes)?;
+                    .answer(self.pass, self.outgoing, answer, content, message.closes)?;
                 Ok(message.closes)
             }
             Err(Halt::Failed(failure)) => {

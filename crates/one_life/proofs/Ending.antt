@@ -26,7 +26,8 @@ use Rattle.headline.specs.Headline.{IsOneOf}
 use Rattle.headline.specs.Turns.{Between, Within, IsInTime, Stretch, IsStretch}
 use Rattle.headline.specs.Lives.{ShardEnd, CutAt, IsEnd}
 use Rattle.headline.proofs.Owning.{in_time_told}
-use Rattle.one_life.specs.Cut.{Two, AreOpened, IsMadeBy, HaveMetIn, IsCutTurn, IsCutOnce}
+use Rattle.one_life.specs.declared.opening.Two.{Two}
+use Rattle.one_life.specs.Cut.{AreOpened, IsMadeBy, HaveMetIn, IsCutTurn, IsCutOnce}
 
 -- a call in doubt was not refused
 not_refused : (a b : Result Reply CallFault) → a ≡ Err InDoubt → b ≡ Err PassClosed → a ≡ b → ⊥

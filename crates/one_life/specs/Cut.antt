@@ -1,16 +1,20 @@
 -- Two shards and two passes of an opening, until a crash cuts a turn.
 use Rattle.std.specs.Prelude.{◌≡◌, ℕ, List, [], ◌∷◌, false, length, map, Ok, Err}
+use Rattle.atomic_table.specs.Seated.{TableId}
 use Rattle.accept.specs.declared.limits.Limits.{Limits}
 use Rattle.accept.specs.declared.call.Call.{Call}
 use Rattle.accept.specs.declared.call.Reply.{Reply}
+use Rattle.accept.specs.Histories.{key_of}
 use Rattle.accept.specs.declared.fault.CallFault.TheVariants.{InDoubt}
 use Rattle.disk.specs.Sight.{Sight}
 use Rattle.wal.specs.Logs.{Follow}
-use Rattle.history.specs.Handles.{Passed, is_closed_pass, about_of, fresh_pass, with_seen, HaveMet}
+use Rattle.history.specs.declared.views.About.{About}
+use Rattle.history.specs.Handles.{Booked, Passed, is_closed_pass, about_of, fresh_book, fresh_pass, with_seen, HaveMet}
+use Rattle.history.specs.Shards.{shard_of}
 use Rattle.shard.specs.Leads.{IsMade}
 use Rattle.shard.specs.Shards.{Sharded}
 use Rattle.shard.specs.Turns.{Turn}
-use Rattle.owners.specs.Openings.{Opening}
+use Rattle.owners.specs.Openings.{Opening, opening_of}
 use Rattle.owners.specs.Places.{opened_shard}
 use Rattle.openings.specs.Findings.{AreOpenedFrom}
 use Rattle.ingester.specs.Calls.{IsGiven, with_next}
@@ -18,13 +22,41 @@ use Rattle.ingester.specs.Closings.{IsTold}
 use Rattle.headline.specs.Threads.{What, Called, Met, Thread}
 use Rattle.headline.specs.Turns.{Between, Within}
 use Rattle.headline.specs.Lives.{Life, CutAt, IsLife}
+use Rattle.one_life.specs.declared.opening.Two.{Two}
+use Rattle.one_life.specs.declared.opening.Begun.{Begun}
 
--- two shards, and what two passes know
-pub record Two (D : Type 0) : Type 0 where
-  pub first : Sharded D
-  pub second : Sharded D
-  pub one : Passed
-  pub two : Passed
+-- among two shards the call belongs to shard k
+abbrev pub IsOn : ℕ → Call → Type 0
+IsOn k call = shard_of (key_of call) 2 ≡ k
+
+-- the histories of two shards have begun, with a book of each and two passes
+pub record HaveBegun (about : About) (it : Begun) : Type 0 where
+  pub books : it.books ≡ (fresh_book it.history about 0, fresh_book it.history about 1)
+  pub passes : it.passes ≡ (fresh_pass it.history about 0, fresh_pass it.history about 1)
+
+-- a book of shard k of this opening
+pub record IsBookOf (table : TableId) (about : About) (k : ℕ) (book : Booked) : Type 0 where
+  pub same_table : book.table ≡ table
+  pub same_about : book.about ≡ about
+  pub number : book.shard ≡ k
+
+-- a pass of this opening, which waits for no answer
+pub record IsIdle (table : TableId) (about : About) (pass : Passed) : Type 0 where
+  pub same_table : pass.table ≡ table
+  pub same_about : pass.caller.about ≡ about
+  pub idle : pass.caller.pending ≡ []
+
+-- shard 0 and shard 1, and two passes, of this opening of two shards
+pub record AreOfOpening {D : Type 0} (table : TableId) (about : About) (it : Two D) : Type 0 where
+  pub two_shards : about.shards ≡ 2
+  pub first : IsBookOf table about 0 it.first.book
+  pub second : IsBookOf table about 1 it.second.book
+  pub one : IsIdle table about it.one
+  pub two : IsIdle table about it.two
+
+-- the opening of these shards, before their first turns
+abbrev pub opening_with : {D : Type 0} → Two D → Opening D
+opening_with it = opening_of it.first.book (it.first.opened ∷ it.second.opened ∷ [])
 
 module _ {D : Type 0} (sight : D → Sight) (follows : D → Type 0) where
   -- Two shards of an opening over these slots, before any turn, and its two passes, which made no call.
@@ -49,6 +81,12 @@ module _ {D : Type 0} (sight : D → Sight) (follows : D → Type 0) where
     pub to : turn.new ≡ new
     pub made : IsMade sight follows turn
     pub given : IsGiven was call (Ok reply) now
+
+  -- Each pass made a call, by a turn of a shard of its own, and got this reply.
+  pub record HaveCalled (old : Two D) (first second : Call) (replies : Reply × Reply)
+      (new : Two D) : Type 0 where
+    pub first_call : IsMadeBy old.first new.first old.one first replies.0 new.one
+    pub second_call : IsMadeBy old.second new.second old.two second replies.1 new.two
 
   -- The passes met.
   pub record HaveMetIn (opening : Opening D) (called answered : Passed) (it : Two D) : Type 0 where

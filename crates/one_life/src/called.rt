@@ -21,6 +21,22 @@ pub struct Tray {
     pub settled: Vec<Settled>,
 }
 
+// Empty lists, with room for one job.
+pub(crate) fn empty_tray(alloc: Global) -> Option<Tray>
+    ensures jobs { IfSome result (λ tray. (tray.jobs.items ≡ [])
+        × (deque_len tray.jobs + 1 ≤ deque_capacity tray.jobs)) }
+    ensures settled { IfSome result (λ tray. (tray.settled.items ≡ [])
+        × (vec_len tray.settled + 1 ≤ vec_capacity tray.settled)) }
+{
+    let Ok(jobs) = VecDeque::with_capacity(alloc, 1) else {
+        return None;
+    };
+    match Vec::with_capacity(alloc, 1) {
+        Ok(settled) => Some(Tray { jobs, settled }),
+        Err(_) => None,
+    }
+}
+
 /// Makes a call of a pass by a turn of its shard, and takes the answer in. Without a reply nothing is known.
 pub fn call_once<D: Disk>(
     alloc: Global,

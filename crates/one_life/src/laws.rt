@@ -3,7 +3,8 @@ ghost use Rattle.std.specs.Prelude.{ℕ, List};
 ghost use Rattle.accept.specs.declared.limits.Limits.{Limits};
 ghost use Rattle.history.specs.Handles.{Passed};
 ghost use Rattle.owners.specs.Openings.{Opening};
-ghost use Rattle.one_life.specs.Cut.{Two, AreOpened, IsMadeBy, HaveMetIn, IsCutTurn, IsCutOnce};
+ghost use Rattle.one_life.specs.declared.opening.Two.{Two};
+ghost use Rattle.one_life.specs.Cut.{AreOpened, IsMadeBy, HaveMetIn, IsCutTurn, IsCutOnce};
 
 use accept::{Call, Reply};
 use disk::Disk;

@@ -2,13 +2,17 @@
 #![tactic(auto)]
 
 mod called;
+mod cut;
 mod laws;
 mod once;
+mod opening;
 mod seen;
 mod turned;
 
 pub use called::{Tray, call_once};
+pub use cut::cut_once;
 pub use laws::cut_turn_ends_a_life;
 pub use once::live_once;
+pub use opening::{Two, open_two};
 pub use seen::{close_once, look_once, meet_once};
 pub use turned::turn_once;

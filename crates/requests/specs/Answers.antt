@@ -72,6 +72,10 @@ answer_text status content allow closes body =
     (length body) ++ allow_line allow ++ last_lines closes
     ++ body
 
+-- what is sent of a body: with status 204 nothing
+abbrev pub sent_body : Status → List ℕ → List ℕ
+sent_body status body = if code_of status == 204 then [] else body
+
 abbrev pub status_of : FixedAnswer → Status
 status_of BadRequest = statuses.BadRequest
 status_of HeadTooLarge = statuses.RequestHeaderFieldsTooLarge

@@ -3,10 +3,12 @@ ghost use Rattle.std.specs.Prelude.{◌≡◌, ◌≤◌, ◌++◌, [], Some, le
 ghost use Rattle.requests.specs.Writing.{WritesBeginning, Follows};
 
 use crate::fault::ServeFault;
+use crate::outgoing::{Outgoing, rest};
 use crate::writing::write_text;
 use std::alloc::Global;
 use std::io::Write;
 use std::marker::{Model, PhantomData};
+use std::mem;
 
 /// Where answers are put: a writer, or a text that will be sent. What may be put there is a matter of what is known of
 /// the calls at that moment, so code that is generic over this trait puts nothing there without a proof that it is due.
@@ -36,6 +38,19 @@ pub trait Answers {
         ensures writes { WritesBeginning (contents self.old) (contents self.new) text.now result }
         ensures fault { IfErr result (λ e. e ≡ ServeFault.Write) }
         ensures follows { OnOk result (Follows (due self.old) text.now (due self.new)) };
+
+    /// Puts an answer there that was put together and is due. Its memory may go there with it.
+    ///
+    /// # Errors
+    ///
+    /// `Write`: a beginning of it was taken.
+    fn say_answer(&mut self, knows: &Self::Knows, outgoing: &mut Outgoing) -> Result<(), ServeFault>
+        requires due { due self.old knows.now outgoing.old }
+        ensures same { through self.new ≡ through self.old }
+        ensures writes { WritesBeginning (contents self.old) (contents self.new) outgoing.old
+            result }
+        ensures fault { IfErr result (λ e. e ≡ ServeFault.Write) }
+        ensures follows { OnOk result (Follows (due self.old) outgoing.old (due self.new)) };
 }
 
 /// A writer, to which any text may be sent at any time. `P` is what is known of the calls.
@@ -70,6 +85,12 @@ impl<'a, O: Write, P> Answers for Sent<'a, O, P> {
     fn say(&mut self, _knows: &P, text: &[u8]) -> Result<(), ServeFault> {
         write_text(self.writer, text)
     }
+
+    fn say_answer(&mut self, _knows: &P, outgoing: &mut Outgoing) -> Result<(), ServeFault> {
+        let said = write_text(self.writer, outgoing.text());
+        outgoing.rest();
+        said
+    }
 }
 
 fn push_text(all: &mut Vec<u8>, text: &[u8]) -> Result<(), ServeFault>
@@ -88,15 +109,19 @@ fn push_text(all: &mut Vec<u8>, text: &[u8]) -> Result<(), ServeFault>
 #[derive(Drop)]
 pub struct Outbox<P> {
     text: Vec<u8>,
+    /// How many bytes of it were sent.
+    gone: usize,
     of: PhantomData<P>,
 }
 
 impl<P> Model for Outbox<P> {
-    ghost use Rattle.std.specs.Prelude.{List, ℕ};
+    ghost use Rattle.std.specs.Prelude.{◌≤◌, List, ℕ, drop, length};
 
     ghost Value = { List ℕ };
 
-    ghost view = { λ o. o.text.items };
+    ghost view = { λ o. drop o.gone o.text.items };
+
+    ghost invariant = { λ o. o.gone ≤ length o.text.items };
 }
 
 impl<P> Outbox<P> {
@@ -106,6 +131,7 @@ impl<P> Outbox<P> {
     {
         Outbox {
             text: Vec::new(alloc),
+            gone: 0,
             of: PhantomData,
         }
     }
@@ -114,15 +140,24 @@ impl<P> Outbox<P> {
     pub fn text(&self) -> &[u8]
         ensures { result.now ≡ self.now }
     {
-        self.text.as_slice()
+        &self.text[self.gone..]
     }
 
-    /// So many bytes of it were sent.
+    /// So many bytes of it were sent. Once all are, the memory of a long text is let go of.
     pub fn sent(&mut self, count: usize)
         requires { count ≤ length self.old }
         ensures { self.new ≡ drop count self.old }
     {
-        self.text.drain(..count);
+        self.gone += count;
+        if self.gone < self.text.len() - self.gone {
+            return;
+        }
+        // (no more bytes are moved than were sent)
+        self.text.drain(..self.gone);
+        self.gone = 0;
+        if self.text.is_empty() {
+            rest(&mut self.text);
+        }
     }
 }
 
@@ -138,5 +173,15 @@ impl<P> Answers for Outbox<P> {
     /// Where there is no memory, none of the text is taken.
     fn say(&mut self, _knows: &P, text: &[u8]) -> Result<(), ServeFault> {
         push_text(&mut self.text, text)
+    }
+
+    fn say_answer(&mut self, _knows: &P, outgoing: &mut Outgoing) -> Result<(), ServeFault> {
+        if self.text.is_empty() {
+            mem::swap(&mut self.text, &mut outgoing.text);
+            return Ok(());
+        }
+        let said = push_text(&mut self.text, outgoing.text());
+        outgoing.rest();
+        said
     }
 }

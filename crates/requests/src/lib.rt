@@ -29,7 +29,7 @@ pub use fixed::{FixedAnswer, Method};
 pub use framing::MAX_BODY;
 pub use incoming::{Incoming, MAX_FIELDS, MAX_HEAD, Message, Next};
 pub use laws::{one_request, one_split};
-pub use outgoing::Outgoing;
+pub use outgoing::{Outgoing, ROOM_FOR_HEAD};
 pub use route::Route;
 pub use status::Status;
 pub use verdict::Verdict;

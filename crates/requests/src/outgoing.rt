@@ -1,6 +1,6 @@
 //! Answers as bytes.
-ghost use Rattle.std.specs.Prelude.{◌≡◌, ◌++◌, length, decimal, None, OnOk, IfErr};
-ghost use Rattle.requests.specs.Answers.{status_line, type_line, length_line, allow_line, last_lines, answer_text, fixed_text};
+ghost use Rattle.std.specs.Prelude.{◌≡◌, ◌++◌, [], length, decimal, None, IfOk, OnOk, IfErr};
+ghost use Rattle.requests.specs.Answers.{status_line, type_line, length_line, allow_line, last_lines, answer_text, sent_body, fixed_text};
 
 use crate::answer::{Answer, Content};
 use crate::fault::ServeFault;
@@ -9,6 +9,12 @@ use crate::status::Status;
 use std::alloc::{AllocError, Global};
 use std::io::Write;
 use std::marker::Model;
+
+/// A body of more than 65,536 bytes is long: it is moved and not copied, and memory of more is not kept.
+const LONG: usize = 1 << 16;
+
+/// So much room after a long body keeps it from being copied: the head of an answer is shorter.
+pub const ROOM_FOR_HEAD: usize = 256;
 
 fn push_number(text: &mut Vec<u8>, number: u64) -> Result<(), AllocError>
     ensures { OnOk result (text.new.items ≡ text.old.items ++ decimal number) }
@@ -68,33 +74,65 @@ fn push_last(text: &mut Vec<u8>, closes: bool) -> Result<(), AllocError>
     text.extend_from_slice(b"\r\n")
 }
 
-fn push_answer(
-    text: &mut Vec<u8>,
+/// What is told of an answer before its body.
+#[derive(Clone, Copy)]
+struct Head {
     status: Status,
     content: Content,
     allow: Option<Method>,
     closes: bool,
-    body: &[u8],
-) -> Result<(), AllocError>
-    ensures { OnOk result (text.new.items
-        ≡ text.old.items ++ answer_text status content allow closes body.now) }
+}
+
+/// All that stands before this body.
+fn push_head(text: &mut Vec<u8>, head: Head, body: &[u8]) -> Result<(), AllocError>
+    ensures { OnOk result (text.new.items ++ sent_body head.status body.now
+        ≡ text.old.items ++ answer_text head.status head.content head.allow head.closes body.now) }
 {
-    push_status(text, status)?;
-    if status == Status::NoContent {
-        return push_last(text, closes);
+    push_status(text, head.status)?;
+    if head.status == Status::NoContent {
+        return push_last(text, head.closes);
     }
-    push_type(text, content)?;
+    push_type(text, head.content)?;
     push_length(text, body.len())?;
-    push_allow(text, allow)?;
-    push_last(text, closes)?;
+    push_allow(text, head.allow)?;
+    push_last(text, head.closes)
+}
+
+fn push_answer(text: &mut Vec<u8>, head: Head, body: &[u8]) -> Result<(), AllocError>
+    ensures { OnOk result (text.new.items
+        ≡ text.old.items ++ answer_text head.status head.content head.allow head.closes body.now) }
+{
+    push_head(text, head, body)?;
+    if head.status == Status::NoContent {
+        return Ok(());
+    }
     text.extend_from_slice(body)
 }
 
-/// Where an answer is put together, so that it is sent in one write. It keeps its memory from answer to answer.
-/// Contracts see its text.
+/// The body with this head before it, in the body's memory where it has room.
+fn with_head(mut body: Vec<u8>, head: &[u8]) -> Result<Vec<u8>, AllocError>
+    ensures { IfOk result (λ text. text.items ≡ head.now ++ body.items) }
+{
+    body.extend_from_slice(head)?;
+    body.rotate_right(head.len());
+    Ok(body)
+}
+
+/// Lets go of the text, and of its memory where that is much.
+pub(crate) fn rest(text: &mut Vec<u8>)
+    ensures { text.new.items ≡ [] }
+{
+    text.clear();
+    if text.capacity() > LONG {
+        text.shrink_to_fit();
+    }
+}
+
+/// Where an answer is put together, so that it is sent in one write. It keeps its memory from answer to answer, but not
+/// that of a long one. Contracts see its text.
 #[derive(Drop)]
 pub struct Outgoing {
-    text: Vec<u8>,
+    pub(crate) text: Vec<u8>,
 }
 
 impl Model for Outgoing {
@@ -120,30 +158,36 @@ impl Outgoing {
         self.text.as_slice()
     }
 
-    /// Puts an answer together: its head and its body, or with status 204 its head alone.
+    /// Puts an answer together: its head and its body, or with status 204 its head alone. A long body is not copied where
+    /// it has room for `ROOM_FOR_HEAD` more bytes.
     ///
     /// # Errors
     ///
     /// `Memory`.
     pub fn answer(
         &mut self,
-        answer: &Answer,
+        answer: Answer,
         content: Content,
         closes: bool,
     ) -> Result<(), ServeFault>
         ensures text { OnOk result (self.new
-            ≡ answer_text answer.now.status content None closes answer.now.body.items) }
+            ≡ answer_text answer.status content None closes answer.body.items) }
         ensures fault { IfErr result (λ e. e ≡ ServeFault.Memory) }
     {
-        self.text.clear();
-        push_answer(
-            &mut self.text,
-            answer.status,
+        let Answer { status, body } = answer;
+        let head = Head {
+            status,
             content,
-            None,
+            allow: None,
             closes,
-            answer.body.as_slice(),
-        )?;
+        };
+        self.text.clear();
+        if status == Status::NoContent || body.len() <= LONG {
+            push_answer(&mut self.text, head, body.as_slice())?;
+            return Ok(());
+        }
+        push_head(&mut self.text, head, body.as_slice())?;
+        self.text = with_head(body, self.text.as_slice())?;
         Ok(())
     }
 
@@ -156,15 +200,21 @@ impl Outgoing {
         ensures text { OnOk result (self.new ≡ fixed_text answer closes) }
         ensures fault { IfErr result (λ e. e ≡ ServeFault.Memory) }
     {
+        let head = Head {
+            status: answer.status(),
+            content: Content::Text,
+            allow: answer.allow(),
+            closes: answer.always_closes() || closes,
+        };
         self.text.clear();
-        push_answer(
-            &mut self.text,
-            answer.status(),
-            Content::Text,
-            answer.allow(),
-            answer.always_closes() || closes,
-            answer.body(),
-        )?;
+        push_answer(&mut self.text, head, answer.body())?;
         Ok(())
+    }
+
+    /// Lets go of the text, and of its memory where that is much.
+    pub(crate) fn rest(&mut self)
+        ensures { self.new ≡ [] }
+    {
+        rest(&mut self.text);
     }
 }

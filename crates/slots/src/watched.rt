@@ -63,7 +63,7 @@ impl<C: fmt::Display> fmt::Display for Unavailable<C> {
         write!(
             f,
             "shard {shard:02} is unavailable: a call on its disk failed: {cause}. Its requests are answered 503 \
-from now on. See to the disk, then start the server again as docs/OPERATING.md says under \"After a failed disk\"."
+from now on. Fix the disk, then start the server again as docs/OPERATING.md says under \"After a failed disk\"."
         )
     }
 }
