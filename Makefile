@@ -65,19 +65,18 @@ program-rows: ## the programs over their words, streams, files and slots, as the
 kit-check theorem-check filesystem-check: PROGRAMS =
 deb-check: PROGRAMS = $(ALL)
 deb-check: WORDS = "$$(deploy/deb)"
-drain-check: ALSO = tests/package/drain_to_loki
 gateway-check: BEFORE = deploy/gateway/build race && tests/package/gateway_quick race
 deb-check edge-check gateway-check: gateway
 
+%-check: CHECK = $(subst -,_,$*)_check
 %-check: ## tests/*/NAME_check over built programs: clients gateway drain sweep after syslog memory edge scale-out metrics fill, as root deb filesystem, alone kit theorem
 	@$(if $(PROGRAMS),RT='$(RT)' tests/gate/build $(PROGRAMS))
 	@$(BEFORE)
-	@RT='$(RT)' $(or $(wildcard tests/*/$(subst -,_,$*)_check),$(error there is no tests/*/$(subst -,_,$*)_check)) $(WORDS)
-	@$(ALSO)
+	@RT='$(RT)' $(or $(wildcard tests/*/$(CHECK)),$(if $(wildcard tests/*/$(CHECK).py),tests/run $(CHECK)),$(error there is no $(CHECK))) $(WORDS)
 
 measure: ## what is timed: soak scale roll start default_shards metrics_cost drain_cost gateway_speed window (NAME=soak WORDS=2)
 	@RT='$(RT)' tests/gate/build server walcat
-	@tests/measure/run $(NAME) $(WORDS)
+	@tests/run $(NAME) $(WORDS)
 
 bench: ## how fast bodies are read, calls are made, and connections are served
 	@RT='$(RT)' tests/gate/build bench bench_calls

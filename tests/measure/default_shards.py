@@ -1,19 +1,13 @@
 """default_shards [SERVER]: what the number of shards costs where all of them together have room for 1 GiB.
 
-16 shards of 64 MiB, 8 of 128 MiB and 4 of 256 MiB are measured in turn, ROUNDS times: the server of SERVER, else of
-crates/server/out/server, with the allocator that `make run` gives it and slots that were filled. In each round it serves
-
-- wrk with a worker for each connection, on new shards for each of LOADS;
-- pushes until no shard has room, and then trims and pushes of one shard, until ROLLS pushes have begun a segment.
-
-At last it is killed and started over the full shards, with their files in the system's cache. Prints a table of the
-medians; of the pushes that began a segment, of the longest in a round. It takes five minutes at most on a quiet machine,
-and 6 GiB of temporary files.
-"""
+16 shards of 64 MiB, 8 of 128 MiB and 4 of 256 MiB are measured in turn, ROUNDS times: under wrk with a worker for each
+connection; by pushes until no shard has room, and then by trims and pushes of one, until ROLLS of them have begun a
+segment; and at a start over the full shards, with their files in the system's cache. Prints a table of the medians; of
+the pushes that began a segment, of the longest in a round. It takes five minutes at most on a quiet machine, and 6 GiB
+of temporary files."""
 import os
 import statistics
 import sys
-import tempfile
 import time
 
 import full_shards
@@ -92,13 +86,12 @@ def table(sharings):
         yield f"| {name} | {' | '.join(f'{it:,.0f}' if it >= 100 else f'{it:.2f}' for it in medians)} |"
 
 
-def main(words):
-    how, began = {"executable": os.path.abspath(words[0]) if words else servers.program("server")}, time.monotonic()
-    with tempfile.TemporaryDirectory(prefix="needleazure-shards-", dir=os.environ.get("MEASURE_DIR")) as above:
-        sharings = [Sharing(above, count, mib, how) for count, mib in SHARINGS]
-        for number in range(ROUNDS):
-            for it in sharings:
-                it.measure()
-                took = time.monotonic() - began
-                print(f"round {number + 1}, {it.count} shards: {took:.0f} s", file=sys.stderr, flush=True)
+def check(above, _, program=servers.program("server")):
+    how, began = {"executable": os.path.abspath(program)}, time.monotonic()
+    sharings = [Sharing(above, count, mib, how) for count, mib in SHARINGS]
+    for number in range(ROUNDS):
+        for it in sharings:
+            it.measure()
+            took = time.monotonic() - began
+            print(f"round {number + 1}, {it.count} shards: {took:.0f} s", file=sys.stderr, flush=True)
     print(*table(sharings), sep="\n", flush=True)

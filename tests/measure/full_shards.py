@@ -76,10 +76,11 @@ def pushes(filling, folder):
         yield time.monotonic() - began, servers.generation(folder) > before
 
 
-def wrk(port, script, connections, seconds):
-    """Has wrk push over so many connections: pushes a second, and the 99th percentile of a push in milliseconds."""
-    words = ["wrk", f"-t{min(2, connections)}", f"-c{connections}", f"-d{seconds}", "--latency", "-s",
-             f"{servers.TOP}/tests/measure/{script}", f"http://127.0.0.1:{port}{servers.PUSH}"]
+def wrk(port, script, connections, seconds, *words, timeout=2):
+    """Has wrk push over so many connections, by a script with these words: pushes a second, and the 99th percentile of
+    a push in milliseconds."""
+    words = ["wrk", f"-t{min(2, connections)}", f"-c{connections}", f"-d{seconds}", f"-T{timeout}s", "--latency", "-s",
+             f"{servers.TOP}/tests/measure/{script}", f"http://127.0.0.1:{port}{servers.PUSH}", "--", *words]
     said = subprocess.run(words, capture_output=True, text=True, check=True).stdout
     servers.need("refused: 0, errors of sockets: 0" in said, f"each push of wrk is answered 204\n{said}")
     number, unit = re.search(r"99% +([\d.]+)(us|ms|s)", said).groups()

@@ -1,19 +1,16 @@
 """metrics_cost: what a look of deploy/metrics costs over 16 full shards of 64 MiB, with 10 lines a push.
 
-The slots are 2 GiB of temporary files. A first look goes through whole segments; each further one goes on from where
-the last one ended, here over a fifteenth of each segment, what a minute brings where a segment is full in a quarter of
-an hour. It is the processor time of the command: the best and the worst of five looks of each kind. Once the pushes have
-equal lengths, and once lines of 100 to 300 bytes. Where the best one of a kind costs more than MOST says, the status
-is 1.
-"""
+A first look goes through whole segments; each further one goes on from where the last one ended, here over a fifteenth
+of each segment, what a minute brings where a segment is full in a quarter of an hour. It is the processor time of the
+command: the best and the worst of five looks of each kind. Once the pushes have equal lengths, and once lines of 100 to
+300 bytes. The slots are 2 GiB of temporary files."""
 import os
 import random
 import shutil
-import tempfile
 
 import full_shards
 from hostile_bytes import TOP, append_bytes, segment_bytes, state_bytes
-from servers import hold
+from servers import hold, write
 
 SHARDS, CAPACITY, LINES, LOOKS = 16, 67_108_864, 10, 5
 # (where blocks differ in length, a first look has to read each of half a million places in memory by itself)
@@ -64,24 +61,25 @@ def look_again(folder, gates, places):
 
 def measure(above, least, most):
     """The looks of each kind."""
-    folder, places, blocks, gates = tempfile.mkdtemp(dir=above), tempfile.mkdtemp(dir=above), 0, []
+    folder, places, blocks, gates = f"{above}/slots", f"{above}/places", 0, []
+    os.makedirs(folder)
+    os.mkdir(places)
     for shard in range(SHARDS):
         written, count, gate = segment(shard, least, most)
         blocks += count
         gates.append(gate)
-        with open(f"{folder}/shard-{shard:02}-1.wal", "wb") as file:
-            file.write(written)
-        with open(f"{folder}/shard-{shard:02}-0.wal", "wb") as file:
-            file.truncate(CAPACITY)
+        write(f"{folder}/shard-{shard:02}-1.wal", written)
+        write(f"{folder}/shard-{shard:02}-0.wal", b"")
+        os.truncate(f"{folder}/shard-{shard:02}-0.wal", CAPACITY)
     print(f"lines of {least} to {most} bytes, {blocks} blocks:", flush=True)
     found = {"first": [look(folder, None) for _ in range(LOOKS)]}
     found["further"] = [look_again(folder, gates, places) for _ in range(LOOKS)]
     return found
 
 
-def main(words):
+def check(work, _):
     for least, most in ((200, 200), (100, 300)):
-        with tempfile.TemporaryDirectory(prefix="needleazure-cost-", dir=os.environ.get("MEASURE_DIR")) as above:
-            for kind, took in measure(above, least, most).items():
-                hold(min(took) <= MOST[kind], f"a {kind} look {min(took):.3f} to {max(took):.3f} s of a processor, "
-                                              f"at most {MOST[kind]} s are wanted")
+        for kind, took in measure(f"{work}/{least}", least, most).items():
+            hold(min(took) <= MOST[kind], f"a {kind} look {min(took):.3f} to {max(took):.3f} s of a processor, "
+                                          f"at most {MOST[kind]} s are wanted")
+        shutil.rmtree(f"{work}/{least}")

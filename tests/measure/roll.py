@@ -5,9 +5,7 @@ by pushes of 15 lines of 260,000 bytes on one stream, each sent when the one bef
 trimmed and a push is made in their place, over and over, until five pushes have begun a segment. At last the server is
 killed and started again.
 """
-import os
 import statistics
-import tempfile
 import time
 
 import full_shards
@@ -36,7 +34,6 @@ def measure(folder, mib):
           f"a start over it {took:.2f} s, memory {replayed / 1e6:.0f} MB", flush=True)
 
 
-def main(words):
-    for mib in map(int, words or [64, 1024]):
-        with tempfile.TemporaryDirectory(prefix="needleazure-roll-", dir=os.environ.get("MEASURE_DIR")) as folder:
-            measure(folder, mib)
+def check(work, _, *mibs):
+    for mib in map(int, mibs or [64, 1024]):
+        measure(f"{work}/{mib}", mib)

@@ -1,18 +1,10 @@
-"""scale: once at a scale that no row has, over the built server, walcat and deploy/drain.
-
-A shard gets 120,000 lines in one stream, by pushes of 10,000, and 25,000 streams, by pushes of 900. Another one, with room
-for 224 MiB, gets ten streams of 12 MB of long lines, which are read whole, each by one answer of more than 10 MB; it goes
-on until its log rolls, which makes a segment of more than 100 MB, and drain takes away all but the last hour. Of both the
-server is killed and started again, and walcat lists the slot in use. Each line is there once after each of these.
-
-It needs curl and jq, 1 GB of memory, and as much of temporary files.
-"""
+"""scale: once at a scale that no row has, over the built server, walcat and deploy/drain: a shard with 120,000 lines in
+one stream and 25,000 streams, and one with ten streams of 12 MB and a log of more than 100 MB that has rolled, which is
+drained. Of both the server is killed and started again, and walcat lists the slot in use. Each line is there once after
+each of these. It needs curl and jq, 1 GB of memory, and as much of temporary files."""
 import collections
 import contextlib
-import os
 import re
-import subprocess
-import tempfile
 import time
 
 import servers
@@ -44,9 +36,7 @@ class Shard(contextlib.AbstractContextManager):
 
     def push(self, streams):
         """Pushes entries to streams by their names."""
-        body = servers.push_body([(labels_of(name), entries) for name, entries in streams])
-        status, text = self.client.ask(servers.PUSH, body)
-        need(status == 204, f"a push is answered {status} {text[:200]}")
+        self.client.store(*((labels_of(name), entries) for name, entries in streams))
         for name, entries in streams:
             self.there[name] += entries
 
@@ -114,10 +104,9 @@ def roll(shard, now):
 def list_slot(path):
     """What walcat says of a slot: where its segment ends, how many streams it names, and how many entries it has."""
     began = time.monotonic()
-    words = [servers.program("walcat"), path, "0", "1"]
-    ended = subprocess.run(words, env=servers.broken({}), capture_output=True, text=True, check=False)
-    lines = ended.stdout.splitlines()
-    hold(ended.returncode == 0 and lines[-1].startswith("end "), f"walcat lists it ({time.monotonic() - began:.2f} s): {lines[0]}, {lines[-1]}")
+    status, output, _ = servers.run(["walcat", path, "0", "1"])
+    lines, took = output.decode().splitlines(), time.monotonic() - began
+    hold(status == 0 and lines[-1].startswith("end "), f"walcat lists it ({took:.2f} s): {lines[0]}, {lines[-1]}")
     rows = [re.fullmatch(r"(?:state|append) (\S+ \{.*\}) (?:highest \d+ )?entries (\d+)|trim .*", it) for it in lines[1:-1]]
     need(all(rows), "each line of it says a record")
     named = [it for it in rows if it[1]]
@@ -125,10 +114,9 @@ def list_slot(path):
 
 
 def check_drain(work, shard):
-    environment, began = {**os.environ, "PATH": servers.WITH_WALCAT, "TMPDIR": work}, time.monotonic()
-    words = [f"{servers.TOP}/deploy/drain", shard.folder, str(shard.server.port), "1", f"{work}/lines"]
-    ended = subprocess.run(words, env=environment, capture_output=True, text=True, check=False)
-    hold(ended.returncode == 0, f"drain ends well ({time.monotonic() - began:.0f} s) {ended.stderr[:300]}")
+    began, running = time.monotonic(), servers.drain(shard.folder, shard.server.port, 1)
+    said = running.communicate()[1]
+    hold(running.returncode == 0, f"drain ends well ({time.monotonic() - began:.0f} s) {said[:300]}")
     taken = collections.defaultdict(list)
     for _, _, it in servers.drained(f"{work}/lines"):
         taken[it["stream"]["job"]].append((int(it["time"]), it["line"], ()))
@@ -153,7 +141,8 @@ def check_many(work, now):
         push_lines(shard, now)
         push_streams(shard, now)
         end, streams, entries = start_again(shard)
-        hold((streams, entries) == (STREAMS + 1, LINES + STREAMS), f"{end:,} bytes, {streams:,} streams, {entries:,} entries")
+        is_so = (streams, entries) == (STREAMS + 1, LINES + STREAMS)
+        hold(is_so, f"{end:,} bytes, {streams:,} streams, {entries:,} entries")
 
 
 def check_large(work, now):
@@ -161,12 +150,11 @@ def check_large(work, now):
         push_long(shard, now)
         roll(shard, now)
         end, streams, entries = start_again(shard)
-        count = sum(map(len, shard.there.values()))
-        hold(end > 100_000_000 and (streams, entries) == (LONG + 1, count), f"{end:,} bytes, {streams} streams, {entries:,} entries")
+        is_so = end > 100_000_000 and (streams, entries) == (LONG + 1, sum(map(len, shard.there.values())))
+        hold(is_so, f"{end:,} bytes, {streams} streams, {entries:,} entries")
         check_drain(work, shard)
 
 
-def main(words):
-    with tempfile.TemporaryDirectory(prefix="needleazure-scale-", dir=os.environ.get("MEASURE_DIR")) as work:
-        check_many(work, time.time_ns())
-        check_large(work, time.time_ns())
+def check(work, _):
+    check_many(work, time.time_ns())
+    check_large(work, time.time_ns())

@@ -21,6 +21,7 @@ import time
 
 import servers
 
+PLACE = os.environ.get("MEASURE_DIR", servers.memory())
 SHARDS, PROCESSES, STREAMS, PACE = 4, 4, 2, 1_500
 LINES, LENGTH, SLICE = 20, 400, 10
 QUARTER = servers.HOUR // 4
@@ -85,7 +86,7 @@ def run(folder, server, seconds, step):
                  for it in range(PROCESSES)]
     for it in processes:
         it.start()
-    for it in processes:
+    for _ in processes:
         full.acquire()
     generations = lambda: sum(servers.generation(folder, it) for it in range(SHARDS))
     rolls, began, memory = generations(), time.monotonic(), []
@@ -114,13 +115,11 @@ def judge(found, memory, rolls, seconds):
     servers.hold(count >= 1_000 * seconds and rolls >= 20 * SHARDS, "there were enough pushes and rolls")
 
 
-def main(words):
-    minutes = float((words + [2])[0])
-    capacity = int(max(8, 2 * minutes) * 2**20)
-    with servers.room_in_memory("soak", os.environ.get("MEASURE_DIR")) as folder:
-        settings = {"NEEDLEAZURE_CAPACITY": str(capacity), **servers.allocator()}
-        with servers.Server(folder, SHARDS, PROCESSES * STREAMS, settings) as server:
-            # (an hour and a quarter of its streams fills three quarters of a shard)
-            hour = 0.75 * capacity / 1.25 / (PROCESSES * STREAMS / SHARDS)
-            found = run(folder, server, 60 * minutes, int(servers.HOUR * LINES * (LENGTH + 13) / hour))
-        judge(*found, 60 * minutes)
+def check(folder, _, minutes=2):
+    seconds, capacity = 60 * float(minutes), int(max(8, 2 * float(minutes)) * 2**20)
+    settings = {"NEEDLEAZURE_CAPACITY": str(capacity), **servers.allocator()}
+    with servers.Server(folder, SHARDS, PROCESSES * STREAMS, settings) as server:
+        # (an hour and a quarter of its streams fills three quarters of a shard)
+        hour = 0.75 * capacity / 1.25 / (PROCESSES * STREAMS / SHARDS)
+        found = run(folder, server, seconds, int(servers.HOUR * LINES * (LENGTH + 13) / hour))
+    judge(*found, seconds)

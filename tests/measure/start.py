@@ -1,16 +1,12 @@
 """start [MB [SHARDS [SERVER ..]]]: how long a server takes to be ready over shards that a server filled.
 
-A server with SHARDS shards (16) is pushed to until the segment of each has MB million bytes (42), and is killed. The
-lines are the same in each run but for their times. The slots have been filled as `make run` does, up to a capacity of
-64 MiB, or more where that is too little. Then servers are started over the files: the one of crates/server/out/server, or
-each SERVER in turn, which have to take the same slots. At last `cat` reads the same segments. Each of it is done with the
-files in the system's cache and without, and the figures are medians of RUNS. Without the cache only these files are
-dropped from it, so what other processes have there stays; the disk may have a cache of its own.
-"""
+A server with SHARDS shards (16) is pushed to until the segment of each has MB million bytes (42), and is killed. Then
+servers are started over the files: the one of crates/server/out/server, or each SERVER in turn, which have to take the
+same slots. At last `cat` reads the same segments. Each of it is done with the files in the system's cache and without,
+and the figures are medians of RUNS. Only these files are dropped from the cache; the disk may have one of its own."""
 import functools
 import os
 import statistics
-import tempfile
 import time
 
 import full_shards
@@ -50,7 +46,9 @@ def table(found, length):
         yield f"| {name} | {took:.2f} | {length / took / 1e6:,.0f} | {processor:.2f} | {most} | {ready} |"
 
 
-def run(folder, megabytes, count, programs):
+def check(folder, _, megabytes=42, count=16, *programs):
+    megabytes, count = float(megabytes), int(count)
+    programs = [*map(os.path.abspath, programs)] or [servers.program("server")]
     mib = min(1024, max(64, int(megabytes * 1.1e6) // 2**20 + 1))
     settings = full_shards.settings_for(mib)
     servers.fill_slots(folder, count, settings)
@@ -65,10 +63,3 @@ def run(folder, megabytes, count, programs):
     found.update(measure(slots, {"`cat` of the segments": lambda: full_shards.used_by(["cat", *slots])}))
     print(f"{count} shards of {mib} MiB with {sum(ends) / 1e6:,.0f} MB of segments; the server that wrote them had "
           f"{memory / 1e6:,.0f} MB of memory at its end:\n", *table(found, sum(ends)), sep="\n", flush=True)
-
-
-def main(words):
-    megabytes, count = float((words + ["42"])[0]), int((words[1:] + ["16"])[0])
-    programs = [os.path.abspath(it) for it in words[2:]] or [servers.program("server")]
-    with tempfile.TemporaryDirectory(prefix="needleazure-start-", dir=os.environ.get("MEASURE_DIR")) as folder:
-        run(folder, megabytes, count, programs)

@@ -1,4 +1,4 @@
-"""What a loss of power may leave of slots, by the disk model (docs/DEFINITIONS.md): from the notes of preload.c.
+"""What a loss of power may leave of slots, by the disk model (docs/DEFINITIONS.md): from notes as notes.h has them.
 
 Between two syncs that answered well, each written range and all past the length at the first may hold any bytes, and the
 length is any from that one to the greatest since. A write that failed counts as written. A sync that failed changes nothing.
@@ -15,6 +15,9 @@ SLOT = re.compile(r"shard-(\d\d)-([01])\.wal")
 class Note:
     """A call before it is made, or after it."""
 
+    # (of a device's write: it has FUA; of its flush: it is made for such writes alone)
+    is_forced = False
+
     def __init__(self, fields, path, data):
         self.number, self.when, self.at, self.length, self.result, _, kind, is_end, _ = fields
         self.kind, self.is_end, self.path, self.data = chr(kind), bool(is_end), path, data
@@ -23,26 +26,22 @@ class Note:
         self.slot = (int(found[1]), int(found[2])) if found else None
 
 
-def records_of(path, head, length_of):
-    """The records of a file: of each the fields of its head, and as many bytes as these say; but none that was cut."""
-    with open(path, "rb") as file:
-        text = file.read()
-    at = 0
-    while at + head.size <= len(text):
-        fields, begin = head.unpack_from(text, at), at + head.size
-        at = begin + length_of(fields)
-        if at <= len(text):
-            yield fields, text[begin:at]
-
-
 def notes_of(path):
     """The notes in their order. One that was cut is of a call that was not made."""
-    found = records_of(path, HEAD, lambda fields: fields[5] + fields[8])
-    return [Note(fields, data[:fields[5]].decode(), data[fields[5]:]) for fields, data in found]
+    with open(path, "rb") as file:
+        text = file.read()
+    found, at = [], 0
+    while at + HEAD.size <= len(text):
+        fields, begin = HEAD.unpack_from(text, at), at + HEAD.size
+        middle = begin + fields[5]
+        at = middle + fields[8]
+        if at <= len(text):
+            found.append(Note(fields, text[begin:middle].decode(), text[middle:at]))
+    return found
 
 
 class Slot:
-    """A slot: what a read gives, what the last sync kept, and the writes since."""
+    """A slot, or another file: what a read gives, what the last sync kept, and the writes since."""
 
     def __init__(self, data):
         self.seen, self.kept, self.pending, self.longest = bytearray(data), bytes(data), [], len(data)
@@ -51,18 +50,25 @@ class Slot:
     def take(self, note, has_syncs=lambda slot: True):
         """Takes a note; of a sync, where it counts."""
         if note.kind == "w" and not note.is_end:
-            self.pending.append((note.at, note.data))
             self.started[note.number] = note
-            self.longest = max(self.longest, note.at + note.length)
+            self.begin(note.at, note.data)
         elif note.kind == "w":
-            self.put(self.started.pop(note.number), note.result)
+            begun = self.started.pop(note.number)
+            self.put(begun.at, begun.data[:max(0, note.result)])
         elif note.kind in "sf" and note.is_end and note.result == 0 and has_syncs(self):
-            self.kept, self.pending, self.longest = bytes(self.seen), [], len(self.seen)
+            self.keep()
 
-    def put(self, note, count):
-        if count > 0:
-            self.seen.extend(bytes(max(0, note.at + count - len(self.seen))))
-            self.seen[note.at:note.at + count] = note.data[:count]
+    def begin(self, at, data):
+        self.pending.append((at, data))
+        self.longest = max(self.longest, at + len(data))
+
+    def put(self, at, data):
+        if data:
+            self.seen.extend(bytes(max(0, at + len(data) - len(self.seen))))
+            self.seen[at:at + len(data)] = data
+
+    def keep(self):
+        self.kept, self.pending, self.longest = bytes(self.seen), [], len(self.seen)
 
     def copy(self):
         """The slot as it is now, for an image."""

@@ -9,31 +9,11 @@ block events (`flags_of`), and they cover writes with FUA alone.
 import bisect
 import os
 import re
-import struct
 
-from crash_images import records_of
-
-HEAD = struct.Struct("<QQQIcB")
 SECTOR = 512
 EVENT = re.compile(r" (\d+)\.(\d{6}): (block_\w+): \d+,\d+ (\w+) (?:\d+ )?(?:\(.*?\) )?(\d+) \+ (\d+)")
 # how much of what is on its way is on the disk
 STYLES = ["all", "none", "each by itself", "the first", "the last", "all but one", "one alone", "torn", "torn", "torn"]
-
-
-class Note:
-    """A write or a flush when it comes, or before it is answered."""
-
-    def __init__(self, fields, data):
-        self.number, self.when, self.at, self.length, kind, is_end = fields
-        self.kind, self.is_end, self.data = kind.decode(), bool(is_end), data
-        # (of a write: it has FUA; of a flush: it is made for such writes alone)
-        self.is_forced = False
-
-
-def notes_of(path):
-    """The notes in their order."""
-    found = records_of(path, HEAD, lambda fields: fields[3] if fields[4] == b"w" and not fields[5] else 0)
-    return [Note(*it) for it in found]
 
 
 # ---- FUA -----------------------------------------------------------------------------------------------------------
@@ -44,15 +24,11 @@ def events_of(text):
         yield int(seconds) * 10**9 + int(parts) * 1000, name, flags, int(sector), int(count)
 
 
-def has_force(flags):
-    return re.match("F?WF", flags) is not None
-
-
 def mark_forced(notes, text):
     """Marks the writes that have FUA, and the flushes that are made for such writes alone. Returns how many of each."""
     events = list(events_of(text))
     forced = [[when, sector * SECTOR, count * SECTOR] for when, name, flags, sector, count in events
-              if name == "block_bio_queue" and has_force(flags) and count]
+              if name == "block_bio_queue" and re.match("F?WF", flags) and count]
     mark_writes([it for it in notes if it.kind == "w" and not it.is_end], forced)
     ends = [it for it in notes if it.kind == "f" and it.is_end]
     asked = {ends[at].number for at in asked_flushes(events, [it.when for it in ends])}

@@ -4,16 +4,17 @@ Each file has a thread of its own that writes and syncs. Between two syncs each 
 the first may hold any bytes, and the length is any from that one to the greatest since. All else is as it was.
 """
 import collections
+import concurrent.futures
+import itertools
 import os
+import pathlib
 import random
-import threading
 import time
 
+from crash_images import Slot
+from order_of_calls import Wrong
+
 FILES, MOST = 6, 131_072
-
-
-class Wrong(Exception):
-    """A file is not what the disk model allows."""
 
 
 class Write:
@@ -23,23 +24,6 @@ class Write:
         self.at, self.data, self.begun, self.done = at, data, time.monotonic_ns(), None
 
 
-class Sight:
-    """What a file has for good at a moment, the ranges that were written since, and its greatest length."""
-
-    def __init__(self, first):
-        self.seen, self.kept, self.pending, self.longest = bytearray(first), first, [], len(first)
-
-    def take(self, call, is_done):
-        if call.data is not None:
-            end = call.at + len(call.data)
-            self.pending.append((call.at, end))
-            self.longest = max(self.longest, end)
-            self.seen.extend(bytes(max(0, end - len(self.seen))))
-            self.seen[call.at:end] = call.data
-        elif is_done:
-            self.kept, self.pending, self.longest = bytes(self.seen), [], len(self.seen)
-
-
 class File:
     """A file, its calls, and the moment from which it has to be there."""
 
@@ -47,11 +31,13 @@ class File:
         self.name, self.first, self.calls, self.made = name, b"", [], None
 
     def sight(self, moment):
-        it = Sight(self.first)
-        for call in self.calls:
-            if call.begun > moment:
-                break
-            it.take(call, call.done is not None and call.done <= moment)
+        it = Slot(self.first)
+        for call in itertools.takewhile(lambda call: call.begun <= moment, self.calls):
+            if call.data is not None:
+                it.begin(call.at, call.data)
+                it.put(call.at, call.data)
+            elif call.done is not None and call.done <= moment:
+                it.keep()
         return it
 
     def hold(self, found, moment):
@@ -63,14 +49,15 @@ class File:
         if not len(its.kept) <= len(found) <= its.longest:
             raise Wrong(f"{self.name} has {len(found)} bytes, in place of {len(its.kept)} to {its.longest}")
         due, there = bytearray(its.kept), bytearray(found[:len(its.kept)])
-        for start, end in its.pending:
-            end = min(end, len(due))
+        for start, data in its.pending:
+            end = min(start + len(data), len(due))
             if start < end:
                 due[start:end] = there[start:end] = bytes(end - start)
         if due != there:
             at = next(at for at, pair in enumerate(zip(due, there)) if pair[0] != pair[1])
             raise Wrong(f"{self.name} has another byte at {at}, which was synced and not written since")
-        return collections.Counter({"synced bytes that were looked for": len(due), "files with writes under way": bool(its.pending)})
+        return collections.Counter({"synced bytes that were looked for": len(due),
+                                    "files with writes under way": bool(its.pending)})
 
 
 class WrittenLife:
@@ -92,12 +79,9 @@ class WrittenLife:
         self.make_files(folder)
         self.ready = time.monotonic_ns()
         ends = self.ready + int(seconds * 1e9)
-        threads = [threading.Thread(target=self.write, args=(folder, it, ends, random.Random(self.draw.random())))
-                   for it in self.files]
-        for it in threads:
-            it.start()
-        for it in threads:
-            it.join()
+        draws = [random.Random(self.draw.random()) for _ in self.files]
+        with concurrent.futures.ThreadPoolExecutor(FILES) as pool:
+            list(pool.map(lambda it, draw: self.write(folder, it, ends, draw), self.files, draws))
         self.killed = time.monotonic_ns()
 
     def make_files(self, folder):
@@ -109,14 +93,11 @@ class WrittenLife:
                     self.put(it, file.fileno(), 0, bytes(MOST))
                 self.sync(it, file.fileno())
         for path in (folder, os.path.dirname(folder)):
-            self.sync_folder(path)
+            number = os.open(path, os.O_RDONLY)
+            os.fsync(number)
+            os.close(number)
         for it in self.files:
             it.made = it.made or time.monotonic_ns()
-
-    def sync_folder(self, path):
-        folder = os.open(path, os.O_RDONLY)
-        os.fsync(folder)
-        os.close(folder)
 
     def put(self, file, number, at, data):
         file.calls.append(Write(at, data))
@@ -136,7 +117,8 @@ class WrittenLife:
         while time.monotonic_ns() < ends:
             for _ in range(draw.choice([1, 1, 2, 4])):
                 count = draw.choice([1, 1, 100, 700, 5_000])
-                at = length if draw.randrange(2) and length + count <= MOST else draw.randint(0, max(0, min(length, MOST - count)))
+                is_appended = draw.randrange(2) and length + count <= MOST
+                at = length if is_appended else draw.randint(0, max(0, min(length, MOST - count)))
                 self.put(it, number, at, draw.randbytes(count))
                 length = max(length, at + count)
                 self.counts["writes"] += 1
@@ -150,11 +132,8 @@ class WrittenLife:
     def judge(self, disk, moment):
         seen, found = collections.Counter(), []
         for it in self.files:
-            path = f"{disk}/log/{it.name}"
-            data = None
-            if os.path.exists(path):
-                with open(path, "rb") as file:
-                    data = file.read()
+            path = pathlib.Path(f"{disk}/log/{it.name}")
+            data = path.read_bytes() if path.exists() else None
             seen.update(it.hold(data, moment))
             found.append(data)
         return found, seen

@@ -40,18 +40,6 @@ def segment_of(keys, shard, count):
     return segment_bytes(b"2", 1, shard, count, [states])
 
 
-def verdict_of(status, output, errors):
-    """What `walcat` said of a slot, without its records: version, generation and the place of the closing gate; that it
-    is closed; or its fault."""
-    if status:
-        return errors.decode().strip() if status == 3 else f"status {status}"
-    if output == b"closed\n":
-        return "closed"
-    lines = output.decode().split("\n")
-    header = lines[0].removeprefix("segment ").partition(" shard ")[0]
-    return f"{header} {lines[-2]}" if len(lines) > 2 else "no segment"
-
-
 def places_shown(found):
     """What was said of each place: the same of neighbours as one line."""
     lines, at = [], 0
@@ -103,7 +91,16 @@ class Bytes:
         return b"" if tenant == "''" else plain(tenant), text
 
     def verdict(self, slot, owner="0 1"):
-        return verdict_of(*self.walcat(slot, *map(int, owner.split(" "))))
+        """What `walcat` says of a slot, without its records: version, generation and the place of the closing gate;
+        that it is closed; or its fault."""
+        status, output, errors = self.walcat(slot, *map(int, owner.split(" ")))
+        if status:
+            return errors.decode().strip() if status == 3 else f"status {status}"
+        if output == b"closed\n":
+            return "closed"
+        lines = output.decode().split("\n")
+        header = lines[0].removeprefix("segment ").partition(" shard ")[0]
+        return f"{header} {lines[-2]}" if len(lines) > 2 else "no segment"
 
     def said(self, word, rest):
         """What is said of the bytes, or of the beginnings of a text; None where the word doesn't ask for it."""

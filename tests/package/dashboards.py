@@ -9,40 +9,29 @@ import shutil
 import subprocess
 import time
 import urllib.parse
-import urllib.request
 
-HERE = os.path.dirname(os.path.realpath(__file__))
-TOP = os.path.dirname(os.path.dirname(HERE))
-BOARD, CONSOLE = f"{TOP}/deploy/grafana.json", f"{TOP}/deploy/needleazure.html"
+import servers
+from servers import hold
+
+BOARD, CONSOLE = json.loads(servers.text_at("deploy/grafana.json")), servers.text_at("deploy/needleazure.html")
 # what the console of Debian's Prometheus is drawn with, beside Prometheus itself
 PACKAGES = ["libjs-bootstrap4", "libjs-d3", "libjs-jquery", "libjs-popper.js", "libjs-rickshaw", "fonts-glyphicons-halflings"]
 EXAMPLES = "usr/share/doc/prometheus/examples/console_libraries"
-MINUTES, GRAPHS, TRIES = 5, 8, 5
+MINUTES, GRAPHS, PATIENCE = 5, 8, 30
 
 
-def read(path):
-    with open(path, encoding="utf-8") as file:
-        return file.read()
-
-
-def board_queries(instance):
-    """The queries of grafana.json, by the titles of their panels."""
-    for panel in json.loads(read(BOARD))["panels"]:
+def queries_of(instance):
+    """The queries of grafana.json, by the titles of their panels, and those of needleazure.html, by their variables."""
+    for panel in BOARD["panels"]:
         for target in panel["targets"]:
             yield f"grafana.json, {panel['title']}", target["expr"].replace("$instance", instance)
-
-
-def console_queries(instance):
-    """The queries of needleazure.html, by their variables."""
-    of = f"instance='{instance}'"
-    for name, query in re.findall(r'{{ \$(\w+) := printf "([^"]*needleazure_[^"]*)" \$of }}', read(CONSOLE)):
-        yield f"needleazure.html, {name}", query % of
+    for name, query in re.findall(r'{{ \$(\w+) := printf "([^"]*needleazure_[^"]*)" \$of }}', CONSOLE):
+        yield f"needleazure.html, {name}", query % f"instance='{instance}'"
 
 
 def board_faults():
     """What Grafana would not show of grafana.json as it is meant."""
-    board = json.loads(read(BOARD))
-    panels, taken = board["panels"], set()
+    panels, taken = BOARD["panels"], set()
     if len({it["id"] for it in panels}) < len(panels):
         yield "two panels of one id"
     for it in panels:
@@ -56,15 +45,14 @@ def board_faults():
             yield f"{it['title']}: without a title, a description or a unit"
         if any(target["datasource"]["uid"] != "${datasource}" for target in it["targets"]):
             yield f"{it['title']}: not of the data source that is chosen"
-    if [it["name"] for it in board["templating"]["list"]] != ["datasource", "instance"]:
+    if [it["name"] for it in BOARD["templating"]["list"]] != ["datasource", "instance"]:
         yield "not the variables datasource and instance"
 
 
 def parse_faults(promtool, queries, work):
     """What promtool says of the queries as rules."""
     rules = [{"record": f"query:{at}", "expr": query} for at, (_, query) in enumerate(queries)]
-    with open(f"{work}/queries.yml", "w", encoding="utf-8") as file:
-        json.dump({"groups": [{"name": "queries", "rules": rules}]}, file)
+    servers.write(f"{work}/queries.yml", json.dumps({"groups": [{"name": "queries", "rules": rules}]}).encode())
     words = [promtool, "check", "rules", f"{work}/queries.yml"]
     ended = subprocess.run(words, capture_output=True, text=True, timeout=60, check=False)
     return (ended.stdout + ended.stderr).strip() if ended.returncode else ""
@@ -74,8 +62,7 @@ def has_data(port, query):
     """Whether a query had a number in the last minutes."""
     now = time.time()
     words = urllib.parse.urlencode({"query": query, "start": now - 60 * MINUTES, "end": now, "step": 1})
-    with urllib.request.urlopen(f"http://127.0.0.1:{port}/api/v1/query_range?{words}", timeout=60) as answer:
-        found = json.load(answer)["data"]["result"]
+    found = json.loads(servers.get(port, f"/api/v1/query_range?{words}"))["data"]["result"]
     return any(math.isfinite(float(value)) for series in found for _, value in series["values"])
 
 
@@ -108,21 +95,17 @@ def console_faults(page, shards):
             yield f"an empty cell in {name}: {cells}"
 
 
-def hold_all(hold, promtool, port, instance, work, shards):
-    """All of it, by metrics_check's hold."""
-    faults = list(board_faults())
+def hold_all(promtool, port, instance, work, shards):
+    faults, queries = list(board_faults()), list(queries_of(instance))
     hold(not faults, f"grafana.json is as Grafana reads it {faults or ''}".strip())
-    queries = [*board_queries(instance), *console_queries(instance)]
     fault = parse_faults(promtool, queries, work)
     hold(not fault, f"promtool parses the {len(queries)} queries of the dashboards {fault}".strip())
     empty = [name for name, query in queries if not has_data(port, query)]
     hold(len(queries) > 25 and not empty, f"and each has had data {empty or ''}".strip())
     hold(shutil.which("chromium"), "Chromium is installed (apt-get install chromium)")
-    for _ in range(TRIES):
-        faults = list(console_faults(open_console(port, work, "--dump-dom"), shards))
-        if not faults:
-            break
-        # (the drain has to have been at the server that was started just before)
+    until = time.monotonic() + PATIENCE
+    # (the drain has to have been at the server that was started just before)
+    while (faults := list(console_faults(open_console(port, work, "--dump-dom"), shards))) and time.monotonic() < until:
         time.sleep(3)
     what = f"Chromium shows needleazure.html: {GRAPHS} graphs, and a row for each of {shards} shards"
     hold(not faults, f"{what} {faults or ''}".strip())

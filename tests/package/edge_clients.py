@@ -4,7 +4,6 @@ import base64
 import json
 import os
 import shutil
-import socket
 import ssl
 import subprocess
 import time
@@ -52,12 +51,8 @@ class Nginx:
         words = [program, "-p", folder, "-c", f"{folder}/nginx.conf", "-e", f"{folder}/error.log"]
         self.running = subprocess.Popen([*words, "-g", f"daemon off; pid {folder}/nginx.pid;"])
         ends.callback(self.end)
-        for _ in range(100):
-            with socket.socket() as it:
-                if not it.connect_ex(("127.0.0.1", port)):
-                    return
-            time.sleep(0.1)
-        hold(False, f"nginx listens: {servers.bytes_of(f'{folder}/error.log').decode()}")
+        if not servers.wait_until(lambda: servers.is_listening(port), 10):
+            hold(False, f"nginx listens: {servers.bytes_of(f'{folder}/error.log').decode()}")
 
     def end(self):
         self.running.terminate()
@@ -77,14 +72,14 @@ def head(path, user, length, more=()):
 
 
 class Client:
-    """One connection to the edge on this port, opened again where it was closed."""
+    """One connection to the edge on this port, or one without TLS, opened again where it was closed."""
 
-    def __init__(self, port):
-        self.port, self.ends = port, None
+    def __init__(self, port, tls=TLS):
+        self.port, self.tls, self.ends = port, tls, None
 
     async def open(self):
         if not self.ends:
-            self.ends = await asyncio.open_connection("127.0.0.1", self.port, ssl=TLS)
+            self.ends = await asyncio.open_connection("127.0.0.1", self.port, ssl=self.tls)
         return self.ends
 
     def close(self):
@@ -92,12 +87,12 @@ class Client:
             self.ends[1].transport.abort()
         self.ends = None
 
-    async def ask(self, request):
-        """The status that answers the bytes of a request, or 0 where none came in 10 seconds."""
+    async def ask(self, request, seconds=10):
+        """The status that answers the bytes of a request, or 0 where none came in so many seconds."""
         try:
             reader, writer = await self.open()
             writer.write(request)
-            answer = (await asyncio.wait_for(reader.readuntil(b"\r\n\r\n"), 10)).decode().lower()
+            answer = (await asyncio.wait_for(reader.readuntil(b"\r\n\r\n"), seconds)).decode().lower()
             length = [it.split(":")[1] for it in answer.split("\r\n") if it.startswith("content-length:")]
             await reader.readexactly(int(length[0]) if length else 0)
             if "connection: close" in answer:

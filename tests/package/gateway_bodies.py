@@ -14,13 +14,11 @@ import time
 import zlib
 
 import snappy
+from hostile_bytes import CHOICES
 
 HERE = os.path.dirname(os.path.realpath(__file__))
 MINUTE = 60_000_000_000
-NAMES = ["job", "host", "filename", "_x9", "Level", "sum", "__path__", "a" * 1024]
-PIECES = [b"word ", b'"', b"'", b"`", b"\\", b"\n", b"\t", b"\r", b"\x00", b"\x1f", b"\x7f", b"{", b"}", b"=", b",", b"#", b"</&>",
-          "é".encode(), "\u2028".encode(), "\ufffd".encode(), "\U0001f600".encode(), b"x" * 300]
-NO_TEXT = [b"\xff", b"\xc3", b"\xe2\x82", b"\xed\xa0\x80", b"\xf5\x80\x80\x80"]
+NAMES, PIECES, NO_TEXT = (CHOICES[it] for it in ("name of a shipper", "piece of a text", "no text"))
 # (Go and the gateway replace byte after byte)
 codecs.register_error("each byte", lambda it: ("\ufffd", it.start + 1))
 
@@ -53,7 +51,7 @@ class Draw:
         draw = Draw(type(self.random)(number))
         found = {b"n": str(number).encode()}
         for name in draw.random.sample(NAMES, draw.random.randint(0, 5)):
-            found[name.encode()] = draw.text(6, number % 3 == 0)[:2048]
+            found[name] = draw.text(6, number % 3 == 0)[:2048]
         return found
 
     def time(self):

@@ -1,10 +1,7 @@
 """A server and a gateway that run, and connections to them, for tests/package/gateway_check."""
 import http.client
-import json
 import os
-import sys
 
-sys.path.append(f"{os.path.dirname(os.path.realpath(__file__))}/../server")
 import servers
 from servers import PUSH, TOP
 
@@ -18,9 +15,9 @@ class Server(servers.Server):
         super().__init__(folder, shards, 64, {**os.environ}, port=servers.free_ports(1)[0])
 
     def read(self, tenant, labels):
-        """The entries of a stream, past the gateway."""
-        with Client(self.port, tenant) as client:
-            return client.read(labels)
+        """The entries of a stream as JSON has them, past the gateway."""
+        with servers.Client(self.port, tenant) as client:
+            return client.values(labels)
 
     def connections(self):
         """How many connections it serves."""
@@ -45,13 +42,12 @@ class Gateway(servers.Program):
         return self.running.returncode, errors.decode()
 
     def metric(self, name):
-        with Client(self.port) as client:
-            text = client.ask("GET", "/metrics", None, {})[1].decode()
+        text = servers.get(self.port, "/metrics").decode()
         return sum(float(line.split()[-1]) for line in text.splitlines() if line.startswith(name))
 
 
 class Client:
-    """A connection that is kept, and opened again where it was closed."""
+    """A connection that is kept, and opened again where it was closed, for bodies that are no JSON or chunked."""
 
     def __init__(self, port, tenant="t"):
         self.line, self.tenant = http.client.HTTPConnection("127.0.0.1", port, timeout=SECONDS), tenant
@@ -62,19 +58,9 @@ class Client:
     def __exit__(self, *_):
         self.line.close()
 
-    def ask(self, method, path, body, head, is_chunked=False):
-        """Status and text of an answer."""
-        head = {"X-Scope-OrgID": self.tenant, **head}
-        self.line.request(method, path, iter([body]) if is_chunked else body, head, encode_chunked=is_chunked)
+    def push(self, body, head, is_chunked=False):
+        """Status and text of the answer."""
+        head = {"X-Scope-OrgID": self.tenant, **head, **({"Transfer-Encoding": "chunked"} if is_chunked else {})}
+        self.line.request("POST", PUSH, iter([body]) if is_chunked else body, head, encode_chunked=is_chunked)
         answer = self.line.getresponse()
         return answer.status, answer.read()
-
-    def push(self, body, head, is_chunked=False):
-        if is_chunked:
-            head = {**head, "Transfer-Encoding": "chunked"}
-        return self.ask("POST", PUSH, body, head, is_chunked)
-
-    def read(self, labels):
-        body = json.dumps(servers.read_body(labels))
-        status, text = self.ask("POST", servers.READ, body, {"Content-Type": "application/json"})
-        return json.loads(text)["values"] if status == 200 else status

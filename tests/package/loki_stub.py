@@ -39,12 +39,9 @@ class Loki(http.server.ThreadingHTTPServer):
             self.socket = context.wrap_socket(self.socket, server_side=True)
         threading.Thread(target=self.serve_forever, daemon=True, kwargs={"poll_interval": 0.05}).start()
 
-    def __enter__(self):
-        return self
-
     def __exit__(self, *_):
         self.shutdown()
-        self.server_close()
+        super().__exit__()
 
     def handle_error(self, *_):
         """A client that was killed in the middle is no fault."""

@@ -10,8 +10,8 @@ import sys
 import threading
 import time
 
-TOP = os.path.dirname(os.path.dirname(os.path.dirname(os.path.realpath(__file__))))
-SECONDS = 60
+from servers import SECONDS, TOP, bytes_of, wait_until, write
+
 INSIDE = "NEEDLEAZURE_IN_NAMESPACE"
 LOOP_MAJOR = 7
 TRACING = "/sys/kernel/tracing"
@@ -70,9 +70,8 @@ def enter_namespace():
 
 def stop_inside(outer):
     """Hands a signal on, which unshare itself doesn't."""
-    with open(f"/proc/{outer}/task/{outer}/children", encoding="ascii") as file:
-        for it in file.read().split():
-            os.kill(int(it), signal.SIGTERM)
+    for it in bytes_of(f"/proc/{outer}/task/{outer}/children").split():
+        os.kill(int(it), signal.SIGTERM)
 
 
 @contextlib.contextmanager
@@ -81,8 +80,7 @@ def without_mounts(folder):
     try:
         yield
     finally:
-        with open("/proc/self/mounts", encoding="utf-8") as file:
-            places = [line.split()[1] for line in file]
+        places = [line.split()[1] for line in bytes_of("/proc/self/mounts").decode().splitlines()]
         for it in reversed([it for it in places if it.startswith(f"{folder}/")]):
             subprocess.run(["umount", "--lazy", it], check=False)
 
@@ -110,21 +108,14 @@ def make(system, path):
 
 
 def wait_for(is_so, what):
-    end = time.monotonic() + SECONDS / 3
-    while not is_so():
-        if time.monotonic() > end:
-            raise InUse(what)
-        time.sleep(0.01)
+    if not wait_until(is_so, SECONDS / 3, 0.01):
+        raise InUse(what)
 
 
 def unmount(folder):
     """Unmounts what nobody has open: another thread's program may have, for a moment, between its fork and its exec."""
-    ended = [None]
-
-    def is_unmounted():
-        ended[0] = subprocess.run(["umount", folder], capture_output=True, text=True, timeout=SECONDS, check=False)
-        return ended[0].returncode == 0
-    wait_for(is_unmounted, f"{folder} can't be unmounted")
+    how = {"stderr": subprocess.DEVNULL, "timeout": SECONDS}
+    wait_for(lambda: subprocess.call(["umount", folder], **how) == 0, f"{folder} can't be unmounted")
 
 
 @contextlib.contextmanager
@@ -133,7 +124,7 @@ def mounted(system, image, folder):
     os.makedirs(folder, exist_ok=True)
     with system.turn:
         run("mount", "-t", system.kind, "-o", f"loop,{system.options}", image, folder, why=NotMounted)
-        device = f"/dev/{loop_over(image)}"
+        device = next(f"/dev/{it}" for it in os.listdir("/sys/block") if is_of(it, image))
         try:
             yield
         finally:
@@ -143,13 +134,9 @@ def mounted(system, image, folder):
 
 def is_of(device, path):
     """Whether a loop device is over this file."""
-    with contextlib.suppress(OSError), open(f"/sys/block/{os.path.basename(device)}/loop/backing_file", encoding="utf-8") as file:
-        return file.read().strip() == path
+    with contextlib.suppress(OSError):
+        return bytes_of(f"/sys/block/{os.path.basename(device)}/loop/backing_file").decode().strip() == path
     return False
-
-
-def loop_over(path):
-    return next(it for it in os.listdir("/sys/block") if is_of(it, path))
 
 
 def mend(system, image):
@@ -159,6 +146,10 @@ def mend(system, image):
 
 
 # ---- what is recorded ----------------------------------------------------------------------------------------------
+
+EVENTS = {"block_bio_queue": 'rwbs ~ "*F*"', "block_rq_issue": 'rwbs ~ "W*"',
+          "block_rq_complete": 'nr_sector == 0 && rwbs ~ "W*"'}
+
 
 class Events:
     """The kernel's block events of a device that has flushes or FUA, in a trace of its own."""
@@ -176,8 +167,7 @@ class Events:
                 self.folder = folder
 
     def put(self, name, text):
-        with open(f"{self.folder}/{name}", "w", encoding="ascii") as file:
-            file.write(text)
+        write(f"{self.folder}/{name}", text.encode())
 
     def begin(self, device):
         """From here on all of this device is told, and nothing else."""
@@ -186,8 +176,7 @@ class Events:
         number = LOOP_MAJOR << 20 | int(device.removeprefix("/dev/loop"))
         self.put("trace_clock", "mono")
         self.put("buffer_size_kb", "8192")
-        for name, which in [("block_bio_queue", 'rwbs ~ "*F*"'), ("block_rq_issue", 'rwbs ~ "W*"'),
-                            ("block_rq_complete", 'nr_sector == 0 && rwbs ~ "W*"')]:
+        for name, which in EVENTS.items():
             self.put(f"events/block/{name}/filter", f"dev == {number} && {which}")
             self.put(f"events/block/{name}/enable", "1")
         self.put("trace", "")
@@ -196,9 +185,8 @@ class Events:
         """The events; None where the kernel tells none, or has told more than there was room for."""
         if not self.folder:
             return None
-        with open(f"{self.folder}/trace", encoding="utf-8", errors="replace") as file:
-            text = file.read()
-        for name in ("block_bio_queue", "block_rq_issue", "block_rq_complete"):
+        text = bytes_of(f"{self.folder}/trace").decode(errors="replace")
+        for name in EVENTS:
             self.put(f"events/block/{name}/enable", "0")
         counts = text.partition("entries-in-buffer/entries-written: ")[2].partition(" ")[0].split("/")
         return text if len(counts) == 2 and counts[0] == counts[1] else None

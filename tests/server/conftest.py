@@ -10,14 +10,13 @@ import servers
 @pytest.fixture
 def folder():
     """A folder in memory, where syncs take no time."""
-    with servers.room_in_memory("test") as it:
+    with servers.room("test", servers.memory()) as it:
         yield os.path.realpath(it)
 
 
-@pytest.fixture(scope="session")
-def preload(tmp_path_factory):
-    """The library of preload.c."""
-    return servers.build_library(str(tmp_path_factory.mktemp("preload")))
+@pytest.fixture
+def preload():
+    return servers.library()
 
 
 @pytest.fixture

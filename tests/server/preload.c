@@ -23,28 +23,22 @@
 //           BREAK_LINE=n: in each n-th write of several bytes the last x is a y. BREAK_KEEP=n: the first piece of memory
 //           of n bytes or more is not given back. BREAK_MEMORY: each write leaves 256 bytes of memory behind.
 //           BREAK_SPEED=n: each sync takes n nanoseconds longer than the one before.
-#define _GNU_SOURCE
+#include "notes.h"
+
 #include <arpa/inet.h>
 #include <dlfcn.h>
 #include <errno.h>
 #include <fcntl.h>
 #include <malloc.h>
 #include <netinet/tcp.h>
-#include <pthread.h>
 #include <sched.h>
 #include <signal.h>
 #include <stdarg.h>
-#include <stdint.h>
 #include <stdio.h>
-#include <stdlib.h>
 #include <string.h>
 #include <sys/epoll.h>
 #include <sys/socket.h>
 #include <sys/stat.h>
-#include <sys/syscall.h>
-#include <sys/uio.h>
-#include <time.h>
-#include <unistd.h>
 
 // The function of this name that would be called without this library.
 #define NEXT(name) \
@@ -82,7 +76,15 @@ static void tell(const char *path, uint64_t number) {
     close(file);
 }
 
-__attribute__((constructor)) static void forget_setting(void) {
+static int notes = -1;
+
+__attribute__((constructor)) static void begin_run(void) {
+    const char *to = getenv("RECORD_TO");
+    if (to != NULL) {
+        int file = openat(AT_FDCWD, to, O_WRONLY | O_CREAT | O_APPEND | O_CLOEXEC, 0600);
+        notes = fcntl(file, F_DUPFD_CLOEXEC, 500);
+        close(file);
+    }
     if (getenv("BREAK_SETTING") != NULL) {
         unsetenv("NEEDLEAZURE_CAPACITY");
     }
@@ -276,47 +278,11 @@ __attribute__((destructor)) static void tell_device_calls(void) {
     tell(getenv("DEVICE_COUNT_TO"), device_calls);
 }
 
-struct note {
-    uint64_t number, when, at, length;
-    int64_t result;
-    uint16_t path_length;
-    char kind;
-    char is_end;
-    uint32_t bytes_length;
-} __attribute__((packed));
-
 struct call {
     char path[4096];
     struct note note;
     int is_noted;
 };
-
-// Writes a note in its turn. The file is opened by the first.
-static void put(struct call *call, const void *bytes, size_t length) {
-    static pthread_mutex_t turn = PTHREAD_MUTEX_INITIALIZER;
-    static uint64_t calls;
-    static int notes = -1;
-    const char *to = getenv("RECORD_TO");
-    struct timespec now;
-    pthread_mutex_lock(&turn);
-    if (notes < 0 && to != NULL) {
-        int file = openat(AT_FDCWD, to, O_WRONLY | O_CREAT | O_APPEND | O_CLOEXEC, 0600);
-        notes = fcntl(file, F_DUPFD_CLOEXEC, 500);
-        close(file);
-    }
-    if (!call->note.is_end) {
-        call->note.number = ++calls;
-    }
-    syscall(SYS_clock_gettime, CLOCK_MONOTONIC, &now);
-    call->note.when = (uint64_t)nanoseconds(&now);
-    call->note.bytes_length = (uint32_t)length;
-    struct iovec parts[3] = {
-        {&call->note, sizeof call->note}, {call->path, call->note.path_length}, {(void *)bytes, length}};
-    if (notes >= 0 && writev(notes, parts, 3) < 0) {
-        abort();
-    }
-    pthread_mutex_unlock(&turn);
-}
 
 // Notes a call whose path is known. A read, a write or a data sync takes longer where that is asked.
 static void begin(struct call *call, char kind, uint64_t at, uint64_t length, const void *bytes) {
@@ -325,7 +291,7 @@ static void begin(struct call *call, char kind, uint64_t at, uint64_t length, co
     if (call->is_noted) {
         uint16_t path_length = (uint16_t)strlen(call->path);
         call->note = (struct note){.at = at, .length = length, .kind = kind, .path_length = path_length};
-        put(call, bytes, bytes == NULL ? 0 : length);
+        put_note(notes, &call->note, call->path, bytes, bytes == NULL ? 0 : length);
     }
     if (call->is_noted && strchr("pws", kind) != NULL && getenv("RECORD_SLOW") != NULL) {
         usleep((useconds_t)number_of("RECORD_SLOW"));
@@ -359,7 +325,7 @@ static int64_t end(struct call *call, int64_t result) {
     if (call->is_noted) {
         call->note.result = result;
         call->note.is_end = 1;
-        put(call, NULL, 0);
+        put_note(notes, &call->note, call->path, NULL, 0);
     }
     errno = cause;
     return result;

@@ -4,47 +4,18 @@
 // Each write and each sync takes a drawn part of these microseconds longer, as if a disk did.
 //
 // A loop device over that file sends its flushes as syncs. Discards are refused, so that nothing but writes changes it.
+#include "notes.h"
+
 #define FUSE_USE_VERSION 312
-#define _GNU_SOURCE
 #include <errno.h>
 #include <fcntl.h>
 #include <fuse.h>
-#include <pthread.h>
-#include <stdint.h>
 #include <stdio.h>
-#include <stdlib.h>
 #include <string.h>
 #include <sys/stat.h>
-#include <sys/uio.h>
-#include <time.h>
-#include <unistd.h>
 
-struct note {
-    uint64_t number, when, at;
-    uint32_t length;
-    char kind;
-    char is_end;
-} __attribute__((packed));
-
-static pthread_mutex_t turn = PTHREAD_MUTEX_INITIALIZER;
-static uint64_t calls;
 static int content, notes;
 static unsigned write_wait, flush_wait;
-
-static void put(struct note *note, const void *bytes, size_t length) {
-    struct timespec now;
-    pthread_mutex_lock(&turn);
-    if (!note->is_end) {
-        note->number = ++calls;
-    }
-    clock_gettime(CLOCK_MONOTONIC, &now);
-    note->when = (uint64_t)now.tv_sec * 1000000000 + (uint64_t)now.tv_nsec;
-    struct iovec parts[2] = {{note, sizeof *note}, {(void *)bytes, length}};
-    if (writev(notes, parts, 2) != (ssize_t)(sizeof *note + length)) {
-        abort();
-    }
-    pthread_mutex_unlock(&turn);
-}
 
 static void take_long(unsigned most) {
     static __thread unsigned seed;
@@ -82,24 +53,24 @@ static int read_content(const char *path, char *bytes, size_t count, off_t at, s
 
 static int write_content(const char *path, const char *bytes, size_t count, off_t at, struct fuse_file_info *file) {
     (void)path, (void)file;
-    struct note note = {.at = (uint64_t)at, .length = (uint32_t)count, .kind = 'w'};
-    put(&note, bytes, count);
+    struct note note = {.at = (uint64_t)at, .length = count, .kind = 'w'};
+    put_note(notes, &note, NULL, bytes, count);
     if (pwrite(content, bytes, count, at) != (ssize_t)count) {
         abort();
     }
     take_long(write_wait);
     note.is_end = 1;
-    put(&note, NULL, 0);
+    put_note(notes, &note, NULL, NULL, 0);
     return (int)count;
 }
 
 static int flush_content(const char *path, int only_data, struct fuse_file_info *file) {
     (void)path, (void)only_data, (void)file;
     struct note note = {.kind = 'f'};
-    put(&note, NULL, 0);
+    put_note(notes, &note, NULL, NULL, 0);
     take_long(flush_wait);
     note.is_end = 1;
-    put(&note, NULL, 0);
+    put_note(notes, &note, NULL, NULL, 0);
     return 0;
 }
 

@@ -37,7 +37,6 @@ class Stream:
 
     def begin(self, after):
         self.calls.append(Call(after))
-        return self.calls[-1]
 
     def settle(self, is_made):
         call = self.calls[-1]

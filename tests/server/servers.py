@@ -7,6 +7,7 @@ import contextlib
 import functools
 import glob
 import gzip
+import http.client
 import itertools
 import json
 import os
@@ -19,6 +20,7 @@ import sys
 import tempfile
 import threading
 import time
+import urllib.request
 
 TOP = os.path.dirname(os.path.dirname(os.path.dirname(os.path.realpath(__file__))))
 sys.path.append(f"{TOP}/tests/models")
@@ -61,8 +63,51 @@ def run_script(main, *words):
     sys.exit(main(*words))
 
 
-def build_library(folder):
-    """The library of preload.c, which is preloaded."""
+def wait_until(is_so, seconds=SECONDS, pause=0.05):
+    """Waits until something is so, or for so many seconds: what it was at last."""
+    until = time.monotonic() + seconds
+    while not (found := is_so()) and time.monotonic() < until:
+        time.sleep(pause)
+    return found
+
+
+def side_by_side(threads):
+    """Starts threads, and waits for their ends."""
+    for it in threads:
+        it.start()
+    for it in threads:
+        it.join()
+
+
+class Repeated(threading.Thread):
+    """Does something again, a pause after it was done, until it is told to end, or there is a `fault`."""
+
+    def __init__(self, do, pause=1.0):
+        super().__init__(daemon=True)
+        self.do, self.pause, self.is_done, self.fault = do, pause, threading.Event(), None
+
+    def run(self):
+        while not self.is_done.is_set() and not self.fault:
+            self.do()
+            self.is_done.wait(self.pause)
+
+    def end(self):
+        self.is_done.set()
+        self.join(SECONDS)
+
+
+def allow_many_files():
+    """Lets this process have as many open files as it may, and returns how many."""
+    most = resource.getrlimit(resource.RLIMIT_NOFILE)[1]
+    resource.setrlimit(resource.RLIMIT_NOFILE, (most, most))
+    return most
+
+
+@functools.cache
+def library():
+    """The library of preload.c, which is preloaded, until this process ends."""
+    folder = tempfile.mkdtemp(prefix="needleazure-preload-")
+    atexit.register(shutil.rmtree, folder, True)
     path, source = f"{folder}/preload.so", f"{TOP}/tests/server/preload.c"
     subprocess.run(["cc", "-shared", "-fPIC", "-O1", "-o", path, source, "-ldl", "-lpthread"], check=True)
     return path
@@ -85,10 +130,14 @@ def run(words, data=b"", **how):
         return it.returncode, said + output, errors
 
 
-def room_in_memory(name, place=None):
-    """A temporary folder in this place, else where syncs take no time, where the system has such a place."""
-    place = place or ("/dev/shm" if os.access("/dev/shm", os.W_OK) else None)
-    return tempfile.TemporaryDirectory(prefix=f"needleazure-{name}-", dir=place)
+def memory():
+    """The place where syncs take no time, where the system has such a place."""
+    return "/dev/shm" if os.access("/dev/shm", os.W_OK) else None
+
+
+def room(name, place=None):
+    """A temporary folder, in MEASURE_DIR where no other place is said."""
+    return tempfile.TemporaryDirectory(prefix=f"needleazure-{name}-", dir=place or os.environ.get("MEASURE_DIR"))
 
 
 def allocator():
@@ -108,19 +157,12 @@ def limit_length(length):
 
 # ---- servers that are broken on purpose ----------------------------------------------------------------------------
 
-@functools.cache
-def breaking_library():
-    folder = tempfile.mkdtemp(prefix="needleazure-break-")
-    atexit.register(shutil.rmtree, folder, True)
-    return build_library(folder)
-
-
 def broken(settings):
     """The settings of a server, which is broken where this run's environment has variables of preload.c."""
     ways = {name: value for name, value in os.environ.items() if name.startswith("BREAK_")}
     given = settings.get("LD_PRELOAD", "")
     if ways and "/preload.so" not in given:
-        given = f"{breaking_library()} {given}".strip()
+        given = f"{library()} {given}".strip()
     return {**settings, **ways, "LD_PRELOAD": given} if ways else settings
 
 
@@ -161,7 +203,26 @@ def free_ports(count):
         return [ends.enter_context(socket.create_server(("127.0.0.1", 0))).getsockname()[1] for _ in range(count)]
 
 
+def is_listening(port):
+    with socket.socket() as it:
+        return not it.connect_ex(("127.0.0.1", port))
+
+
+def get(port, path):
+    """What is at a path of a port of the loopback, nothing where it isn't answered."""
+    with contextlib.suppress(OSError, http.client.HTTPException):
+        with urllib.request.urlopen(f"http://127.0.0.1:{port}{path}", timeout=10) as answer:
+            return answer.read()
+    return b""
+
+
 # ---- a server ------------------------------------------------------------------------------------------------------
+
+def memory_of(process, which="VmRSS"):
+    """How many bytes of memory it has now, or with VmHWM has had at most; none once it has ended."""
+    lines = bytes_of(f"/proc/{process}/status").decode().splitlines()
+    return next((int(line.split()[1]) * 1024 for line in lines if line.startswith(which)), 0)
+
 
 class NotStarted(Exception):
     """A server ended before it was ready, with this status and these words on standard error."""
@@ -205,9 +266,7 @@ class Program(contextlib.AbstractContextManager):
             return file.read().decode()
 
     def memory(self, which="VmRSS"):
-        """How many bytes of memory it has now, or with VmHWM has had at most."""
-        lines = bytes_of(f"/proc/{self.pid}/status").decode().splitlines()
-        return next(int(line.split()[1]) * 1024 for line in lines if line.startswith(which))
+        return memory_of(self.pid, which)
 
     def processor(self):
         """For how many seconds it has had a processor."""
@@ -225,11 +284,11 @@ class Server(Program):
 
 # ---- a connection --------------------------------------------------------------------------------------------------
 
-def request(path, body, tenant="t"):
-    body = json.dumps(body).encode()
-    head = [f"POST {path} HTTP/1.1", f"X-Scope-OrgID: {tenant}", "Content-Type: application/json",
-            f"Content-Length: {len(body)}"]
-    return "\r\n".join([*head, "", ""]).encode() + body
+def request(path, body, tenant="t", kind="application/json", *more):
+    """A request with a body of bytes, or one that is written as JSON, and with more fields of its head."""
+    body = body if isinstance(body, bytes) else json.dumps(body).encode()
+    fields = [f"X-Scope-OrgID: {tenant}", f"Content-Type: {kind}", f"Content-Length: {len(body)}", *more]
+    return "\r\n".join([f"POST {path} HTTP/1.1", *fields, "", ""]).encode() + body
 
 
 def value_of(entry):
@@ -257,13 +316,18 @@ def read_body(labels, first=0, last=MOST_TIME):
     return {"stream": labels, "from": str(first), "to": str(last)}
 
 
+def connect(port, seconds=SECONDS):
+    """A connection that sends at once."""
+    ends = socket.create_connection(("127.0.0.1", port), seconds)
+    ends.setsockopt(socket.IPPROTO_TCP, socket.TCP_NODELAY, 1)
+    return ends
+
+
 class Client(contextlib.AbstractContextManager):
     """A connection to a server. Requests may be sent before the answers to earlier ones are taken."""
 
     def __init__(self, port, tenant="t", seconds=SECONDS):
-        self.tenant, self.found = tenant, bytearray()
-        self.ends = socket.create_connection(("127.0.0.1", port), seconds)
-        self.ends.setsockopt(socket.IPPROTO_TCP, socket.TCP_NODELAY, 1)
+        self.tenant, self.found, self.ends = tenant, bytearray(), connect(port, seconds)
 
     def __exit__(self, *_):
         self.ends.close()
@@ -293,6 +357,15 @@ class Client(contextlib.AbstractContextManager):
         self.send(path, body)
         return self.answer()
 
+    def store(self, *streams):
+        """Pushes streams, each its labels and entries, and ends the run where they are not answered 204."""
+        status, text = self.ask(PUSH, push_body(streams))
+        need(status == 204, f"a push is answered {status} {text[:200]}")
+
+    def values(self, labels):
+        """The entries of a stream as JSON has them."""
+        return json.loads(self.ask(READ, read_body(labels))[1])["values"]
+
     def push(self, labels, entries):
         """Status and text of the answer to a push of one stream."""
         status, text = self.ask(PUSH, push_body([(labels, entries)]))
@@ -316,6 +389,14 @@ class Client(contextlib.AbstractContextManager):
 
 # (deploy/drain and deploy/sweep run walcat)
 WITH_WALCAT = f"{os.path.dirname(program('walcat'))}:{os.environ['PATH']}"
+
+
+def drain(folder, port, shards, to=None, **settings):
+    """A run of deploy/drain over a log, whose lines go to the folder `lines` beside it, or elsewhere."""
+    above = os.path.dirname(folder)
+    words = [f"{TOP}/deploy/drain", folder, str(port), str(shards), to or f"{above}/lines"]
+    environment = {**os.environ, "PATH": WITH_WALCAT, "TMPDIR": above, **settings}
+    return subprocess.Popen(words, env=environment, stderr=subprocess.PIPE, text=True, start_new_session=True)
 
 
 def drained(folder):
@@ -343,6 +424,13 @@ def write_program(path, text):
     os.makedirs(os.path.dirname(path), exist_ok=True)
     write(path, text.encode())
     os.chmod(path, 0o755)
+
+
+def certify(name, key, certificate, *more):
+    """Makes a key, and a certificate of this name for a day."""
+    kind = ["-newkey", "ec", "-pkeyopt", "ec_paramgen_curve:prime256v1", "-noenc"]
+    words = ["openssl", "req", "-x509", "-subj", name, "-days", "1", *kind, "-keyout", key, "-out", certificate, *more]
+    subprocess.run(words, check=True, stderr=subprocess.DEVNULL)
 
 
 def unpacked(folder, *packages):

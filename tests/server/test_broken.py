@@ -13,7 +13,7 @@ with open(f"{servers.TOP}/tests/rows/broken.txt", encoding="utf-8") as file:
 @pytest.mark.by_hand
 @pytest.mark.parametrize("name, broken, test", FAULTS)
 def test_broken(name, broken, test):
-    script, *words = test.split() if "/" in test else ["gate/pytest", f"tests/server/{test}"]
+    script, *words = ["gate/pytest", f"tests/server/{test}"] if "::" in test else test.split()
     run = {"env": {**os.environ, **dict([broken.split("=")])}, "capture_output": True, "text": True, "check": False}
     ended = subprocess.run([f"{servers.TOP}/tests/{script}", *words], **run)
     is_found = ended.returncode == 1 and re.search(r"\d failed|WRONG|[1-9]\d* differ", ended.stdout)

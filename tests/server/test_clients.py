@@ -6,14 +6,9 @@ import time
 
 import pytest
 import servers
-from servers import READY, entry, push_request
+from servers import READY, SECONDS, connect, entry, push_request
 
-SECONDS = 60
 OPEN, HALF_SENT = "NEEDLEAZURE_OPEN_CONNECTIONS", "NEEDLEAZURE_HALF_SENT"
-
-
-def connect(port):
-    return socket.create_connection(("127.0.0.1", port), SECONDS)
 
 
 def push_once(port, seconds=1):
@@ -106,10 +101,7 @@ def test_ready_beside_many(serve):
     time.sleep(1)
     for _ in range(10):
         began = time.monotonic()
-        with servers.Client(server.port) as client:
-            client.ends.sendall(READY)
-            assert client.answer() == (200, b"ready")
-        assert time.monotonic() - began < 1
+        assert servers.get(server.port, "/ready") == b"ready" and time.monotonic() - began < 1
     is_done.set()
     for it in pushers:
         it.join(SECONDS)

@@ -11,9 +11,9 @@ import time
 import pytest
 import servers
 from hostile_bytes import exchange
-from servers import READY, entry, push_request
+from servers import READY, SECONDS, connect, entry, push_request
 
-LABELS, SECONDS = {"a": "1"}, 60
+LABELS = {"a": "1"}
 # one more than any number that a loop of the server's could have
 CONNECTIONS = int(os.environ.get("CONNECTIONS", 101_000))
 
@@ -65,7 +65,7 @@ def test_silent_clients(serve, preload):
     server = serve(workers=3, settings={"LD_PRELOAD": preload, "FAST": "20"})
     inner = push_request({"a": "inner"}, [entry()]) + READY
     head = servers.request(servers.PUSH, "x" * (len(inner) + 98))[:-len(inner) - 100]
-    clients = [socket.create_connection(("127.0.0.1", server.port), SECONDS) for _ in range(3)]
+    clients = [connect(server.port) for _ in range(3)]
     for ends, sent in zip(clients, [b"", head[:40], head + inner]):
         ends.sendall(sent)
     for ends in clients:
@@ -98,7 +98,7 @@ def test_clients_that_leave(serve, is_reset):
         pieces = [push_request(LABELS, [it], f"{place:04}") for it in lines]
         data, whole = b"".join(pieces)[:place], sum(place >= sum(map(len, pieces[:at])) for at in (1, 2, 3))
         if is_reset:
-            with socket.create_connection(("127.0.0.1", server.port), SECONDS) as it:
+            with connect(server.port) as it:
                 it.sendall(data)
                 it.setsockopt(socket.SOL_SOCKET, socket.SO_LINGER, struct.pack("ii", 1, 0))
         else:
@@ -133,7 +133,7 @@ def test_few_descriptors(serve):
 def short_connections(port, count):
     """So many connections in turn, each answered. Each ends by a reset, so that its port is free at once."""
     for _ in range(count):
-        with socket.create_connection(("127.0.0.1", port), SECONDS) as it:
+        with connect(port) as it:
             it.setsockopt(socket.SOL_SOCKET, socket.SO_LINGER, struct.pack("ii", 1, 0))
             it.sendall(READY)
             found = it.recv(512)

@@ -12,6 +12,7 @@ import signal
 import stat
 import struct
 import subprocess
+from functools import partial
 
 import pytest
 import servers
@@ -54,27 +55,21 @@ def lawful(slot):
     return APPENDED if slot == 1 else APPENDED[:5] + struct.pack("<Q", 2) + APPENDED[13:]
 
 
-def locked(how):
-    def put(path, slot, ends):
-        servers.write(path, lawful(slot))
-        fcntl.flock(ends.enter_context(open(path, "r+b")), how)
-    return put
+def lock(path, slot, ends, how):
+    servers.write(path, lawful(slot))
+    fcntl.flock(ends.enter_context(open(path, "r+b")), how)
 
 
-def with_rights(rights, owner=NOBODY, of_folder=0o777):
-    def put(path, slot, _):
-        servers.write(path, lawful(slot))
-        os.chown(path, owner, owner)
-        os.chmod(path, rights)
-        os.chmod(os.path.dirname(path), of_folder)
-    return put
+def limit_rights(path, slot, _, rights, owner=NOBODY, of_folder=0o777):
+    servers.write(path, lawful(slot))
+    os.chown(path, owner, owner)
+    os.chmod(path, rights)
+    os.chmod(os.path.dirname(path), of_folder)
 
 
-def too_long(change):
-    def put(path, slot, _):
-        servers.write(path, change(lawful(slot)))
-        os.truncate(path, LONGEST + 1)
-    return put
+def lengthen(path, slot, _, change):
+    servers.write(path, change(lawful(slot)))
+    os.truncate(path, LONGEST + 1)
 
 
 # of one file as both slots it is the second that can't be locked
@@ -88,23 +83,23 @@ KINDS = {
     "the other slot itself": (lambda path, slot, _: os.link(path.replace(f"-{slot}.wal", f"-{1 - slot}.wal"), path), SECOND),
     "a pipe": (lambda path, slot, _: os.mkfifo(path), THIS),
     "a socket": (lambda path, slot, _: os.mknod(path, 0o666 | stat.S_IFSOCK), THIS),
-    "locked by another process": (locked(fcntl.LOCK_EX), THIS),
-    "read under a lock by another process": (locked(fcntl.LOCK_SH), THIS),
+    "locked by another process": (partial(lock, how=fcntl.LOCK_EX), THIS),
+    "read under a lock by another process": (partial(lock, how=fcntl.LOCK_SH), THIS),
     # (the block begins inside the first 2^30 bytes, and its closing gate is the byte behind them)
-    "of 2^30 + 1 bytes, one block": (too_long(lambda data: data[:22] + struct.pack("<I", LONGEST - 26)),
+    "of 2^30 + 1 bytes, one block": (partial(lengthen, change=lambda data: data[:22] + struct.pack("<I", LONGEST - 26)),
                                      (3, "shard 0: slot {slot} damaged at 21")),
-    "of 2^30 + 1 bytes, a segment in front": (too_long(lambda data: data), b'["10","x"],["11","y"]'),
-    "of 2^30 + 1 bytes, closed": (too_long(lambda data: b""), b""),
+    "of 2^30 + 1 bytes, a segment in front": (partial(lengthen, change=bytes), b'["10","x"],["11","y"]'),
+    "of 2^30 + 1 bytes, closed": (partial(lengthen, change=lambda data: b""), b""),
 }
 # the programs are started by a user who may do little, but for the device
 ROOT_KINDS = {
     "a device": (lambda path, slot, _: os.mknod(path, 0o666 | stat.S_IFCHR, os.makedev(1, 3)), THIS),
-    "unreadable": (with_rights(0o000), THIS),
-    "not to be read": (with_rights(0o200), THIS),
-    "not to be written": (with_rights(0o400), THIS),
-    "another user's": (with_rights(0o644, 0), THIS),
+    "unreadable": (partial(limit_rights, rights=0o000), THIS),
+    "not to be read": (partial(limit_rights, rights=0o200), THIS),
+    "not to be written": (partial(limit_rights, rights=0o400), THIS),
+    "another user's": (partial(limit_rights, rights=0o644, owner=0), THIS),
     "missing, in another user's folder": (lambda path, slot, _: os.chmod(os.path.dirname(path), 0o755), THIS),
-    "in a folder that can't be searched": (with_rights(0o644, 0, 0o600), FIRST),
+    "in a folder that can't be searched": (partial(limit_rights, rights=0o644, owner=0, of_folder=0o600), FIRST),
 }
 
 

@@ -18,7 +18,7 @@ def test_address(server):
     for address in {"127.0.0.2", "::1", *said} - {"127.0.0.1"}:
         with pytest.raises(OSError):
             socket.create_connection((address, server.port), 5).close()
-    socket.create_connection(("127.0.0.1", server.port), 5).close()
+    servers.connect(server.port).close()
 
 
 def test_clock(client):

@@ -17,14 +17,11 @@ use answering::{
 };
 use disk::Disk;
 use ingester::{Ingester, Pass};
-use labels::{MAX_SHARDS, Tenant, shard_of};
+use labels::Tenant;
 use std::alloc::Global;
 use std::collections::VecDeque;
 use std::io::{Read, Write};
 use std::sync::Wait;
-
-/// The most calls that are made together.
-const WINDOW: usize = 64;
 
 /// An ingester, by which the calls of requests are made, and who is told of full shards.
 #[derive(Drop)]
@@ -33,35 +30,18 @@ pub struct Service<'a, D: Disk + Drop, F> {
     pub full: &'a F,
 }
 
-// The shard of a call.
-fn shard_in<D: Disk + Drop>(ingester: &Ingester<D>, call: &Call) -> u32 {
-    let shards = ingester.shards();
-    if shards < 1 || shards > MAX_SHARDS {
-        return 0;
-    }
-    shard_of(call.key(), shards)
-}
-
-// The shards of the first calls of these, which are taken out when they are made.
-fn shards_of<D: Disk + Drop>(ingester: &Ingester<D>, calls: &VecDeque<Call>) -> [u32; WINDOW] {
-    let mut shards = [0; WINDOW];
-    for (shard, call) in shards.iter_mut().zip(calls.iter()) {
-        *shard = shard_in(ingester, call);
-    }
-    shards
-}
-
-// Tells of each shard whose call found no room.
-fn tell_of_full<R: Wait, F: FullShards>(
+// Where a call of this pass found no room: tells of its shard.
+fn tell_if_full<R: Wait, F: FullShards>(
     rt: &R,
     full: &F,
-    shards: &[u32],
-    outcomes: &VecDeque<Result<Reply, CallFault>>,
+    pass: &Pass,
+    outcome: &Result<Reply, CallFault>,
 ) {
-    for (shard, outcome) in shards.iter().zip(outcomes.iter()) {
-        if let Ok(Reply::NoRoom) = outcome {
-            full.found_no_room(rt, *shard);
-        }
+    if let Ok(Reply::NoRoom) = outcome
+        && let Some(shard) = pass.next_full()
+        && let Ok(shard) = u32::try_from(shard)
+    {
+        full.found_no_room(rt, shard);
     }
 }
 
@@ -79,11 +59,8 @@ impl<'a, D: Disk + Drop, F: FullShards> Calls for Service<'a, D, F> {
         pass: &mut Pass,
         call: Call,
     ) -> Result<Reply, CallFault> {
-        let shard = shard_in(self.ingester, &call);
         let outcome = self.ingester.call(rt, alloc, pass, call);
-        if let Ok(Reply::NoRoom) = &outcome {
-            self.full.found_no_room(rt, shard);
-        }
+        tell_if_full(rt, self.full, pass, &outcome);
         outcome
     }
 
@@ -95,9 +72,10 @@ impl<'a, D: Disk + Drop, F: FullShards> Calls for Service<'a, D, F> {
         calls: &mut VecDeque<Call>,
         outcomes: &mut VecDeque<Result<Reply, CallFault>>,
     ) {
-        let shards = shards_of(self.ingester, calls);
         self.ingester.call_all(rt, alloc, pass, calls, outcomes);
-        tell_of_full(rt, self.full, &shards, outcomes);
+        for outcome in outcomes.iter() {
+            tell_if_full(rt, self.full, pass, outcome);
+        }
     }
 }
 

@@ -9,7 +9,7 @@ ghost use Rattle.owners.specs.Seeds.{AreRows, IsSeatAt};
 
 use disk::Disk;
 use history::Pass as Seat;
-use owners::{Way, end_owners};
+use owners::{Way, end_owners, next_full};
 use shard::Shard;
 use std::collections::VecDeque;
 use std::marker::Model;
@@ -65,6 +65,11 @@ impl Pass {
         ensures { self.new ≡ record self.old { closed = true } }
     {
         self.seat.close();
+    }
+
+    /// A shard at which a call of this pass has found no room since that was asked last.
+    pub fn next_full(&self) -> Option<usize> {
+        next_full(&self.ways)
     }
 
     // Sends each owner the last order.

@@ -23,6 +23,7 @@ use Rattle.owners.specs.Openings.{Opening}
 use Rattle.ingester.specs.Calls.{IsPassOf, IsGiven, with_next}
 use Rattle.ingester.specs.Batches.{IsTaken}
 use Rattle.ingester.proofs.Passing.{settled_call}
+use Rattle.one_life.specs.Cut.{IsOfTicket}
 
 -- ---- one job
 
@@ -32,11 +33,6 @@ ready_one book t call table here is numbers none = record {
   lawful = (here, is, numbers, tt);
   turn = (subst (λ (l : List Ask). HaveStepsOr l book.items []) (sym none) tt, tt);
 }
-
--- what came of a ticket: its call has its step with this reply, or it came back
-abbrev pub IsOfTicket : Announced → Settled → Type 0
-IsOfTicket t (Answered reply receipt) = (receipt.table ≡ t.table) × (receipt.step ≡ step_of t.ask reply)
-IsOfTicket t (GivenBack fault back) = back ≡ t
 
 only_front : (front rest : List Announced) (t : Announced) → t ∷ [] ≡ front ++ rest → 1 ≤ length front → front ≡ t ∷ []
 only_front [] rest t e some = absurd (omega arith)

@@ -34,7 +34,7 @@ not_refused : (a b : Result Reply CallFault) → a ≡ Err InDoubt → b ≡ Err
 not_refused a b x y e = cc
 
 -- a call of whose outcome nobody learned is in doubt, and stays open
-in_doubt : (pass : Passed) (call : Call) → is_closed_pass pass ≡ false → IsGiven pass call (Err InDoubt) (closed_now (with_next pass call))
+pub in_doubt : (pass : Passed) (call : Call) → is_closed_pass pass ≡ false → IsGiven pass call (Err InDoubt) (closed_now (with_next pass call))
 in_doubt pass call up = record {
   answered = tt;
   refused = inr refl;
@@ -56,7 +56,7 @@ of_start {D = D} sight follows opening k s there is = record {
 }
 
 -- the same is told of a pass that was closed
-told_closed : (k : ℕ) (items : List Item) (pass : Passed) → IsTold k items pass → IsTold k items (closed_now pass)
+pub told_closed : (k : ℕ) (items : List Item) (pass : Passed) → IsTold k items pass → IsTold k items (closed_now pass)
 told_closed k items pass t = record { begins = t.begins; steps = t.steps }
 
 module _ {D : Type 0} (sight : D → Sight) (follows : D → Type 0) (limits : Limits) (capacity : ℕ) (slots : List (List D)) (opening : Opening D)

@@ -9,8 +9,11 @@ use Rattle.accept.specs.declared.fault.CallFault.TheVariants.{InDoubt}
 use Rattle.disk.specs.Sight.{Sight}
 use Rattle.wal.specs.Logs.{Follow}
 use Rattle.history.specs.declared.views.About.{About}
-use Rattle.history.specs.Handles.{Booked, Passed, is_closed_pass, about_of, fresh_book, fresh_pass, with_seen, HaveMet}
+use Rattle.history.specs.Handles.{Announced, Booked, Passed, is_closed_pass, about_of, fresh_book, fresh_pass, with_seen, HaveMet}
+use Rattle.history.specs.Histories.{step_of}
 use Rattle.history.specs.Shards.{shard_of}
+use Rattle.shard.specs.declared.group.Settled.{Settled}
+use Rattle.shard.specs.declared.group.Settled.TheVariants.{Answered, GivenBack}
 use Rattle.shard.specs.Leads.{IsMade}
 use Rattle.shard.specs.Shards.{Sharded}
 use Rattle.shard.specs.Turns.{Turn}
@@ -53,6 +56,12 @@ pub record AreOfOpening {D : Type 0} (table : TableId) (about : About) (it : Two
   pub second : IsBookOf table about 1 it.second.book
   pub one : IsIdle table about it.one
   pub two : IsIdle table about it.two
+
+-- what came of a ticket: its call has its step with this reply, or it came back
+abbrev pub IsOfTicket : Announced → Settled → Type 0
+IsOfTicket t (Answered reply receipt) = (receipt.table ≡ t.table)
+    × (receipt.step ≡ step_of t.ask reply)
+IsOfTicket t (GivenBack fault back) = back ≡ t
 
 -- the opening of these shards, before their first turns
 abbrev pub opening_with : {D : Type 0} → Two D → Opening D

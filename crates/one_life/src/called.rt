@@ -21,8 +21,8 @@ pub struct Tray {
     pub settled: Vec<Settled>,
 }
 
-// Empty lists, with room for one job.
-pub(crate) fn empty_tray(alloc: Global) -> Option<Tray>
+/// Empty lists, with room for one job. `None` where there was no memory.
+pub fn empty_tray(alloc: Global) -> Option<Tray>
     ensures jobs { IfSome result (λ tray. (tray.jobs.items ≡ [])
         × (deque_len tray.jobs + 1 ≤ deque_capacity tray.jobs)) }
     ensures settled { IfSome result (λ tray. (tray.settled.items ≡ [])

@@ -40,9 +40,9 @@ fn call_both<D: Disk>(
     Some((reply, other))
 }
 
-// The first pass announces a call, and each shard is compared with each pass. Then the first shard makes a turn at the
-// call; the result says why it ends.
-fn cut_turn<D: Disk>(
+/// The first pass announces a call, and each shard is compared with each pass. Then the first shard makes a turn at the
+/// call; the result says why it ends. `None` where the pass is closed, or there was no memory.
+pub fn cut_turn<D: Disk>(
     alloc: Global,
     history: &History,
     it: &mut Two<D>,

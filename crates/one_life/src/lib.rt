@@ -9,8 +9,8 @@ mod opening;
 mod seen;
 mod turned;
 
-pub use called::{Tray, call_once};
-pub use cut::cut_once;
+pub use called::{Tray, call_once, empty_tray};
+pub use cut::{cut_once, cut_turn};
 pub use laws::cut_turn_ends_a_life;
 pub use once::live_once;
 pub use opening::{Two, open_two};

@@ -25,6 +25,6 @@ pub use letters::{
 pub use owning::{Back, BackIn, Ends, Owner, own};
 pub use places::{Home, OfOpening, Origin};
 pub use plan::{Closer, Closing, OfClosing, Plan, make_plan};
-pub use several::{clear_letters, end_owners, receive_letters, send_letters};
+pub use several::{clear_letters, end_owners, next_full, receive_letters, send_letters};
 pub use team::{StartFault, Team};
 pub use ways::Way;

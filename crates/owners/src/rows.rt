@@ -12,6 +12,7 @@ use keyed::queue;
 use std::alloc::{AllocError, Global};
 use std::collections::VecDeque;
 use std::mem;
+use std::sync::atomic::AtomicBool;
 
 /// The ends of the queues of a shard, before its owner has them: how it gets orders, how it answers the first passes,
 /// and how further passes come to send orders.
@@ -61,6 +62,7 @@ fn make_way(
     Ok(Way {
         letter: blank(alloc, pass),
         is_out: false,
+        is_full: AtomicBool::new(false),
         orders,
         answers,
     })

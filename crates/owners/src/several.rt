@@ -8,12 +8,14 @@ ghost use Rattle.owners.specs.Ways.{IsWay, IsLoaded, IsIdleWay, AreWays, AreLoad
 
 use crate::letters::{LastOrder, Order};
 use crate::ways::{Way, blank};
+use accept::Reply;
 use history::Ticket;
 use keyed::Waiters;
 use shard::{Job, Settled};
 use std::alloc::Global;
 use std::mem;
 use std::sync::Wait;
+use std::sync::atomic::Ordering;
 
 // The number of the call.
 fn number_of(settled: &Settled) -> u64
@@ -72,7 +74,11 @@ impl Way {
         if number_of(next) != number {
             return None;
         }
-        self.letter.settled.pop_front()
+        let settled = self.letter.settled.pop_front()?;
+        if let Settled::Answered(Reply::NoRoom, _) = &settled {
+            self.is_full.store(true, Ordering::Relaxed);
+        }
+        Some(settled)
     }
 
     /// Drops what is left in the letter.
@@ -141,6 +147,16 @@ pub fn clear_letters(ways: &mut Vec<Way>)
     for shard in 0..ways.len() {
         ways[shard].clear();
     }
+}
+
+/// A shard at which a call by these ways has found no room since that was asked last.
+pub fn next_full(ways: &[Way]) -> Option<usize> {
+    for (shard, way) in ways.iter().enumerate() {
+        if way.is_full.swap(false, Ordering::Relaxed) {
+            return Some(shard);
+        }
+    }
+    None
 }
 
 /// Sends each owner the last order: it ends once it has answered all that came before. Where it has ended, nothing

@@ -7,3 +7,6 @@ pub mod Lasting
 pub mod Saving
 pub mod Wholes
 pub mod Refusing
+pub mod Seeing
+pub mod Calling
+pub mod ServedOnce

@@ -9,7 +9,7 @@ use Rattle.history.specs.Histories.{IsBeginning}
 use Rattle.history.proofs.Lists.{begins_trans}
 use Rattle.owners.specs.Openings.{Opening}
 use Rattle.answering.specs.Serving.{Exchange, response}
-use Rattle.headline.specs.Threads.{Thread, happened_to}
+use Rattle.headline.specs.Threads.{Thread, IsThread, happened_to}
 use Rattle.headline.specs.Headline.{IsOneOf}
 use Rattle.headline.specs.Lives.{Life, ShardEnd, IsLife, IsHeadlineOf, WereRead, HasFailedSince, MayBeReplayed, MayBeRefused, writing_in}
 use Rattle.headline.proofs.Ending.{histories, says}
@@ -85,7 +85,7 @@ module _ {D : Type 0} (sight : D → Sight) (follows : D → Type 0) (only_now :
           of_request ticks opening w its.0 k (history k) (headline.and_no_others its.0.thread its.1 k lt) s of mine;
     }
 
-  pub wholes : (threads : List Thread) × AreThreadsOf workers threads
+  pub wholes : (threads : List Thread) × AreThreadsOf workers threads × ((t : Thread) → IsOneOf t threads → IsThread opening t)
       × (IsLife sight follows (record { given = given; opening = opening; threads = threads; ends = ends })
       → IsWhole sight follows ticks (record { given = given; opening = opening; threads = threads; ends = ends }) workers lines)
-  wholes = (crew_of.threads, crew_of.are_of, λ life. is_whole life)
+  wholes = (crew_of.threads, crew_of.are_of, crew_of.are_threads, λ life. is_whole life)

@@ -1,2 +1,3 @@
 pub mod Visits
 pub mod Whole
+pub mod ServedOnce

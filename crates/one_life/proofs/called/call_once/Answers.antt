@@ -7,7 +7,8 @@ use Rattle.shard.specs.declared.first_jobs.Job.{Job}
 use Rattle.shard.specs.Turns.{Turn}
 use Rattle.owners.specs.Openings.{opening_of}
 use Rattle.ingester.specs.Calls.{with_next}
-use Rattle.one_life.proofs.Cutting.{IsOfTicket, came_of, popped, given_by}
+use Rattle.one_life.specs.Cut.{IsOfTicket}
+use Rattle.one_life.proofs.Cutting.{came_of, popped, given_by}
 use Rattle.one_life.proofs.called.call_once.Goals as goal
 
 pub collect-requires-clause-table : goal.collect-requires-clause-table

@@ -31,6 +31,7 @@ make_call-requires-clause-way g c =
     let way : Way = record {
       letter = record { pass = c.make_room.new.self.pass; jobs = c.push_back_reserved.new.self; settled = c.make_room.new.self.settled };
       is_out = c.args.way.now.is_out;
+      is_full = c.args.way.now.is_full;
       orders = c.args.way.now.orders;
       answers = c.args.way.now.answers;
     } in
@@ -55,6 +56,7 @@ returns-clause-way g c =
     let way : Way = record {
       letter = record { pass = c.make_room.new.self.pass; jobs = c.push_back_reserved.new.self; settled = c.make_room.new.self.settled };
       is_out = c.args.way.now.is_out;
+      is_full = c.args.way.now.is_full;
       orders = c.args.way.now.orders;
       answers = c.args.way.now.answers;
     } in

@@ -1,4 +1,3 @@
-#!/usr/bin/env -S python3 -B
 """drain_cost: what a run of deploy/drain costs over 5,000 streams of 40 lines, with lines to take and with none, and over one
 stream of 100 MB.
 
@@ -6,13 +5,10 @@ Prints the seconds that each run took, of the clock and of a processor with all 
 had. Ends with 1 where the first takes more than 15 seconds of a processor, the second more than 5, or any more than
 120 MB."""
 import os
-import sys
-import tempfile
 import time
 
-sys.path += [f"{sys.path[0]}/../models", f"{sys.path[0]}/../server"]
 import servers
-from servers import TOP, hold
+from servers import hold
 
 STREAMS, LINES, SHARDS, STEP = 5_000, 40, 8, 180 * 10**9
 LONG, LENGTH = 100_000_000, 200
@@ -21,48 +17,36 @@ LONG, LENGTH = 100_000_000, 200
 def fill(port):
     """Lines of two hours for each stream, so that half of them may be taken."""
     start = time.time_ns() - LINES * STEP
-    line = "x" * LENGTH
     with servers.Client(port) as client:
         for first in range(0, STREAMS, 200):
             for at in range(0, LINES, 20):
-                entries = [(start + it * STEP, f"{it} {line}"[:LENGTH], ()) for it in range(at, at + 20)]
-                body = servers.push_body([({"pod": str(it)}, entries) for it in range(first, first + 200)])
-                status = client.ask(servers.PUSH, body)[0]
-                servers.need(status == 204, f"a push is answered {status}")
+                entries = [(start + it * STEP, f"{it} ".ljust(LENGTH, "x"), ()) for it in range(at, at + 20)]
+                client.store(*(({"pod": str(it)}, entries) for it in range(first, first + 200)))
 
 
 def fill_long(port):
     """A stream of lines of three hours."""
-    count, line = LONG // LENGTH, "x" * LENGTH
+    count = LONG // LENGTH
     start, step = time.time_ns() - 3 * servers.HOUR, 3 * servers.HOUR // count
     with servers.Client(port) as client:
         for at in range(0, count, 5_000):
-            entries = [(start + it * step, f"{it} {line}"[:LENGTH], ()) for it in range(at, min(at + 5_000, count))]
-            status = client.push({"pod": "long"}, entries)[0]
-            servers.need(status == 204, f"a push is answered {status}")
+            numbers = range(at, min(at + 5_000, count))
+            client.store(({"pod": "long"}, [(start + it * step, f"{it} ".ljust(LENGTH, "x"), ()) for it in numbers]))
 
 
 def drain(work, name, port, shards):
     """Seconds of the clock and of a processor, and the most memory, of a run that has to end well."""
-    words = [f"{TOP}/deploy/drain", f"{work}/{name}", str(port), str(shards), f"{work}/lines"]
-    began, memory = time.monotonic(), 0
-    process = os.posix_spawn(words[0], words, {**os.environ, "PATH": servers.WITH_WALCAT})
-    while not (found := os.wait4(process, os.WNOHANG))[0]:
+    began, memory, running = time.monotonic(), 0, servers.drain(f"{work}/{name}", port, shards)
+    while not (found := os.wait4(running.pid, os.WNOHANG))[0]:
         # (of the drain alone: walcat has a slot twice in its memory)
-        memory = max(memory, memory_of(process))
+        memory = max(memory, servers.memory_of(running.pid, "VmHWM"))
         time.sleep(0.05)
-    _, status, used = found
-    hold(status == 0, "a run ends well")
+    _, running.returncode, used = found
+    hold(running.returncode == 0, "a run ends well")
     return time.monotonic() - began, used.ru_utime + used.ru_stime, memory / 1e6, servers.last_run(f"{work}/lines")
 
 
-def memory_of(process):
-    """The most memory that a process has had, 0 once it has ended."""
-    line = next((it for it in servers.bytes_of(f"/proc/{process}/status").splitlines() if it.startswith(b"VmHWM")), b"0 0")
-    return int(line.split()[1]) * 1024
-
-
-def check(work, name, shards, fill_it, most):
+def measure(work, name, shards, fill_it, most):
     """Two runs over a server: at most so many seconds of a processor each, and MB."""
     settings = {**servers.allocator(), "NEEDLEAZURE_CAPACITY": str(256 << 20)}
     with servers.Server(f"{work}/{name}", shards, 16, settings) as server:
@@ -75,11 +59,6 @@ def check(work, name, shards, fill_it, most):
                  f"{used:.1f} s of a processor, {memory:.0f} MB; the server took {server.processor() - before:.1f} s")
 
 
-def main():
-    with tempfile.TemporaryDirectory(prefix="needleazure-drain-", dir=os.environ.get("DRAIN_DIR")) as work:
-        check(work, "many", SHARDS, fill, (15, 5, 120))
-        check(work, "long", 1, fill_long, (60, 60, 120))
-
-
-if __name__ == "__main__":
-    main()
+def check(work, _):
+    measure(work, "many", SHARDS, fill, (15, 5, 120))
+    measure(work, "long", 1, fill_long, (60, 60, 120))

@@ -1,4 +1,3 @@
-#!/usr/bin/python3 -B
 """gateway_check [PART..]: needleazure-gateway before real servers, asked by encoders and clients that are none of its own.
 
 random   2,000 random pushes in all of Loki's forms, some of them in several parts, read back entry for entry
@@ -10,21 +9,26 @@ kills    a server and a gateway that are killed in the middle of pushes: what wa
 Without PART it runs all. The gateway is the one that Go's race detector watches, but for `hostile`. It needs protoc,
 python3-protobuf and python3-snappy."""
 import asyncio
+import collections
 import contextlib
 import gzip
+import http.client
 import os
 import random
-import resource
 import sys
-import tempfile
 import threading
 import time
 
+import edge_clients
+import servers
 import snappy
 from gateway_bodies import MINUTE, Draw, Writer, kept, load_messages, texts, value_of
 from gateway_runs import Client, Gateway, Server
-from servers import PUSH, hold, run_script
+from row_files import pieces_of
+from servers import PUSH, TOP, Repeated, hold
 
+# (where syncs take no time: what is killed here is no machine)
+PLACE = servers.memory()
 PUSHES, LARGE = 2000, 6
 CLIENTS, EACH = 500, 20
 RACE = {"program": "needleazure-gateway.race"}
@@ -54,7 +58,7 @@ class Model:
     def wrong(self, client):
         """The labels of streams that a server has otherwise."""
         return [key for key, values in self.streams.items()
-                if client.read(dict(key)) != sorted(values, key=lambda it: int(it[0]))]
+                if client.values(dict(key)) != sorted(values, key=lambda it: int(it[0]))]
 
 
 def large(draw):
@@ -81,7 +85,7 @@ def try_random(messages, work):
             model.store([it for it in streams if it[1]])
             forms[is_json] += 1
         parts = gateway.metric("needleazure_gateway_parts_total")
-        with Client(server.port) as client:
+        with servers.Client(server.port) as client:
             wrong = model.wrong(client)
         hold(not wrong, f"{PUSHES} random pushes ({forms[0]} in Protobuf, {forms[1]} in JSON, {parts:.0f} parts), "
              f"{model.entries} entries of {len(model.streams)} streams read back, {len(wrong)} streams otherwise, seed {seed}")
@@ -120,7 +124,7 @@ class Faults:
 def try_answers(messages, work):
     seed = time.time_ns()
     chance = random.Random(seed)
-    draw, writer, found = Faults(Draw(chance)), Writer(messages, chance), {}
+    draw, writer, found = Faults(Draw(chance)), Writer(messages, chance), collections.Counter()
     with (Server(f"{work}/first") as first, Server(f"{work}/second") as second, Gateway(second, **RACE) as gateway,
           Client(first.port) as direct, Client(gateway.port) as client):
         for at in range(300):
@@ -133,8 +137,9 @@ def try_answers(messages, work):
             wanted, got = direct.push(asked, JSON), client.push(body, head)
             if wanted != got:
                 hold(False, f"push {at} of seed {seed}: {got} in place of {wanted}")
-            found[got[0]] = found.get(got[0], 0) + 1
-        hold(found.get(400, 0) > 150, f"{sum(found.values())} pushes are answered as by a server, status and text: {found}, seed {seed}")
+            found[got[0]] += 1
+        what = f"{sum(found.values())} pushes are answered as by a server, status and text: {dict(found)}"
+        hold(found[400] > 150, f"{what}, seed {seed}")
         try_parts(messages, gateway, client)
         ends_well(gateway, "answers")
 
@@ -154,79 +159,39 @@ def try_parts(messages, gateway, client):
 
 # ---- hostile -------------------------------------------------------------------------------------------------------
 
-def field(number, data):
-    """A field of Protobuf with these bytes."""
-    return varint(number << 3 | 2) + varint(len(data)) + data
+PACKINGS = {b"snappy": snappy.compress, b"gzip": gzip.compress, b"none": bytes}
 
 
-def varint(number):
-    found = b""
-    while number > 127:
-        found, number = found + bytes([number & 127 | 128]), number >> 7
-    return found + bytes([number])
-
-
-def hostile(most):
-    """Name, head, body and the statuses that are right, of bodies that unpack to the most that may be, and more."""
-    good = field(1, field(1, b'{a="1"}') + field(2, b""))
-    packed = {"Content-Encoding": "gzip"}
-    yield "8,000,000 entries of no bytes", PROTOBUF, snappy.compress(field(1, b"\x12\x00" * (most // 2 - 16))), {413}
-    yield "8,000,000 pairs of an entry", PROTOBUF, snappy.compress(field(1, field(2, b"\x1a\x00" * (most // 2 - 32)))), {413}
-    yield "8,000,000 streams of no bytes", PROTOBUF, snappy.compress(b"\x0a\x00" * (most // 2)), {413}
-    yield "one byte more than the most", PROTOBUF, snappy.compress(b"\x0a\x00" * (most // 2) + b"\x00"), {413}
-    yield "labels without end", PROTOBUF, snappy.compress(field(1, field(1, b"{" + b'a="",' * (most // 5 - 20) + b"}"))), {400}
-    yield "labels that don't end", PROTOBUF, snappy.compress(field(1, field(1, b'{a="' + b"\\n" * (most // 2 - 20)))), {400}
-    yield "a label of 16 MB", PROTOBUF, snappy.compress(field(1, field(1, b'{a="' + b"x" * (most - 80) + b'"}') + field(2, b""))), {400}
-    yield "a line of 16 MB", PROTOBUF, snappy.compress(field(1, field(1, b'{a="1"}') + field(2, field(2, b"\x01" * (most - 80))))), {400}
-    yield "a length of 4 GB", PROTOBUF, b"\xff\xff\xff\xff\x0f" + b"a" * 100, {413}
-    yield "a length of 16 MB, and nothing", PROTOBUF, varint(most) + b"a", {400}
-    yield "a length of 2^64", PROTOBUF, b"\xff" * 10 + b"\x01", {400}
-    yield "a length inside that is too large", PROTOBUF, snappy.compress(b"\x0a\xff\xff\xff\xff\x0f"), {400}
-    yield "groups in groups", PROTOBUF, snappy.compress(b"\x4b" * (most - 10)), {400}
-    yield "a body that is cut", PROTOBUF, snappy.compress(good)[:-2], {400}
+def hostile():
+    """Name, head, body and the statuses that are right."""
+    for name, packing, kind, encoding, statuses, *pieces in pieces_of(f"{TOP}/tests/rows/hostile/gateway.txt"):
+        head = {"Content-Type": kind.decode(), "Content-Encoding": encoding.decode()}
+        body = PACKINGS[packing](b"".join(pieces))
+        yield name.decode(), {field: it for field, it in head.items() if it}, body, {*map(int, statuses.split())}
     yield "random bytes", PROTOBUF, os.urandom(100_000), {400, 413}
-    yield "labels that are none", PROTOBUF, snappy.compress(field(1, field(1, b"{a=1}"))), {400}
-    yield "a wrong type", PROTOBUF, snappy.compress(b"\x08\x01"), {400}
-    yield "gzip of 64 MB", {**JSON, **packed}, gzip.compress(b" " * (64 << 20), 9), {413}
-    yield "gzip of 64 MB in snappy's place", {**PROTOBUF, **packed}, gzip.compress(b" " * (64 << 20), 9), {413}
-    yield "gzip of nothing, many times", {**JSON, **packed}, gzip.compress(b"") * 100_000, {400}
-    entries = b'{"streams":[{"stream":{"a":"1"},"values":[' + b"[]," * (most // 3 - 20) + b"[]]}]}"
-    yield "5,000,000 entries of no bytes", {**JSON, **packed}, gzip.compress(entries, 1), {413}
-    yield "arrays in arrays", {**JSON, **packed}, gzip.compress(b"[" * (most - 10), 1), {400}
-    yield "a name without end", {**JSON, **packed}, gzip.compress(b'{"' + b"a" * (most - 10), 1), {400}
     yield "a head of 30,000 bytes", {**JSON, "X-More": "a" * 30_000}, b"{}", {431}
-    yield "no content type", {}, b"{}", {400}
-    yield "another encoding", {**JSON, "Content-Encoding": "br"}, b"{}", {400}
 
 
-def at_once(count, work):
-    """Does this in so many threads."""
-    threads = [threading.Thread(target=work, args=(at,)) for at in range(count)]
-    for it in threads:
-        it.start()
-    for it in threads:
-        it.join()
+def ask(port, head, body, found):
+    # (a body that is refused before it was read may end its connection under the client's hands)
+    with Client(port) as client, contextlib.suppress(ConnectionError):
+        try:
+            status = client.push(body, head)[0]
+        except TimeoutError:
+            status = "none in time"
+        found[status] += 1
 
 
 def try_hostile(messages, work):
-    most, memory, clients = 16 << 20, 384 << 20, 12
+    memory, clients = 384 << 20, 12
     with Server(f"{work}/hostile") as server, Gateway(server, "--memory", str(memory)) as gateway:
-        for name, head, body, wanted in hostile(most):
-            found = {}
-
-            def ask(_, head=head, body=body, found=found):
-                # (a body that is refused before it was read may end its connection under the client's hands)
-                with Client(gateway.port) as client, contextlib.suppress(ConnectionError):
-                    try:
-                        status = client.push(body, head)[0]
-                    except TimeoutError:
-                        status = "none in time"
-                    found[status] = found.get(status, 0) + 1
-
-            at_once(clients if len(body) > 10_000 else 1, ask)
+        for name, head, body, wanted in hostile():
+            found = collections.Counter()
+            words = {"target": ask, "args": (gateway.port, head, body, found)}
+            servers.side_by_side([threading.Thread(**words) for _ in range(clients if len(body) > 10_000 else 1)])
             is_well = found and found.keys() <= wanted | {503} and (found.keys() & wanted or clients > 1)
             most = gateway.memory("VmHWM")
-            hold(is_well, f"{name} in {len(body)} bytes: {found}, {most >> 20} MB at most")
+            hold(is_well, f"{name} in {len(body)} bytes: {dict(found)}, {most >> 20} MB at most")
         hold(most < 2 * memory, f"{most >> 20} MB of memory at most, of --memory {memory >> 20} MB")
         try_half_sent(gateway)
         entry = (time.time_ns(), b"after all", {})
@@ -262,17 +227,13 @@ def try_half_sent(gateway):
 
 async def kept_client(port, tenant, bodies, statuses):
     """Pushes these bodies over one connection. (http.client would need a thread for each.)"""
-    reader, writer = await asyncio.open_connection("127.0.0.1", port)
+    client = edge_clients.Client(port, tls=None)
     for body in bodies:
-        writer.write(f"POST {PUSH} HTTP/1.1\r\nHost: gateway\r\nContent-Type: application/x-protobuf\r\n"
-                     f"X-Scope-OrgID: {tenant}\r\nContent-Length: {len(body)}\r\n\r\n".encode() + body)
-        head = (await asyncio.wait_for(reader.readuntil(b"\r\n\r\n"), 60)).decode()
-        length = [it.split(":")[1] for it in head.lower().split("\r\n") if it.startswith("content-length:")]
-        await reader.readexactly(int(length[0]) if length else 0)
-        statuses.append(head.split()[1])
+        asked = servers.request(PUSH, body, tenant, PROTOBUF["Content-Type"], "Host: gateway")
+        statuses.append(await client.ask(asked, 60))
         # (as a shipper sends what came together for a while)
         await asyncio.sleep(0.05)
-    writer.close()
+    client.close()
 
 
 def try_clients(messages, work):
@@ -281,14 +242,9 @@ def try_clients(messages, work):
     bodies = {tenant: [snappy.compress(writer.protobuf([({b"a": b"1"}, [it])])) for it in entries]
               for tenant, entries in lines.items()}
     with Server(f"{work}/clients") as server, Gateway(server, **RACE) as gateway:
-        seen, stop = [0], threading.Event()
-
-        def watch():
-            while not stop.wait(0.05):
-                seen[0] = max(seen[0], server.connections())
-
-        watching = threading.Thread(target=watch)
-        watching.start()
+        seen = []
+        watch = Repeated(lambda: seen.append(server.connections()), 0.05)
+        watch.start()
 
         async def push_all():
             await asyncio.gather(*(kept_client(gateway.port, *it, statuses) for it in bodies.items()))
@@ -296,11 +252,10 @@ def try_clients(messages, work):
         began = time.monotonic()
         asyncio.run(push_all())
         took = time.monotonic() - began
-        stop.set()
-        watching.join()
-        hold(statuses == ["204"] * (CLIENTS * EACH), f"{len(statuses)} pushes of {CLIENTS} kept clients in {took:.1f} s")
+        watch.end()
+        hold(statuses == [204] * (CLIENTS * EACH), f"{len(statuses)} pushes of {CLIENTS} kept clients in {took:.1f} s")
         # (one that has ended may still be counted beside the next one)
-        hold(0 < seen[0] <= 40, f"{seen[0]} connections to the server at most, of --connections 32")
+        hold(0 < max(seen) <= 40, f"{max(seen)} connections to the server at most, of --connections 32")
         wrong = [it for it, entries in lines.items() if server.read(it, {"a": "1"}) != list(map(value_of, entries))]
         hold(not wrong, f"{len(wrong)} of them have other lines than they sent")
         ends_well(gateway, "clients")
@@ -308,40 +263,35 @@ def try_clients(messages, work):
 
 # ---- kills ---------------------------------------------------------------------------------------------------------
 
-class Pusher(threading.Thread):
+class Pusher(Repeated):
     """Pushes one body after another until it is done, and keeps what was answered 204, and all that was sent."""
 
     def __init__(self, port, messages, number):
-        super().__init__()
-        self.port, self.writer, self.tenant, self.is_done = port, Writer(messages, random.Random(number)), f"t{number}", False
-        self.sent, self.answered, self.others, self.number = [], [], {}, number
+        super().__init__(self.push, 0)
+        self.client, self.writer = Client(port, f"t{number}"), Writer(messages, random.Random(number))
+        self.number, self.sent, self.answered, self.others = number, [], [], collections.Counter()
 
-    def run(self):
-        count = 0
-        with Client(self.port, self.tenant) as client:
-            while not self.is_done:
-                # (some need three parts)
-                length = 21_000 if self.number == 0 and count % 40 == 7 else 5
-                entries = [(time.time_ns() + at, b"push %d line %d" % (count, at), {}) for at in range(length)]
-                body, head = self.writer.draw([({b"a": b"1"}, entries)], count % 2 == 1)
-                self.sent.append(entries)
-                try:
-                    status = client.push(body, head)[0]
-                except OSError:
-                    status = 0
-                except Exception:  # (http.client has errors of its own for an answer that is cut)
-                    status = 0
-                if status == 204:
-                    self.answered.append(entries)
-                else:
-                    client.line.close()
-                    self.others[status] = self.others.get(status, 0) + 1
-                    time.sleep(0.05)
-                count += 1
+    def push(self):
+        # (some need three parts)
+        count = len(self.sent)
+        length = 21_000 if self.number == 0 and count % 40 == 7 else 5
+        entries = [(time.time_ns() + at, b"push %d line %d" % (count, at), {}) for at in range(length)]
+        body, head = self.writer.draw([({b"a": b"1"}, entries)], count % 2 == 1)
+        self.sent.append(entries)
+        try:
+            status = self.client.push(body, head)[0]
+        except (OSError, http.client.HTTPException):
+            status = 0
+        if status == 204:
+            self.answered.append(entries)
+        else:
+            self.client.line.close()
+            self.others[status] += 1
+            time.sleep(0.05)
 
     def judge(self, server):
         """Lines that were answered and are gone, and lines that nobody sent, of those that a server has."""
-        values = server.read(self.tenant, {"a": "1"})
+        values = server.read(self.client.tenant, {"a": "1"})
         found = {tuple(it) for it in values}
         sent = {tuple(value_of(it)) for entries in self.sent for it in entries}
         lost = sum(tuple(value_of(it)) not in found for entries in self.answered for it in entries)
@@ -361,13 +311,9 @@ def try_kills(messages, work):
             killed.start()
         time.sleep(1.5)
         for it in pushers:
-            it.is_done = True
-        for it in pushers:
-            it.join()
-        others = {}
-        for it in pushers:
-            for status, count in it.others.items():
-                others[status] = others.get(status, 0) + count
+            it.end()
+            it.client.line.close()
+        others = dict(sum((it.others for it in pushers), collections.Counter()))
         judged = [it.judge(server) for it in pushers]
         lost, strange = map(sum, zip(*judged))
         answered = sum(len(it.answered) for it in pushers)
@@ -381,18 +327,10 @@ def try_kills(messages, work):
 PARTS = {"random": try_random, "answers": try_answers, "hostile": try_hostile, "clients": try_clients, "kills": try_kills}
 
 
-def main(words):
-    if not set(words) <= PARTS.keys():
+def check(work, _, *words):
+    if not {*words} <= {*PARTS}:
         sys.exit(f"usage: gateway_check [{'|'.join(PARTS)}]..")
-    most = resource.getrlimit(resource.RLIMIT_NOFILE)[1]
-    resource.setrlimit(resource.RLIMIT_NOFILE, (most, most))
-    # (where syncs take no time: what is killed here is no machine)
-    place = "/dev/shm" if os.access("/dev/shm", os.W_OK) else None
-    with tempfile.TemporaryDirectory(prefix="gateway-", dir=place) as work:
-        messages = load_messages(work)
-        for name in words or PARTS:
-            PARTS[name](messages, work)
-
-
-if __name__ == "__main__":
-    run_script(main, sys.argv[1:])
+    servers.allow_many_files()
+    messages = load_messages(work)
+    for name in words or PARTS:
+        PARTS[name](messages, work)

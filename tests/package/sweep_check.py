@@ -1,22 +1,14 @@
-#!/usr/bin/env -S python3 -B
-"""sweep_check: deploy/sweep over a server with 500 quiet streams in 8 shards, beside a client that pushes all the while and
-sends again what got no answer.
-
-A sweep takes all lines of the quiet streams but the newest of each, writes each once, and nobody is served for at most five
-seconds. Where nothing is quiet, a step fails, or a shard is unavailable, the server is left alone or started again; so it is
-where the sweep is killed, ten times. At the end each answered line is in the files or in the server, and after
-`sweep --all` in the files."""
+"""sweep_check: deploy/sweep over a server with 500 quiet streams in 8 shards, beside a client that pushes all the while
+and sends again what got no answer. Sweeps are whole, find nothing quiet, fail at a step, or are killed, ten times: no
+answered line may be lost, and nobody is served for at most five seconds."""
 import collections
+import fcntl
 import os
 import random
 import signal
 import subprocess
-import sys
-import tempfile
-import threading
 import time
 
-sys.path += [f"{sys.path[0]}/../models", f"{sys.path[0]}/../server"]
 import servers
 from servers import TOP, hold
 
@@ -85,30 +77,20 @@ class Service:
 
     def wait(self, seconds=30):
         """Whether the server is ready in time."""
-        until = time.monotonic() + seconds
-        while time.monotonic() < until:
-            try:
-                with servers.Client(self.port) as client:
-                    client.ends.sendall(servers.READY)
-                    return client.answer() == (200, b"ready")
-            except OSError:
-                time.sleep(0.02)
-        return False
+        return servers.wait_until(lambda: servers.get(self.port, "/ready") == b"ready", seconds, 0.02)
 
 
-class Pusher(threading.Thread):
+class Pusher(servers.Repeated):
     """Pushes a line to each of its streams, and again until it is answered."""
 
     def __init__(self, port):
-        super().__init__(daemon=True)
-        self.port, self.answered, self.is_done, self.wrong, self.again = port, [], False, [], 0
+        super().__init__(self.push_each, 0)
+        self.port, self.answered, self.wrong, self.again, self.number = port, [], [], 0, 0
 
-    def run(self):
-        number = 0
-        while not self.is_done:
-            number += 1
-            for labels in BUSY_STREAMS:
-                self.push(labels, (time.time_ns(), f"line {number}", ()))
+    def push_each(self):
+        self.number += 1
+        for labels in BUSY_STREAMS:
+            self.push(labels, (time.time_ns(), f"line {self.number}", ()))
 
     def push(self, labels, entry):
         while True:
@@ -143,8 +125,7 @@ class Quiet:
             for at in range(0, QUIET, 50):
                 streams = [(labels, [(begin + it * 45 * 10**9, f"round {self.rounds} line {it}", ()) for it in range(LINES)])
                            for labels in QUIET_STREAMS[at:at + 50]]
-                status = client.ask(servers.PUSH, servers.push_body(streams))[0]
-                servers.need(status == 204, f"a push is answered {status}")
+                client.store(*streams)
                 for labels, entries in streams:
                     self.answered += [key_of(labels, *it[:2]) for it in entries]
                     self.newest[labels["pod"]] = entries[-1][0]
@@ -160,8 +141,7 @@ def in_server(port, streams):
     found = collections.Counter()
     with servers.Client(port) as client:
         for labels in streams:
-            found.update(key_of(labels, stamp, line.decode() if isinstance(line, bytes) else line)
-                         for stamp, line, _ in client.read(labels))
+            found.update(key_of(labels, *it[:2]) for it in client.read(labels))
     return found
 
 
@@ -188,17 +168,11 @@ def check_left_alone(service, quiet):
     status, said = service.swept("--server", "/bin/false")
     hold(status == 1 and service.wait(0.5), f"a server that doesn't start on another port: {said}")
     with open(f"{service.work}/lines/.lock", "w", encoding="ascii") as file:
-        servers.need(file.writable(), "the lock is there")
-        check_sweep_waits(service, file)
-
-
-def check_sweep_waits(service, file):
-    import fcntl
-    fcntl.flock(file, fcntl.LOCK_EX)
-    process, running = service.process(), service.sweep()
-    time.sleep(1.5)
-    hold(running.poll() is None and service.process() == process, "a sweep waits for a drain, while the server runs")
-    fcntl.flock(file, fcntl.LOCK_UN)
+        fcntl.flock(file, fcntl.LOCK_EX)
+        process, running = service.process(), service.sweep()
+        time.sleep(1.5)
+        is_so = running.poll() is None and service.process() == process
+        hold(is_so, "a sweep waits for a drain, while the server runs")
     said = running.communicate(timeout=600)[0].strip()
     hold(running.returncode == 0 and "streams were swept" in said, f"and goes on after that: {said}")
 
@@ -246,7 +220,7 @@ def check_unavailable(service, quiet):
     service.call("start")
 
 
-def check(work):
+def check(work, _):
     service = Service(work)
     service.call("start")
     pusher, quiet = Pusher(service.port), Quiet(service.port)
@@ -258,8 +232,7 @@ def check(work):
         # (a machine that has other work makes one of them longer)
         hold(min(quiet.pauses) <= MOST, f"nobody was served for {min(quiet.pauses):.2f} s, at most {MOST:g}; all: {quiet.pauses}")
         check_kills(service, quiet)
-        pusher.is_done = True
-        pusher.join(60)
+        pusher.end()
         hold(not pusher.wrong and pusher.again, f"{len(pusher.answered)} lines of busy streams were answered, {pusher.again} tries were not")
         answered = {*pusher.answered, *quiet.answered}
         left, kept = in_server(service.port, [*QUIET_STREAMS, *BUSY_STREAMS]), in_files(work)
@@ -271,12 +244,3 @@ def check(work):
         hold(status == 0 and not answered - in_files(work).keys(), f"after sweep --all each line is in the files: {said}")
     finally:
         service.call("stop")
-
-
-def main():
-    with tempfile.TemporaryDirectory(prefix="needleazure-sweep-") as work:
-        check(work)
-
-
-if __name__ == "__main__":
-    servers.run_script(main)

@@ -1,37 +1,21 @@
-#!/usr/bin/env -S python3 -B
 """filesystem_check: what deploy/check-filesystem says of a log on file systems of each kind, as root.
 
 Each is made on a loop device, or mounted, in a namespace of its own: those that keep what was synced, of which it says
 nothing, and those of which it has to say why they don't. NFS is told by a findmnt in place of the real one.
 """
 import contextlib
+import copy
 import os
 import subprocess
-import sys
-import tempfile
 
-TESTS = os.path.dirname(os.path.dirname(os.path.realpath(__file__)))
-sys.path += [TESTS, f"{TESTS}/server"]
 import block_devices
-from block_devices import FILE_SYSTEMS, FileSystem, run
-from servers import TOP, hold, write_program
+from block_devices import FILE_SYSTEMS, run
+from row_files import pieces_of
+from servers import TOP, hold, write, write_program
 
 GUARD, NOBODY = f"{TOP}/deploy/check-filesystem", "65534"
-# what is made, and what it has to say
-ON_DEVICES = [
-    ("ext4", FILE_SYSTEMS["ext4"], None),
-    ("ext4 with fast_commit", FILE_SYSTEMS["ext4-fast-commit"], "has fast_commit"),
-    ("ext4 with nobarrier", FileSystem("ext4", 600, FILE_SYSTEMS["ext4"].make, [], "nobarrier"), "with nobarrier"),
-    ("xfs", FILE_SYSTEMS["xfs"], None),
-    ("btrfs", FILE_SYSTEMS["btrfs"], None),
-    ("btrfs with nobarrier", FileSystem("btrfs", 320, FILE_SYSTEMS["btrfs"].make, [], "nobarrier"), "with nobarrier"),
-]
-LAYERS = "lowerdir={0}/lower,upperdir={0}/upper,workdir={0}/between"
-MOUNTED = [
-    ("tmpfs", ["-t", "tmpfs", "none"], "in memory"),
-    ("overlay", ["-t", "overlay", "-o", LAYERS, "none"], "what lies below it"),
-    ("overlay with volatile", ["-t", "overlay", "-o", f"{LAYERS},volatile", "none"], "leaves syncs out"),
-]
+# of each kind what is made, how, and what has to be said
+ROWS = [[it.decode() for it in row] for row in pieces_of(f"{TOP}/tests/rows/filesystems.txt")]
 
 
 def said_of(folder, *before, **settings):
@@ -43,7 +27,7 @@ def said_of(folder, *before, **settings):
 
 
 def judge(what, lines, folder, due):
-    if due is None:
+    if not due:
         hold(lines == [], f"of {what} nothing is said")
     else:
         is_so = len(lines) == 1 and due in lines[0] and lines[0].startswith(f"check-filesystem: {folder} is on ")
@@ -51,7 +35,9 @@ def judge(what, lines, folder, due):
 
 
 def on_devices(work):
-    for what, system, due in ON_DEVICES:
+    for what, name, options, due in (row for kind, *row in ROWS if kind == "device"):
+        system = copy.copy(FILE_SYSTEMS[name])
+        system.options = options or system.options
         block_devices.make(system, f"{work}/image")
         with block_devices.mounted(system, f"{work}/image", f"{work}/disk"):
             judge(what, said_of(f"{work}/disk/log"), f"{work}/disk/log", due)
@@ -72,11 +58,11 @@ def at(folder, *words):
 
 
 def on_others(work):
-    for what, words, due in MOUNTED:
+    for what, words, due in (row for kind, *row in ROWS if kind == "mount"):
         with at(f"{work}/disk", "-t", "tmpfs", "none"):
             for it in ("lower", "upper", "between", "log"):
                 os.mkdir(f"{work}/disk/{it}")
-            with at(f"{work}/disk/log", *(it.format(f"{work}/disk") for it in words)):
+            with at(f"{work}/disk/log", *words.format(f"{work}/disk").split(), "none"):
                 judge(what, said_of(f"{work}/disk/log"), f"{work}/disk/log", due)
     recorder = block_devices.build_recorder(work)
     block_devices.make(FILE_SYSTEMS["ext4"], f"{work}/image")
@@ -87,7 +73,7 @@ def on_others(work):
 def by_others(work):
     """By a findmnt of our own."""
     tools = f"{work}/tools"
-    for what, line, due in [("NFS", "nfs4 0:50 rw,vers=4.2,hard /mnt", "up to another machine"), ("ext3", "ext3 8:1 rw /mnt", None)]:
+    for what, line, due in (row for kind, *row in ROWS if kind == "findmnt"):
         write_program(f"{tools}/findmnt", f'#!/bin/sh\necho "{line}"\n')
         judge(what, said_of(work, PATH=f"{tools}:{os.environ['PATH']}"), work, due)
 
@@ -100,14 +86,14 @@ def through_links(work):
         os.mkdir(f"{work}/disk/log")
         with at(f"{work}/other", "-t", "tmpfs", "none"):
             for slot in (0, 1):
-                with open(f"{work}/other/slot-{slot}", "wb"):
-                    os.symlink(f"{work}/other/slot-{slot}", f"{work}/disk/log/shard-00-{slot}.wal")
+                write(f"{work}/other/slot-{slot}", b"")
+                os.symlink(f"{work}/other/slot-{slot}", f"{work}/disk/log/shard-00-{slot}.wal")
             judge("two slots in memory", said_of(f"{work}/disk/log"), f"{work}/other/slot-0", "in memory")
 
 
-def main():
+def check(work, _):
     block_devices.enter_namespace()
-    with tempfile.TemporaryDirectory(prefix="needleazure-guard-") as work, block_devices.without_mounts(work):
+    with block_devices.without_mounts(work):
         # (the other user looks there too)
         os.chmod(work, 0o755)
         for it in ("disk", "other"):
@@ -116,8 +102,3 @@ def main():
         on_others(work)
         by_others(work)
         through_links(work)
-    return 0
-
-
-if __name__ == "__main__":
-    sys.exit(main())

@@ -1,12 +1,9 @@
-#!/usr/bin/env -S python3 -B
 """scale_out_check: deploy/nginx-spread.conf and deploy/nginx-member.conf in real nginx, as docs/SCALE.md has them.
 
-First the model of tests/models/placement.py is held against nginx: 1,000 tenants and shippers before a hundred servers,
-then with one more, with one that is marked down, and with weights. Then three servers with 48 shippers that push line
-after line: a fourth is added, one is killed and marked down, and comes back. Each line that was answered has to stand on
-a server where the model has its shipper at some time, and the shippers that the model doesn't move have all of theirs
-on one server. At last who is not let in. All files lie in a folder that is removed at the end; nginx is unpacked there
-from Debian's package where it isn't installed."""
+The model of tests/models/placement.py is held against nginx: 1,000 tenants and shippers before a hundred servers. Then
+48 shippers push to three servers, of whose list one is added, killed and marked down, and comes back. Each line that
+was answered has to stand on a server where the model has its shipper at some time. nginx is unpacked from Debian's
+package where it isn't installed."""
 import asyncio
 import base64
 import collections
@@ -17,12 +14,8 @@ import re
 import shutil
 import signal
 import subprocess
-import sys
-import tempfile
 import time
 
-HERE = os.path.dirname(os.path.realpath(__file__))
-sys.path += [f"{HERE}/..", f"{HERE}/../models", f"{HERE}/../server"]
 import edge_clients
 import placement
 import servers
@@ -41,9 +34,7 @@ class Nginx(edge_clients.Nginx):
         """Returns once each process that serves has the new list. Those before it end by themselves."""
         before = self.children()
         self.running.send_signal(signal.SIGHUP)
-        until = time.monotonic() + 10
-        while time.monotonic() < until and not self.children() - before:
-            time.sleep(0.05)
+        servers.wait_until(lambda: self.children() - before, 10)
         time.sleep(0.5)
 
     def children(self):
@@ -138,7 +129,7 @@ class Member:
 
     def read(self, tenant, labels):
         with servers.Client(self.server.port, tenant) as client:
-            return [[str(stamp), line] for stamp, line, _ in client.read(labels)]
+            return client.values(labels)
 
 
 class Edge:
@@ -148,8 +139,8 @@ class Edge:
         write_nginx(folder, "deploy/nginx-spread.conf", [("listen 443", f"listen 127.0.0.1:{self.port}")])
         for it in ("spread.pem", "spread.key", "member.pem"):
             shutil.copy(f"{folder}/../{it}", folder)
-        shutil.copy(f"{folder}/spread.pem", f"{folder}/edge.pem")
-        shutil.copy(f"{folder}/spread.key", f"{folder}/edge.key")
+        for it in ("pem", "key"):
+            shutil.copy(f"{folder}/spread.{it}", f"{folder}/edge.{it}")
         write_users(folder, TENANTS)
         self.circles = []
         self.write_list(members)
@@ -181,31 +172,26 @@ def statuses(shippers, since):
 
 async def change_the_list(edge, members, shippers, start_member):
     """A server is added; one is killed and marked down; it comes back. Each time the shippers go on."""
+    async def change(what, act, *others, down=()):
+        """Changes a server and then the list. Others are the answers that may come beside 204."""
+        begun = time.monotonic()
+        await asyncio.to_thread(act)
+        edge.write_list(members, down)
+        await asyncio.to_thread(edge.nginx.reload)
+        await asyncio.sleep(CALM)
+        found = statuses(shippers, begun)
+        hold(set(found) <= {0, *others}, f"{what}: other answers than 204 are {found or 'none'}")
+
+    def kill_one():
+        members[1].kill()
+        time.sleep(AWAY)
+
     pushing = [asyncio.ensure_future(it.run()) for it in shippers]
     await asyncio.sleep(CALM)
     hold(not statuses(shippers, 0), f"three servers: {sum(len(it.answered) for it in shippers)} pushes answered, none refused")
-    begun = time.monotonic()
-    members.append(await asyncio.to_thread(start_member))
-    edge.write_list(members)
-    await asyncio.to_thread(edge.nginx.reload)
-    await asyncio.sleep(CALM)
-    found = statuses(shippers, begun)
-    hold(set(found) <= {0}, f"a fourth is added: other answers than 204 are {found or 'none'}")
-    begun = time.monotonic()
-    await asyncio.to_thread(members[1].kill)
-    await asyncio.sleep(AWAY)
-    edge.write_list(members, [members[1]])
-    await asyncio.to_thread(edge.nginx.reload)
-    await asyncio.sleep(CALM)
-    found = statuses(shippers, begun)
-    hold(set(found) <= {0, 502}, f"one is killed, and marked down after {AWAY} s: {found or 'none'}")
-    begun = time.monotonic()
-    await asyncio.to_thread(members[1].start)
-    edge.write_list(members)
-    await asyncio.to_thread(edge.nginx.reload)
-    await asyncio.sleep(CALM)
-    found = statuses(shippers, begun)
-    hold(set(found) <= {0}, f"it comes back: {found or 'none'}")
+    await change("a fourth is added", lambda: members.append(start_member()))
+    await change(f"one is killed, and marked down after {AWAY} s", kill_one, 502, down=[members[1]])
+    await change("it comes back", members[1].start)
     for it in shippers:
         it.is_done = True
     await asyncio.wait_for(asyncio.gather(*pushing), 30)
@@ -249,27 +235,19 @@ def keeps_others_out(edge, members):
     hold([status, *kept] == [204, 1, 0], f"a client that lies about its tenant: {status}, {kept}")
 
 
-def make_certificates(work):
-    """By the commands of the page."""
+def check(work, ends):
+    # (nginx's workers are another user's)
+    os.chmod(work, 0o711)
+    program = find_nginx(work)
+    hold_model(work, program)
+    # (certificates by the commands of the page)
     blocks = re.findall(r"^```sh\n(.*?)^```$", text_at("docs/SCALE.md"), re.M | re.S)
     block = next(it for it in blocks if "openssl req" in it)
     subprocess.run(["bash", "-euc", block], check=True, cwd=work, stderr=subprocess.DEVNULL)
-
-
-def main():
-    with tempfile.TemporaryDirectory(prefix="scale-out-") as work, contextlib.ExitStack() as ends:
-        # (nginx's workers are another user's)
-        os.chmod(work, 0o711)
-        program = find_nginx(work)
-        hold_model(work, program)
-        make_certificates(work)
-        members = [Member(program, f"{work}/member-{at}", ends) for at in range(3)]
-        edge = Edge(program, f"{work}/edge", members, ends)
-        shippers = [Shipper(edge.port, tenant, f"{tenant}-{at}") for tenant, count in TENANTS.items() for at in range(count)]
-        asyncio.run(change_the_list(edge, members, shippers, lambda: Member(program, f"{work}/member-3", ends)))
-        all_there(edge, members, shippers)
-        keeps_others_out(edge, members)
-
-
-if __name__ == "__main__":
-    servers.run_script(main)
+    members = [Member(program, f"{work}/member-{at}", ends) for at in range(3)]
+    edge = Edge(program, f"{work}/edge", members, ends)
+    of_tenants = ((tenant, f"{tenant}-{at}") for tenant, count in TENANTS.items() for at in range(count))
+    shippers = [Shipper(edge.port, *it) for it in of_tenants]
+    asyncio.run(change_the_list(edge, members, shippers, lambda: Member(program, f"{work}/member-3", ends)))
+    all_there(edge, members, shippers)
+    keeps_others_out(edge, members)

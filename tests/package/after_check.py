@@ -1,22 +1,15 @@
-#!/usr/bin/env -S python3 -B
 """after_check: each block of docs/AFTER.md, over files that deploy/drain wrote of a server.
 
 A block has to print what its comments say, on the day before this one and in a folder of this run; the object store is a
 local server of rclone, and the Loki a stub, which at first refuses a line. What is written for systemd is looked at by its
 own programs. It needs rclone, lnav, sqlite3 and jq, and leaves nothing behind."""
-import contextlib
 import datetime
 import os
 import re
 import shutil
-import socket
 import subprocess
-import sys
-import tempfile
 import time
 
-HERE = os.path.dirname(os.path.realpath(__file__))
-sys.path += [f"{HERE}/..", f"{HERE}/../models", f"{HERE}/../server"]
 import loki_stub
 import servers
 from servers import TOP, hold
@@ -101,25 +94,12 @@ def run_block(place, heading, block):
          f"{heading}: {block}\nsaid {said}, exit status {ended.returncode}, {ended.stderr}, and the page has {due}")
 
 
-def hold_cleaned(place, old):
-    left = sorted(os.listdir(f"{place.lines}/shop"))
-    is_so = not os.path.exists(old) and f"{place.day}.jsonl.gz" in left
-    hold(is_so, f"a file of ninety days is gone, and others are there: {left}")
-
-
 def hold_sent(place, is_again):
     """After the drain to the Loki, and after what that refused was sent again."""
     taken = {line for _, _, _, line, _ in place.loki.taken}
     refused = f"{place.lines}/refused/shop/{place.day}.jsonl.gz"
     is_so = "order 18 done" in taken and ("refused at first" in taken) == is_again and os.path.exists(refused) != is_again
     hold(is_so, f"the Loki has {len(taken)} lines, and what it refused {'too' if is_again else 'is in a file'}")
-
-
-def hold_units(place):
-    ended = place.run("systemd-analyze", "--man=no", "verify", f"{place.work}/system/needleazure-copy.service",
-                      f"{place.work}/system/needleazure-copy.timer")
-    said = [it for it in ended.stderr.splitlines() if "needleazure-copy" in it]
-    hold(ended.returncode == 0 and not said, f"systemd-analyze verifies the units {said or ''}".strip())
 
 
 def start_store(place, ends):
@@ -129,22 +109,21 @@ def start_store(place, ends):
     store = subprocess.Popen(words, env=place.environment(), stderr=subprocess.DEVNULL)
     ends.callback(store.wait)
     ends.callback(store.kill)
-    for _ in range(100):
-        with socket.socket() as it:
-            if not it.connect_ex(("127.0.0.1", port)):
-                break
-        time.sleep(0.1)
+    servers.wait_until(lambda: servers.is_listening(port), 10)
     named = ["host=127.0.0.1", f"port={port}", "user=store", "pass=secret"]
     hold(place.run("rclone", "config", "create", "store", "sftp", *named).returncode == 0, "a store is named")
 
 
-def check(place, ends):
+def check(work, ends):
+    missing = [it for it in TOOLS if not shutil.which(it)]
+    hold(not missing, f"the tools of the page are installed {missing or ''}".strip())
+    server = ends.enter_context(servers.Server(f"{work}/log", SHARDS, 16))
+    place = Place(work, server, ends.enter_context(loki_stub.Loki()))
     push_and_drain(place)
     start_store(place, ends)
     old = f"{place.lines}/shop/2020-01-01.jsonl.gz"
     shutil.copy(f"{place.lines}/shop/{place.day}.jsonl.gz", f"{place.work}/bin/old")
-    count = 0
-    for heading, block in blocks():
+    for count, (heading, block) in enumerate(blocks(), 1):
         if "tmpfiles" in block:
             shutil.copy(f"{place.work}/bin/old", old)
             os.utime(old, (time.time(), time.time() - 91 * 86400))
@@ -154,23 +133,15 @@ def check(place, ends):
             push(place, "worker", LATER)
             place.loki.refuses = lambda line: line.startswith("refused")
         run_block(place, heading, block)
-        count += 1
         if LOKI in block:
             hold_sent(place, is_again="curl" in block)
             place.loki.refuses = lambda line: False
         if "tmpfiles" in block:
-            hold_cleaned(place, old)
-    hold_units(place)
+            left = sorted(os.listdir(f"{place.lines}/shop"))
+            is_so = not os.path.exists(old) and f"{place.day}.jsonl.gz" in left
+            hold(is_so, f"a file of ninety days is gone, and others are there: {left}")
+    units = [f"{work}/system/needleazure-copy.{it}" for it in ("service", "timer")]
+    ended = place.run("systemd-analyze", "--man=no", "verify", *units)
+    said = [it for it in ended.stderr.splitlines() if "needleazure-copy" in it]
+    hold(ended.returncode == 0 and not said, f"systemd-analyze verifies the units {said or ''}".strip())
     hold(count > 10, f"{count} blocks of the page")
-
-
-def main():
-    missing = [it for it in TOOLS if not shutil.which(it)]
-    hold(not missing, f"the tools of the page are installed {missing or ''}".strip())
-    with tempfile.TemporaryDirectory(prefix="after-") as work, contextlib.ExitStack() as ends:
-        server = ends.enter_context(servers.Server(f"{work}/log", SHARDS, 16))
-        check(Place(work, server, ends.enter_context(loki_stub.Loki())), ends)
-
-
-if __name__ == "__main__":
-    servers.run_script(main)

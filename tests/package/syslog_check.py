@@ -1,21 +1,17 @@
-#!/usr/bin/env -S python3 -B
 """syslog_check: deploy/syslog-ng.conf in syslog-ng, before a server that is killed.
 
-syslog-ng follows a file, into which 10,000 lines of several hosts and programs are written. Meanwhile the server is killed
-and started again, then killed, and syslog-ng is restarted while no server is there; at last the server is full for a while. At
-the end each line has to be in the stream of its host and program, with its text as it was. It needs syslog-ng-core and
-syslog-ng-mod-http."""
+syslog-ng follows a file with 10,000 lines of several hosts and programs, while the server is killed, is away and is
+full, and syslog-ng itself is restarted. At the end each line has to be in the stream of its host and program, with its
+text as it was. It needs syslog-ng-core and syslog-ng-mod-http."""
 import collections
 import shutil
 import signal
 import subprocess
 import sys
-import tempfile
 import time
 
-sys.path += [f"{sys.path[0]}/../models", f"{sys.path[0]}/../server"]
 import servers
-from servers import TOP, hold
+from servers import hold, text_at
 
 LINES = 10_000
 STREAMS = [("web-1", "nginx"), ("web-1", "cron"), ("db-1", "postgres"), ("db-2", "postgres")]
@@ -37,20 +33,16 @@ class Syslog:
 
     def __init__(self, work, port):
         self.work, self.log = work, f"{work}/in.log"
-        with open(f"{TOP}/deploy/syslog-ng.conf", encoding="utf-8") as file:
-            example = file.read()
-        example = self.changed(self.changed(example, "127.0.0.1:3100", f"127.0.0.1:{port}"), "/var/lib/syslog-ng", work)
-        with open(f"{work}/syslog-ng.conf", "w", encoding="utf-8") as file:
-            file.write('@version: 3.38\n@include "scl.conf"\noptions { keep-hostname(yes); };\n'
-                       f'source s_src {{ file("{self.log}" follow-freq(0.1)); }};\n{example}\n'
-                       "log { source(s_src); destination(d_needleazure); flags(flow-control); };\n")
-        open(self.log, "w", encoding="utf-8").close()
+        example = text_at("deploy/syslog-ng.conf")
+        for old, new in [("127.0.0.1:3100", f"127.0.0.1:{port}"), ("/var/lib/syslog-ng", work)]:
+            hold(old in example, f"the example names {old}")
+            example = example.replace(old, new)
+        text = ('@version: 3.38\n@include "scl.conf"\noptions { keep-hostname(yes); };\n'
+                f'source s_src {{ file("{self.log}" follow-freq(0.1)); }};\n{example}\n'
+                "log { source(s_src); destination(d_needleazure); flags(flow-control); };\n")
+        servers.write(f"{work}/syslog-ng.conf", text.encode())
+        servers.write(self.log, b"")
         self.start()
-
-    @staticmethod
-    def changed(text, old, new):
-        hold(old in text, f"the example names {old}")
-        return text.replace(old, new)
 
     def start(self):
         words = ["syslog-ng", "-F", "-f", f"{self.work}/syslog-ng.conf", "-R", f"{self.work}/persist",
@@ -83,20 +75,24 @@ def stored(port):
     found = collections.Counter()
     with servers.Client(port, "syslog") as client:
         for host, program in STREAMS:
-            entries = client.read({"host": host, "program": program})
-            found.update((host, program, line if isinstance(line, str) else line.decode()) for _, line, _ in entries)
+            found.update((host, program, line) for _, line, _ in client.read({"host": host, "program": program}))
     return found
 
 
 def wait_for_lines(port, count, what, seconds=60):
     """Waits until the first lines are there, each as often as it was written or more often."""
-    until = time.monotonic() + seconds
-    while (missing := due(count) - stored(port)) and time.monotonic() < until:
-        time.sleep(0.2)
+    servers.wait_until(lambda: not due(count) - stored(port), seconds, 0.2)
+    missing = due(count) - stored(port)
     hold(not missing, f"{count} lines are there, {what}" + "".join(f"; not {it}" for it in sorted(missing)[:3]))
 
 
-def check(work, start):
+def check(work, _):
+    if not shutil.which("syslog-ng"):
+        sys.exit("syslog_check: syslog-ng isn't installed (apt-get install syslog-ng-core syslog-ng-mod-http)")
+
+    # (a server of these checks takes any port; syslog-ng needs one that stays)
+    def start(port=0, **settings):
+        return servers.Server(f"{work}/log", 2, 8, {**servers.allocator(), **settings}, port=port)
     server = start()
     syslog = Syslog(work, server.port)
     port = server.port
@@ -130,17 +126,3 @@ def check(work, start):
     finally:
         syslog.end()
         server.end()
-
-
-def main():
-    if not shutil.which("syslog-ng"):
-        sys.exit("syslog_check: syslog-ng isn't installed (apt-get install syslog-ng-core syslog-ng-mod-http)")
-    with tempfile.TemporaryDirectory(prefix="needleazure-syslog-") as work:
-        # (a server of these checks takes any port; syslog-ng needs one that stays)
-        def start(port=None, **settings):
-            return servers.Server(f"{work}/log", 2, 8, {**servers.allocator(), **settings}, port=port or 0)
-        check(work, start)
-
-
-if __name__ == "__main__":
-    main()

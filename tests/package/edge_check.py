@@ -1,27 +1,18 @@
-#!/usr/bin/env -S python3 -B
-"""edge_check: deploy/nginx.conf in real nginx, before two real servers.
+"""edge_check: deploy/nginx.conf in real nginx, before two real servers, and before a gateway and its server.
 
 2,000 connections send a byte a second, half of them in the head and half in the body, while 16 tenants push line after
 line; then one server is killed and started again. No push may be refused but those to the killed server, and each line
-that was answered has to stand there once, on one server. Then a body of 4 MB and of 4 MB + 1, a chunked one, and
-clients that lie about who they are. At last the same file with the gateway's upstream, before a gateway and its server:
-a body of gzip'd JSON of more than 4 MB, and a client that lies. All files lie in a folder that is removed at the end;
-nginx is unpacked there from Debian's package where it isn't installed."""
+that was answered has to stand there once, on one server. nginx is unpacked from Debian's package where it isn't
+installed."""
 import asyncio
-import contextlib
 import gzip
 import json
 import os
-import resource
-import subprocess
-import sys
-import tempfile
 import time
 
-sys.path.append(f"{sys.path[0]}/../server")
 from edge_clients import Client, Crowd, Nginx, Pusher, find_nginx, head, push_body, write_nginx, write_users
 from gateway_runs import Gateway, Server
-from servers import PUSH, free_ports, hold, run_script
+from servers import PUSH, allow_many_files, certify, free_ports, hold
 
 TENANTS = [f"tenant-{at}" for at in range(16)]
 SLOW, CALM, AWAY = 2000, 20, 3
@@ -41,9 +32,7 @@ def start_edge(work, behind, ends, more=()):
     ports = [(f"127.0.0.1:{at}", f"127.0.0.1:{it.port}") for at, it in behind.items()]
     write_nginx(work, "deploy/nginx.conf", [("listen 443", f"listen 127.0.0.1:{port}"), *more, *ports])
     write_users(work, [*TENANTS, "slow"])
-    key = ["-newkey", "ec", "-pkeyopt", "ec_paramgen_curve:prime256v1", "-noenc", "-keyout", "edge.key"]
-    words = ["openssl", "req", "-x509", "-subj", "/CN=edge", "-days", "1", *key, "-out", "edge.pem"]
-    subprocess.run(words, check=True, cwd=work, stderr=subprocess.DEVNULL)
+    certify("/CN=edge", f"{work}/edge.key", f"{work}/edge.pem")
     Nginx(find_nginx(work), work, port, ends)
     return port
 
@@ -124,18 +113,12 @@ def before_a_gateway(work, ends):
          f"gzip'd JSON of 5 MB through nginx and the gateway, and a client that lies about its tenant: {statuses}, {kept}")
 
 
-def main():
-    most = resource.getrlimit(resource.RLIMIT_NOFILE)[1]
-    resource.setrlimit(resource.RLIMIT_NOFILE, (most, most))
-    with tempfile.TemporaryDirectory(prefix="edge-") as work, contextlib.ExitStack() as ends:
-        # (nginx's workers are another user's)
-        os.chmod(work, 0o711)
-        servers = [ends.enter_context(Server(f"{work}/{it}")) for it in ("first", "second")]
-        port = start_edge(work, dict(zip((3100, 3101), servers)), ends)
-        all_there(servers, asyncio.run(under_load(port, servers[0])))
-        single_requests(port, servers)
-        before_a_gateway(f"{work}/gateway", ends)
-
-
-if __name__ == "__main__":
-    run_script(main)
+def check(work, ends):
+    allow_many_files()
+    # (nginx's workers are another user's)
+    os.chmod(work, 0o711)
+    servers = [ends.enter_context(Server(f"{work}/{it}")) for it in ("first", "second")]
+    port = start_edge(work, dict(zip((3100, 3101), servers)), ends)
+    all_there(servers, asyncio.run(under_load(port, servers[0])))
+    single_requests(port, servers)
+    before_a_gateway(f"{work}/gateway", ends)

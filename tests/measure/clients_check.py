@@ -1,35 +1,24 @@
-#!/usr/bin/env -S python3 -B
 """clients_check [--minutes MINUTES] [--idle NUMBER]: many clients at a time, over a server as `make run` starts it.
 
-Each figure is held to its bound:
-
-- NUMBER idle connections (10,000), a quarter of them in the middle of a body: a push on a new connection takes at most 50
-  milliseconds, the median of ten; a connection at most 10 kB; all of them at most 1 % of a processor.
-- 1,000 kept clients with a push a second for MINUTES (10): each is answered 204 within a second of its turn, 99 of 100
-  within 50 milliseconds.
-- 1,000 clients that send a byte a second, and 100 that never read their answers, hold nobody: 100 others with a push a
-  second are answered as without them, to 25 milliseconds at the 99th percentile.
-- With OLD=PATH, another server program: it and this one serve wrk in turn, at one stream and at 50, and of the medians of
-  three rounds this one has at least 0.97 of its pushes, and takes at most 1.05 of its processor time a push. At 256
-  connections it has more pushes than the old one at 64.
+What a push takes, and a connection, is held to bounds beside NUMBER idle connections (10,000), a quarter of them in the
+middle of a body; over 1,000 kept clients with a push a second for MINUTES (10); and beside 1,000 clients that send a byte
+a second and 100 that never read their answers. With OLD=PATH, another server program, it and this one serve wrk in turn,
+at one stream and at 50: of the medians of three rounds this one has at least 0.97 of its pushes, and takes at most 1.05
+of its processor time a push, and at 256 connections it has more pushes than the old one at 64.
 
 It needs as many open files as connections, and raises its own limit as far as it may. It needs wrk for the last part."""
 import argparse
 import os
-import resource
 import selectors
-import socket
 import statistics
 import subprocess
-import sys
-import tempfile
 import time
 
-sys.path += [f"{sys.path[0]}/../models", f"{sys.path[0]}/../server"]
 import full_shards
 import servers
-from servers import hold
+from servers import connect, hold
 
+PLACE = servers.memory()
 ROUNDS, SECONDS, SHARDS = 3, 3, 8
 LOADS = [("one stream", "push.lua", (1, 32, 64, 256)), ("50 streams", "streams.lua", (1, 8, 32))]
 NO_CONTENT = b"HTTP/1.1 204 No Content\r\n\r\n"
@@ -37,12 +26,6 @@ NO_CONTENT = b"HTTP/1.1 204 No Content\r\n\r\n"
 
 def push_request(labels):
     return servers.push_request(labels, [servers.entry("x" * 100)])
-
-
-def connect(port):
-    it = socket.create_connection(("127.0.0.1", port), 60)
-    it.setsockopt(socket.IPPROTO_TCP, socket.TCP_NODELAY, 1)
-    return it
 
 
 def push_once(port):
@@ -58,14 +41,11 @@ class Ticking:
     """Kept clients, each of which sends a push a second and waits for its answer."""
 
     def __init__(self, port, number, name):
-        self.clients, self.found, self.selector = [], [], selectors.DefaultSelector()
-        self.wrong, self.name = [], name
-        for at in range(number):
-            it = connect(port)
+        self.clients, self.selector = [connect(port) for _ in range(number)], selectors.DefaultSelector()
+        self.found, self.wrong, self.name, self.sent = [], [], name, [None] * number
+        for at, it in enumerate(self.clients):
             it.setblocking(False)
-            self.clients.append(it)
             self.selector.register(it, selectors.EVENT_READ, at)
-        self.sent = [None] * number
 
     def run(self, seconds):
         """Runs for so many seconds: how long each answer took."""
@@ -158,7 +138,7 @@ def crowd(server):
 
 def load(program, script, connections):
     """Pushes a second, and microseconds of a processor a push."""
-    with tempfile.TemporaryDirectory(prefix="needleazure-clients-") as folder:
+    with servers.room("clients") as folder:
         servers.fill_slots(folder, SHARDS, {})
         workers = min(64, connections)
         with servers.Server(folder, SHARDS, workers, servers.allocator(), executable=program) as server:
@@ -172,35 +152,32 @@ def beside(old):
     new, before = servers.program("server"), 0
     for name, script, numbers in LOADS:
         for connections in numbers:
-            found = {new: [], old: []}
+            found, what = {new: [], old: []}, f"{name}, {connections} connections"
             for turn in range(ROUNDS):
                 for program in [new, old] if turn % 2 else [old, new]:
                     if connections <= 64 or program == new:
                         found[program].append(load(program, script, connections))
             pushes, used = (statistics.median(it[at] for it in found[new]) for at in (0, 1))
             if connections > 64:
-                hold(pushes > before, f"{name}, {connections} connections: {pushes:,.0f} pushes a second, and {before:,.0f} of the old one at 64")
+                hold(pushes > before, f"{what}: {pushes:,.0f} pushes a second, and {before:,.0f} of the old one at 64")
                 continue
             before, took = (statistics.median(it[at] for it in found[old]) for at in (0, 1))
-            hold(pushes >= 0.97 * before, f"{name}, {connections} connections: {pushes:,.0f} pushes a second, of {before:,.0f}: {pushes / before:.2f}")
-            hold(used <= 1.05 * took, f"{name}, {connections} connections: {used:.0f} us of a processor a push, of {took:.0f}: {used / took:.2f}")
+            rates = f"{pushes:,.0f} pushes a second, of {before:,.0f}: {pushes / before:.2f}"
+            hold(pushes >= 0.97 * before, f"{what}: {rates}")
+            hold(used <= 1.05 * took, f"{what}: {used:.0f} us of a processor a push, of {took:.0f}: {used / took:.2f}")
 
 
-def main():
+def check(work, _, *given):
     words = argparse.ArgumentParser(description=__doc__.split(":")[0])
     words.add_argument("--minutes", type=float, default=10)
     words.add_argument("--idle", type=int, default=10_000)
-    words = words.parse_args()
-    hard = resource.getrlimit(resource.RLIMIT_NOFILE)[1]
-    resource.setrlimit(resource.RLIMIT_NOFILE, (hard, hard))
+    words = words.parse_args(given)
+    hard = servers.allow_many_files()
     hold(hard > words.idle + 500, f"there may be {hard:,} open files")
     settings = {**servers.allocator(), "NEEDLEAZURE_OPEN_CONNECTIONS": str(words.idle + 100)}
-    for part in (lambda it: idle(it, words.idle), lambda it: kept(it, words.minutes), crowd):
-        with servers.room_in_memory("clients") as folder, servers.Server(folder, SHARDS, 64, settings, stderr=subprocess.DEVNULL) as server:
+    parts = [lambda it: idle(it, words.idle), lambda it: kept(it, words.minutes), crowd]
+    for number, part in enumerate(parts):
+        with servers.Server(f"{work}/{number}", SHARDS, 64, settings, stderr=subprocess.DEVNULL) as server:
             part(server)
     if old := os.environ.get("OLD"):
         beside(old)
-
-
-if __name__ == "__main__":
-    main()

@@ -1,21 +1,15 @@
-#!/usr/bin/env -S python3 -B
 """fill_check: deploy/fill-slots under losses of power, and the number of shards that deploy/with-shards finds.
 
 What it writes between two syncs may be lost in part, and where a file was made longer anything may stand. So for each
 piece that it writes, the bytes of the piece are made ones, up to many lengths; walcat has to find each such slot
-closed, and a server has to start over them. As a control the same is done for slots that are filled in one piece, of
-which most are refused. Then a slot that a server writes between fill-slots' look at it and its lock, and one that a
-server has. At last the number that with-shards finds for a folder, and the capacity that it gives a command."""
+closed, and a server has to start over them. As a control the same is done for slots that are filled in one piece."""
 import contextlib
 import fcntl
 import os
 import shutil
 import subprocess
-import sys
-import tempfile
 import time
 
-sys.path += [f"{sys.path[0]}/../models", f"{sys.path[0]}/../server"]
 import servers
 from row_files import pieces_of
 from servers import TOP, hold, write_program
@@ -134,18 +128,13 @@ def find_numbers(work):
     hold(found_over(folder) == ("5", "none"), "what a server of 5 shards wrote: 5 shards")
 
 
-def main():
-    with tempfile.TemporaryDirectory(prefix="needleazure-fill-") as work:
-        found = {image for lengths in pieces(work).values() for image in images(lengths)}
-        refused = [it for it in found if not is_closed(work, it)]
-        hold(not refused, f"{len(found)} slots that a loss of power may leave, {len(refused)} refused")
-        hold(all(starts_over(f"{work}/images", it) for it in found), "a server starts over each of them")
-        control = set(images([CAPACITY]))
-        refused = [it for it in control if not is_closed(work, it)]
-        hold(len(refused) > len(control) // 2, f"filled in one piece, {len(refused)} of {len(control)} are refused")
-        meet_a_server(work)
-        find_numbers(work)
-
-
-if __name__ == "__main__":
-    main()
+def check(work, _):
+    found = {image for lengths in pieces(work).values() for image in images(lengths)}
+    refused = [it for it in found if not is_closed(work, it)]
+    hold(not refused, f"{len(found)} slots that a loss of power may leave, {len(refused)} refused")
+    hold(all(starts_over(f"{work}/images", it) for it in found), "a server starts over each of them")
+    control = set(images([CAPACITY]))
+    refused = [it for it in control if not is_closed(work, it)]
+    hold(len(refused) > len(control) // 2, f"filled in one piece, {len(refused)} of {len(control)} are refused")
+    meet_a_server(work)
+    find_numbers(work)

@@ -1,31 +1,20 @@
-#!/usr/bin/env -S python3 -B
-"""metrics_check: deploy/metrics and deploy/alerts.yml with Debian's Prometheus and its node exporter, on the loopback.
+"""metrics_check: deploy/metrics, deploy/alerts.yml and the dashboards, with Debian's Prometheus and its node exporter
+on the loopback, over cut slots and a server that fills, is drained and killed, and whose disk fails. docs/MONITORING.md
+has to say of each alert what the alert itself says.
 
-First slots that are cut at each of their bytes, of which deploy/metrics says what walcat does, and what is no slot. Then
-a server is pushed to until a shard passes 95 % of its capacity, and the alert comes; a drain runs, and it goes. The
-server is killed, and the alert comes; it is started with a disk that fails, and the alert of an unavailable shard comes;
-it is started once more, and all alerts go. The metrics and the alerts pass promtool, the alerts over series of their own
-too, and docs/MONITORING.md says of each alert what the alert itself says. At last each query of the dashboards parses and
-has had data, and headless Chromium shows the console; PICTURE=PATH keeps its picture. Prometheus, the exporter and what
-the console is drawn with are unpacked from Debian's packages where they aren't installed; Chromium has to be. It takes
-two minutes, and leaves nothing behind."""
+PICTURE=PATH keeps the console's picture. Prometheus, the exporter and what the console is drawn with are unpacked from
+Debian's packages where they aren't installed; Chromium has to be. It takes two minutes, and leaves nothing behind."""
 import contextlib
-import http.client
 import json
 import os
 import re
 import shutil
 import subprocess
-import sys
-import tempfile
-import threading
 import time
-import urllib.request
 
-sys.path.append(f"{sys.path[0]}/../server")
 import dashboards
 import servers
-from servers import TOP, free_ports, hold, need, text_at
+from servers import TOP, free_ports, get, hold, need, text_at
 
 SHARDS, CAPACITY, LINE, STEP = 2, 262_144, 1000, 60_000_000_000
 ROOM = {"NEEDLEAZURE_CAPACITY": str(CAPACITY)}
@@ -44,18 +33,8 @@ def find_programs(work):
     return {"folder": folder, **{name: f"{folder}/usr/bin/{name}" for name in PROGRAMS}}
 
 
-def get(port, path):
-    with contextlib.suppress(OSError, http.client.HTTPException):
-        with urllib.request.urlopen(f"http://127.0.0.1:{port}{path}", timeout=10) as answer:
-            return answer.read()
-    return b""
-
-
 def wait_for(what, is_so, seconds):
-    until = time.monotonic() + seconds
-    while not (found := is_so()) and time.monotonic() < until:
-        time.sleep(0.2)
-    hold(found, what)
+    hold(servers.wait_until(is_so, seconds, 0.2), what)
 
 
 def start(ends, work, name, words):
@@ -79,28 +58,7 @@ class Server(servers.Server):
         hold(True, "the server starts")
 
 
-class Repeated(threading.Thread):
-    """Does something again after each pause, until the check ends."""
-
-    def __init__(self, do, pause=1):
-        super().__init__(daemon=True)
-        self.do, self.pause, self.is_done = do, pause, False
-
-    def run(self):
-        while not self.is_done:
-            self.do()
-            time.sleep(self.pause)
-
-    def begin(self, ends):
-        self.start()
-        ends.callback(self.end)
-
-    def end(self):
-        self.is_done = True
-        self.join(60)
-
-
-class Pusher(Repeated):
+class Pusher(servers.Repeated):
     """Pushes a line to each stream, and the next one a while later. What is refused for want of room is sent again."""
 
     def __init__(self, port):
@@ -116,23 +74,14 @@ class Pusher(Repeated):
         self.stamp += STEP * (status == 204)
 
 
-def repeat(words, **how):
-    """A command each second, as its timer has it each so many minutes."""
-    return Repeated(lambda: subprocess.run(words, timeout=60, check=False, stderr=subprocess.DEVNULL, **how))
-
-
-def metrics_of(work):
-    """deploy/metrics, which finds the server's process here and not in the control group of its unit."""
+def service_words(work, port):
+    """What needleazure-metrics.service runs, over these folders. Its deploy/metrics finds the server's process here and
+    not in the control group of its unit."""
     text, place = text_at("deploy/metrics"), "/sys/fs/cgroup/system.slice/needleazure.service/cgroup.procs"
     assert text.count(place) == 1
     servers.write_program(f"{work}/metrics", text.replace(place, f"{work}/cgroup.procs"))
-    return f"{work}/metrics"
-
-
-def service_words(work, port):
-    """What needleazure-metrics.service runs, over these folders."""
     script = re.search(r"^ExecStart=/bin/sh -ec '(.*)'$", text_at("deploy/needleazure-metrics.service"), re.M)[1]
-    changes = [("/usr/sbin/needleazure-metrics", metrics_of(work)), ("/var/lib/needleazure-drain", f"{work}/lines"),
+    changes = [("/usr/sbin/needleazure-metrics", f"{work}/metrics"), ("/var/lib/needleazure-drain", f"{work}/lines"),
                ("/usr/lib/needleazure/with-shards", f"SHARDS={SHARDS} {TOP}/deploy/with-shards")]
     for old, new in [*changes, ("/var/lib/needleazure", f"{work}/log"), ("${PORT}", str(port))]:
         assert script.count(old) == 1, old
@@ -151,7 +100,7 @@ def start_prometheus(ends, work, programs):
               "rule_files": [f"{TOP}/deploy/alerts.yml"], "scrape_configs": [job]}
     servers.write(f"{work}/prometheus.yml", json.dumps(config).encode())
     os.mkdir(f"{work}/consoles")
-    shutil.copy(dashboards.CONSOLE, f"{work}/consoles/needleazure.html")
+    servers.write(f"{work}/consoles/needleazure.html", dashboards.CONSOLE.encode())
     folder = programs["folder"]
     start(ends, work, "prometheus", [
         programs["prometheus"], f"--config.file={work}/prometheus.yml", f"--storage.tsdb.path={work}/data",
@@ -219,32 +168,39 @@ def check_slots(work):
     hold(found == [["slot 1 missing"], ["slot 1 is no regular file"]], "a slot that is missing, and one that is no file")
 
 
-def check(ends, work, programs):
-    textfiles = f"{work}/textfiles"
+def begin(ends, repeated):
+    repeated.start()
+    ends.callback(repeated.end)
+
+
+def check(work, ends):
+    check_slots(work)
+    programs, textfiles = find_programs(work), f"{work}/textfiles"
     os.mkdir(textfiles)
     server = ends.enter_context(Server(work))
-    metrics = repeat(service_words(work, server.port), cwd=textfiles, env={**os.environ, **ROOM, "CACHE_DIRECTORY": work})
-    drain = repeat([f"{TOP}/deploy/drain", f"{work}/log", str(server.port), str(SHARDS), f"{work}/lines"],
-                   env={**os.environ, "PATH": servers.WITH_WALCAT, "TMPDIR": work})
-    metrics.begin(ends)
+    # (each second what timers do each so many minutes)
+    how = {"cwd": textfiles, "env": {**os.environ, **ROOM, "CACHE_DIRECTORY": work}, "stderr": subprocess.DEVNULL}
+    words = service_words(work, server.port)
+    begin(ends, servers.Repeated(lambda: subprocess.run(words, timeout=60, check=False, **how)))
     port, exporter = start_prometheus(ends, work, programs)
     pusher = Pusher(server.port)
+    drain = servers.Repeated(lambda: servers.drain(f"{work}/log", server.port, SHARDS).communicate(timeout=60))
     fill_and_drain(ends, pusher, drain, port)
     check_texts(programs, servers.bytes_of(f"{textfiles}/needleazure.prom"))
     fail(server, pusher, port)
-    dashboards.hold_all(hold, programs["promtool"], port, f"127.0.0.1:{exporter}", work, SHARDS)
+    dashboards.hold_all(programs["promtool"], port, f"127.0.0.1:{exporter}", work, SHARDS)
 
 
 def fill_and_drain(ends, pusher, drain, port):
     wait_for("the first metrics are there", lambda: b'"1"' in get(port, "/api/v1/query?query=needleazure_ready"), 30)
     hold(not firing(port), "no alert comes of an empty server")
-    pusher.begin(ends)
+    begin(ends, pusher)
     name = "NeedleazureShardNearlyFull"
     wait_for(f"a shard is above 95 %: {name} comes", lambda: name in firing(port), 60)
     statuses = list(pusher.statuses)
     hold(set(statuses) <= {204, 507}, f"{statuses.count(204)} pushes are answered 204, {statuses.count(507)} 507")
     pusher.pause = 1
-    drain.begin(ends)
+    begin(ends, drain)
     wait_for("a drain runs: it goes", lambda: not firing(port), 60)
     pushed = len(pusher.statuses)
     wait_for("and pushes are taken again", lambda: 204 in pusher.statuses[pushed:], 30)
@@ -261,13 +217,3 @@ def fail(server, pusher, port):
     server.end()
     server.start()
     wait_for("it is started again: no alert is left", lambda: not firing(port), 60)
-
-
-def main():
-    with tempfile.TemporaryDirectory(prefix="needleazure-metrics-") as work, contextlib.ExitStack() as ends:
-        check_slots(work)
-        check(ends, work, find_programs(work))
-
-
-if __name__ == "__main__":
-    servers.run_script(main)

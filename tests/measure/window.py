@@ -1,22 +1,15 @@
-#!/usr/bin/env -S python3 -B
-"""window [MINUTES [SHARDS MIB]]: whether a server of 8 shards of 128 MiB, or of these, takes for so many minutes (10) what
-docs/OPERATING.md says that it takes with NEEDLEAZURE_MAX_CHUNK_AGE=10m, a window of five minutes, while the drain runs each
-five minutes.
+"""window [MINUTES [SHARDS MIB]]: whether a server of 8 shards of 128 MiB, or of these, takes for so many minutes (10)
+what docs/OPERATING.md says that it takes with NEEDLEAZURE_MAX_CHUNK_AGE=10m, a window of five minutes, while the drain
+runs each five minutes.
 
-Lines have 200 bytes. They come at the rate of the sizing table, which plans with half, over a hundred streams a shard; one
-shard has a single stream, at all that a shard takes. The run begins with what is there before a run of the drain: the lines
-of ten minutes. Ends with 1 where a push is answered otherwise than 204, the lines don't keep to the clock, a run of the
-drain fails, or a line is neither in the files nor in the server."""
-import os
-import subprocess
-import sys
-import tempfile
+Lines have 200 bytes, and come at the rate of the sizing table, which plans with half, over a hundred streams a shard;
+one shard has a single stream, at all that a shard takes. The run begins with the lines of ten minutes."""
+import collections
 import threading
 import time
 
-sys.path += [f"{sys.path[0]}/../models", f"{sys.path[0]}/../server"]
 import servers
-from servers import TOP, hold
+from servers import hold
 
 AGE, WINDOW, BETWEEN, LENGTH, MORE = "10m", 300, 300, 200, 13
 # the most lines of a push, and seconds from one push to the next
@@ -34,8 +27,8 @@ class Load(threading.Thread):
         self.rate = (0.5 if shards > 1 else 1) * shards * capacity / (WINDOW + 600) / (LENGTH + MORE)
         self.settings = {"NEEDLEAZURE_MAX_CHUNK_AGE": AGE, "NEEDLEAZURE_CAPACITY": str(capacity)}
         self.server = servers.Server(f"{work}/log", shards, 16, {**servers.allocator(), **self.settings})
-        self.start_time, self.pushed, self.statuses, self.late = time.time() - WINDOW - BETWEEN, 0, {}, 0
-        self.is_full, self.is_done, self.drained = threading.Event(), False, 0
+        self.start_time, self.pushed, self.late = time.time() - WINDOW - BETWEEN, 0, 0
+        self.is_full, self.is_done, self.drained, self.statuses = threading.Event(), False, 0, collections.Counter()
 
     def entry(self, number):
         return int((self.start_time + number / self.rate) * 1e9), f"{number} ".ljust(LENGTH, "x"), ()
@@ -56,25 +49,22 @@ class Load(threading.Thread):
         values = [(self.streams[at % count], [self.entry(it) for it in numbers[at - self.pushed::count]])
                   for at in numbers[:count]]
         status = client.ask(servers.PUSH, servers.push_body(values))[0]
-        self.statuses[status] = self.statuses.get(status, 0) + 1
+        self.statuses[status] += 1
         self.pushed = end
 
     def held(self):
         """The bytes that the fullest shard has of lines, by its share of the streams."""
-        counts = [0] * self.shards
-        for it in self.streams:
-            counts[servers.shard_of("t", it, self.shards)] += 1
-        return (self.pushed - self.drained) * (LENGTH + MORE) * max(counts) / len(self.streams)
+        counts = collections.Counter(servers.shard_of("t", it, self.shards) for it in self.streams)
+        return (self.pushed - self.drained) * (LENGTH + MORE) * max(counts.values()) / len(self.streams)
 
     def drain(self):
         held, began = self.held(), time.monotonic()
-        words = [f"{TOP}/deploy/drain", f"{self.work}/log", str(self.server.port), str(self.shards), f"{self.work}/lines"]
-        settings = {**os.environ, **self.settings, "PATH": servers.WITH_WALCAT}
-        status = subprocess.run(words, env=settings, check=False).returncode
+        running = servers.drain(f"{self.work}/log", self.server.port, self.shards, **self.settings)
+        said, took = running.communicate()[1], time.monotonic() - began
         lines = int(servers.last_run(f"{self.work}/lines")["lines"])
         self.drained += lines
-        hold(status == 0, f"the fullest shard had {held / 1e6:.0f} MB of lines, {100 * held / self.capacity:.0f} % of its room; "
-                          f"the drain took {lines:,} lines in {time.monotonic() - began:.1f} s")
+        what = f"the fullest shard had {held / 1e6:.0f} MB of lines, {100 * held / self.capacity:.0f} % of its room"
+        hold(running.returncode == 0, f"{what}; the drain took {lines:,} lines in {took:.1f} s {said[:300]}".strip())
 
     def judge(self, seconds):
         self.join()
@@ -86,21 +76,13 @@ class Load(threading.Thread):
         with servers.Client(self.server.port) as client:
             # (a stream is read by itself, so that no more than its lines are in memory)
             left = sum(len(client.read(it)) for it in self.streams)
-        hold((in_files, in_files + left) == (self.drained, self.pushed), f"{in_files:,} lines are in the files, {left:,} in the server")
+        is_so = (in_files, in_files + left) == (self.drained, self.pushed)
+        hold(is_so, f"{in_files:,} lines are in the files, {left:,} in the server")
 
 
-def main(words):
-    minutes, shards, room = (float(it) for it in (*words, *(10, 8, 128)[len(words):]))
-    with tempfile.TemporaryDirectory(prefix="needleazure-window-", dir=os.environ.get("MEASURE_DIR")) as work:
-        load = Load(work, int(shards), int(room * 2**20))
-        try:
-            measure(load, 60 * minutes)
-        finally:
-            load.is_done = True
-            load.server.end()
-
-
-def measure(load, seconds):
+def check(work, ends, minutes=10, shards=8, room=128):
+    load, seconds = Load(work, int(shards), int(float(room) * 2**20)), 60 * float(minutes)
+    ends.callback(load.server.end)
     load.start()
     while not load.is_full.wait(1):
         servers.need(load.is_alive(), "the lines before the run are pushed")
@@ -113,7 +95,3 @@ def measure(load, seconds):
         time.sleep(1)
     load.is_done = True
     load.judge(seconds)
-
-
-if __name__ == "__main__":
-    main(sys.argv[1:])

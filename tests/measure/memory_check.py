@@ -1,0 +1,98 @@
+"""memory_check [--conf MALLOC_CONF] [--settle SECONDS] [--no-read]: what a server has of memory after trims, and in a
+read.
+
+A server with the allocator and the settings of deploy/needleazure.service takes 300 MB of lines, of whose six hours a
+trim takes five, and then ten times five hours more. Within 30 seconds it may have at most 1.6 times the bytes of the
+lines that are kept, and 50 MB. At last a stream of 127 MB is read whole: at its peak a read may take twice the bytes of
+its answer. With --conf it is another setting of jemalloc, and with --no-read the read is left out."""
+import argparse
+import concurrent.futures
+import re
+import time
+
+import servers
+from servers import hold, text_at
+
+SHARDS, STREAMS, ROUNDS, CAPACITY = 8, 32, 10, 128 << 20
+LENGTH, LINES, HOURS, KEPT_HOURS = 200, 500, 6, 1
+# bytes of lines: all of the first round
+FILLED = 300_000_000
+
+
+def shipped():
+    """The settings of jemalloc in the unit, which have to be those of `make run`."""
+    found = re.search(r"^Environment=MALLOC_CONF=(.*)$", text_at("deploy/needleazure.service"), re.MULTILINE)
+    is_so = found and f"\nMALLOC_CONF = {found[1]}\n" in text_at("Makefile")
+    hold(is_so, "the unit and make run have the same MALLOC_CONF")
+    return found[1]
+
+
+def fill(port, streams, start, hours, lines):
+    """Pushes so many lines to each stream, and returns the newest time."""
+    time_of = lambda number: start + int(hours * servers.HOUR) * number // lines
+
+    def push(some):
+        with servers.Client(port) as client:
+            for first in range(0, lines, LINES):
+                # (lines differ, as those of programs do)
+                times = map(time_of, range(first, min(first + LINES, lines)))
+                entries = [(at, f"{at} ".ljust(LENGTH, "x"), ()) for at in times]
+                for labels in some:
+                    client.store((labels, entries))
+
+    with concurrent.futures.ThreadPoolExecutor(4) as pool:
+        list(pool.map(push, [streams[it::4] for it in range(4)]))
+    hold(True, f"{lines * len(streams)} lines are pushed")
+    return time_of(lines - 1)
+
+
+def check_trims(work, settings, seconds):
+    streams = [{"stream": str(it)} for it in range(STREAMS)]
+    lines = FILLED // STREAMS // LENGTH
+    hour = lines // HOURS
+    kept = hour * KEPT_HOURS * STREAMS * LENGTH
+    most = int(1.6 * kept + 50e6)
+    with servers.Server(f"{work}/log", SHARDS, 8, {**settings, "NEEDLEAZURE_CAPACITY": str(CAPACITY)}) as server:
+        end = time.time_ns() - 150 * servers.HOUR
+        for number in range(ROUNDS + 1):
+            hours = HOURS if number == 0 else HOURS - KEPT_HOURS
+            end = fill(server.port, streams, end, hours, hour * hours)
+            full = server.memory()
+            with servers.Client(server.port) as client:
+                for labels in streams:
+                    status, said = client.trim(labels, end - KEPT_HOURS * servers.HOUR)
+                    servers.need(status == 200, f"a trim is answered {status} {said}")
+            began = time.monotonic()
+            servers.wait_until(lambda: server.memory() <= most, seconds)
+            memory, took = server.memory(), time.monotonic() - began
+            what = f"round {number}: {full / 1e6:.0f} MB full, {memory / 1e6:.0f} MB {took:.1f} s after the trim"
+            hold(memory <= most, f"{what}, at most {most / 1e6:.0f} MB for {kept / 1e6:.0f} MB of lines")
+
+
+def check_read(work, settings):
+    labels, lines = {"stream": "long"}, 127_000_000 // LENGTH
+    with servers.Server(f"{work}/long", 1, 4, {**settings, "NEEDLEAZURE_CAPACITY": str(256 << 20)}) as server:
+        fill(server.port, [labels], time.time_ns() - servers.HOUR, 0.9, lines)
+        time.sleep(15)
+        before = server.memory()
+        servers.write(f"/proc/{server.pid}/clear_refs", b"5")
+        with servers.Client(server.port) as client:
+            status, text = client.ask(servers.READ, servers.read_body(labels))
+        more, length = server.memory("VmHWM") - before, len(text)
+        what = f"a read of {length / 1e6:.0f} MB takes {more / 1e6:.0f} MB beside the {before / 1e6:.0f} MB"
+        hold(status == 200 and more <= 2 * length, f"{what} that the server had, {more / length:.2f} times its answer")
+
+
+def check(work, _, *words):
+    parser = argparse.ArgumentParser()
+    parser.add_argument("--conf")
+    parser.add_argument("--settle", type=float, default=30)
+    parser.add_argument("--no-read", action="store_true")
+    words = parser.parse_args(words)
+    allocator = servers.allocator()
+    hold("LD_PRELOAD" in allocator, "jemalloc is installed")
+    settings = {**allocator, "MALLOC_CONF": shipped() if words.conf is None else words.conf}
+    print(f"MALLOC_CONF={settings['MALLOC_CONF']}", flush=True)
+    check_trims(work, settings, words.settle)
+    if not words.no_read:
+        check_read(work, settings)
