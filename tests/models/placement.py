@@ -2,7 +2,7 @@
 """placement.py: how nginx's `hash .. consistent` spreads shippers over servers, in figures.
 
 The model knows nothing of nginx's code but its documented points: each server has 160 times its weight of them on a
-circle of 32 bits, and a key belongs to the first point at its own place or after it. tests/package/scale_out_check
+circle of 32 bits, and a key belongs to the first point at its own place or after it. tests/package/scale_out_check.py
 holds it against a real nginx. Run by itself it draws ten thousand shippers before a hundred servers, twenty times, and
 prints the load of the fullest server over the mean, and the share that moves when a server is added or lost: the median
 of the draws, and the worst."""

@@ -1,4 +1,4 @@
-"""Bodies of pushes as Loki's shippers make them, for tests/package/gateway_check, by encoders that are none of the
+"""Bodies of pushes as Loki's shippers make them, for tests/package/gateway_check.py, by encoders that are none of the
 gateway's: Google's Protobuf for Python, with what protoc makes of loki_push.proto, and Google's snappy.
 
 A stream is its labels, a dict of bytes, and its entries: a time in nanoseconds, a line and metadata, a dict, all bytes.

@@ -1,4 +1,4 @@
-"""A server and a gateway that run, and connections to them, for tests/package/gateway_check."""
+"""A server and a gateway that run, and connections to them, for tests/package/gateway_check.py."""
 import http.client
 import os
 
