@@ -48,7 +48,7 @@ class Ticking:
             self.selector.register(it, selectors.EVENT_READ, at)
 
     def run(self, seconds):
-        """Runs for so many seconds: how long each answer took."""
+        """Runs for this number of seconds: how long each answer took."""
         start, number, at = time.monotonic(), len(self.clients), 0
         while (now := time.monotonic()) < start + seconds + 2:
             # (the clients are spread over each second)

@@ -33,7 +33,7 @@ def roll(filling, folder):
 
 
 class Sharing:
-    """A folder with so many shards, each with room for so many MiB, and what was measured over it, by its name."""
+    """A folder with `count` shards, each with room for `mib` MiB, and what was measured over it, by its name."""
 
     def __init__(self, above, count, mib, how):
         self.folder, self.count, self.mib, self.how = f"{above}/{count}", count, mib, how

@@ -47,7 +47,7 @@ def drain(work, name, port, shards):
 
 
 def measure(work, name, shards, fill_it, most):
-    """Two runs over a server: at most so many seconds of a processor each, and MB."""
+    """Two runs over a server: at most this number of seconds of a processor each, and of MB."""
     settings = {**servers.allocator(), "NEEDLEAZURE_CAPACITY": str(256 << 20)}
     with servers.Server(f"{work}/{name}", shards, 16, settings) as server:
         fill_it(server.port)

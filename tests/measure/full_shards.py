@@ -77,7 +77,7 @@ def pushes(filling, folder):
 
 
 def wrk(port, script, connections, seconds, *words, timeout=2):
-    """Has wrk push over so many connections, by a script with these words: pushes a second, and the 99th percentile of
+    """Has wrk push over these connections, by a script with these words: pushes a second, and the 99th percentile of
     a push in milliseconds."""
     words = ["wrk", f"-t{min(2, connections)}", f"-c{connections}", f"-d{seconds}", f"-T{timeout}s", "--latency", "-s",
              f"{servers.TOP}/tests/measure/{script}", f"http://127.0.0.1:{port}{servers.PUSH}", "--", *words]

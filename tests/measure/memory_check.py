@@ -28,7 +28,7 @@ def shipped():
 
 
 def fill(port, streams, start, hours, lines):
-    """Pushes so many lines to each stream, and returns the newest time."""
+    """Pushes this number of lines to each stream, and returns the newest time."""
     time_of = lambda number: start + int(hours * servers.HOUR) * number // lines
 
     def push(some):

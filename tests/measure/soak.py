@@ -1,4 +1,4 @@
-"""soak [MINUTES]: a server under a steady load, for so many minutes (2).
+"""soak [MINUTES]: a server under a steady load, for MINUTES (2).
 
 Four processes with two connections each push 1,500 times a second, 20 lines of 400 bytes each, whose times run fast, and
 trim each stream by each quarter of an hour of theirs. Each of four shards is then three quarters full, so that logs roll

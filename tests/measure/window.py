@@ -1,4 +1,4 @@
-"""window [MINUTES [SHARDS MIB]]: whether a server of 8 shards of 128 MiB, or of these, takes for so many minutes (10)
+"""window [MINUTES [SHARDS MIB]]: whether a server of 8 shards of 128 MiB, or of these, takes for MINUTES (10)
 what docs/OPERATING.md says that it takes with NEEDLEAZURE_MAX_CHUNK_AGE=10m, a window of five minutes, while the drain
 runs each five minutes.
 

@@ -46,7 +46,7 @@ def value_of(stamp, number):
 
 
 class Pusher(servers.Repeated):
-    """Pushes so many lines to each of its streams each second, whose times run by ten minutes."""
+    """Pushes a number of lines to each of its streams each second, whose times run by ten minutes."""
 
     def __init__(self, port, streams, lines):
         super().__init__(self.keep_pushing, 0)
@@ -107,7 +107,7 @@ class Drain:
         return self.running.returncode, said, time.monotonic() - self.began
 
     def kill(self, seconds, has_begun=lambda: True):
-        """Whether it is killed, with all that it started, so many seconds after it has begun."""
+        """Whether it is killed, with all that it started, these seconds after it has begun."""
         while self.running.poll() is None and not has_begun():
             time.sleep(0.005)
         try:
@@ -184,7 +184,7 @@ def to_files(work, server):
 
 
 def check_told(work, left, before):
-    """The last run, before which the server had so many lines, left what it did, and one without a server does."""
+    """The last run, before which the server had `before` lines, left what it did, and one without a server does."""
     said = servers.last_run(f"{work}/lines")
     is_so = tells(f"{work}/lines", left, streams=len(MANY), lines=before - sum(left.values()), errors=0)
     is_so &= said["good"] == said["ended"] and 0 <= time.time() - said["ended"] < 60 and 0 < said["seconds"] < 60

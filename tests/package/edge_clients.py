@@ -88,7 +88,7 @@ class Client:
         self.ends = None
 
     async def ask(self, request, seconds=10):
-        """The status that answers the bytes of a request, or 0 where none came in so many seconds."""
+        """The status that answers the bytes of a request, or 0 if none came within these seconds."""
         try:
             reader, writer = await self.open()
             writer.write(request)

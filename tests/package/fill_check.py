@@ -90,7 +90,7 @@ def found_over(folder, **settings):
 
 
 def write_slots(folder, count, slots=()):
-    """Empty slots of so many shards, and these in the place of some: a slot, its length, and its bytes up to zeros."""
+    """Empty slots of `count` shards, and these in the place of some: a slot, its length, and its bytes up to zeros."""
     shutil.rmtree(folder, ignore_errors=True)
     os.makedirs(folder)
     empty = [(b"%02d-%d" % (shard, slot), 0, b"") for shard in range(count) for slot in (0, 1)]

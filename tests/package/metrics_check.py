@@ -178,7 +178,7 @@ def check(work, ends):
     programs, textfiles = find_programs(work), f"{work}/textfiles"
     os.mkdir(textfiles)
     server = ends.enter_context(Server(work))
-    # (each second what timers do each so many minutes)
+    # (each second what timers do every few minutes)
     how = {"cwd": textfiles, "env": {**os.environ, **ROOM, "CACHE_DIRECTORY": work}, "stderr": subprocess.DEVNULL}
     words = service_words(work, server.port)
     begin(ends, servers.Repeated(lambda: subprocess.run(words, timeout=60, check=False, **how)))

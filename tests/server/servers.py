@@ -64,7 +64,7 @@ def run_script(main, *words):
 
 
 def wait_until(is_so, seconds=SECONDS, pause=0.05):
-    """Waits until something is so, or for so many seconds: what it was at last."""
+    """Waits until something holds, for at most these seconds: what it was at last."""
     until = time.monotonic() + seconds
     while not (found := is_so()) and time.monotonic() < until:
         time.sleep(pause)

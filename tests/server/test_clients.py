@@ -12,7 +12,7 @@ OPEN, HALF_SENT = "NEEDLEAZURE_OPEN_CONNECTIONS", "NEEDLEAZURE_HALF_SENT"
 
 
 def push_once(port, seconds=1):
-    """Pushes a line over a new connection, which has to be answered within so many seconds."""
+    """Pushes a line over a new connection, which has to be answered within these seconds."""
     began = time.monotonic()
     with servers.Client(port) as client:
         assert client.push({"a": "new"}, [entry()]) == (204, "")
