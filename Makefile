@@ -40,7 +40,7 @@ test: ## the merge gate: every proof from nothing, edits, cases, refused memory,
 
 server: ## the built server as it is used: connections, sizes, a failing disk, kills, limits (WORDS="-k silent")
 	@RT='$(RT)' tests/gate/build $(ALL)
-	@tests/gate/pytest tests/server $(WORDS)
+	@tests/gate/pytest tests/server --ignore=tests/server/test_programs.py --ignore=tests/server/test_refused_memory.py $(WORDS)
 
 kill: ## kills a server in the middle of pushes, reads and trims, and reads all back (CYCLES=100)
 	@RT='$(RT)' tests/gate/build server
@@ -52,13 +52,14 @@ power-loss: ## what a server under load may leave at a loss of power, image by i
 
 faults: ## hostile bytes, refused memory, bad files, held to the definitions (some minutes)
 	@RT='$(RT)' tests/gate/build bench bench_calls call_cases conformance $(ALL)
-	@failed=0; for it in models/judge_rows 'gate/pytest tests/server/test_drawn.py tests/server/test_files.py -m by_hand' \
-		'server/each_allocation_fails bench ingest1 call_cases conformance ingestctl server'; do \
-		tests/$$it || failed=1; done; DRAWN=5000 tests/gate/pytest tests/server/test_drawn.py || failed=1; exit $$failed
+	@failed=0; for it in drawn files refused_memory; do \
+		tests/gate/pytest tests/server/test_$$it.py -m by_hand || failed=1; done; \
+		tests/gate/pytest tests/server/test_refused_memory.py tests/server/test_judges.py || failed=1; \
+		DRAWN=5000 tests/gate/pytest tests/server/test_drawn.py || failed=1; exit $$failed
 
 program-rows: ## the programs over their words, streams, files and slots, as the rows of tests/rows/programs say
 	@RT='$(RT)' tests/gate/build layer_cases $(ALL)
-	@tests/server/program_rows
+	@tests/gate/pytest tests/server/test_programs.py
 
 # what a check is run over, and its words
 %-check: PROGRAMS = server walcat

@@ -1,16 +1,14 @@
 """Proves and builds crates of crates.txt, those that don't stand on one another side by side.
 
-There are as many at a time as there are processors and memory for, first those with the longest chain of others after
-them. On the longest chain, which all else waits for, a crate gets as many jobs as there are processors. Any other gets a
-single job where there is work for each processor, since two take a fifth more of them. One that isn't nearly on that
-chain has a lower priority, and one that is does not wait until a processor is free, so that the chain is held up little.
-Each half minute is printed which crates it is at and how many are left, and, where a crate isn't proved, what the prover
-says of it.
+First come those with the longest chain of others after them. On the longest chain, which all else
+waits for, a crate gets as many jobs as there are processors. Any other gets one where there is work
+for each processor, since two take a fifth more of them, and a lower priority where it isn't nearly
+on that chain.
 
-A library is proved from nothing, and its statements alone are kept, in its out/statements (`rattle build --help`): those
-above it load them sooner than its proofs. What was built here from the same text is left as it is. What `rt` builds for
-its checks isn't taken: it stands on what earlier checks kept, and a verdict may not. What HANDLES allows is held by
-`rt ci` alone. Where the kit is none that toolchain.py knows, `rt run` builds the programs."""
+A library is proved from nothing, and its statements alone are kept, in its out/statements: those
+above it load them sooner than its proofs. What was built here from the same text is left as it is.
+What `rt` builds isn't taken: a verdict may not stand on what earlier checks kept. What HANDLES
+allows is held by `rt ci` alone."""
 import contextlib
 import fcntl
 import hashlib
@@ -57,9 +55,8 @@ def chains_of(crates):
 
 
 def jobs_for(crate, share, idle, lanes, memory):
-    """How many jobs a crate gets: as many as there are processors where it is on the longest chain, and else one, or as
-    many as there are idle processors that nothing else could use. It gets none where there is too little memory for one.
-    The share is that of its chain in the longest one."""
+    """How many jobs a crate gets whose chain has this share of the longest one: as many as there
+    are processors on the longest one, else one, or as idle ones that nothing else could use."""
     wanted = 1 if os.environ.get("RT_JOBS") else lanes if share >= AS_LONG else max(1, idle)
     return min(wanted, int((memory / crate.memory - 1) // FURTHER) + 1)
 

@@ -1,9 +1,8 @@
 """The toolchain's commands as their help documents them, and the crates of crates.txt.
 
-`rattle build --help` and `rattle check --help` say what the flags below mean, `rt --help` how crates.txt and an edit are
-written. No help says where in the kit its libraries, its logic, its compiler and what a program is linked with lie. So
-`kit` looks whether these places and flags are there. Where another version of the toolchain lacks one, that is said,
-and who asked has `rt` do the work, which takes longer."""
+No help says where in the kit its libraries, its logic, its compiler and what a program is linked
+with lie. So `kit` looks whether these places and flags are there. Where one is lacking that is
+said, and who asked has `rt` do the work, which takes longer."""
 import functools
 import os
 import shutil

@@ -1,13 +1,11 @@
-"""clients_check [--minutes MINUTES] [--idle NUMBER]: many clients at a time, over a server as `make run` starts it.
+"""clients_check [MINUTES [NUMBER]]: many clients at a time, over a server as `make
+run` starts it.
 
-What a push takes, and a connection, is held to bounds beside NUMBER idle connections (10,000), a quarter of them in the
-middle of a body; over 1,000 kept clients with a push a second for MINUTES (10); and beside 1,000 clients that send a byte
-a second and 100 that never read their answers. With OLD=PATH, another server program, it and this one serve wrk in turn,
-at one stream and at 50: of the medians of three rounds this one has at least 0.97 of its pushes, and takes at most 1.05
-of its processor time a push, and at 256 connections it has more pushes than the old one at 64.
-
-It needs as many open files as connections, and raises its own limit as far as it may. It needs wrk for the last part."""
-import argparse
+What a push takes, and a connection, is held to bounds beside NUMBER idle connections (10,000), a
+quarter of them in the middle of a body; over 1,000 kept clients with a push a second for MINUTES
+(10); and beside 1,000 clients that send a byte a second and 100 that never read. With OLD=PATH,
+another server program, it and this one serve wrk in turn, and are compared by medians of three
+rounds. It needs as many open files as connections."""
 import os
 import selectors
 import statistics
@@ -167,17 +165,14 @@ def beside(old):
             hold(used <= 1.05 * took, f"{what}: {used:.0f} us of a processor a push, of {took:.0f}: {used / took:.2f}")
 
 
-def check(work, _, *given):
-    words = argparse.ArgumentParser(description=__doc__.split(":")[0])
-    words.add_argument("--minutes", type=float, default=10)
-    words.add_argument("--idle", type=int, default=10_000)
-    words = words.parse_args(given)
+def check(work, _, minutes=10, number=10_000):
+    minutes, number = float(minutes), int(number)
     hard = servers.allow_many_files()
-    hold(hard > words.idle + 500, f"there may be {hard:,} open files")
-    settings = {**servers.allocator(), "NEEDLEAZURE_OPEN_CONNECTIONS": str(words.idle + 100)}
-    parts = [lambda it: idle(it, words.idle), lambda it: kept(it, words.minutes), crowd]
-    for number, part in enumerate(parts):
-        with servers.Server(f"{work}/{number}", SHARDS, 64, settings, stderr=subprocess.DEVNULL) as server:
-            part(server)
+    hold(hard > number + 500, f"there may be {hard:,} open files")
+    settings = {**servers.allocator(), "NEEDLEAZURE_OPEN_CONNECTIONS": str(number + 100)}
+    parts = [lambda it: idle(it, number), lambda it: kept(it, minutes), crowd]
+    for at, part in enumerate(parts):
+        with servers.Server(f"{work}/{at}", SHARDS, 64, settings, stderr=subprocess.DEVNULL) as it:
+            part(it)
     if old := os.environ.get("OLD"):
         beside(old)

@@ -1,14 +1,11 @@
-"""drain_cost: what a run of deploy/drain costs over 5,000 streams of 40 lines, with lines to take and with none, and over one
-stream of 100 MB.
-
-Prints the seconds that each run took, of the clock and of a processor with all that it started, and the most memory that it
-had. Ends with 1 where the first takes more than 15 seconds of a processor, the second more than 5, or any more than
-120 MB."""
+"""drain_cost: what a run of deploy/drain costs over 5,000 streams of 40 lines, with lines to take
+and with none, and over one stream of 100 MB: seconds, of the clock and of a processor with all that
+it started, and the most memory. `check` has their bounds."""
 import os
 import time
 
 import servers
-from servers import hold
+from servers import hold, lines_from
 
 STREAMS, LINES, SHARDS, STEP = 5_000, 40, 8, 180 * 10**9
 LONG, LENGTH = 100_000_000, 200
@@ -20,18 +17,16 @@ def fill(port):
     with servers.Client(port) as client:
         for first in range(0, STREAMS, 200):
             for at in range(0, LINES, 20):
-                entries = [(start + it * STEP, f"{it} ".ljust(LENGTH, "x"), ()) for it in range(at, at + 20)]
+                entries = lines_from(start, 20, LENGTH, STEP, at)
                 client.store(*(({"pod": str(it)}, entries) for it in range(first, first + 200)))
 
 
 def fill_long(port):
-    """A stream of lines of three hours."""
     count = LONG // LENGTH
     start, step = time.time_ns() - 3 * servers.HOUR, 3 * servers.HOUR // count
     with servers.Client(port) as client:
         for at in range(0, count, 5_000):
-            numbers = range(at, min(at + 5_000, count))
-            client.store(({"pod": "long"}, [(start + it * step, f"{it} ".ljust(LENGTH, "x"), ()) for it in numbers]))
+            client.store(({"pod": "long"}, lines_from(start, 5_000, LENGTH, step, at)))
 
 
 def drain(work, name, port, shards):

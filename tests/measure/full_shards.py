@@ -27,10 +27,8 @@ def settings_for(mib):
 
 
 class Filling:
-    """Pushes to a shard over a connection of its own, a step of seconds from one to the next.
-
-    Each has so many lines of so many streams. The shard chooses the lines, which are the same in each push.
-    """
+    """Pushes to a shard over a connection of its own, a step of seconds from one to the next. Each
+    has so many lines of so many streams, which are the same in each push."""
 
     def __init__(self, port, shard, count, first, step, streams=STREAMS, lines=LINES, lengths=(LEAST, MOST)):
         self.client, self.first, self.next, self.step = servers.Client(port, seconds=600), first, first, step
@@ -77,8 +75,7 @@ def pushes(filling, folder):
 
 
 def wrk(port, script, connections, seconds, *words, timeout=2):
-    """Has wrk push over these connections, by a script with these words: pushes a second, and the 99th percentile of
-    a push in milliseconds."""
+    """Has wrk push by a script: pushes a second, and the 99th percentile of one in milliseconds."""
     words = ["wrk", f"-t{min(2, connections)}", f"-c{connections}", f"-d{seconds}", f"-T{timeout}s", "--latency", "-s",
              f"{servers.TOP}/tests/measure/{script}", f"http://127.0.0.1:{port}{servers.PUSH}", "--", *words]
     said = subprocess.run(words, capture_output=True, text=True, check=True).stdout
@@ -107,7 +104,6 @@ def slots_in_use(folder, count):
 
 
 def end_of(slot):
-    """Where a slot's segment ends."""
     with open(slot, "rb") as file, mmap.mmap(file.fileno(), 0, prot=mmap.PROT_READ) as data:
         at = HEADER
         while data[at] == 1:
@@ -132,7 +128,6 @@ def drop_from_cache(slots):
 
 
 def used_by(words, **how):
-    """How many seconds a command takes, and those of a processor."""
     began = time.monotonic()
     running = subprocess.Popen(words, stdout=subprocess.DEVNULL, stderr=subprocess.DEVNULL, **how)
     _, running.returncode, used = os.wait4(running.pid, 0)
@@ -141,8 +136,7 @@ def used_by(words, **how):
 
 
 def start(folder, count, settings, **how):
-    """How many seconds a server takes to be ready, those of a processor, the most memory it has till then, and what it
-    has then."""
+    """Seconds until a server is ready, those of a processor, its most memory till then, and now."""
     began = time.monotonic()
     with servers.Server(folder, count, WORKERS, settings, **how) as server:
         return time.monotonic() - began, server.processor(), server.memory("VmHWM"), server.memory()

@@ -14,7 +14,7 @@ import full_shards
 import servers
 import snappy
 from gateway_bodies import Writer, load_messages
-from gateway_runs import Gateway, Server
+from gateway_runs import Gateway
 
 PLACE = os.environ.get("TMPDIR", servers.TOP)
 BODIES, LINES, STREAMS, ROUNDS = 1000, 10, 64, 3
@@ -28,7 +28,6 @@ WAYS = [("the server alone, JSON", "json", False, [JSON]),
 
 
 def make(work):
-    """Writes the bodies in each form."""
     draw, now, count = random.Random(1), time.time_ns(), 0
     writer, forms = Writer(load_messages(work), draw), collections.defaultdict(list)
     for at in range(BODIES):
@@ -48,7 +47,7 @@ def make(work):
 
 def run(work, form, is_through, words, seconds):
     """Pushes a second, the 99th percentile, and microseconds of a processor that a push takes of each program."""
-    with Server(f"{work}/log", 8) as server, Gateway(server) as gateway:
+    with servers.Server(f"{work}/log", 8, 64) as server, Gateway(server) as gateway:
         port = gateway.port if is_through else server.port
         rate, late = full_shards.wrk(port, "push.lua", 32, seconds, f"{work}/{form}", *words, timeout=30)
         found = rate, late, *(it.processor() / (rate * seconds) * 1e6 for it in (server, gateway))

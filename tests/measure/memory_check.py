@@ -1,17 +1,15 @@
-"""memory_check [--conf MALLOC_CONF] [--settle SECONDS] [--no-read]: what a server has of memory after trims, and in a
-read.
+"""memory_check: what a server has of memory after trims, and in a read.
 
-A server with the allocator and the settings of deploy/needleazure.service takes 300 MB of lines, of whose six hours a
-trim takes five, and then ten times five hours more. Within 30 seconds it may have at most 1.6 times the bytes of the
-lines that are kept, and 50 MB. At last a stream of 127 MB is read whole: at its peak a read may take twice the bytes of
-its answer. With --conf it is another setting of jemalloc, and with --no-read the read is left out."""
-import argparse
+With the allocator and the settings of deploy/needleazure.service it takes 300 MB of lines, of whose
+six hours a trim takes five, and then ten times five hours more. Within 30 seconds it may have at
+most 1.6 times the bytes of the lines that are kept, and 50 MB. A read of a stream of 127 MB may
+take twice the bytes of its answer."""
 import concurrent.futures
 import re
 import time
 
 import servers
-from servers import hold, text_at
+from servers import hold, lines_from, text_at
 
 SHARDS, STREAMS, ROUNDS, CAPACITY = 8, 32, 10, 128 << 20
 LENGTH, LINES, HOURS, KEPT_HOURS = 200, 500, 6, 1
@@ -29,24 +27,22 @@ def shipped():
 
 def fill(port, streams, start, hours, lines):
     """Pushes this number of lines to each stream, and returns the newest time."""
-    time_of = lambda number: start + int(hours * servers.HOUR) * number // lines
+    step = int(hours * servers.HOUR) // lines
 
     def push(some):
         with servers.Client(port) as client:
             for first in range(0, lines, LINES):
-                # (lines differ, as those of programs do)
-                times = map(time_of, range(first, min(first + LINES, lines)))
-                entries = [(at, f"{at} ".ljust(LENGTH, "x"), ()) for at in times]
+                entries = lines_from(start, min(LINES, lines - first), LENGTH, step, first)
                 for labels in some:
                     client.store((labels, entries))
 
     with concurrent.futures.ThreadPoolExecutor(4) as pool:
         list(pool.map(push, [streams[it::4] for it in range(4)]))
     hold(True, f"{lines * len(streams)} lines are pushed")
-    return time_of(lines - 1)
+    return start + step * (lines - 1)
 
 
-def check_trims(work, settings, seconds):
+def check_trims(work, settings):
     streams = [{"stream": str(it)} for it in range(STREAMS)]
     lines = FILLED // STREAMS // LENGTH
     hour = lines // HOURS
@@ -63,7 +59,7 @@ def check_trims(work, settings, seconds):
                     status, said = client.trim(labels, end - KEPT_HOURS * servers.HOUR)
                     servers.need(status == 200, f"a trim is answered {status} {said}")
             began = time.monotonic()
-            servers.wait_until(lambda: server.memory() <= most, seconds)
+            servers.wait_until(lambda: server.memory() <= most, 30)
             memory, took = server.memory(), time.monotonic() - began
             what = f"round {number}: {full / 1e6:.0f} MB full, {memory / 1e6:.0f} MB {took:.1f} s after the trim"
             hold(memory <= most, f"{what}, at most {most / 1e6:.0f} MB for {kept / 1e6:.0f} MB of lines")
@@ -83,16 +79,9 @@ def check_read(work, settings):
         hold(status == 200 and more <= 2 * length, f"{what} that the server had, {more / length:.2f} times its answer")
 
 
-def check(work, _, *words):
-    parser = argparse.ArgumentParser()
-    parser.add_argument("--conf")
-    parser.add_argument("--settle", type=float, default=30)
-    parser.add_argument("--no-read", action="store_true")
-    words = parser.parse_args(words)
+def check(work, _):
     allocator = servers.allocator()
     hold("LD_PRELOAD" in allocator, "jemalloc is installed")
-    settings = {**allocator, "MALLOC_CONF": shipped() if words.conf is None else words.conf}
-    print(f"MALLOC_CONF={settings['MALLOC_CONF']}", flush=True)
-    check_trims(work, settings, words.settle)
-    if not words.no_read:
-        check_read(work, settings)
+    settings = {**allocator, "MALLOC_CONF": shipped()}
+    check_trims(work, settings)
+    check_read(work, settings)

@@ -1,9 +1,7 @@
-"""metrics_cost: what a look of deploy/metrics costs over 16 full shards of 64 MiB, with 10 lines a push.
-
-A first look goes through whole segments; each further one goes on from where the last one ended, here over a fifteenth
-of each segment, what a minute brings where a segment is full in a quarter of an hour. It is the processor time of the
-command: the best and the worst of five looks of each kind. Once the pushes have equal lengths, and once lines of 100 to
-300 bytes. The slots are 2 GiB of temporary files."""
+"""metrics_cost: the processor time of deploy/metrics over 16 full shards of 64 MiB, with 10 lines a
+push, once of 200 bytes and once of 100 to 300. A first look goes through whole segments; a further
+one goes on from where the last one ended, here over a fifteenth of each, as a minute may bring it.
+The slots are 2 GiB of temporary files."""
 import os
 import random
 import shutil
@@ -18,17 +16,14 @@ MOST = {"first": 0.2, "further": 0.1}
 KEY = b"t", b'{a="1"}'
 
 
-def entry(length):
-    return 11, b"x" * length
-
-
 def segment(shard, least, most):
     """A segment, how many blocks it has, and where the gate is that the last fifteenth of it begins with."""
     chosen = random.Random(shard)
-    payloads, gate = [state_bytes(2, KEY, 11, entry(1), [entry(1)])], 0
+    payloads, gate = [state_bytes(2, KEY, 11, (11, b"x"), [(11, b"x")])], 0
     length = len(segment_bytes(b"2", 1, shard, SHARDS, payloads))
     while True:
-        payload = append_bytes(2, KEY, [entry(chosen.randint(least, most)) for _ in range(LINES)])
+        entries = [(11, b"x" * chosen.randint(least, most)) for _ in range(LINES)]
+        payload = append_bytes(2, KEY, entries)
         length += 5 + len(payload)
         if length > CAPACITY:
             return segment_bytes(b"2", 1, shard, SHARDS, payloads).ljust(CAPACITY, b"\0"), len(payloads), gate
@@ -38,7 +33,6 @@ def segment(shard, least, most):
 
 
 def look(folder, places):
-    """The processor seconds of a look."""
     environment = {**os.environ, "CACHE_DIRECTORY": places} if places else {**os.environ}
     return full_shards.used_by([f"{TOP}/deploy/metrics", folder, "9", str(SHARDS)], env=environment)[1]
 
@@ -60,7 +54,6 @@ def look_again(folder, gates, places):
 
 
 def measure(above, least, most):
-    """The looks of each kind."""
     folder, places, blocks, gates = f"{above}/slots", f"{above}/places", 0, []
     os.makedirs(folder)
     os.mkdir(places)

@@ -1,10 +1,8 @@
 """roll [MIB ..]: how long a push takes that begins the next segment of a full shard, beside a usual one.
 
-For each capacity (64 and 1,024 MiB where none is given) a server with one shard, of that NEEDLEAZURE_CAPACITY, is filled
-by pushes of 15 lines of 260,000 bytes on one stream, each sent when the one before is answered. Then the oldest lines are
-trimmed and a push is made in their place, over and over, until five pushes have begun a segment. At last the server is
-killed and started again.
-"""
+For each capacity (64 and 1,024 MiB) a server with one shard is filled by pushes of 15 lines of 260,000 bytes. Then
+the oldest lines are trimmed and a push is made in their place, until five have begun a segment. At last it is started
+again."""
 import statistics
 import time
 

@@ -3,7 +3,6 @@ one stream and 25,000 streams, and one with ten streams of 12 MB and a log of mo
 drained. Of both the server is killed and started again, and walcat lists the slot in use. Each line is there once after
 each of these. It needs curl and jq, 1 GB of memory, and as much of temporary files."""
 import collections
-import contextlib
 import re
 import time
 
@@ -15,42 +14,33 @@ LINES, STREAMS, AT_ONCE, LONG, LONG_LINE, LONG_LINES = 120_000, 25_000, 900, 10,
 MINUTE = 60 * 10**9
 
 
-def labels_of(name):
-    return {"job": name}
-
-
-class Shard(contextlib.AbstractContextManager):
+class Shard(servers.Server):
     """A server with one shard, a connection to it, and what each stream has."""
 
     def __init__(self, folder, capacity):
-        self.folder, self.capacity, self.there = folder, capacity, collections.defaultdict(list)
-        self.start()
-
-    def __exit__(self, *_):
-        self.server.end()
+        self.folder, self.there = folder, collections.defaultdict(list)
+        settings = {"NEEDLEAZURE_CAPACITY": str(capacity), **servers.allocator()}
+        super().__init__(folder, 1, 4, settings)
 
     def start(self):
         began = time.monotonic()
-        self.server = servers.Server(self.folder, 1, 4, {"NEEDLEAZURE_CAPACITY": str(self.capacity), **servers.allocator()})
-        self.client, self.took = servers.Client(self.server.port, seconds=600), time.monotonic() - began
+        super().start()
+        self.took, self.client = time.monotonic() - began, servers.Client(self.port, seconds=600)
 
     def push(self, streams):
-        """Pushes entries to streams by their names."""
-        self.client.store(*((labels_of(name), entries) for name, entries in streams))
+        self.client.store(*(({"job": name}, entries) for name, entries in streams))
         for name, entries in streams:
             self.there[name] += entries
 
     def read_each(self, names):
         """Whether each of these streams has just what was answered."""
-        names, is_so = list(names), True
+        names = list(names)
         for at in range(0, len(names), 50):
             part = names[at:at + 50]
-            found = self.client.read_all([labels_of(it) for it in part])
-            is_so &= all(entries == self.there[it] for it, entries in zip(part, found))
-        return is_so
-
-    def generation(self):
-        return servers.generation(self.folder)
+            found = self.client.read_all([{"job": it} for it in part])
+            if found != [self.there[it] for it in part]:
+                return False
+        return True
 
 
 def push_lines(shard, now):
@@ -68,7 +58,7 @@ def push_streams(shard, now):
 
 
 def long_push(shard, name, start, count):
-    shard.push([(name, [(start + it, f"{start + it} ".ljust(LONG_LINE, "x"), ()) for it in range(count)])])
+    shard.push([(name, servers.lines_from(start, count, LONG_LINE))])
 
 
 def push_long(shard, now):
@@ -80,7 +70,7 @@ def push_long(shard, now):
         long_push(shard, name, now, 1)
     length = 0
     for number in range(LONG):
-        status, text = shard.client.ask(servers.READ, servers.read_body(labels_of(f"long{number}")))
+        status, text = shard.client.ask(servers.READ, servers.read_body({"job": f"long{number}"}))
         length = len(text)
         need(servers.entries_of(status, text) == shard.there[f"long{number}"], "a long read has what was answered")
     hold(length > 10_000_000, f"{LONG} reads of {length:,} bytes have what was answered")
@@ -88,14 +78,14 @@ def push_long(shard, now):
 
 def roll(shard, now):
     """Goes on with a stream whose lines are trimmed, until the log rolls."""
-    before, stamp, slowest = shard.generation(), now - 150 * servers.HOUR, 0
+    before, stamp, slowest = servers.generation(shard.folder), now - 150 * servers.HOUR, 0
     while True:
         began = time.monotonic()
         long_push(shard, "rolling", stamp, 15)
         slowest = max(slowest, time.monotonic() - began)
-        if shard.generation() > before:
+        if servers.generation(shard.folder) > before:
             break
-        need(shard.client.trim(labels_of("rolling"), stamp - servers.HOUR)[0] == 200, "each trim is answered 200")
+        need(shard.client.trim({"job": "rolling"}, stamp - servers.HOUR)[0] == 200, "a trim is made")
         shard.there["rolling"] = [it for it in shard.there["rolling"] if it[0] >= stamp - servers.HOUR]
         stamp += 2 * servers.HOUR
     hold(shard.read_each(shard.there), f"the log has rolled, and has all lines; the slowest push took {slowest:.2f} s")
@@ -114,7 +104,7 @@ def list_slot(path):
 
 
 def check_drain(work, shard):
-    began, running = time.monotonic(), servers.drain(shard.folder, shard.server.port, 1)
+    began, running = time.monotonic(), servers.drain(shard.folder, shard.port, 1)
     said = running.communicate()[1]
     hold(running.returncode == 0, f"drain ends well ({time.monotonic() - began:.0f} s) {said[:300]}")
     taken = collections.defaultdict(list)
@@ -128,33 +118,26 @@ def check_drain(work, shard):
     hold(shard.read_each(shard.there), "and the server has the others")
 
 
-def start_again(shard):
-    """Kills the server, starts it, and lists the slot in use: where its segment ends, its streams, and their entries."""
-    shard.server.end()
+def start_again(shard, streams, least=0):
+    """Kills the server, starts it, and lists the slot in use, which has so many streams."""
+    shard.end()
     shard.start()
     hold(shard.read_each(shard.there), f"started again in {shard.took:.2f} s it has all lines")
-    return list_slot(f"{shard.folder}/shard-00-{shard.generation() % 2}.wal")
-
-
-def check_many(work, now):
-    with Shard(f"{work}/many", CAPACITY) as shard:
-        push_lines(shard, now)
-        push_streams(shard, now)
-        end, streams, entries = start_again(shard)
-        is_so = (streams, entries) == (STREAMS + 1, LINES + STREAMS)
-        hold(is_so, f"{end:,} bytes, {streams:,} streams, {entries:,} entries")
-
-
-def check_large(work, now):
-    with Shard(f"{work}/large", LARGE) as shard:
-        push_long(shard, now)
-        roll(shard, now)
-        end, streams, entries = start_again(shard)
-        is_so = end > 100_000_000 and (streams, entries) == (LONG + 1, sum(map(len, shard.there.values())))
-        hold(is_so, f"{end:,} bytes, {streams} streams, {entries:,} entries")
-        check_drain(work, shard)
+    slot = servers.slots_of(shard.folder)[servers.generation(shard.folder) % 2]
+    end, *found = list_slot(slot)
+    is_so = end > least and found == [streams, sum(map(len, shard.there.values()))]
+    hold(is_so, f"{end:,} bytes, {found[0]:,} streams, {found[1]:,} entries")
 
 
 def check(work, _):
-    check_many(work, time.time_ns())
-    check_large(work, time.time_ns())
+    now = time.time_ns()
+    with Shard(f"{work}/many", CAPACITY) as shard:
+        push_lines(shard, now)
+        push_streams(shard, now)
+        start_again(shard, STREAMS + 1)
+    now = time.time_ns()
+    with Shard(f"{work}/large", LARGE) as shard:
+        push_long(shard, now)
+        roll(shard, now)
+        start_again(shard, LONG + 1, 100_000_000)
+        check_drain(work, shard)

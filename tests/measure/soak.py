@@ -1,19 +1,10 @@
 """soak [MINUTES]: a server under a steady load, for MINUTES (2).
 
-Four processes with two connections each push 1,500 times a second, 20 lines of 400 bytes each, whose times run fast, and
-trim each stream by each quarter of an hour of theirs. Each of four shards is then three quarters full, so that logs roll
-again and again; a shard has room for 8 MiB, and from five minutes on for 2 MiB for each minute. The load begins when they
-are so full. The server has the allocator that `make run` gives it, and its log is in memory, or in the folder MEASURE_DIR.
-Ends with 1 where
-
-- memory is above 1.1 times that at the end of the first minute: its greatest in ten seconds each;
-- the 99.9th percentile of a push grows by more than half, and by 2 ms: its median over slices of ten seconds, of the
-  second half of the time beside the first;
-- a push is answered otherwise than 204, or a trim otherwise than 200;
-- there were fewer than 1,000 pushes a second, or fewer than 20 rolls a shard.
-
-With less than two minutes the first half is the first minute.
-"""
+Four processes push 1,500 times a second, 20 lines of 400 bytes each, whose times run fast, and trim each stream by
+each quarter of an hour of theirs: so each shard is three quarters full, and logs roll again and again. Memory, its
+greatest in ten seconds, may grow by a tenth after the first minute, and the 99.9th percentile of a push, the median
+over slices of ten seconds, by half or by 2 ms from the first half of the time to the second. There have to be enough
+pushes and rolls, and all are answered well."""
 import multiprocessing
 import os
 import statistics
@@ -28,8 +19,6 @@ QUARTER = servers.HOUR // 4
 
 
 class Load:
-    """The streams of a process, each with its connection."""
-
     def __init__(self, port, number, step):
         self.clients, self.step, self.pushes = [servers.Client(port) for _ in range(STREAMS)], step, 0
         shards = [(number * STREAMS + it) % SHARDS for it in range(STREAMS)]
@@ -55,14 +44,12 @@ class Load:
         return all(front + QUARTER >= due for front, due in zip(self.fronts, self.dues))
 
 
-def work(port, number, step, seconds, is_full, begins, ends):
-    """A process: fills its streams, waits for the others, pushes at its pace, and tells how long the pushes of each slice
-    took."""
+def work(number, port, step, seconds, barrier, ends):
+    """A process: fills its streams, waits for the others, pushes, and tells how long each took."""
     load, wrong, slices = Load(port, number, step), 0, [[] for _ in range(int(seconds) // SLICE + 1)]
     while not load.is_full():
         wrong += not load.turn(load.pushes % STREAMS)[1]
-    is_full.release()
-    begins.wait()
+    barrier.wait()
     began, due = time.monotonic(), 0
     while (now := time.monotonic() - began) < seconds:
         if now < due:
@@ -81,25 +68,21 @@ def high(times):
 
 def run(folder, server, seconds, step):
     """What each process told, how much memory the server had at which second, and how many rolls there were."""
-    full, begins, ends = multiprocessing.Semaphore(0), multiprocessing.Event(), multiprocessing.Queue()
-    processes = [multiprocessing.Process(target=work, args=(server.port, it, step, seconds, full, begins, ends), daemon=True)
-                 for it in range(PROCESSES)]
-    for it in processes:
-        it.start()
-    for _ in processes:
-        full.acquire()
+    barrier, ends = multiprocessing.Barrier(PROCESSES + 1), multiprocessing.Queue()
+    for number in range(PROCESSES):
+        its = number, server.port, step, seconds, barrier, ends
+        multiprocessing.Process(target=work, args=its, daemon=True).start()
+    barrier.wait()
     generations = lambda: sum(servers.generation(folder, it) for it in range(SHARDS))
     rolls, began, memory = generations(), time.monotonic(), []
-    begins.set()
     while (now := time.monotonic() - began) < seconds:
         memory.append((now, server.memory()))
         time.sleep(0.2)
-    found = [ends.get(timeout=60) for _ in processes]
+    found = [ends.get(timeout=60) for _ in range(PROCESSES)]
     return found, memory, generations() - rolls
 
 
 def judge(found, memory, rolls, seconds):
-    """Prints what was seen. Whether it is well."""
     slices = [sum((it[1][at] for it in found), []) for at in range(len(found[0][1]))]
     slices = [it for it in slices if len(it) > 1_000]
     count, wrong, first = sum(map(len, slices)), sum(it[0] for it in found), min(60, seconds / 2)

@@ -27,7 +27,6 @@ def fill(folder, megabytes, count, settings, how):
 
 
 def measure(slots, runs):
-    """The figures of each of these ways to read the slots, by what it is."""
     found = {}
     for _ in range(RUNS):
         for words, prepare in CACHES:

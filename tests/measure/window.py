@@ -1,9 +1,7 @@
-"""window [MINUTES [SHARDS MIB]]: whether a server of 8 shards of 128 MiB, or of these, takes for MINUTES (10)
-what docs/OPERATING.md says that it takes with NEEDLEAZURE_MAX_CHUNK_AGE=10m, a window of five minutes, while the drain
-runs each five minutes.
-
-Lines have 200 bytes, and come at the rate of the sizing table, which plans with half, over a hundred streams a shard;
-one shard has a single stream, at all that a shard takes. The run begins with the lines of ten minutes."""
+"""window [MINUTES [SHARDS MIB]]: whether a server of 8 shards of 128 MiB, or of these, takes for
+MINUTES (10) what docs/OPERATING.md says of NEEDLEAZURE_MAX_CHUNK_AGE=10m, while the drain runs each
+five minutes. Lines of 200 bytes come at the rate of the sizing table, which plans with half, over a
+hundred streams a shard; one shard has a single stream, at all that a shard takes."""
 import collections
 import threading
 import time

@@ -1,8 +1,6 @@
-"""The reader of what clients send and are answered: keys, metadata, JSON, and the bodies of pushes, reads and trims.
-
-It follows docs/DEFINITIONS.md and docs/API.md, and knows nothing of how the programs work; so it is slow, and short. An
-entry is its time, its line, and its metadata as pairs of bytes in the order of their names.
-"""
+"""The reader of what clients send and are answered: keys, metadata, JSON, and bodies, by docs/DEFINITIONS.md and
+docs/API.md. It knows nothing of how the programs work; so it is slow, and short. An entry is its time, its line, and
+its metadata as pairs of bytes in the order of their names."""
 import codecs
 import contextlib
 import itertools
@@ -15,8 +13,6 @@ MOST_LINE, MOST_ENTRIES = 262_144, 10_000
 MOST_PAIRS, MOST_NAME, MOST_VALUE = 16, 256, 1_024
 MOST_DEPTH = 127
 
-
-# ---- keys ----------------------------------------------------------------------------------------------------------
 
 def is_tenant(text):
     return re.fullmatch(rb"[A-Za-z0-9_-]{1,150}", text) is not None
@@ -43,7 +39,6 @@ def label_fault(pairs):
 
 
 def canonical(pairs):
-    """The canonical text of labels without a fault."""
     shown = []
     for name, value in sorted(pairs):
         value = value.replace(b"\\", b"\\\\").replace(b'"', b'\\"').replace(b"\n", b"\\n")
@@ -82,14 +77,10 @@ def is_utf8(text, is_whole=True):
     return False
 
 
-# ---- metadata ------------------------------------------------------------------------------------------------------
-
 def is_short(pairs):
     """Whether a line may have this metadata, pairs of bytes."""
     return len(pairs) <= MOST_PAIRS and all(0 < len(name) <= MOST_NAME and len(value) <= MOST_VALUE for name, value in pairs)
 
-
-# ---- JSON ----------------------------------------------------------------------------------------------------------
 
 class Fault(Exception):
     """A body is refused as a whole, with this text."""
@@ -109,7 +100,6 @@ def members_of(pairs):
 
 
 def depth_of(text):
-    """How many arrays and objects of a JSON text are in one another at most."""
     signs = re.findall(r"[\[{\]}]", re.sub(r'"(?:[^"\\]|\\.)*"', "", text, flags=re.DOTALL))
     return max(itertools.accumulate((1 if it in "[{" else -1 for it in signs), initial=0))
 
@@ -129,16 +119,7 @@ def tree_of(body):
         raise Fault("body is not JSON") from None
 
 
-def write_text(text):
-    """A text as JSON, with no escape that it doesn't need."""
-    short = {'"': '\\"', "\\": "\\\\", "\b": "\\b", "\f": "\\f", "\n": "\\n", "\r": "\\r", "\t": "\\t"}
-    return '"' + re.sub(r'["\\\x00-\x1f]', lambda it: short.get(it[0], f"\\u{ord(it[0]):04x}"), text) + '"'
-
-
-# ---- bodies --------------------------------------------------------------------------------------------------------
-
 def time_of(text):
-    """The time that a text says, or None."""
     found = int(text) if re.fullmatch("[0-9]{1,19}", text) else MOST_TIME + 1
     return found if found <= MOST_TIME else None
 
@@ -166,9 +147,8 @@ def pairs_of(members):
 def read_push(body):
     """The streams of a push body: labels, and entries of a time, a line and metadata."""
     tree = tree_of(body)
-    if not isinstance(tree, dict) or set(tree) != {"streams"} or not isinstance(tree["streams"], list):
-        raise Fault("wrong shape")
-    if not all(map(is_stream, tree["streams"])):
+    is_push = isinstance(tree, dict) and set(tree) == {"streams"} and isinstance(tree["streams"], list)
+    if not is_push or not all(map(is_stream, tree["streams"])):
         raise Fault("wrong shape")
     found = []
     for number, stream in enumerate(tree["streams"]):
@@ -186,9 +166,8 @@ def read_push(body):
 def read_asked(body, names):
     """Labels and the times under these names, of the body of a read or a trim."""
     tree = tree_of(body)
-    if not isinstance(tree, dict) or set(tree) != {"stream", *names} or not is_texts(tree["stream"]):
-        raise Fault("wrong shape")
-    if not all(isinstance(tree[it], str) for it in names):
+    are_there = isinstance(tree, dict) and set(tree) == {"stream", *names} and is_texts(tree["stream"])
+    if not are_there or not all(isinstance(tree[it], str) for it in names):
         raise Fault("wrong shape")
     times = [time_of(tree[it]) for it in names]
     if None in times:
@@ -201,3 +180,10 @@ def entries_of(status, text):
     if status != 200:
         return status
     return [(int(time), line, pairs_of(more[0] if more else {})) for time, line, *more in json.loads(text)["values"]]
+
+
+def value_of(entry):
+    """An entry as a body has it: its metadata stands there where it has some."""
+    time, line, pairs = entry
+    more = [{name.decode(): value.decode() for name, value in pairs}] if pairs else []
+    return [str(time), line, *more]

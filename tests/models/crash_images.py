@@ -1,8 +1,7 @@
-"""What a loss of power may leave of slots, by the disk model (docs/DEFINITIONS.md): from notes as notes.h has them.
-
-Between two syncs that answered well, each written range and all past the length at the first may hold any bytes, and the
-length is any from that one to the greatest since. A write that failed counts as written. A sync that failed changes nothing.
-"""
+"""What a loss of power may leave of slots, by the disk model (docs/DEFINITIONS.md): from notes as
+notes.h has them. Between two syncs that answered well, each written range and all past the length
+at the first may hold any bytes, and the length is any from that one to the greatest since. A write
+that failed counts as written; a sync that failed changes nothing."""
 import os
 import re
 import struct
@@ -71,7 +70,6 @@ class Slot:
         self.kept, self.pending, self.longest = bytes(self.seen), [], len(self.seen)
 
     def copy(self):
-        """The slot as it is now, for an image."""
         it = Slot(self.seen)
         it.kept, it.pending, it.longest = self.kept, list(self.pending), self.longest
         return it

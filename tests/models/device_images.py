@@ -1,22 +1,19 @@
-"""What a loss of power may leave of a block device: from the notes of record_device.c.
+"""What a loss of power may leave of a block device: from the notes of record_device.c. A flush
+covers the writes that were answered before it was asked for. Of every other write that has come any
+part may be on the disk, by pieces of `unit` bytes.
 
-A flush covers the writes that were answered before it was asked for. Of every other write that has come any part may be
-on the disk, by pieces of `unit` bytes. A write with FUA is covered by itself, and covers no other.
-
-A loop device has no FUA: the kernel makes a flush of it. Which flushes are made for that alone is told by the kernel's
-block events (`flags_of`), and they cover writes with FUA alone.
-"""
+A write with FUA is covered by itself, and covers no other. A loop device has none: the kernel makes
+a flush of it, and its block events tell which flushes are made for that alone."""
 import bisect
 import os
 import re
+import subprocess
 
 SECTOR = 512
 EVENT = re.compile(r" (\d+)\.(\d{6}): (block_\w+): \d+,\d+ (\w+) (?:\d+ )?(?:\(.*?\) )?(\d+) \+ (\d+)")
 # how much of what is on its way is on the disk
 STYLES = ["all", "none", "each by itself", "the first", "the last", "all but one", "one alone", "torn", "torn", "torn"]
 
-
-# ---- FUA -----------------------------------------------------------------------------------------------------------
 
 def events_of(text):
     """The kernel's block events: time, name, flags, sector and count of sectors."""
@@ -69,8 +66,6 @@ def asked_flushes(events, ends):
             found.add(last)
     return found
 
-
-# ---- the disk ------------------------------------------------------------------------------------------------------
 
 class Disk:
     """What is on the disk for good, in a file, and the writes since, in their order."""
@@ -147,19 +142,4 @@ def pieces(draw, note, unit):
 
 def copy_sparse(source, to):
     """Copies a file, of which most is holes."""
-    from_, into = os.open(source, os.O_RDONLY), os.open(to, os.O_RDWR | os.O_CREAT | os.O_TRUNC, 0o600)
-    try:
-        size, at = os.fstat(from_).st_size, 0
-        os.ftruncate(into, size)
-        while at < size:
-            try:
-                at = os.lseek(from_, at, os.SEEK_DATA)
-            except OSError:
-                break
-            end = os.lseek(from_, at, os.SEEK_HOLE)
-            while at < end:
-                os.lseek(into, at, os.SEEK_SET)
-                at += os.sendfile(into, from_, at, min(end - at, 1 << 24))
-    finally:
-        os.close(from_)
-        os.close(into)
+    subprocess.run(["cp", "--sparse=auto", source, to], check=True)

@@ -1,11 +1,10 @@
 #!/usr/bin/env -S python3 -B
 """placement.py: how nginx's `hash .. consistent` spreads shippers over servers, in figures.
 
-The model knows nothing of nginx's code but its documented points: each server has 160 times its weight of them on a
-circle of 32 bits, and a key belongs to the first point at its own place or after it. tests/package/scale_out_check.py
-holds it against a real nginx. Run by itself it draws ten thousand shippers before a hundred servers, twenty times, and
-prints the load of the fullest server over the mean, and the share that moves when a server is added or lost: the median
-of the draws, and the worst."""
+The model knows nginx's documented points alone: each server has 160 times its weight of them on a
+circle of 32 bits, and a key belongs to the first point at its own place or after it.
+scale_out_check.py holds it against a real nginx. Run by itself it draws shippers before a hundred
+servers, and prints of each figure the median of the draws, and the worst."""
 import bisect
 import collections
 import random
@@ -85,7 +84,6 @@ def moved(before, after):
 
 
 def figures(seed):
-    """The figures of one draw, by what they tell."""
     draw, servers = Draw(seed), names(SERVERS, seed)
     circle, found = Circle(servers), {}
     homes = draw.spread(circle)

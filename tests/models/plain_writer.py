@@ -1,8 +1,6 @@
-"""A plain writer of files, and the disk model of docs/DEFINITIONS.md, to which the files are held after a loss of power.
-
-Each file has a thread of its own that writes and syncs. Between two syncs each written range and all past the length at
-the first may hold any bytes, and the length is any from that one to the greatest since. All else is as it was.
-"""
+"""A plain writer of files, held to the disk model of docs/DEFINITIONS.md after a loss of power:
+between two syncs each written range and all past the length at the first may hold any bytes, and
+the length is any from that one to the greatest since. All else is as it was."""
 import collections
 import concurrent.futures
 import itertools

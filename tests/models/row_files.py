@@ -38,15 +38,13 @@ def pieces_of(path):
 
 
 def plain(text):
-    """The bytes of a row's text."""
     pieces = re.split(r"\\(x[0-9a-f]{2}|[rnt\\])", text)
     codes = [CODES.get(it) or bytes.fromhex(it[1:]) for it in pieces[1::2]]
     return b"".join(it for piece, code in zip(pieces[::2], [*codes, b""]) for it in (piece.encode(), code))
 
 
 def shown(data):
-    """Bytes as rows show them: what is no character of ASCII that can be printed has an escape, but for other
-    characters where all is UTF-8."""
+    """Bytes as rows show them: what can't be printed has an escape, but for UTF-8."""
     escapes = {value[0]: f"\\{key}" for key, value in CODES.items()}
     try:
         text = data.decode()
@@ -64,7 +62,6 @@ def line_shown(data):
 
 
 def run_shown(status, output, errors):
-    """How a program ended, and the lines that it wrote."""
     lines = [f"status {status}"]
     for name, data in (("out", output), ("err", errors)):
         lines += [f"{name} {line_shown(it)}" for it in re.findall(rb"[^\n]*\n|[^\n]+", data)]

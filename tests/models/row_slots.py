@@ -12,9 +12,8 @@ PIECES = {"segment": EXAMPLE, "frame": APPENDED[82:], "segment_of_1": EXAMPLE_OF
 EXAMPLES = {"example": APPENDED, "example_of_1": APPENDED_OF_1}
 
 
-def slot_of(words):
-    """The bytes that words of rows stand for."""
-    found = b""
+def slot_of(words, found=b""):
+    """The bytes that words of rows stand for, after others."""
     for word in words.split(" "):
         change, _, rest = word.partition(":")
         if word in PIECES:
@@ -34,8 +33,7 @@ def slot_of(words):
 
 
 def segment_of(keys, shard, count):
-    """A segment of generation 1 that has a state of each of these keys, a tenant and a canonical text, as they stand.
-    The one entry of each is that of the example."""
+    """A segment of generation 1 with a state of each key, whose entry is that of the example."""
     states = b"".join(b"\3" + key_bytes(*it) + EXAMPLE[41:81] for it in keys)
     return segment_bytes(b"2", 1, shard, count, [states])
 
@@ -51,8 +49,7 @@ def places_shown(found):
 
 
 class Bytes:
-    """The bytes that the lines of a row put together, and what `walcat` says of them: of a slot, a shard and a number of
-    shards it gives its exit status, output and errors."""
+    """The bytes that the lines of a row put together, and what `walcat` says of them."""
 
     def __init__(self, walcat):
         # (the keys are those of the states of the next segment)
@@ -63,17 +60,14 @@ class Bytes:
         if word in ("in", "in*"):
             count, text = rest.split(" ", 1) if word == "in*" else (1, rest)
             self.data += plain(text) * int(count)
-        elif word == "hex":
-            self.data += bytes.fromhex(rest)
+        elif word in ("hex", "cut"):
+            self.data = slot_of(f"cut:{rest}" if word == "cut" else rest, self.data)
         elif word in EXAMPLES:
             self.data += EXAMPLES[word]
         elif word == "byte":
-            at, _, digits = rest.partition(" ")
-            at, new = int(at), bytes.fromhex(digits)
-            assert at < len(self.data) and len(new) == 1, "no such place or byte"
-            self.data = self.data[:at] + new + self.data[at + 1:]
-        elif word == "cut":
-            self.data = self.data[:int(rest)]
+            at, digits = rest.split(" ")
+            assert int(at) < len(self.data) and len(digits) == 2, "no such place or byte"
+            self.data = slot_of(f"at:{at}={digits}", self.data)
         elif word == "slot":
             self.data = slot_of(rest)
         elif word == "key":
@@ -91,8 +85,8 @@ class Bytes:
         return b"" if tenant == "''" else plain(tenant), text
 
     def verdict(self, slot, owner="0 1"):
-        """What `walcat` says of a slot, without its records: version, generation and the place of the closing gate;
-        that it is closed; or its fault."""
+        """What `walcat` says of a slot but its records: version, generation and end, or its
+        fault."""
         status, output, errors = self.walcat(slot, *map(int, owner.split(" ")))
         if status:
             return errors.decode().strip() if status == 3 else f"status {status}"

@@ -1,8 +1,7 @@
-"""after_check: each block of docs/AFTER.md, over files that deploy/drain wrote of a server.
-
-A block has to print what its comments say, on the day before this one and in a folder of this run; the object store is a
-local server of rclone, and the Loki a stub, which at first refuses a line. What is written for systemd is looked at by its
-own programs. It needs rclone, lnav, sqlite3 and jq, and leaves nothing behind."""
+"""after_check: each block of docs/AFTER.md, over files that deploy/drain wrote of a server. A block
+has to print what its comments say, on the day before this one and in a folder of this run; the
+object store is a local server of rclone, and the Loki a stub, which at first refuses a line. It
+needs rclone, lnav, sqlite3 and jq."""
 import datetime
 import os
 import re

@@ -3,7 +3,6 @@ whether grafana.json is as Grafana reads it, and what headless Chromium shows of
 import html
 import json
 import math
-import os
 import re
 import shutil
 import subprocess
@@ -50,7 +49,6 @@ def board_faults():
 
 
 def parse_faults(promtool, queries, work):
-    """What promtool says of the queries as rules."""
     rules = [{"record": f"query:{at}", "expr": query} for at, (_, query) in enumerate(queries)]
     servers.write(f"{work}/queries.yml", json.dumps({"groups": [{"name": "queries", "rules": rules}]}).encode())
     words = [promtool, "check", "rules", f"{work}/queries.yml"]
@@ -59,26 +57,24 @@ def parse_faults(promtool, queries, work):
 
 
 def has_data(port, query):
-    """Whether a query had a number in the last minutes."""
     now = time.time()
     words = urllib.parse.urlencode({"query": query, "start": now - 60 * MINUTES, "end": now, "step": 1})
     found = json.loads(servers.get(port, f"/api/v1/query_range?{words}"))["data"]["result"]
     return any(math.isfinite(float(value)) for series in found for _, value in series["values"])
 
 
-def open_console(port, work, *words):
+def opened(port, work):
     """What headless Chromium has of the page, once its graphs are drawn."""
     place = urllib.parse.quote(json.dumps({"duration": 60 * MINUTES, "endTime": 0}))
     # (its own shelter needs a user who isn't root, and it reads nothing but this page)
-    words = [shutil.which("chromium"), "--headless=new", "--no-sandbox", "--disable-gpu", "--hide-scrollbars", *words,
+    words = [shutil.which("chromium"), "--headless=new", "--no-sandbox", "--disable-gpu",
              "--window-size=1400,1340", "--virtual-time-budget=8000", f"--user-data-dir={work}/chromium",
-             f"http://127.0.0.1:{port}/consoles/needleazure.html#pctc{place}"]
+             "--dump-dom", f"http://127.0.0.1:{port}/consoles/needleazure.html#pctc{place}"]
     ended = subprocess.run(words, capture_output=True, text=True, timeout=120, check=True, cwd=work)
     return ended.stdout
 
 
 def console_faults(page, shards):
-    """What is missing on the page that Chromium has."""
     drawn = re.findall(r'<div id="(\w+)"><table class="prom_graph_table">(.*?)</table></div>', page, re.S)
     for name, graph in drawn:
         if not re.search(r'<path class="path" d="M', graph) or "prom_graph_error" in graph:
@@ -103,13 +99,9 @@ def hold_all(promtool, port, instance, work, shards):
     empty = [name for name, query in queries if not has_data(port, query)]
     hold(len(queries) > 25 and not empty, f"and each has had data {empty or ''}".strip())
     hold(shutil.which("chromium"), "Chromium is installed (apt-get install chromium)")
-    until = time.monotonic() + PATIENCE
     # (the drain has to have been at the server that was started just before)
-    while (faults := list(console_faults(open_console(port, work, "--dump-dom"), shards))) and time.monotonic() < until:
-        time.sleep(3)
+    look = lambda: list(console_faults(opened(port, work), shards))
+    servers.wait_until(lambda: not look(), PATIENCE, 3)
+    faults = look()
     what = f"Chromium shows needleazure.html: {GRAPHS} graphs, and a row for each of {shards} shards"
     hold(not faults, f"{what} {faults or ''}".strip())
-    picture = os.environ.get("PICTURE")
-    if picture:
-        open_console(port, work, f"--screenshot={os.path.abspath(picture)}")
-        hold(os.path.exists(picture), f"its picture is {picture}")

@@ -1,11 +1,9 @@
 """drain_check [files|loki]: deploy/drain over a server under load, again and again, and killed in the middle.
 
-files  Clients, as many as the server has workers, push lines of 2,000 streams whose times run fast, so that most lines
-       leave the last hour of their stream. Each line that was answered stands in the files or is still in the server.
-loki   The same to a Loki, a stub that limits, fails, dies, lets the drain wait, and refuses some lines, which are then
-       in files; to others that take nothing, small bodies, or only of who is known; and to a second server.
-
-Without a word it does both."""
+files: 64 clients push lines of 2,000 streams whose times run fast; each line that was answered stands in the files or
+is still in the server. loki: the same to a stub of a Loki that limits, fails, dies, waits, and refuses some lines,
+which are then in files; to others that take nothing, small bodies, or only of who is known; and to a second
+server."""
 import collections
 import glob
 import json
@@ -13,7 +11,6 @@ import os
 import random
 import signal
 import subprocess
-import sys
 import time
 
 import loki_stub
@@ -57,7 +54,6 @@ class Pusher(servers.Repeated):
         self.answered, self.count, self.stamp = [], 0, time.time_ns() - 6 * 24 * servers.HOUR
 
     def keep_pushing(self):
-        """As many pushes as a connection is kept for."""
         try:
             with servers.Client(self.port) as client:
                 for _ in range(KEPT):
@@ -87,17 +83,13 @@ def begin(pushers):
 def end(pushers):
     """Ends them: the lines that were answered."""
     for it in pushers:
-        it.is_done.set()
-    for it in pushers:
-        it.join()
+        it.end()
     faults = [it.fault for it in pushers if it.fault]
     hold(not faults, f"each push is answered 204 {faults[:3] or ''}".strip())
     return {line for it in pushers for line in it.answered}
 
 
 class Drain:
-    """A run of the drain with these settings."""
-
     def __init__(self, work, port, to=None, **settings):
         self.began, self.running = time.monotonic(), servers.drain(f"{work}/log", port, SHARDS, to, **settings)
 
@@ -139,10 +131,7 @@ def tells(folder, left, **due):
     return {**told, **due} == told and abs(told["oldest"] - min(int(it[2]) for it in left) / 10**9) < 0.001
 
 
-# ---- files ---------------------------------------------------------------------------------------------------------
-
 def written(work):
-    """The bytes of the files of lines."""
     return sum(map(os.path.getsize, glob.glob(f"{work}/lines/*/*.gz")))
 
 
@@ -199,8 +188,6 @@ def check_idle(work, port):
     """A run beside more idle connections than the server has workers."""
     idle = [servers.Client(port) for _ in range(CLIENTS + 1)]
     status, text, took = Drain(work, port).end()
-    for it in idle:
-        it.ends.close()
     hold(status == 0 and not text, f"one beside {len(idle)} idle connections ends well after {took:.1f} s {text[:300]}")
 
 
@@ -222,8 +209,6 @@ def check_window(work, port):
     hold(status == 1 and "NEEDLEAZURE_MAX_CHUNK_AGE" in text and 0 < more < 10,
          f"one with a shorter window than the server's writes {more} lines again, and stops: {text.splitlines()[0]}")
 
-
-# ---- a Loki --------------------------------------------------------------------------------------------------------
 
 class Place:
     """A server, and the lines that it answered. What drains leave is in the folder `state`."""
@@ -248,7 +233,6 @@ class Place:
         return Drain(self.work, self.port, to, **{**usual, **settings})
 
     def drain(self, to, **settings):
-        """The exit status of a whole run, and what it says."""
         return self.start(to, **settings).end()[:2]
 
     def drain_and_kill(self, loki):
@@ -321,7 +305,6 @@ def small_bodies(place):
 
 
 def over_tls(place):
-    """Only where the certificate is known."""
     before, certificate = place.fill(100), f"{place.work}/loki.pem"
     servers.certify("/CN=loki", certificate, f"{certificate}.crt", "-addext", "subjectAltName=IP:127.0.0.1")
     servers.write(certificate, servers.bytes_of(certificate) + servers.bytes_of(f"{certificate}.crt"))
@@ -361,8 +344,6 @@ PARTS = {"files": to_files, "loki": to_loki}
 
 
 def check(work, _, *words):
-    if not {*words} <= {*PARTS}:
-        sys.exit(f"usage: drain_check [{'|'.join(PARTS)}]")
     for name in words or PARTS:
         with servers.Server(f"{work}/{name}/log", SHARDS, CLIENTS, settings=servers.allocator()) as server:
             PARTS[name](f"{work}/{name}", server)

@@ -1,18 +1,17 @@
 """edge_check: deploy/nginx.conf in real nginx, before two real servers, and before a gateway and its server.
 
-2,000 connections send a byte a second, half of them in the head and half in the body, while 16 tenants push line after
-line; then one server is killed and started again. No push may be refused but those to the killed server, and each line
-that was answered has to stand there once, on one server. nginx is unpacked from Debian's package where it isn't
-installed."""
-import asyncio
+While 2,000 connections send a byte a second and 16 tenants push line after line, one server is killed and started
+again. No push may be refused but those to it, and each line that was answered has to stand there once, on one
+server."""
 import gzip
 import json
 import os
 import time
 
-from edge_clients import Client, Crowd, Nginx, Pusher, find_nginx, head, push_body, write_nginx, write_users
-from gateway_runs import Gateway, Server
-from servers import PUSH, allow_many_files, certify, free_ports, hold
+from edge_clients import Client, Crowd, Nginx, Pusher, find_nginx, login, write_nginx, write_users
+from gateway_runs import Gateway
+from servers import PUSH, Server, allow_many_files, certify, entry, free_ports, hold, push_body
+from servers import value_of
 
 TENANTS = [f"tenant-{at}" for at in range(16)]
 SLOW, CALM, AWAY = 2000, 20, 3
@@ -37,27 +36,26 @@ def start_edge(work, behind, ends, more=()):
     return port
 
 
-async def under_load(port, server):
-    """The edge keeps all slow connections, and refuses no push until a server is killed. The pushers."""
-    crowd = Crowd(port, SLOW)
-    await crowd.all_open()
-    pushers = [Pusher(port, it, {"from": "edge"}) for it in TENANTS]
-    pushing = [asyncio.ensure_future(it.run()) for it in pushers]
-    await asyncio.sleep(CALM)
-    calm, refused = sum(len(it.answered) for it in pushers), sum(len(it.errors) for it in pushers)
+def under_load(port, server):
+    """The edge keeps slow connections, and refuses pushes to a killed server alone. The pushers."""
+    crowd, pushers = Crowd(port, SLOW), [Pusher(port, it, {"from": "edge"}) for it in TENANTS]
+    for it in (crowd, *pushers):
+        it.start()
+    time.sleep(CALM)
+    calm, refused = [sum(map(len, its)) for its in (
+        [it.answered for it in pushers], [it.errors for it in pushers])]
     server.end()
-    await asyncio.sleep(AWAY)
-    await asyncio.to_thread(server.start)
-    await asyncio.sleep(AWAY)
-    for it in pushers:
-        it.is_done = True
-    _, late = await asyncio.wait(pushing, timeout=30)
-    ended = crowd.ended()
-    await crowd.leave()
-    what = f"{calm} pushes of {len(pushers)} clients in {CALM} s beside {SLOW} slow connections, {refused} refused"
-    hold(calm and not refused, what)
-    hold(not ended, f"{ended} slow connections ended by the edge")
-    hold(not late, f"{len(late)} clients wait for an answer at the end")
+    time.sleep(AWAY)
+    server.start()
+    time.sleep(AWAY)
+    for it in (*pushers, crowd):
+        it.end()
+    hold(calm and not refused, f"{calm} pushes of {len(pushers)} clients in {CALM} s beside {SLOW} "
+         f"slow connections, {refused} refused")
+    hold(crowd.sent > CALM / 2 and not crowd.ended,
+         f"{crowd.sent} bytes were sent by each of these, {len(crowd.ended)} ended by the edge")
+    late = sum(it.is_alive() for it in pushers)
+    hold(not late, f"{late} clients wait for an answer at the end")
     return pushers
 
 
@@ -69,30 +67,26 @@ def all_there(servers, pushers):
         home = 0 if found[0] else 1
         stays[home] += 1
         refused, lines = refused + len(it.errors), lines + len(it.answered)
-        if found[home] != it.answered or found[1 - home] or (home == 1 and it.errors):
+        if found[home] != it.values() or found[1 - home] or (home == 1 and it.errors):
             hold(False, f"{it.tenant}: {len(it.answered)} lines answered, {[*map(len, found)]} found, {it.errors}")
     hold(True, f"{stays[0]} tenants on the killed server, {refused} pushes refused, {lines} lines all there once")
 
 
-def packed_push(body, *more):
-    body = gzip.compress(body)
-    return head(PUSH, TENANTS[0], len(body), ["Content-Encoding: gzip", *more]) + body
-
-
 def single_requests(port, servers):
     user, other = TENANTS[:2]
-    body = push_body({"from": "size"}, time.time_ns(), "x")
-    full, lie = body.ljust(4_194_304), push_body({"from": "liar"}, time.time_ns(), "x")
+    body, lie = (push_body([({"from": it}, [entry()])]) for it in ("size", "liar"))
+    text = json.dumps(body).encode()
+    wrong = f"Basic x{login(user).removeprefix('Basic ')}"
     asked = [
-        ("a body of 4,194,304 bytes", 204, [head(PUSH, user, len(full)), full]),
-        ("a body of 4,194,305 bytes", 413, [head(PUSH, user, len(full) + 1)]),
-        ("a chunked body", 204, [head(PUSH, user, None), b"%x\r\n%b\r\n0\r\n\r\n" % (len(body), body)]),
-        ("a wrong password", 401, [head(PUSH, user, 0).replace(b"Basic ", b"Basic x")]),
-        ("a trim", 404, [head("/ingester/v1/trim", user, 0)]),
-        ("a client that lies about its tenant", 204, [head(PUSH, user, len(lie), [f"{it}: {other}" for it in LIES]), lie]),
+        ("a body of 4,194,304 bytes", 204, PUSH, text.ljust(4_194_304), {}),
+        ("a body of 4,194,305 bytes", 413, PUSH, None, {"Content-Length": "4194305"}),
+        ("a chunked body", 204, PUSH, iter([text]), {}),
+        ("a wrong password", 401, PUSH, b"", {"Authorization": wrong}),
+        ("a trim", 404, "/ingester/v1/trim", b"", {}),
+        ("a client that lies about its tenant", 204, PUSH, lie, dict.fromkeys(LIES, other)),
     ]
-    for what, wanted, chunks in asked:
-        status = asyncio.run(Client(port).ask(b"".join(chunks)))
+    for what, wanted, path, sent, more in asked:
+        status = Client(port).ask(path, user, sent, more)
         hold(status == wanted, f"{what}: {status}")
     kept = [sum(len(it.read(tenant, {"from": "liar"})) for it in servers) for tenant in (user, other)]
     hold(kept == [1, 0], f"its line is there once, of its own tenant: {kept}")
@@ -100,25 +94,27 @@ def single_requests(port, servers):
 
 def before_a_gateway(work, ends):
     """A body that the server alone would refuse, by its form and its length, and one of a liar."""
-    server = ends.enter_context(Server(f"{work}/server"))
+    server = ends.enter_context(Server(f"{work}/server", workers=64))
     gateway = ends.enter_context(Gateway(server))
     port = start_edge(work, {3110: gateway}, ends, GATEWAY)
-    values = [[str(time.time_ns() + at), "x" * 250_000] for at in range(20)]
-    large = json.dumps({"streams": [{"stream": {"from": "gateway"}, "values": values}]}).encode()
-    lie = push_body({"from": "liar"}, time.time_ns(), "x")
-    asked = packed_push(large), packed_push(lie, f"X-Scope-OrgID: {TENANTS[1]}")
-    statuses = [asyncio.run(Client(port).ask(it)) for it in asked]
-    kept = [len(server.read(tenant, {"from": "liar"})) for tenant in TENANTS[:2]]
-    hold(server.read(TENANTS[0], {"from": "gateway"}) == values and [*statuses, *kept] == [204, 204, 1, 0],
-         f"gzip'd JSON of 5 MB through nginx and the gateway, and a client that lies about its tenant: {statuses}, {kept}")
+    user, other = TENANTS[:2]
+    large = [entry(f"{it} ".ljust(250_000, "x")) for it in range(20)]
+    statuses = []
+    for labels, entries, more in (("gateway", large, {}), ("liar", [entry()], {LIES[0]: other})):
+        body = gzip.compress(json.dumps(push_body([({"from": labels}, entries)])).encode())
+        statuses.append(Client(port).ask(PUSH, user, body, {"Content-Encoding": "gzip", **more}))
+    kept = [len(server.read(tenant, {"from": "liar"})) for tenant in (user, other)]
+    is_so = server.read(user, {"from": "gateway"}) == list(map(value_of, large))
+    hold(is_so and [*statuses, *kept] == [204, 204, 1, 0], "gzip'd JSON of 5 MB through nginx and "
+         f"the gateway, and a client that lies about its tenant: {statuses}, {kept}")
 
 
 def check(work, ends):
     allow_many_files()
     # (nginx's workers are another user's)
     os.chmod(work, 0o711)
-    servers = [ends.enter_context(Server(f"{work}/{it}")) for it in ("first", "second")]
+    servers = [ends.enter_context(Server(f"{work}/{it}", workers=64)) for it in ("first", "second")]
     port = start_edge(work, dict(zip((3100, 3101), servers)), ends)
-    all_there(servers, asyncio.run(under_load(port, servers[0])))
+    all_there(servers, under_load(port, servers[0]))
     single_requests(port, servers)
     before_a_gateway(f"{work}/gateway", ends)

@@ -1,8 +1,6 @@
-"""filesystem_check: what deploy/check-filesystem says of a log on file systems of each kind, as root.
-
-Each is made on a loop device, or mounted, in a namespace of its own: those that keep what was synced, of which it says
-nothing, and those of which it has to say why they don't. NFS is told by a findmnt in place of the real one.
-"""
+"""filesystem_check: what deploy/check-filesystem says of a log on file systems of each kind, as
+root: nothing of those that keep what was synced, and why others don't. Each is made on a loop
+device, or mounted, in a namespace of its own; NFS is told by a findmnt in place of the real one."""
 import contextlib
 import copy
 import os

@@ -1,8 +1,7 @@
-"""Bodies of pushes as Loki's shippers make them, for tests/package/gateway_check.py, by encoders that are none of the
-gateway's: Google's Protobuf for Python, with what protoc makes of loki_push.proto, and Google's snappy.
-
-A stream is its labels, a dict of bytes, and its entries: a time in nanoseconds, a line and metadata, a dict, all bytes.
-"""
+"""Bodies of pushes as Loki's shippers make them, by encoders that are none of the gateway's:
+Google's Protobuf for Python, with what protoc makes of loki_push.proto, and Google's snappy. A
+stream is its labels, a dict of bytes, and its entries: a time in nanoseconds, a line and metadata,
+all bytes."""
 import codecs
 import gzip
 import importlib
@@ -24,7 +23,6 @@ codecs.register_error("each byte", lambda it: ("\ufffd", it.start + 1))
 
 
 def load_messages(folder):
-    """The module that protoc makes of loki_push.proto."""
     subprocess.run(["protoc", f"--proto_path={HERE}", f"--python_out={folder}", "loki_push.proto"], check=True)
     sys.path.insert(0, folder)
     return importlib.import_module("loki_push_pb2")
@@ -36,8 +34,6 @@ def kept(text):
 
 
 class Draw:
-    """Draws streams, and the ways in which a body is written."""
-
     def __init__(self, random):
         self.random, self.count = random, 0
 
@@ -115,8 +111,6 @@ class LabelText:
 
 
 class Writer:
-    """Writes bodies, and draws how."""
-
     def __init__(self, messages, random):
         self.messages, self.random, self.labels = messages, random, LabelText(random)
 
@@ -163,6 +157,5 @@ def pack(body, encoding):
     if encoding == "gzip":
         return gzip.compress(body, 1), encoding
     if encoding == "deflate":
-        packing = zlib.compressobj(1, wbits=-15)
-        return packing.compress(body) + packing.flush(), encoding
+        return zlib.compress(body, 1, wbits=-15), encoding
     return body, encoding

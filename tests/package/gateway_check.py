@@ -1,31 +1,23 @@
-"""gateway_check [PART..]: needleazure-gateway before real servers, asked by encoders and clients that are none of its own.
-
-random   2,000 random pushes in all of Loki's forms, some of them in several parts, read back entry for entry
-answers  the answers to pushes of which something is refused, beside those of a server that is asked directly
-hostile  bodies that lie, unpack to much or say too much, by 12 clients at a time, and what memory that takes
-clients  500 kept clients
-kills    a server and a gateway that are killed in the middle of pushes: what was answered 204 is there
-
-Without PART it runs all. The gateway is the one that Go's race detector watches, but for `hostile`. It needs protoc,
-python3-protobuf and python3-snappy."""
-import asyncio
+"""gateway_check [PART..]: needleazure-gateway before real servers, asked by encoders and clients that are none of its
+own: `random` pushes in all of Loki's forms, read back entry for entry; `answers`, beside those of a server that is
+asked directly; `hostile` bodies, and what memory they take; 500 kept `clients`; `kills` of a server and a gateway.
+Go's race detector watches all but `hostile`. It needs protoc, python3-protobuf and python3-snappy."""
 import collections
+import concurrent.futures
 import contextlib
 import gzip
 import http.client
+import itertools
 import os
 import random
-import sys
-import threading
 import time
 
-import edge_clients
 import servers
 import snappy
 from gateway_bodies import MINUTE, Draw, Writer, kept, load_messages, texts, value_of
-from gateway_runs import Client, Gateway, Server
+from gateway_runs import Client, Gateway
 from row_files import pieces_of
-from servers import PUSH, TOP, Repeated, hold
+from servers import PUSH, TOP, Repeated, Server, hold
 
 # (where syncs take no time: what is killed here is no machine)
 PLACE = servers.memory()
@@ -40,8 +32,6 @@ def ends_well(gateway, what):
     status, errors = gateway.stop()
     hold(status == 0 and not errors, f"{what}: the gateway ends with status {status}{errors and ', and says ' + errors}")
 
-
-# ---- random --------------------------------------------------------------------------------------------------------
 
 class Model:
     """What a server has: entries by labels, in the order in which they came."""
@@ -73,7 +63,8 @@ def try_random(messages, work):
     seed = time.time_ns()
     chance = random.Random(seed)
     draw, writer, model, forms = Draw(chance), Writer(messages, chance), Model(), [0, 0]
-    with Server(f"{work}/random") as server, Gateway(server, **RACE) as gateway, Client(gateway.port) as client:
+    with (Server(f"{work}/random", workers=64) as server,
+          Gateway(server, **RACE) as gateway, Client(gateway.port) as client):
         for at in range(PUSHES):
             is_json = chance.random() < 0.5
             is_large = at % (PUSHES // LARGE) == 7
@@ -92,11 +83,7 @@ def try_random(messages, work):
         ends_well(gateway, "random")
 
 
-# ---- answers -------------------------------------------------------------------------------------------------------
-
 class Faults:
-    """Draws streams of which the server refuses something."""
-
     def __init__(self, draw):
         self.draw, self.random = draw, draw.random
 
@@ -125,7 +112,8 @@ def try_answers(messages, work):
     seed = time.time_ns()
     chance = random.Random(seed)
     draw, writer, found = Faults(Draw(chance)), Writer(messages, chance), collections.Counter()
-    with (Server(f"{work}/first") as first, Server(f"{work}/second") as second, Gateway(second, **RACE) as gateway,
+    with (Server(f"{work}/first", workers=64) as first,
+          Server(f"{work}/second", workers=64) as second, Gateway(second, **RACE) as gateway,
           Client(first.port) as direct, Client(gateway.port) as client):
         for at in range(300):
             streams = [draw.stream() for _ in range(chance.randint(1, 5))]
@@ -157,8 +145,6 @@ def try_parts(messages, gateway, client):
     hold((got, parts) == ((400, wanted), 3), f"a push in {parts:.0f} parts is refused by the numbers of the whole: {got}")
 
 
-# ---- hostile -------------------------------------------------------------------------------------------------------
-
 PACKINGS = {b"snappy": snappy.compress, b"gzip": gzip.compress, b"none": bytes}
 
 
@@ -172,23 +158,25 @@ def hostile():
     yield "a head of 30,000 bytes", {**JSON, "X-More": "a" * 30_000}, b"{}", {431}
 
 
-def ask(port, head, body, found):
-    # (a body that is refused before it was read may end its connection under the client's hands)
-    with Client(port) as client, contextlib.suppress(ConnectionError):
-        try:
-            status = client.push(body, head)[0]
-        except TimeoutError:
-            status = "none in time"
-        found[status] += 1
+def ask(port, head, body):
+    try:
+        with Client(port) as client:
+            return client.push(body, head)[0]
+    except ConnectionError:
+        # (one that is refused before it was read may end the connection under the client's hands)
+        return None
+    except TimeoutError:
+        return "none in time"
 
 
 def try_hostile(messages, work):
     memory, clients = 384 << 20, 12
-    with Server(f"{work}/hostile") as server, Gateway(server, "--memory", str(memory)) as gateway:
+    with (Server(f"{work}/hostile", workers=64) as server,
+          Gateway(server, "--memory", str(memory)) as gateway):
         for name, head, body, wanted in hostile():
-            found = collections.Counter()
-            words = {"target": ask, "args": (gateway.port, head, body, found)}
-            servers.side_by_side([threading.Thread(**words) for _ in range(clients if len(body) > 10_000 else 1)])
+            words = [(gateway.port, head, body)] * (clients if len(body) > 10_000 else 1)
+            with concurrent.futures.ThreadPoolExecutor(clients) as pool:
+                found = collections.Counter(filter(None, pool.map(lambda it: ask(*it), words)))
             is_well = found and found.keys() <= wanted | {503} and (found.keys() & wanted or clients > 1)
             most = gateway.memory("VmHWM")
             hold(is_well, f"{name} in {len(body)} bytes: {dict(found)}, {most >> 20} MB at most")
@@ -208,7 +196,7 @@ def try_half_sent(gateway):
     """Clients that announce a large body, send its beginning and no more, take nothing that others need."""
     with contextlib.ExitStack() as ends:
         for at in range(200):
-            line = ends.enter_context(Client(gateway.port)).line
+            line = ends.enter_context(Client(gateway.port))
             line.putrequest("POST", PUSH)
             for name, value in {**PROTOBUF, "X-Scope-OrgID": "t", "Content-Length": str(16 << 20)}.items():
                 line.putheader(name, value)
@@ -223,34 +211,36 @@ def try_half_sent(gateway):
              f"beside 200 bodies of 16 MB of which 1,000 bytes came: {status} after {took:.2f} s, {held:.0f} bytes held")
 
 
-# ---- clients -------------------------------------------------------------------------------------------------------
+def connections(port):
+    """How many connections a server on this port has."""
+    rows = map(str.split, servers.bytes_of("/proc/net/tcp").decode().splitlines())
+    return sum(row[1].endswith(f":{port:04X}") and row[3] == "01" for row in rows)
 
-async def kept_client(port, tenant, bodies, statuses):
-    """Pushes these bodies over one connection. (http.client would need a thread for each.)"""
-    client = edge_clients.Client(port, tls=None)
-    for body in bodies:
-        asked = servers.request(PUSH, body, tenant, PROTOBUF["Content-Type"], "Host: gateway")
-        statuses.append(await client.ask(asked, 60))
-        # (as a shipper sends what came together for a while)
-        await asyncio.sleep(0.05)
-    client.close()
+
+def push_each(port, tenant, bodies):
+    """Pushes these bodies over one connection: how each was answered."""
+    statuses = []
+    with Client(port, tenant) as client:
+        for body in bodies:
+            statuses.append(client.push(body, PROTOBUF)[0])
+            # (as a shipper sends what came together for a while)
+            time.sleep(0.05)
+    return statuses
 
 
 def try_clients(messages, work):
-    writer, now, statuses = Writer(messages, random), time.time_ns(), []
+    writer, now = Writer(messages, random), time.time_ns()
     lines = {f"tenant-{at}": [(now + it, b"line %d" % it, {}) for it in range(EACH)] for at in range(CLIENTS)}
     bodies = {tenant: [snappy.compress(writer.protobuf([({b"a": b"1"}, [it])])) for it in entries]
               for tenant, entries in lines.items()}
-    with Server(f"{work}/clients") as server, Gateway(server, **RACE) as gateway:
+    with Server(f"{work}/clients", workers=64) as server, Gateway(server, **RACE) as gateway:
         seen = []
-        watch = Repeated(lambda: seen.append(server.connections()), 0.05)
+        watch = Repeated(lambda: seen.append(connections(server.port)), 0.05)
         watch.start()
-
-        async def push_all():
-            await asyncio.gather(*(kept_client(gateway.port, *it, statuses) for it in bodies.items()))
-
         began = time.monotonic()
-        asyncio.run(push_all())
+        with concurrent.futures.ThreadPoolExecutor(CLIENTS) as pool:
+            clients = pool.map(push_each, [gateway.port] * CLIENTS, *zip(*bodies.items()))
+            statuses = list(itertools.chain.from_iterable(clients))
         took = time.monotonic() - began
         watch.end()
         hold(statuses == [204] * (CLIENTS * EACH), f"{len(statuses)} pushes of {CLIENTS} kept clients in {took:.1f} s")
@@ -260,8 +250,6 @@ def try_clients(messages, work):
         hold(not wrong, f"{len(wrong)} of them have other lines than they sent")
         ends_well(gateway, "clients")
 
-
-# ---- kills ---------------------------------------------------------------------------------------------------------
 
 class Pusher(Repeated):
     """Pushes one body after another until it is done, and keeps what was answered 204, and all that was sent."""
@@ -285,7 +273,7 @@ class Pusher(Repeated):
         if status == 204:
             self.answered.append(entries)
         else:
-            self.client.line.close()
+            self.client.close()
             self.others[status] += 1
             time.sleep(0.05)
 
@@ -299,7 +287,7 @@ class Pusher(Repeated):
 
 
 def try_kills(messages, work):
-    with Server(f"{work}/kills") as server, Gateway(server, **RACE) as gateway:
+    with Server(f"{work}/kills", workers=64) as server, Gateway(server, **RACE) as gateway:
         pushers = [Pusher(gateway.port, messages, at) for at in range(8)]
         for it in pushers:
             it.start()
@@ -312,7 +300,7 @@ def try_kills(messages, work):
         time.sleep(1.5)
         for it in pushers:
             it.end()
-            it.client.line.close()
+            it.client.close()
         others = dict(sum((it.others for it in pushers), collections.Counter()))
         judged = [it.judge(server) for it in pushers]
         lost, strange = map(sum, zip(*judged))
@@ -328,8 +316,6 @@ PARTS = {"random": try_random, "answers": try_answers, "hostile": try_hostile, "
 
 
 def check(work, _, *words):
-    if not {*words} <= {*PARTS}:
-        sys.exit(f"usage: gateway_check [{'|'.join(PARTS)}]..")
     servers.allow_many_files()
     messages = load_messages(work)
     for name in words or PARTS:

@@ -1,9 +1,7 @@
-"""A stand-in of a Loki for drain_check: it takes pushes as Loki does, and on the way refuses lines, limits tenants, fails,
-lets clients wait, and dies in the middle of an answer.
-
-It knows of Loki what its documentation says: JSON bodies, gzip'd or not; 204 for what was taken; 400 where lines were
-refused, while the others of the body are kept; 429 and 500 for what may be sent again; lines of one stream with one time
-and one text are one line."""
+"""A stand-in of a Loki: it takes pushes, and on the way refuses lines, limits tenants, fails, lets
+clients wait, and dies in the middle of an answer. It knows of Loki what its documentation says: 204
+for what was taken; 400 where lines were refused, while the others of the body are kept; 429 and 500
+for what may be sent again; lines of one stream with one time and one text are one line."""
 import collections
 import http.server
 import json
@@ -24,9 +22,9 @@ class Loki(http.server.ThreadingHTTPServer):
 
     daemon_threads, request_queue_size = True, 128
 
-    def __init__(self, ways=None, refuses=lambda line: False, takes_gzip=True, seconds=3, most=1 << 30, authorization=None,
-                 certificate=None):
-        self.ways, self.refuses, self.takes_gzip, self.seconds, self.most = ways or {}, refuses, takes_gzip, seconds, most
+    def __init__(self, ways=None, refuses=lambda line: False, seconds=3, most=1 << 30,
+                 authorization=None, certificate=None):
+        self.ways, self.refuses, self.seconds, self.most = ways or {}, refuses, seconds, most
         self.authorization, self.status, self.chance = authorization, {}, random.Random(1)
         self.lock, self.answers = threading.Lock(), collections.Counter()
         # by tenant and labels: what was taken, in the order in which it came
@@ -92,10 +90,9 @@ class Request(http.server.BaseHTTPRequestHandler):
             self.connection.shutdown(socket.SHUT_RDWR)
             return
         self.send_response(status)
-        self.send_header("Content-Length", "0" if status == 204 else str(len(text)))
+        self.send_header("Content-Length", str(len(text)))
         self.end_headers()
-        if status != 204:
-            self.wfile.write(text.encode())
+        self.wfile.write(text.encode())
 
     def answer(self, body):
         tenant, loki = self.headers["X-Scope-OrgID"], self.server
@@ -106,8 +103,6 @@ class Request(http.server.BaseHTTPRequestHandler):
         if loki.authorization and self.headers["Authorization"] != loki.authorization:
             return 401, "no credentials"
         if self.headers["Content-Encoding"] == "gzip":
-            if not loki.takes_gzip:
-                return 415, "content encoding is not supported"
             body = zlib.decompress(body, 31)
         if len(body) > loki.most:
             return 413, "too large"

@@ -1,10 +1,7 @@
-"""metrics_check: deploy/metrics, deploy/alerts.yml and the dashboards, with Debian's Prometheus and its node exporter
-on the loopback, over cut slots and a server that fills, is drained and killed, and whose disk fails. docs/MONITORING.md
-has to say of each alert what the alert itself says.
-
-PICTURE=PATH keeps the console's picture. Prometheus, the exporter and what the console is drawn with are unpacked from
-Debian's packages where they aren't installed; Chromium has to be. It takes two minutes, and leaves nothing behind."""
-import contextlib
+"""metrics_check: deploy/metrics, deploy/alerts.yml and the dashboards, with Debian's Prometheus and
+its node exporter, over cut slots and a server that fills, is drained and killed, and whose disk
+fails. docs/MONITORING.md has to say of each alert what the alert itself says. It needs Chromium;
+what else isn't installed is unpacked from Debian's packages."""
 import json
 import os
 import re
@@ -38,7 +35,6 @@ def wait_for(what, is_so, seconds):
 
 
 def start(ends, work, name, words):
-    """Has it run beside the check, and end with it."""
     log = ends.enter_context(open(f"{work}/{name}.log", "ab"))
     running = ends.enter_context(subprocess.Popen(words, stdout=log, stderr=log))
     ends.callback(running.kill)
@@ -49,7 +45,7 @@ class Server(servers.Server):
 
     def __init__(self, work):
         self.group = f"{work}/cgroup.procs"
-        super().__init__(f"{work}/log", SHARDS, 8, {**os.environ, **ROOM}, port=free_ports(1)[0], preexec_fn=None)
+        super().__init__(f"{work}/log", SHARDS, 8, {**os.environ, **ROOM}, preexec_fn=None)
 
     def start(self, preexec_fn=None):
         self.how["preexec_fn"] = preexec_fn
@@ -67,16 +63,13 @@ class Pusher(servers.Repeated):
 
     def push(self):
         body = servers.push_body([(it, [(self.stamp, "x" * LINE, ())]) for it in STREAMS])
-        status = 0
-        with contextlib.suppress(OSError), servers.Client(self.port, TENANT, 10) as client:
-            status = client.ask(servers.PUSH, body)[0]
+        status = servers.pushed(self.port, body, TENANT, 10)
         self.statuses.append(status)
         self.stamp += STEP * (status == 204)
 
 
 def service_words(work, port):
-    """What needleazure-metrics.service runs, over these folders. Its deploy/metrics finds the server's process here and
-    not in the control group of its unit."""
+    """What needleazure-metrics.service runs, over these folders, with a file for its group."""
     text, place = text_at("deploy/metrics"), "/sys/fs/cgroup/system.slice/needleazure.service/cgroup.procs"
     assert text.count(place) == 1
     servers.write_program(f"{work}/metrics", text.replace(place, f"{work}/cgroup.procs"))
@@ -111,7 +104,6 @@ def start_prometheus(ends, work, programs):
 
 
 def firing(port):
-    """The names of the alerts that have come."""
     found = json.loads(get(port, "/api/v1/alerts") or b'{"data":{"alerts":[]}}')["data"]["alerts"]
     return {it["labels"]["alertname"] for it in found if it["state"] == "firing"}
 

@@ -1,10 +1,7 @@
-"""scale_out_check: deploy/nginx-spread.conf and deploy/nginx-member.conf in real nginx, as docs/SCALE.md has them.
-
-The model of tests/models/placement.py is held against nginx: 1,000 tenants and shippers before a hundred servers. Then
-48 shippers push to three servers, of whose list one is added, killed and marked down, and comes back. Each line that
-was answered has to stand on a server where the model has its shipper at some time. nginx is unpacked from Debian's
-package where it isn't installed."""
-import asyncio
+"""scale_out_check: deploy/nginx-spread.conf and deploy/nginx-member.conf in real nginx, as
+docs/SCALE.md has them. The model of placement.py is held against nginx. Then 48 shippers push to
+three servers, of whose list one is added, killed and marked down, and comes back: each line that
+was answered has to stand on a server where the model has its shipper at some time."""
 import base64
 import collections
 import contextlib
@@ -19,7 +16,7 @@ import time
 import edge_clients
 import placement
 import servers
-from edge_clients import TLS, Client, Pusher, find_nginx, head, push_body, write_nginx, write_users
+from edge_clients import Client, Pusher, find_nginx, write_nginx, write_users
 from servers import PUSH, free_ports, hold, text_at
 
 KEYS, MANY = 1000, 100
@@ -28,8 +25,6 @@ CALM, AWAY = 6, 3
 
 
 class Nginx(edge_clients.Nginx):
-    """An nginx whose list of servers changes."""
-
     def reload(self):
         """Returns once each process that serves has the new list. Those before it end by themselves."""
         before = self.children()
@@ -38,8 +33,8 @@ class Nginx(edge_clients.Nginx):
         time.sleep(0.5)
 
     def children(self):
-        with open(f"/proc/{self.running.pid}/task/{self.running.pid}/children", encoding="ascii") as file:
-            return set(file.read().split())
+        it = self.running.pid
+        return {*servers.bytes_of(f"/proc/{it}/task/{it}/children").split()}
 
     def kill(self):
         """As a machine that loses its power does."""
@@ -49,8 +44,6 @@ class Nginx(edge_clients.Nginx):
         for it in started:
             os.kill(int(it), signal.SIGKILL)
 
-
-# ---- the model, held against nginx ---------------------------------------------------------------------------------
 
 def write_probe(folder, port, lines, ports):
     """An nginx that spreads as deploy/nginx-spread.conf does, over ports of its own which answer their number."""
@@ -68,7 +61,6 @@ def write_probe(folder, port, lines, ports):
 
 
 def ask_probe(port, keys):
-    """The server that nginx gives each tenant and shipper."""
     client, found = http.client.HTTPConnection("127.0.0.1", port, timeout=10), []
     for tenant, shipper in keys:
         login = base64.b64encode(f"{tenant}:x".encode()).decode()
@@ -103,8 +95,6 @@ def hold_model(work, program):
     hold(stays, f"with one marked down its {homes[0].count(names[0])} keys move, and no other")
 
 
-# ---- servers, and shippers before them -----------------------------------------------------------------------------
-
 class Member:
     """A machine of a server: the server, and nginx before it."""
 
@@ -126,10 +116,6 @@ class Member:
     def kill(self):
         self.server.end()
         self.nginx.kill()
-
-    def read(self, tenant, labels):
-        with servers.Client(self.server.port, tenant) as client:
-            return client.values(labels)
 
 
 class Edge:
@@ -160,7 +146,8 @@ class Shipper(Pusher):
     """A client with a name and a stream of its own. (One of a tenant doesn't say who it is.)"""
 
     def __init__(self, port, tenant, name):
-        more, self.home_key = ([f"X-Shipper: {name}"], name) if not name.endswith("-0") else ([], "127.0.0.1")
+        is_named = not name.endswith("-0")
+        more, self.home_key = ({"X-Shipper": name}, name) if is_named else ({}, "127.0.0.1")
         super().__init__(port, tenant, {"from": "scale", "host": name}, more, 0.02)
         self.name = name
 
@@ -170,15 +157,15 @@ def statuses(shippers, since):
     return dict(collections.Counter(status for it in shippers for at, status in it.errors if at >= since))
 
 
-async def change_the_list(edge, members, shippers, start_member):
+def change_the_list(edge, members, shippers, start_member):
     """A server is added; one is killed and marked down; it comes back. Each time the shippers go on."""
-    async def change(what, act, *others, down=()):
+    def change(what, act, *others, down=()):
         """Changes a server and then the list. Others are the answers that may come beside 204."""
         begun = time.monotonic()
-        await asyncio.to_thread(act)
+        act()
         edge.write_list(members, down)
-        await asyncio.to_thread(edge.nginx.reload)
-        await asyncio.sleep(CALM)
+        edge.nginx.reload()
+        time.sleep(CALM)
         found = statuses(shippers, begun)
         hold(set(found) <= {0, *others}, f"{what}: other answers than 204 are {found or 'none'}")
 
@@ -186,23 +173,26 @@ async def change_the_list(edge, members, shippers, start_member):
         members[1].kill()
         time.sleep(AWAY)
 
-    pushing = [asyncio.ensure_future(it.run()) for it in shippers]
-    await asyncio.sleep(CALM)
-    hold(not statuses(shippers, 0), f"three servers: {sum(len(it.answered) for it in shippers)} pushes answered, none refused")
-    await change("a fourth is added", lambda: members.append(start_member()))
-    await change(f"one is killed, and marked down after {AWAY} s", kill_one, 502, down=[members[1]])
-    await change("it comes back", members[1].start)
     for it in shippers:
-        it.is_done = True
-    await asyncio.wait_for(asyncio.gather(*pushing), 30)
+        it.start()
+    time.sleep(CALM)
+    count = sum(len(it.answered) for it in shippers)
+    hold(not statuses(shippers, 0), f"three servers: {count} pushes answered, none refused")
+    change("a fourth is added", lambda: members.append(start_member()))
+    change(f"one is killed, and marked down after {AWAY} s", kill_one, 502, down=[members[1]])
+    change("it comes back", members[1].start)
+    for it in shippers:
+        it.end()
+    hold(not any(it.is_alive() for it in shippers), "each push is answered at last")
 
 
 def all_there(edge, members, shippers):
     lines, twice, several, by_move = 0, 0, 0, collections.Counter()
     for it in shippers:
-        homes, found = edge.homes(it), {member.name: member.read(it.tenant, it.labels) for member in members}
+        homes = edge.homes(it)
+        found = {at.name: at.server.read(it.tenant, it.labels) for at in members}
         kept = [tuple(entry) for name in found for entry in found[name]]
-        answered = {tuple(entry) for entry in it.answered}
+        answered = set(map(tuple, it.values()))
         servers.need(answered <= set(kept), f"{it.name}: {len(answered - set(kept))} answered lines are lost")
         servers.need(set(kept) <= answered, f"{it.name}: {len(set(kept) - answered)} lines of nobody")
         on = {name for name in found if found[name]}
@@ -217,21 +207,20 @@ def all_there(edge, members, shippers):
 
 def keeps_others_out(edge, members):
     """A client without the edge's certificate is not let in by a server's machine, and a trim not by the edge."""
-    client = http.client.HTTPSConnection("127.0.0.1", members[0].port, context=TLS, timeout=10)
-    client.request("POST", PUSH, b"{}", {"X-Scope-OrgID": "large", "Content-Type": "application/json"})
-    hold(client.getresponse().status == 400, "a push past the edge, without its certificate: 400")
-    client.close()
+    status = Client(members[0].port).ask(PUSH, "large", b"{}", {"X-Scope-OrgID": "large"})
+    hold(status == 400, f"a push past the edge, without its certificate: {status}")
     command = re.search(r"`(curl --cert [^`]*)`", text_at("docs/SCALE.md"))[1]
     command = command.replace("10.0.0.14:3443", members[0].name)
     for path, due in [("/ready", "200"), ("/ingester/v1/read", "404")]:
         words = ["bash", "-euc", f"{command.replace('/ready', path)} -sS -o /dev/null -w '%{{http_code}}'"]
         said = subprocess.run(words, cwd=edge.folder, capture_output=True, text=True, timeout=60, check=False)
         hold(said.stdout == due, f"{path} of a server's machine by the page's curl: {said.stdout} {said.stderr}".strip())
-    status = asyncio.run(Client(edge.port).ask(head("/ingester/v1/trim", "large", 0)))
-    hold(status == 404, "a trim through the edge: 404")
-    body = push_body({"from": "liar"}, time.time_ns(), "x")
-    status = asyncio.run(Client(edge.port).ask(head(PUSH, "large", len(body), ["X-Scope-OrgID: small-1"]) + body))
-    kept = [sum(len(it.read(tenant, {"from": "liar"})) for it in members) for tenant in ("large", "small-1")]
+    status = Client(edge.port).ask("/ingester/v1/trim", "large")
+    hold(status == 404, f"a trim through the edge: {status}")
+    lie = servers.push_body([({"from": "liar"}, [servers.entry()])])
+    status = Client(edge.port).ask(PUSH, "large", lie, {"X-Scope-OrgID": "small-1"})
+    kept = [sum(len(it.server.read(tenant, {"from": "liar"})) for it in members)
+            for tenant in ("large", "small-1")]
     hold([status, *kept] == [204, 1, 0], f"a client that lies about its tenant: {status}, {kept}")
 
 
@@ -248,6 +237,6 @@ def check(work, ends):
     edge = Edge(program, f"{work}/edge", members, ends)
     of_tenants = ((tenant, f"{tenant}-{at}") for tenant, count in TENANTS.items() for at in range(count))
     shippers = [Shipper(edge.port, *it) for it in of_tenants]
-    asyncio.run(change_the_list(edge, members, shippers, lambda: Member(program, f"{work}/member-3", ends)))
+    change_the_list(edge, members, shippers, lambda: Member(program, f"{work}/member-3", ends))
     all_there(edge, members, shippers)
     keeps_others_out(edge, members)

@@ -62,7 +62,6 @@ class Service:
         return int(servers.bytes_of(f"{self.work}/process"))
 
     def sweep(self, *words, **how):
-        """A run of the sweep."""
         begin = [f"{TOP}/deploy/sweep", f"{self.work}/log", str(self.port), str(SHARDS), f"{self.work}/lines",
                  "--stop", f"{self.script} stop", "--start", f"{self.script} start"]
         server = [] if "--server" in words else ["--server", servers.program("server")]
@@ -70,41 +69,12 @@ class Service:
                                 text=True, **how)
 
     def swept(self, *words):
-        """Status and text of a run."""
         running = self.sweep(*words)
         said = running.communicate(timeout=600)[0].strip()
         return running.returncode, said
 
     def wait(self, seconds=30):
-        """Whether the server is ready in time."""
         return servers.wait_until(lambda: servers.get(self.port, "/ready") == b"ready", seconds, 0.02)
-
-
-class Pusher(servers.Repeated):
-    """Pushes a line to each of its streams, and again until it is answered."""
-
-    def __init__(self, port):
-        super().__init__(self.push_each, 0)
-        self.port, self.answered, self.wrong, self.again, self.number = port, [], [], 0, 0
-
-    def push_each(self):
-        self.number += 1
-        for labels in BUSY_STREAMS:
-            self.push(labels, (time.time_ns(), f"line {self.number}", ()))
-
-    def push(self, labels, entry):
-        while True:
-            try:
-                with servers.Client(self.port) as client:
-                    status, text = client.push(labels, [entry])
-                break
-            except OSError:
-                self.again += 1
-                time.sleep(0.02)
-        if status == 204:
-            self.answered.append(key_of(labels, *entry[:2]))
-        else:
-            self.wrong.append((status, text))
 
 
 def key_of(labels, stamp, line):
@@ -146,7 +116,6 @@ def in_server(port, streams):
 
 
 def check_sweep(service, quiet):
-    """A whole sweep."""
     quiet.push()
     before = in_files(service.work)
     status, said = service.swept()
@@ -185,7 +154,7 @@ def check_kills(service, quiet):
         process = service.process()
         running = service.sweep(start_new_session=True)
         # (most of them after the server was stopped)
-        while number % 5 and running.poll() is None and runs(process):
+        while number % 5 and running.poll() is None and servers.memory_of(process):
             time.sleep(0.002)
         time.sleep(random.uniform(0, 1.0))
         os.kill(running.pid, signal.SIGTERM if number % 3 == 0 else signal.SIGKILL)
@@ -195,11 +164,6 @@ def check_kills(service, quiet):
     hold(stopped >= KILLS // 2, f"{stopped} of {KILLS} kills came after the server was stopped")
     status, said = service.swept()
     hold(status == 0, f"a whole sweep after that: {said}")
-
-
-def runs(process):
-    state = servers.bytes_of(f"/proc/{process}/stat").rpartition(b")")[2].split()
-    return bool(state) and state[0] != b"Z"
 
 
 def check_unavailable(service, quiet):
@@ -223,7 +187,8 @@ def check_unavailable(service, quiet):
 def check(work, _):
     service = Service(work)
     service.call("start")
-    pusher, quiet = Pusher(service.port), Quiet(service.port)
+    pusher = servers.Pusher(lambda body: servers.pushed(service.port, body), BUSY_STREAMS)
+    quiet = Quiet(service.port)
     pusher.start()
     try:
         check_sweep(service, quiet)
@@ -233,8 +198,10 @@ def check(work, _):
         hold(min(quiet.pauses) <= MOST, f"nobody was served for {min(quiet.pauses):.2f} s, at most {MOST:g}; all: {quiet.pauses}")
         check_kills(service, quiet)
         pusher.end()
-        hold(not pusher.wrong and pusher.again, f"{len(pusher.answered)} lines of busy streams were answered, {pusher.again} tries were not")
-        answered = {*pusher.answered, *quiet.answered}
+        refused = {status for _, status in pusher.errors} - {0}
+        hold(not refused and pusher.errors, f"{len(pusher.answered)} lines of busy streams were "
+             f"answered, {len(pusher.errors)} tries were not {refused or ''}".strip())
+        answered = {*(key_of(it, *line[:2]) for it, line in pusher.answered), *quiet.answered}
         left, kept = in_server(service.port, [*QUIET_STREAMS, *BUSY_STREAMS]), in_files(work)
         lost, strange = answered - left.keys() - kept.keys(), (left.keys() | kept.keys()) - answered
         hold(not lost and not strange and max(left.values()) == 1,

@@ -1,13 +1,11 @@
-"""syslog_check: deploy/syslog-ng.conf in syslog-ng, before a server that is killed.
-
-syslog-ng follows a file with 10,000 lines of several hosts and programs, while the server is killed, is away and is
-full, and syslog-ng itself is restarted. At the end each line has to be in the stream of its host and program, with its
-text as it was. It needs syslog-ng-core and syslog-ng-mod-http."""
+"""syslog_check: deploy/syslog-ng.conf in syslog-ng. It follows a file with 10,000 lines of several
+hosts and programs, while the server is killed, is away and is full, and syslog-ng itself is
+restarted. At the end each line has to be in the stream of its host and program, with its text as it
+was."""
 import collections
 import shutil
 import signal
 import subprocess
-import sys
 import time
 
 import servers
@@ -87,22 +85,16 @@ def wait_for_lines(port, count, what, seconds=60):
 
 
 def check(work, _):
-    if not shutil.which("syslog-ng"):
-        sys.exit("syslog_check: syslog-ng isn't installed (apt-get install syslog-ng-core syslog-ng-mod-http)")
-
-    # (a server of these checks takes any port; syslog-ng needs one that stays)
-    def start(port=0, **settings):
-        return servers.Server(f"{work}/log", 2, 8, {**servers.allocator(), **settings}, port=port)
-    server = start()
-    syslog = Syslog(work, server.port)
-    port = server.port
+    hold(shutil.which("syslog-ng"), "syslog-ng is installed (syslog-ng-core, syslog-ng-mod-http)")
+    server = servers.Server(f"{work}/log", 2, 8, servers.allocator())
+    syslog, port, usual = Syslog(work, server.port), server.port, server.how["env"]
     try:
         syslog.write(0, 2000)
         wait_for_lines(port, 2000, "of a server that runs")
         syslog.write(2000, 3000)
         server.end()
         syslog.write(3000, 5000)
-        server = start(port)
+        server.start()
         wait_for_lines(port, 5000, "after it was killed and started")
         server.end()
         syslog.write(5000, 7000)
@@ -111,15 +103,17 @@ def check(work, _):
         syslog.start()
         syslog.write(7000, 8000)
         time.sleep(2)
-        server = start(port)
+        server.start()
         wait_for_lines(port, 8000, "after syslog-ng was restarted while no server was")
         server.end()
-        server = start(port, NEEDLEAZURE_CAPACITY="4096")
+        server.how["env"] = {**usual, "NEEDLEAZURE_CAPACITY": "4096"}
+        server.start()
         syslog.write(8000, LINES)
         time.sleep(8)
         hold(bool(due(LINES) - stored(port)), "a full server takes no more")
         server.end()
-        server = start(port)
+        server.how["env"] = usual
+        server.start()
         wait_for_lines(port, LINES, "after it had room again")
         found = stored(port)
         hold(found.keys() == due(LINES).keys(), f"none is another than was written; {sum(found.values()) - LINES} are there twice")

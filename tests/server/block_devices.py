@@ -1,7 +1,6 @@
-"""File systems on loop devices, in a namespace of mounts of their own: recorded (record_device.c), or of an image.
-
-A loop device is handed back when its mount ends, and the mounts end with the namespace, however this process ends.
-"""
+"""File systems on loop devices, recorded (record_device.c) or of an image, in a namespace of mounts
+of their own, with which the mounts end, however this process ends; a loop device is handed back
+when its mount ends."""
 import contextlib
 import os
 import signal
@@ -144,8 +143,6 @@ def mend(system, image):
     for words in system.mend:
         run(*words, image, why=NotMounted, well=(0, 1, 2))
 
-
-# ---- what is recorded ----------------------------------------------------------------------------------------------
 
 EVENTS = {"block_bio_queue": 'rwbs ~ "*F*"', "block_rq_issue": 'rwbs ~ "W*"',
           "block_rq_complete": 'nr_sector == 0 && rwbs ~ "W*"'}

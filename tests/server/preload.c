@@ -13,16 +13,8 @@
 //           FAIL_SYNC=n: each n-th fdatasync (of files whose path has FAIL_NAME) fails. FULL_AT=n: from the n-th
 //           write on none makes its file longer; the first of them writes half.
 // time      FAST=n: what the program waits for, and the clock that it waits by, go n times as fast.
-// broken    BREAK_ADDRESS: it listens on all addresses. BREAK_CLOCK: the clock of the day stands still. BREAK_FAST=n: as
-//           FAST. BREAK_PAUSE: no thread sleeps. BREAK_SETTING: there is no NEEDLEAZURE_CAPACITY. BREAK_PROCESSORS: there
-//           is one. BREAK_END=n: it ends well after n connections. BREAK_CLOSE=n: each n-th connection is closed when it
-//           comes. BREAK_DELAY: what is sent may be held back. BREAK_READ: a read that fails is made once more.
-//           BREAK_FAILURE=hidden or quiet: a write or sync that fails is said to be made; standard error gets nothing.
-//           BREAK_SYNC=folder, file, opening or gate: folders are not synced, files are not when they are made, nothing
-//           is before the first write, or every other sync of a slot's bytes is left out; =n: each n-th of these is.
-//           BREAK_LINE=n: in each n-th write of several bytes the last x is a y. BREAK_KEEP=n: the first piece of memory
-//           of n bytes or more is not given back. BREAK_MEMORY: each write leaves 256 bytes of memory behind.
-//           BREAK_SPEED=n: each sync takes n nanoseconds longer than the one before.
+// broken    BREAK_..: a server that is wrong in one way, as tests/rows/broken.txt says of each. A
+//           number is that of FAST, or what comes after n, each n-th, or of more than n bytes.
 #include "notes.h"
 
 #include <arpa/inet.h>
@@ -90,8 +82,6 @@ __attribute__((constructor)) static void begin_run(void) {
     }
 }
 
-// ---- memory --------------------------------------------------------------------------------------------------------
-
 static uint64_t requests;
 
 static int is_refused(size_t size) {
@@ -123,8 +113,6 @@ void free(void *piece) {
     NEXT(free)(piece);
 }
 
-// ---- threads -------------------------------------------------------------------------------------------------------
-
 int pthread_create(pthread_t *thread, const pthread_attr_t *attributes, void *(*start)(void *), void *argument) {
     static uint64_t asked;
     uint64_t at = number_of("THREAD_AT");
@@ -143,8 +131,6 @@ int sched_getaffinity(pid_t whose, size_t size, cpu_set_t *to) {
     }
     return made;
 }
-
-// ---- streams -------------------------------------------------------------------------------------------------------
 
 static int is_input(int file) {
     return file == STDIN_FILENO || (file > STDERR_FILENO && (fcntl(file, F_GETFL) & O_ACCMODE) == O_RDONLY);
@@ -188,8 +174,6 @@ ssize_t write(int file, const void *from, size_t count) {
     return done;
 }
 
-// ---- time ----------------------------------------------------------------------------------------------------------
-
 static int64_t fast(void) {
     uint64_t times = number_of(getenv("BREAK_FAST") == NULL ? "FAST" : "BREAK_FAST");
     return times == 0 ? 1 : (int64_t)times;
@@ -225,8 +209,6 @@ int epoll_wait(int file, struct epoll_event *events, int count, int wait) {
     return NEXT(epoll_wait)(file, events, count, wait <= 0 ? wait : (int)((wait + fast() - 1) / fast()));
 }
 
-// ---- the network ---------------------------------------------------------------------------------------------------
-
 int bind(int it, const struct sockaddr *address, socklen_t length) {
     struct sockaddr_in changed;
     if (getenv("BREAK_ADDRESS") != NULL && address->sa_family == AF_INET && length == sizeof changed) {
@@ -256,8 +238,6 @@ int accept4(int it, struct sockaddr *address, socklen_t *length, int flags) {
     }
     return file;
 }
-
-// ---- the device ----------------------------------------------------------------------------------------------------
 
 static uint64_t device_calls, writes;
 

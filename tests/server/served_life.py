@@ -1,8 +1,6 @@
-"""A server over a folder under clients that push, trim and read, and what may be there after a loss of power.
-
-Each stream belongs to one client, which makes one call on it at a time. So what a stream may have at a moment is what it
-had after the last answered call, or after the one that was under way then, and nothing else.
-"""
+"""A server over a folder under clients that push, trim and read, and what may be there after a loss of power. Each
+stream belongs to one client, which makes one call on it at a time. So what a stream may have at a moment is what it
+had after the last answered call, or after the one that was under way then, and nothing else."""
 import collections
 import os
 import random
@@ -86,8 +84,6 @@ class Caller(threading.Thread):
 
 
 class Client(Caller):
-    """A client with streams of its own."""
-
     def __init__(self, life, port, streams, seed):
         super().__init__(life, port, seed)
         self.streams, self.number = streams, 0
@@ -166,7 +162,6 @@ class ServedLife:
         self.forget()
 
     def forget(self):
-        """Begins the next life over the same folder."""
         self.ends, self.counts, self.ready, self.killed = threading.Event(), collections.Counter(), 0, 0
 
     @property

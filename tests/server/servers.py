@@ -1,7 +1,5 @@
-"""What runs over a built server share: libraries to preload, a server, a connection to it, and what its answers say.
-
-An entry is its time, its line, and its metadata as pairs of bytes in the order of their names; labels are a dict.
-"""
+"""What runs over a built server share. An entry is its time, its line, and its metadata as pairs of
+bytes in the order of their names; labels are a dict."""
 import atexit
 import contextlib
 import functools
@@ -25,7 +23,7 @@ import urllib.request
 TOP = os.path.dirname(os.path.dirname(os.path.dirname(os.path.realpath(__file__))))
 sys.path.append(f"{TOP}/tests/models")
 import judges
-from bodies import MOST_TIME, canonical, entries_of
+from bodies import MOST_TIME, canonical, entries_of, value_of
 from bodies import shard_of as shard_of_key
 from segments import generation_of
 
@@ -69,14 +67,6 @@ def wait_until(is_so, seconds=SECONDS, pause=0.05):
     while not (found := is_so()) and time.monotonic() < until:
         time.sleep(pause)
     return found
-
-
-def side_by_side(threads):
-    """Starts threads, and waits for their ends."""
-    for it in threads:
-        it.start()
-    for it in threads:
-        it.join()
 
 
 class Repeated(threading.Thread):
@@ -155,8 +145,6 @@ def limit_length(length):
     return limit
 
 
-# ---- servers that are broken on purpose ----------------------------------------------------------------------------
-
 def broken(settings):
     """The settings of a server, which is broken where this run's environment has variables of preload.c."""
     ways = {name: value for name, value in os.environ.items() if name.startswith("BREAK_")}
@@ -166,10 +154,7 @@ def broken(settings):
     return {**settings, **ways, "LD_PRELOAD": given} if ways else settings
 
 
-# ---- keys and slots ------------------------------------------------------------------------------------------------
-
 def text_of(labels):
-    """The canonical text of labels, as bytes."""
     return canonical([(name.encode(), value.encode()) for name, value in labels.items()])
 
 
@@ -188,7 +173,6 @@ def slots_of(folder, shard=0):
 
 
 def fill_slots(folder, count, settings):
-    """Makes the slots of this many shards, at their full length."""
     subprocess.run([f"{TOP}/deploy/fill-slots", folder, str(count)], env={**os.environ, **settings}, check=True)
 
 
@@ -215,8 +199,6 @@ def get(port, path):
             return answer.read()
     return b""
 
-
-# ---- a server ------------------------------------------------------------------------------------------------------
 
 def memory_of(process, which="VmRSS"):
     """How many bytes of memory it has now, or with VmHWM has had at most; none once it has ended."""
@@ -275,14 +257,17 @@ class Program(contextlib.AbstractContextManager):
 
 
 class Server(Program):
-    """A server over a folder."""
-
-    def __init__(self, folder, shards=4, workers=8, settings=None, more=(), port=0, **how):
-        words = [program("server"), folder, str(port), str(shards), str(workers), *more]
+    def __init__(self, folder, shards=4, workers=8, settings=None, more=(), **how):
+        words = [program("server"), folder, "0", str(shards), str(workers), *more]
         super().__init__(words, broken(settings or {}), **how)
+        # (which stays the same when it is started again)
+        self.words[2] = str(self.port)
 
+    def read(self, tenant, labels):
+        """The entries of a stream as JSON has them."""
+        with Client(self.port, tenant) as client:
+            return client.values(labels)
 
-# ---- a connection --------------------------------------------------------------------------------------------------
 
 def request(path, body, tenant="t", kind="application/json", *more):
     """A request with a body of bytes, or one that is written as JSON, and with more fields of its head."""
@@ -291,15 +276,7 @@ def request(path, body, tenant="t", kind="application/json", *more):
     return "\r\n".join([f"POST {path} HTTP/1.1", *fields, "", ""]).encode() + body
 
 
-def value_of(entry):
-    """An entry as a push has it."""
-    time, line, pairs = entry
-    more = [{name.decode(): value.decode() for name, value in pairs}] if pairs else []
-    return [str(time), line, *more]
-
-
 def push_body(streams):
-    """The body of a push of pairs of labels and entries."""
     return {"streams": [{"stream": labels, "values": list(map(value_of, entries))} for labels, entries in streams]}
 
 
@@ -308,8 +285,13 @@ def push_request(labels, entries, tenant="t"):
 
 
 def entry(line="x"):
-    """An entry of now."""
     return time.time_ns(), line, ()
+
+
+def lines_from(start, count, length, step=1, first=0):
+    """Entries of lines of this length, which begin with their numbers from the first one on."""
+    numbers = range(first, first + count)
+    return [(start + at * step, f"{at} ".ljust(length, "x"), ()) for at in numbers]
 
 
 def read_body(labels, first=0, last=MOST_TIME):
@@ -363,7 +345,6 @@ class Client(contextlib.AbstractContextManager):
         need(status == 204, f"a push is answered {status} {text[:200]}")
 
     def values(self, labels):
-        """The entries of a stream as JSON has them."""
         return json.loads(self.ask(READ, read_body(labels))[1])["values"]
 
     def push(self, labels, entries):
@@ -385,7 +366,29 @@ class Client(contextlib.AbstractContextManager):
         return status, text.decode()
 
 
-# ---- the drain -----------------------------------------------------------------------------------------------------
+def pushed(port, body, tenant="t", seconds=SECONDS):
+    """The status that answers a push over a connection of its own, 0 where none does."""
+    with contextlib.suppress(OSError), Client(port, tenant, seconds) as client:
+        return client.ask(PUSH, body)[0]
+    return 0
+
+
+class Pusher(Repeated):
+    """Pushes line after line to its streams, each again until it is answered 204. `answered` are
+    these, with their labels; `errors` are the other answers, with their times."""
+
+    def __init__(self, ask, streams, pause=0):
+        super().__init__(self.push_each, pause)
+        self.ask, self.streams, self.answered, self.errors = ask, streams, [], []
+
+    def push_each(self):
+        for labels in self.streams:
+            line = entry(f"line {len(self.answered)}")
+            while (status := self.ask(push_body([(labels, [line])]))) != 204:
+                self.errors.append((time.monotonic(), status))
+                time.sleep(0.1)
+            self.answered.append((labels, line))
+
 
 # (deploy/drain and deploy/sweep run walcat)
 WITH_WALCAT = f"{os.path.dirname(program('walcat'))}:{os.environ['PATH']}"
@@ -408,15 +411,11 @@ def drained(folder):
 
 
 def last_run(folder):
-    """What the last run of the drain left of what it did."""
     lines = bytes_of(f"{folder}/.last-run").decode().splitlines()
     return {name: float(value) for name, value in map(str.split, lines)}
 
 
-# ---- files ---------------------------------------------------------------------------------------------------------
-
 def text_at(path):
-    """The text of a file of the repository, by its path there."""
     return bytes_of(f"{TOP}/{path}").decode()
 
 

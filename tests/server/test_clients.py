@@ -26,8 +26,6 @@ def test_kept_connections(serve):
     for turn in range(4):
         for number, it in enumerate(kept if turn % 2 else reversed(kept)):
             assert it.push({"a": str(number)}, [entry(str(turn))]) == (204, ""), number
-    for it in kept:
-        it.ends.close()
 
 
 def test_idle_connections(serve):
@@ -38,8 +36,6 @@ def test_idle_connections(serve):
     before = server.processor()
     time.sleep(2)
     assert server.processor() - before < 0.1
-    for it in kept:
-        it.close()
 
 
 def test_half_sent_requests(serve):
@@ -54,7 +50,6 @@ def test_half_sent_requests(serve):
         it.ends.sendall(request[20 if at % 2 else -5:])
     for at, it in enumerate(clients):
         assert it.answer() == (204, b"") and len(it.read({"a": f"half {at}"})) == 1
-        it.ends.close()
 
 
 def test_pipelined_pushes(serve):
@@ -121,8 +116,6 @@ def test_open_connections(serve):
     held.pop().ends.close()
     late.ends.settimeout(SECONDS)
     assert late.answer() == (204, b"")
-    for it in [late, *held]:
-        it.ends.close()
     server.end()
     assert server.errors().count("8 connections are open: others wait until one ends.") == 1
 

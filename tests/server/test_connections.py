@@ -39,8 +39,7 @@ def test_bytes_one_by_one(client):
 
 
 def test_answers_are_sent_at_once(client):
-    """A later answer does not wait until the client has acknowledged an earlier one, which takes it 40 ms. They are eight,
-    since one write may have several."""
+    """None waits until the client has acknowledged an earlier one, which takes it 40 ms."""
     took = []
     for _ in range(100):
         began = time.monotonic()
@@ -60,8 +59,7 @@ def closes(ends):
 
 
 def test_silent_clients(serve, preload):
-    """60 seconds of silence close a connection, before a byte, in a head and in a body, and nothing of it is served. The
-    server's clock goes twenty times as fast."""
+    """60 seconds of silence close a connection, and nothing of it is served (a fast clock)."""
     server = serve(workers=3, settings={"LD_PRELOAD": preload, "FAST": "20"})
     inner = push_request({"a": "inner"}, [entry()]) + READY
     head = servers.request(servers.PUSH, "x" * (len(inner) + 98))[:-len(inner) - 100]

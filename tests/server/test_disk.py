@@ -19,7 +19,6 @@ class Traced:
         self.client = servers.Client(self.server.port)
 
     def calls(self):
-        """The notes since the last look."""
         found = notes_of(self.notes)
         new, self.taken = found[self.taken:], len(found)
         return new
@@ -28,8 +27,7 @@ class Traced:
         return self.client.push(labels_of(shard), [(time.time_ns(), "x", ())])
 
     def shape(self):
-        """The calls on slots since the last look, a letter each: W a write of several bytes, c one that closes a gate, o one
-        that opens it, s a sync."""
+        """The calls on slots since: W writes bytes, c closes a gate, o opens one, s syncs."""
         notes = [it for it in self.calls() if it.slot and not it.is_end]
         assert len({it.slot for it in notes}) <= 1
         return "".join(it.kind if it.kind != "w" else "W" if it.length > 1 else "o" if it.data == b"\1" else "c" for it in notes)
@@ -117,14 +115,15 @@ def test_failed_reads(serve, preload, folder):
         assert {client.push(it, [(time.time_ns(), "x", ())])[0] for it in labels} == {204}
         lines = client.read_all(labels)
     server.end()
+    slots = lambda: [servers.bytes_of(f"{folder}/log/{it}") for it in sorted(os.listdir(f"{folder}/log"))]
     while True:
-        before = [servers.bytes_of(f"{folder}/log/{it}") for it in sorted(os.listdir(f"{folder}/log"))]
+        before = slots()
         try:
             serve("log", 2, settings={"LD_PRELOAD": preload, "DEVICE_AT": str(count + 1)}).end()
             break
         except servers.NotStarted as error:
             assert str(error).startswith("status 3: ") and "device failed" in str(error)
-        assert before == [servers.bytes_of(f"{folder}/log/{it}") for it in sorted(os.listdir(f"{folder}/log"))]
+        assert before == slots()
         count += 1
     assert 4 <= count < 100
     with servers.Client(serve("log", 2).port) as client:

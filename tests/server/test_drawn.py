@@ -1,10 +1,8 @@
-"""Drawn, cut and changed bytes for the programs, each answer held to a judge of the definitions (judges.py).
-
-A slot is given to `walcat`, a body to `ingest1`; label sets go into a push of `ingestctl`, whose log `walcat` then prints,
-and label texts into a slot. A connection is sent to a server that has no stream, ended, and read to its end. hypothesis
-draws 100 of each kind, always the same ones, or with DRAWN=n any n, and shrinks what differs. `by_hand` are the cases that
-have a name: each cut of some, each byte of some with each value, and what is about a limit.
-"""
+"""Drawn, cut and changed bytes for the programs, each answer held to a judge of the definitions
+(judges.py). hypothesis draws 100 of each kind, always the same ones, or with DRAWN=n any n, and
+shrinks what differs; `by_hand` are the cases that have a name. Labels go into a push of
+`ingestctl`, whose log `walcat` then prints, and label texts into a slot. A connection is sent to a
+server that has no stream."""
 import concurrent.futures
 import itertools
 import json
@@ -71,16 +69,12 @@ def tries(tmp_path_factory):
                "heads": lambda data: (exchange(data), judges.connection(data))}
 
 
-def hold(tried, name=""):
-    said, wanted = tried
-    assert said in wanted, name
-
-
 @pytest.mark.parametrize("kind", hostile_bytes.DRAWN)
 @DRAWING
 @given(draw=strategies.randoms(use_true_random=False))
 def test_drawn(tries, kind, draw):
-    hold(tries[kind](hostile_bytes.DRAWN[kind](draw)))
+    said, wanted = tries[kind](hostile_bytes.DRAWN[kind](draw))
+    assert said in wanted
 
 
 @pytest.mark.by_hand
@@ -90,8 +84,9 @@ def test_named(tries, kind):
     with concurrent.futures.ThreadPoolExecutor(os.cpu_count()) as pool:
         cases = hostile_bytes.NAMED[kind]()
         while part := list(itertools.islice(cases, 1_000)):
-            for (name, _), tried in zip(part, pool.map(lambda it: tries[kind](it[1]), part)):
-                hold(tried, name)
+            found = pool.map(lambda it: tries[kind](it[1]), part)
+            for (name, _), (said, wanted) in zip(part, found):
+                assert said in wanted, name
             made += len(part)
     print(f"{kind}: {made} named cases")
     assert made >= FLOORS[kind]

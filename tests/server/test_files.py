@@ -12,11 +12,11 @@ import signal
 import stat
 import struct
 import subprocess
-from functools import partial
 
 import pytest
 import servers
 from hostile_bytes import APPENDED, EXAMPLE, EXAMPLE_OF_1
+from row_files import pieces_of
 
 NOBODY, LONGEST = 65_534, 2**30
 READ = b'{"stream":{"a":"1"},"from":"0","to":"100"}'
@@ -48,82 +48,42 @@ def programs(folder):
     return f"{folder}/programs"
 
 
-# ---- slots that can't be opened --------------------------------------------------------------------------------------
-
 def lawful(slot):
-    """The example as the bytes of this slot."""
     return APPENDED if slot == 1 else APPENDED[:5] + struct.pack("<Q", 2) + APPENDED[13:]
 
 
-def lock(path, slot, ends, how):
-    servers.write(path, lawful(slot))
-    fcntl.flock(ends.enter_context(open(path, "r+b")), how)
-
-
-def limit_rights(path, slot, _, rights, owner=NOBODY, of_folder=0o777):
-    servers.write(path, lawful(slot))
-    os.chown(path, owner, owner)
-    os.chmod(path, rights)
-    os.chmod(os.path.dirname(path), of_folder)
-
-
-def lengthen(path, slot, _, change):
-    servers.write(path, change(lawful(slot)))
-    os.truncate(path, LONGEST + 1)
-
-
-# of one file as both slots it is the second that can't be locked
-THIS, FIRST, SECOND = [(1, f"cannot open {{{it}}}") for it in ("path", "first", "second")]
-# what is put into a slot's place, and the status and line of the programs, or the lines of the stream where they go on
-KINDS = {
-    "a folder": (lambda path, slot, _: os.mkdir(path), THIS),
-    "a link to nothing": (lambda path, slot, _: os.symlink("nothing/at/all", path), THIS),
-    "a link to itself": (lambda path, slot, _: os.symlink(os.path.basename(path), path), THIS),
-    "a link to the other slot": (lambda path, slot, _: os.symlink(f"shard-00-{1 - slot}.wal", path), SECOND),
-    "the other slot itself": (lambda path, slot, _: os.link(path.replace(f"-{slot}.wal", f"-{1 - slot}.wal"), path), SECOND),
-    "a pipe": (lambda path, slot, _: os.mkfifo(path), THIS),
-    "a socket": (lambda path, slot, _: os.mknod(path, 0o666 | stat.S_IFSOCK), THIS),
-    "locked by another process": (partial(lock, how=fcntl.LOCK_EX), THIS),
-    "read under a lock by another process": (partial(lock, how=fcntl.LOCK_SH), THIS),
-    # (the block begins inside the first 2^30 bytes, and its closing gate is the byte behind them)
-    "of 2^30 + 1 bytes, one block": (partial(lengthen, change=lambda data: data[:22] + struct.pack("<I", LONGEST - 26)),
-                                     (3, "shard 0: slot {slot} damaged at 21")),
-    "of 2^30 + 1 bytes, a segment in front": (partial(lengthen, change=bytes), b'["10","x"],["11","y"]'),
-    "of 2^30 + 1 bytes, closed": (partial(lengthen, change=lambda data: b""), b""),
-}
-# the programs are started by a user who may do little, but for the device
-ROOT_KINDS = {
-    "a device": (lambda path, slot, _: os.mknod(path, 0o666 | stat.S_IFCHR, os.makedev(1, 3)), THIS),
-    "unreadable": (partial(limit_rights, rights=0o000), THIS),
-    "not to be read": (partial(limit_rights, rights=0o200), THIS),
-    "not to be written": (partial(limit_rights, rights=0o400), THIS),
-    "another user's": (partial(limit_rights, rights=0o644, owner=0), THIS),
-    "missing, in another user's folder": (lambda path, slot, _: os.chmod(os.path.dirname(path), 0o755), THIS),
-    "in a folder that can't be searched": (partial(limit_rights, rights=0o644, owner=0, of_folder=0o600), FIRST),
-}
+def odd_slots():
+    """The rows of tests/rows/odd_slots.txt."""
+    marks = {"root": as_root, "long": pytest.mark.by_hand}
+    for name, words, *row in pieces_of(f"{servers.TOP}/tests/rows/odd_slots.txt"):
+        words = words.decode().split()
+        its = [marks[it] for it in words if it in marks]
+        yield pytest.param(words, *map(bytes.decode, row), id=name.decode(), marks=its)
 
 
 @pytest.mark.parametrize("slot", [0, 1])
-@pytest.mark.parametrize("kind", [*(pytest.param(it, marks=[pytest.mark.by_hand] * ("2^30" in it)) for it in KINDS),
-                                  *(pytest.param(it, marks=as_root) for it in ROOT_KINDS)])
-def test_slots(folder, programs, kind, slot):
+@pytest.mark.parametrize("words, script, due", odd_slots())
+def test_slots(folder, programs, words, script, due, slot):
     """The server and ingestctl name the slot, or have its lines, and leave every file as it was."""
-    put, due = {**KINDS, **ROOT_KINDS}[kind]
-    user = {"user": NOBODY, "group": NOBODY, "extra_groups": []} if kind in ROOT_KINDS and kind != "a device" else {}
-    folder = f"{folder}/log"
-    os.mkdir(folder)
-    os.chmod(folder, 0o777)
-    paths = servers.slots_of(folder)
-    servers.write(paths[1 - slot], b"")
-    os.chmod(paths[1 - slot], 0o666)
+    paths, above = servers.slots_of(f"{folder}/log"), f"{folder}/log"
+    its = {"path": paths[slot], "other": paths[1 - slot], "lawful": f"{folder}/lawful"}
+    servers.write(its["lawful"], lawful(slot))
+    script = f"mkdir -m 777 {above}; touch $other; chmod 666 $other; {script}"
+    subprocess.run(["bash", "-euc", script], env={**os.environ, **its}, check=True)
+    wanted = [(None, b"ready", b""), (0, f"200\n{due}".encode(), b"")]
+    if not due.startswith("{"):
+        line = due[2:].format(**its, slot=slot, first=paths[0], second=paths[1])
+        wanted = [(int(due[0]), b"", f"{line}\n".encode())] * 2
+    user = {"user": NOBODY, "group": NOBODY, "extra_groups": []} if "nobody" in words else {}
+    locks = {"locked": fcntl.LOCK_EX, "shared": fcntl.LOCK_SH}
     with contextlib.ExitStack() as ends:
-        put(paths[slot], slot, ends)
-        before = files_of(folder)
-        wanted = [(None, b"ready", b""), (0, b'200\n{"values":[%b]}' % due, b"")] if isinstance(due, bytes) else [
-            (due[0], b"", f"{due[1]}\n".format(path=paths[slot], slot=slot, first=paths[0], second=paths[1]).encode())] * 2
-        for words, right in zip((["server", folder, "0", "1", "1"], ["ingestctl", "read", folder, "1", "t", "20"]), wanted):
-            assert servers.run([f"{programs}/{words[0]}", *words[1:]], READ, **user) == right
-            assert files_of(folder) == before
+        for it in locks.keys() & {*words}:
+            fcntl.flock(ends.enter_context(open(its["path"], "r+b")), locks[it])
+        before = files_of(above)
+        for command, right in zip(("server {} 0 1 1", "ingestctl read {} 1 t 20"), wanted):
+            name, *more = command.format(above).split()
+            assert servers.run([f"{programs}/{name}", *more], READ, **user) == right
+            assert files_of(above) == before
 
 
 @pytest.mark.parametrize("name", ["file", "file/slots", "link", "n" * 256, "n/" * 2_100])
@@ -136,8 +96,6 @@ def test_folders(folder, name):
         assert servers.run(words, READ) == (1, b"", f"cannot open {folder}/{name}\n".encode())
     assert files_of(folder) == before
 
-
-# ---- files that may not grow -----------------------------------------------------------------------------------------
 
 # what slot 1 has; how long files have to be for a push of one entry behind it; and how long they may be
 LENGTHS = [(None, 82, range(86)), (EXAMPLE_OF_1, 96, range(100)), (EXAMPLE, 120, [*range(81, 123), *range(0, 81, 2)])]
@@ -178,8 +136,6 @@ def test_few_descriptors(folder):
         assert (status, output) == (1, b"") and errors.decode() in [it.format(least) for it in (*names, "cannot listen\n")]
     assert least < 23
 
-
-# ---- shards that are split -------------------------------------------------------------------------------------------
 
 STREAMS = [b'{"a":"%d"}' % it for it in range(1, 5)]
 
@@ -228,7 +184,6 @@ def test_splits_whose_device_fails(folder, preload, shards, count):
 
 
 def traced(old, new, count, *words):
-    """walsplit under strace: its exit status and errors."""
     words = ["strace", "-qq", *words, servers.program("walsplit"), old, new, str(count)]
     ended = subprocess.run(words, capture_output=True, text=True, timeout=servers.SECONDS, check=False)
     return ended.returncode, ended.stderr

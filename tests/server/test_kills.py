@@ -2,7 +2,6 @@
 import collections
 import os
 import random
-import tempfile
 import time
 
 import pytest
@@ -20,7 +19,7 @@ def test_kills_under_load():
     seed, counts = random.randrange(2**32), collections.Counter()
     for first in range(0, CYCLES, CYCLES_OF_A_FOLDER):
         draw = random.Random(f"{seed} {first}")
-        with tempfile.TemporaryDirectory(prefix="needleazure-kill-", dir=os.environ.get("KILL_DIR")) as folder:
+        with servers.room("kill") as folder:
             life = served_life.ServedLife(draw, folder)
             life.shards, life.capacity, life.lengths = SHARDS, 8 << 20, {1: 20, 200: 60, 20_000: 15, 200_000: 5}
             for _ in range(min(CYCLES_OF_A_FOLDER, CYCLES - first)):
@@ -36,7 +35,7 @@ def test_kill_in_a_push_of_3_mb(serve, preload, folder, moment):
     """Each write and sync takes 0.1 s, and the server is killed at its answer, or at a moment before. Lines that were
     answered are there, and of each stream all lines or none."""
     now, streams = time.time_ns(), [{"a": str(it)} for it in range(4)]
-    lines = [(now + at, f"{at} ".ljust(250_000, "x"), ()) for at in range(3)]
+    lines = servers.lines_from(now, 3, 250_000)
     server = serve("log", 4, settings={"LD_PRELOAD": preload, "RECORD_UNDER": folder, "RECORD_SLOW": "100000"})
     with servers.Client(server.port) as client:
         client.send(servers.PUSH, servers.push_body([(it, lines) for it in streams]))

@@ -70,8 +70,7 @@ def test_all_workers_wait(serve, folder, preload):
 
 
 def test_a_full_shard_once_a_minute(serve):
-    """The first push that finds no room has a line, and those after it within a minute have none, by whatever worker; nor
-    has the other shard. A push still has its 507."""
+    """The first push without room has a line, and later ones or others within a minute none."""
     server = serve("log", 2, 4, {"NEEDLEAZURE_CAPACITY": "4096"})
     full, other = (next(servers.labels_in(shard, 2)) for shard in (1, 0))
     line = (time.time_ns(), "x" * 1500, ())

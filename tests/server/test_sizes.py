@@ -3,15 +3,12 @@ import os
 import time
 
 import servers
+from servers import lines_from
 from hostile_bytes import segment_bytes, state_bytes
 
 MOST_BODY, MOST_LINE, MINUTE = 4_194_304, 262_144, 60 * 10**9
 # (each large piece of memory is a map of its own, which goes when it is freed)
 EXACT = {"GLIBC_TUNABLES": "glibc.malloc.mmap_threshold=65536"}
-
-
-def lines_from(start, count, length, step=1):
-    return [(start + at * step, f"{at} ".ljust(length, "x"), ()) for at in range(count)]
 
 
 def test_a_body_of_4_mib_refused_in_part(client):

@@ -1,5 +1,5 @@
 -- From how the calls of a request went to its answer.
-use Rattle.std.proofs.Common.{◌≡◌, ◌≢◌, ℕ, ◌+◌, ◌<◌, ◌≤◌, ◌^◌, false, All, sum_by, List, [], ◌∷◌, map, length, None, Result, Ok, Err, refl, sym, ap, ap₂, ◌∙◌, subst, arith}
+use Rattle.std.proofs.Common.{◌≡◌, ◌≢◌, ℕ, ◌+◌, ◌<◌, ◌≤◌, ◌^◌, false, All, sum_by, List, [], ◌∷◌, map, length, None, Result, Ok, Err, refl, sym, ap, ap₂, ◌∙◌, subst, arith, Some}
 use Rattle.accept.specs.declared.call.Call.{Call}
 use Rattle.pushjson.specs.declared.fault.PushFault.{PushFault}
 use Rattle.pushjson.specs.declared.fault.PushFault.TheVariants.{Memory}
@@ -19,6 +19,12 @@ use Rattle.answering.specs.Calls as cames
 use Rattle.answering.specs.Courses.{Unread, Whole, Broken, first_failure, said_of, StreamGives}
 use Rattle.answering.specs.declared.calling.Uncalled.{Uncalled}
 use Rattle.answering.specs.declared.calling.Uncalled.TheVariants.{Body, Labels}
+use Rattle.answering.specs.Demands.{IsDemand, OneIsTold}
+use Rattle.answering.specs.declared.demands.Demand.TheVariants as demands
+use Rattle.answering.specs.declared.windows.Streams.{Streams}
+use Rattle.answering.specs.Windows.{AsksForStreams}
+use Rattle.accept.specs.declared.call.Reply.{Reply}
+use Rattle.accept.specs.declared.fault.CallFault.TheVariants as call_faults
 use Rattle.answering.specs.Parts.{BodyIsRefused, UncalledIsAnswered, BodyIsAnswered, AsksForCall, IsUncalled, IsOfOne}
 use Rattle.answering.specs.Replies.{one_status, one_text}
 use Rattle.answering.specs.Showing.{IsShown}
@@ -68,16 +74,26 @@ module _ {H : Type 0} (gives : Giving H) (now : ℕ) (tenant body : List ℕ) wh
       left = record { done = asked ∷ []; more = []; cames = []; last = came; behind = []; split = refl; each = (h', comes, refl); whole = whole; said = says_one route single came said; few = omega arith };
     }
 
-    pub one_fails : (call : Call) (failure : CallFault) → IsCallOf tenant asked call → gives false h call (Err failure) h' → RequestEnds gives route now tenant body h (Err (Failed failure)) h'
-    one_fails call failure is given = (
+    -- and so by what came of its call
+    told : (call : Call) (outcome : Result Reply CallFault) (result : Result Answer Halt) → IsCallOf tenant asked call → gives false h call outcome h' → OneIsTold outcome result → RequestEnds gives route now tenant body h result h'
+    told call (Ok reply) (Ok answer) is given shows = one (cames.Replied reply) answer (call, is, given) refl shows
+    told call (Ok reply) (Err (Failed failure)) is given never = absurd never
+    told call (Ok reply) (Err GivenUp) is given said = one_left (cames.Replied reply) (call, is, given) refl said
+    told call (Err failure) (Ok answer) is given never = absurd never
+    told call (Err failure) (Err (Failed same)) is given e = (
       Broken (cames.Failed failure ∷ []) failure,
       record {
         asked = Ok (asked ∷ []);
         asks = asks;
         goes = (asked ∷ [], refl, record { done = asked ∷ []; more = []; split = refl; each = (h', (call, is, given), refl); fails = refl; few = omega arith });
       },
-      refl,
+      ap Some (sym e),
     )
+    told call (Err failure) (Err GivenUp) is given never = absurd never
+
+  pub one_told : (route : Route) → IsOfOne route → (h h' : H) (call : Call) (outcome : Result Reply CallFault) (result : Result Answer Halt) → AsksForCall route tenant body (Ok call) → gives false h call outcome h' → OneIsTold outcome result
+      → RequestEnds gives route now tenant body h result h'
+  one_told route single h h' call outcome result (asked, asks, is) given shows = told route single h h' asked (asks now) call outcome result is given shows
 
   pub none_called : (route : Route) → IsOfOne route → (h : H) (why : Uncalled) (result : Result Answer Halt) → AsksForCall route tenant body (Err why) → UncalledIsAnswered why result → RequestEnds gives route now tenant body h result h
   none_called route single h (Body fault) result asks is = refused route h fault result (asks now) is
@@ -93,6 +109,29 @@ module _ {H : Type 0} (gives : Giving H) (now : ℕ) (tenant body : List ℕ) wh
     asks = asks;
     left = record { done = s.done; more = s.more; cames = s.cames; last = s.last; behind = s.behind; split = s.split; each = s.each; whole = s.whole; said = s.said; few = s.few };
   }
+
+  -- no call was made
+  pub nothing : (route : Route) (h : H) (why : Uncalled) (result : Result Answer Halt) → IsDemand route now tenant body (demands.Nothing why) → UncalledIsAnswered why result → RequestEnds gives route now tenant body h result h
+  nothing Push h (Body fault) result asks is = refused Push h fault result asks is
+  nothing Push h (Labels fault) result never is = absurd never
+  nothing Read h why result asks is = none_called Read tt h why result asks is
+  nothing Trim h why result asks is = none_called Trim tt h why result asks is
+
+  -- a read or a trim was made
+  pub one_made : (route : Route) (h h' : H) (call : Call) (outcome : Result Reply CallFault) (result : Result Answer Halt) → IsDemand route now tenant body (demands.One call) → gives false h call outcome h' → OneIsTold outcome result → RequestEnds gives route now tenant body h result h'
+  one_made Push h h' call outcome result never given told = absurd never
+  one_made Read h h' call outcome result asks given told = one_told Read tt h h' call outcome result asks given told
+  one_made Trim h h' call outcome result asks given told = one_told Trim tt h h' call outcome result asks given told
+
+  -- a push was, or there was no memory for it
+  pub push_made : (route : Route) (h h' : H) (streams : Streams) (result : Result Answer Halt) → IsDemand route now tenant body (demands.Streams streams)
+      → (AsksForStreams now tenant body streams.places.items streams.calls.items → RequestEnds gives Push now tenant body h result h') → RequestEnds gives route now tenant body h result h'
+  push_made Push h h' streams result asks ends = ends asks
+  push_made Read h h' streams result never ends = absurd never
+  push_made Trim h h' streams result never ends = absurd never
+
+  pub no_memory : (h : H) → RequestEnds gives Push now tenant body h (Err (Failed call_faults.Memory)) h
+  no_memory h = refused Push h Memory (Err (Failed call_faults.Memory)) (unread Push now body) refl
 
 counted : (streams : List Stream) → sum_by (λ b. length b.entries) (map batch_of streams) ≡ entry_count streams
 counted [] = refl

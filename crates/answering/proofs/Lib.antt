@@ -1,7 +1,10 @@
+pub mod Beginning
+pub mod Together
 pub mod Going
 pub mod Joining
 pub mod Noting
 pub mod Pushing
+pub mod Seeing
 pub mod Stepping
 pub mod Turning
 pub mod Writing

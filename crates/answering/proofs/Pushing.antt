@@ -1,6 +1,6 @@
 -- From windows of streams to all of them.
-use Rattle.std.proofs.Common.{◌≡◌, ◌≢◌, ℕ, suc, ◌+◌, ◌<◌, ◌≤◌, Bool, true, false, All, List, [], ◌∷◌, ◌++◌, length, map, drop, get_or, Option, None, Some, is_some, Result, Ok, Err, refl, sym, ap, ◌∙◌, subst, append_assoc, add-one, drop-cons, arith}
-use Rattle.std.proofs.lemmas.List.{append-nil}
+use Rattle.std.proofs.Common.{◌≡◌, ◌≢◌, ℕ, suc, ◌+◌, ◌<◌, ◌≤◌, Bool, true, false, All, List, [], ◌∷◌, ◌++◌, length, map, drop, get_or, slice_index_or, Option, None, Some, is_some, Result, Ok, Err, refl, sym, ap, ◌∙◌, subst, append_assoc, add-one, drop-cons, arith}
+use Rattle.std.proofs.lemmas.List.{append-nil, length-drop}
 use Rattle.std.proofs.lemmas.List.Elements.{All-nil, All-cons, All-head, All-tail}
 use Rattle.labels.specs.Faults.{first_fault}
 use Rattle.labels.specs.declared.fault.LabelFault.{LabelFault}
@@ -20,7 +20,8 @@ use Rattle.answering.specs.Lines.{push_status, lines_from, came_lines}
 use Rattle.answering.specs.Parts.{BodyIsAnswered}
 use Rattle.answering.specs.Showing.{IsShown}
 use Rattle.answering.specs.Telling.{Tells, CameIsNoted}
-use Rattle.answering.specs.Windows.{AreStreams, called, came_of, halt_by, merged, AreNoted, AreNotedTo, StreamsAreTaken, WindowIsTaken}
+use Rattle.answering.specs.Demands.{StreamsAreTold}
+use Rattle.answering.specs.Windows.{AreStreams, called, came_of, halt_by, merged, StopsAmong, AreNoted, AreNotedUpTo, AreNotedTo, StreamsAreTaken, WindowIsTaken}
 
 -- the next stream of a push: its labels are refused, or it has a call
 module _ (tenant : List ℕ) (all : List Asked) (places : List (Option LabelFault)) (calls : List Call) where
@@ -109,6 +110,14 @@ module _ (places : List (Option LabelFault)) (k : ℕ) (within : k < length plac
   next_uncalled None is some = absurd (cc)
   next_uncalled (Some fault) is some = ap called (cut (Some fault) is)
 
+-- as many stand behind the first
+pub length_behind : {X : Type 0} (first count : ℕ) (xs : List X) → first + count ≡ length xs → count ≡ length (drop first xs)
+length_behind first count xs all = let same = length-drop first xs in omega (arith, same, all)
+
+-- the outcome at the place n, and those after it
+pub outcome_at : (outcomes : List (Result Reply CallFault)) (n : ℕ) (outcome : Result Reply CallFault) → n < length outcomes → outcome ≡ slice_index_or outcomes n outcome → drop n outcomes ≡ outcome ∷ drop (n + 1) outcomes
+outcome_at outcomes n outcome within is = rw add-one (drop-cons outcomes n outcome within ∙ ap (λ x. x ∷ drop (suc n) outcomes) (sym is))
+
 few_behind : (cs : List Came) (failure : CallFault) → first_failure cs ≡ Some failure → behind_failure cs < length cs
 few_behind [] failure is = absurd (cc)
 few_behind (cames.Refused f ∷ cs) failure is = let below = few_behind cs failure is in omega arith
@@ -148,19 +157,26 @@ module _ (before all : List Came) where
       few = omega (arith, p.few);
     }
 
-    pub noted_halt : (calls : List Came) → first_failure left ≡ first_failure calls → (halt : Halt) → CameIsNoted came lines (Err halt) new → AreNoted before all calls (Err halt) new
-    noted_halt calls same (Failed failure) is = ap first_failure p.split ∙ failure_behind p.noted (came ∷ left) p.whole ∙ ap (λ c. first_failure (c ∷ left)) is
-    noted_halt calls same GivenUp (whole, said) = (
-      ap first_failure p.split ∙ failure_behind p.noted (came ∷ left) p.whole ∙ failure_behind (came ∷ []) left whole ∙ same,
-      record {
-        first = p.noted;
-        last = came;
-        behind = left;
-        split = p.split;
-        said = subst (λ (n : ℕ). came_lines n came ≢ []) p.tells.streams said;
-        few = omega (arith, p.few);
-      },
-    )
+    pub noted_halt : (halt : Halt) → CameIsNoted came lines (Err halt) new → AreNotedUpTo before all (Err halt) new
+    noted_halt (Failed failure) is = ap first_failure p.split ∙ failure_behind p.noted (came ∷ left) p.whole ∙ ap (λ c. first_failure (c ∷ left)) is
+    noted_halt GivenUp (whole, said) = record {
+      first = p.noted;
+      last = came;
+      behind = left;
+      split = p.split;
+      said = subst (λ (n : ℕ). came_lines n came ≢ []) p.tells.streams said;
+      few = omega (arith, p.few);
+    }
+
+-- where there was no memory for the lines, what is told is the first failure, if there is one
+pub noted_up_to : (before : List Came) (places : List (Option LabelFault)) (outcomes : List (Result Reply CallFault)) (new : PushLines) → called places ≡ length outcomes → first_failure before ≡ None
+    → (failure : Option CallFault) → first_failure (map came_of outcomes) ≡ failure → StopsAmong before (merged places outcomes) → AreNoted before (merged places outcomes) (Err (halt_by failure)) new
+noted_up_to before places outcomes new due whole (Some failure) is stops = failure_behind before (merged places outcomes) whole ∙ same_failure places outcomes due ∙ is
+noted_up_to before places outcomes new due whole None is stops = (failure_behind before (merged places outcomes) whole ∙ same_failure places outcomes due ∙ is, stops)
+
+pub told_halt : (places : List (Option LabelFault)) (outcomes : List (Result Reply CallFault)) (new : PushLines) (halt : Halt) → AreNoted [] (merged places outcomes) (Err halt) new → StreamsAreTold places outcomes (Err halt)
+told_halt places outcomes new (Failed failure) is = is
+told_halt places outcomes new GivenUp is = is
 
 module _ {H : Type 0} (gives : Giving H) (tenant : List ℕ) where
   came_given : (doubt : Bool) (h h' : H) (asked : Asked) (call : Call) (outcome : Result Reply CallFault) → IsCallOf tenant asked call → gives doubt h call outcome h' → StreamGives gives tenant doubt h asked (came_of outcome) h'
@@ -217,50 +233,44 @@ module _ {H : Type 0} (gives : Giving H) (tenant : List ℕ) where
             others,
           )
 
-      module _ (behind : List Came) where
-        abbrev pub Noted : Result (Unit {0}) Halt → Type 0
-        Noted result = (before : List Came) → Tells before lines → first_failure before ≡ None → AreNoted before (merged window outcomes) behind result new
+      abbrev pub Noted : Result (Unit {0}) Halt → Type 0
+      Noted result = (before : List Came) → Tells before lines → first_failure before ≡ None → AreNoted before (merged window outcomes) result new
 
-        pub window_taken : (result : Result (Unit {0}) Halt) → Noted result → (result ≢ Err GivenUp) → WindowIsTaken gives tenant h all result m' more left new
-        window_taken (Ok u) noted some =
-            let (done, rest, is, each, others) = parts in
-            let (whole, tells) = noted taken.cames taken.tells taken.whole in
-            record { done = done; more = rest; cames = taken.cames ++ merged window outcomes; split = is; left = others; each = each; whole = whole; tells = tells }
-        window_taken (Err (Failed failure)) noted some =
-            let (done, rest, is, each, others) = parts in
-            let cs = merged window outcomes in
-            let fails = noted taken.cames taken.tells taken.whole in
-            let below = few_behind cs failure (sym (failure_behind taken.cames cs taken.whole) ∙ fails) in (
-              taken.cames ++ cs,
-              record {
-                done = done;
-                more = rest;
-                split = is;
-                each = each;
-                fails = fails;
-                few = subst (λ (n : ℕ). n < 64) (sym (same_behind taken.cames cs taken.whole)) (omega (arith, below, merged_length window outcomes due, few));
-              },
-            )
-        window_taken (Err GivenUp) noted some = absurd (some refl)
-
-        -- there was no memory for the lines, and of what is left this one failed first, or none
-        pub window_given_up : (failure : Option CallFault) → first_failure behind ≡ failure → Noted (Err GivenUp) → WindowIsTaken gives tenant h all (Err (halt_by failure)) m' more left new
-        window_given_up (Some failure) first noted = window_taken (Err (Failed failure)) (λ before tells whole. (noted before tells whole).0 ∙ first) (λ is. cc)
-        window_given_up None first noted =
-            let (done, rest, is, each, others) = parts in
-            let (fails, s) = noted taken.cames taken.tells taken.whole in
+      pub window_taken : (result : Result (Unit {0}) Halt) → Noted result → WindowIsTaken gives tenant h all result m' more left new
+      window_taken (Ok u) noted =
+          let (done, rest, is, each, others) = parts in
+          let (whole, tells) = noted taken.cames taken.tells taken.whole in
+          record { done = done; more = rest; cames = taken.cames ++ merged window outcomes; split = is; left = others; each = each; whole = whole; tells = tells }
+      window_taken (Err (Failed failure)) noted =
+          let (done, rest, is, each, others) = parts in
+          let cs = merged window outcomes in
+          let fails = noted taken.cames taken.tells taken.whole in
+          let below = few_behind cs failure (sym (failure_behind taken.cames cs taken.whole) ∙ fails) in (
+            taken.cames ++ cs,
             record {
               done = done;
               more = rest;
-              cames = s.first;
-              last = s.last;
-              behind = s.behind;
               split = is;
-              each = subst (λ l. StreamsGive gives tenant h done l m') s.split each;
-              whole = sym (ap first_failure s.split) ∙ fails ∙ first;
-              said = s.said;
-              few = omega (arith, s.few, merged_length window outcomes due, few);
-            }
+              each = each;
+              fails = fails;
+              few = subst (λ (n : ℕ). n < 64) (sym (same_behind taken.cames cs taken.whole)) (omega (arith, below, merged_length window outcomes due, few));
+            },
+          )
+      window_taken (Err GivenUp) noted =
+          let (done, rest, is, each, others) = parts in
+          let (none, s) = noted taken.cames taken.tells taken.whole in
+          record {
+            done = done;
+            more = rest;
+            cames = s.first;
+            last = s.last;
+            behind = s.behind;
+            split = is;
+            each = subst (λ l. StreamsGive gives tenant h done l m') s.split each;
+            whole = sym (ap first_failure s.split) ∙ none;
+            said = s.said;
+            few = omega (arith, s.few, merged_length window outcomes due, few);
+          }
 
     none_more : (more : List Asked) (calls : List Call) → AreStreams tenant more [] calls → more ≡ []
     none_more [] calls are = refl
@@ -271,3 +281,33 @@ module _ {H : Type 0} (gives : Giving H) (tenant : List ℕ) where
     ends m calls lines taken answer shows =
         let is : taken.done ≡ all = sym (append-nil taken.done) ∙ ap (λ l. taken.done ++ l) (sym (none_more taken.more calls taken.left)) ∙ sym taken.split in
         (taken.cames, subst (λ l. StreamsGive gives tenant h l taken.cames m) is taken.each, taken.whole, shows taken.cames taken.tells)
+
+    -- the answer to a push whose calls were made together
+    pub streams_told : (h' : H) (places : List (Option LabelFault)) (calls : List Call) (outcomes : List (Result Reply CallFault)) → AreStreams tenant all places calls → called places ≡ length outcomes → length places ≤ 64
+        → CallsGive gives h calls outcomes h' → (result : Result Answer Halt) → StreamsAreTold places outcomes result → BodyIsAnswered gives tenant h all result h'
+    streams_told h' places calls outcomes are due few given (Ok answer) (none, shows) = (merged places outcomes, given_streams false h h' all places calls outcomes are given, none, shows)
+    streams_told h' places calls outcomes are due few given (Err (Failed failure)) fails =
+        let cs = merged places outcomes in
+        let below = few_behind cs failure fails in (
+          cs,
+          record {
+            done = all;
+            more = [];
+            split = sym (append-nil all);
+            each = given_streams false h h' all places calls outcomes are given;
+            fails = fails;
+            few = omega (arith, below, merged_length places outcomes due, few);
+          },
+        )
+    streams_told h' places calls outcomes are due few given (Err GivenUp) (none, s) = record {
+      done = all;
+      more = [];
+      cames = s.first;
+      last = s.last;
+      behind = s.behind;
+      split = sym (append-nil all);
+      each = subst (λ l. StreamsGive gives tenant h all l h') s.split (given_streams false h h' all places calls outcomes are given);
+      whole = sym (ap first_failure s.split) ∙ none;
+      said = s.said;
+      few = omega (arith, s.few, merged_length places outcomes due, few);
+    }

@@ -116,7 +116,7 @@ module _ {H C : Type 0} (gives : Giving H) (ticks : C → ℕ → C → Type 0) 
     same_end course = ap (λ k. ends_behind m.verdict k course) is.closes
 
     -- its response is due once its calls have come back
-    response_due : (due : Dues H) (course : Course) → NextIsDue gives ticks bytes w due → VerdictGives gives now body m.verdict w.knows course w'.knows → due w'.knows (response_text m.verdict m.closes course)
+    pub response_due : (due : Dues H) (course : Course) → NextIsDue gives ticks bytes w due → VerdictGives gives now body m.verdict w.knows course w'.knows → due w'.knows (response_text m.verdict m.closes course)
     response_due due course next handles =
         subst (due w'.knows) (sym (same_text course)) (next (response (exchange r m now course)) w' (inl (exchange r m now course, drop m.end bytes, is_exchange course handles, refl)))
 

@@ -1,10 +1,9 @@
 -- When an answer is due: once its request has come, and its calls and those of the requests before it have come back.
-use Rattle.std.specs.Prelude.{◌≡◌, ℕ, Bool, List, ◌++◌, slice_range, Option}
+use Rattle.std.specs.Prelude.{◌≡◌, ℕ, List, ◌++◌, slice_range, Option}
 use Rattle.std.specs.List.{flat_map}
 use Rattle.std.specs.Io.KnownBytes.{Consumes}
 use Rattle.requests.specs.Writing.{Dues}
 use Rattle.requests.specs.declared.incoming.Message.{Message}
-use Rattle.requests.specs.declared.verdict.Verdict.{Verdict}
 use Rattle.answering.specs.Calls.{Giving}
 use Rattle.answering.specs.Courses.{Course}
 use Rattle.answering.specs.Serving.{Exchange, World, response, response_text, VerdictGives, ConnectionGives, IsNextResponse}
@@ -45,10 +44,3 @@ module _ {H C : Type 0} (gives : Giving H) (ticks : C → ℕ → C → Type 0) 
       (knows : H)
       → VerdictGives gives now (slice_range bytes m.start m.end) m.verdict w.knows course knows
       → due knows (response_text m.verdict m.closes course)
-
--- and of the response to a request with this verdict
-abbrev pub ResponseIsDue : {H : Type 0} → Giving H → ℕ → List ℕ → Verdict → Bool → H → Dues H
-    → Type 0
-ResponseIsDue {H} gives now body verdict close h due = (course : Course) (knows : H)
-    → VerdictGives gives now body verdict h course knows
-    → due knows (response_text verdict close course)

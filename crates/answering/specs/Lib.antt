@@ -1,13 +1,17 @@
 pub mod Asking
+pub mod Beginning
 pub mod Calls
 pub mod Connections
 pub mod Courses
+pub mod Demands
 pub mod Due
 pub mod Ends
+pub mod Gathering
 pub mod Joining
 pub mod Lines
 pub mod Parts
 pub mod Replies
+pub mod Replying
 pub mod Responses
 pub mod Serving
 pub mod Showing

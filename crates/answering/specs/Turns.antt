@@ -1,9 +1,8 @@
 -- What one turn of a connection says; for private clauses.
-use Rattle.std.specs.Prelude.{◌≡◌, ◌⊎◌, ℕ, ◌<◌, Bool, false, List, [], take, drop, Option, None, Result, Ok, Err, OnOk}
+use Rattle.std.specs.Prelude.{◌≡◌, ◌⊎◌, ℕ, ◌<◌, Bool, false, List, [], take, Option, None, Result, Ok, Err, OnOk}
 use Rattle.std.specs.Io.KnownBytes.{Appends, Consumes}
-use Rattle.requests.specs.Streams.{Request, ReadsMessage, IsMessage, MayStand, MayGrow}
+use Rattle.requests.specs.Streams.{MayStand, MayGrow}
 use Rattle.requests.specs.Writing.{Dues, Follows}
-use Rattle.requests.specs.declared.incoming.Message.{Message}
 use Rattle.requests.specs.declared.fault.ServeFault.{ServeFault}
 use Rattle.requests.specs.declared.fault.ServeFault.TheVariants as faults
 use Rattle.requests.specs.declared.fault.Served.TheVariants as served
@@ -27,11 +26,6 @@ module _ {S P C O : Type 0} where
     pub of : IsSameEnd through old.end.now new.end.now
     pub incoming : new.incoming.ghost_name ≡ old.incoming.ghost_name
     pub outgoing : new.outgoing.ghost_name ≡ old.outgoing.ghost_name
-
-  -- no request was dropped, and the clock was not read
-  pub record KeepsInput (old new : Visit S P C O) : Type 0 where
-    pub clock : new.clock.now ≡ old.clock.now
-    pub incoming : new.incoming.now ≡ old.incoming.now
 
   abbrev pub world_of : Visit S P C O → World P C
   world_of visit = world visit.pass.now visit.clock.now
@@ -116,13 +110,3 @@ module _ {H C : Type 0} (gives : Giving H) (ticks : C → ℕ → C → Type 0) 
     pub bytes : List ℕ
     pub consumes : Consumes ends.unread ends'.unread bytes
     pub goes : KeepsOn gives ticks due due' ends.written ends'.written bytes w rest w'
-
-  -- the message, whichever request of these bytes it is, was answered and dropped
-  abbrev pub ConnectionTakesMessage : Dues H → Dues H → Option (List ℕ) → Option (List ℕ) → Message
-      → List ℕ → List ℕ
-      → World H C
-      → World H C → Result Turn ServeFault → Type 0
-  ConnectionTakesMessage due due' before after m old new w w' result =
-      (r : Request) → IsMessage old r m
-      → ReadsMessage old r (drop m.end old)
-      → ConnectionTurnIsServed due due' before after old w new w' result

@@ -1,8 +1,7 @@
 -- What a visit of a connection says: some of the requests that have come are answered and it is kept, or it ends.
-use Rattle.std.specs.Prelude.{ℕ, ◌<◌, List, Option, None, Result, Ok, Err}
+use Rattle.std.specs.Prelude.{ℕ, List, Option, None, Result, Ok, Err}
 use Rattle.std.specs.List.{flat_map}
 use Rattle.std.specs.Io.KnownBytes.{Appends}
-use Rattle.requests.specs.Streams.{MayStand, MayGrow}
 use Rattle.requests.specs.Writing.{Dues, Follows}
 use Rattle.requests.specs.declared.fault.ServeFault.{ServeFault}
 use Rattle.requests.specs.declared.fault.ServeFault.TheVariants as faults
@@ -12,12 +11,6 @@ use Rattle.answering.specs.Calls.{Giving}
 use Rattle.answering.specs.Serving.{Exchange, World, response, IsUnbegun, ConnectionGives, ConnectionIsAnswered}
 use Rattle.answering.specs.declared.visiting.Visited.{Visited}
 use Rattle.answering.specs.declared.visiting.Visited.TheVariants as visited
-
--- what may stand there at the next visit: no more than is left; or this many bytes more
-abbrev pub LeavesRoom : Visited → List ℕ → Type 0
-LeavesRoom visited.More rest = MayStand rest
-LeavesRoom (visited.Unfinished n) rest = (0 < n) × MayGrow rest n
-LeavesRoom visited.Closed rest = Unit {0}
 
 module _ {H C : Type 0} (gives : Giving H) (ticks : C → ℕ → C → Type 0) where
   -- of these bytes some requests were answered, none of which closes, and this is left

@@ -83,17 +83,24 @@ pub record StopsAmong (before cames : List Came) : Type 0 where
   pub said : came_lines (length first) last ≢ []
   pub few : length behind < length cames
 
--- after others these came, and they were taken into the lines up to the first that failed; or there was no memory for
--- the lines, and only those that are left may have failed
-abbrev pub AreNoted : List Came → List Came → List Came → Result (Unit {0}) Halt → PushLines → Type 0
-AreNoted before cames left (Ok u) new = (first_failure (before ++ cames) ≡ None)
+-- after others these came, and they were taken into the lines; or one of them failed first; or none did, and there was
+-- no memory for the lines
+abbrev pub AreNoted : List Came → List Came → Result (Unit {0}) Halt → PushLines → Type 0
+AreNoted before cames (Ok u) new = (first_failure (before ++ cames) ≡ None)
     × Tells (before ++ cames) new
-AreNoted before cames left (Err (halts.Failed failure)) new =
+AreNoted before cames (Err (halts.Failed failure)) new =
     first_failure (before ++ cames) ≡ Some failure
-AreNoted before cames left (Err halts.GivenUp) new =
-    (first_failure (before ++ cames) ≡ first_failure left) × StopsAmong before cames
+AreNoted before cames (Err halts.GivenUp) new =
+    (first_failure (before ++ cames) ≡ None) × StopsAmong before cames
 
--- the same so far, and these are left
+-- the same up to where there was no memory: of what is behind that one may have failed
+abbrev pub AreNotedUpTo : List Came → List Came → Result (Unit {0}) Halt → PushLines → Type 0
+AreNotedUpTo before cames (Ok u) new = AreNoted before cames (Ok u) new
+AreNotedUpTo before cames (Err (halts.Failed failure)) new =
+    AreNoted before cames (Err (halts.Failed failure)) new
+AreNotedUpTo before cames (Err halts.GivenUp) new = StopsAmong before cames
+
+-- these were taken into the lines, and those are left
 pub record AreNotedTo (before cames left : List Came) (lines : PushLines) : Type 0 where
   pub noted : List Came
   pub split : before ++ cames ≡ noted ++ left

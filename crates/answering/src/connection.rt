@@ -1,16 +1,21 @@
 //! A connection as a value: bytes come in, answers go out, and nothing is read or written.
-ghost use Rattle.std.specs.Prelude.{◌≡◌, ◌≤◌, [], Some, false, length, OnOk, OnErr, IfErr};
-ghost use Rattle.answering.specs.Connections.{Unended, IsLeftSo, with_bytes, without_bytes};
-ghost use Rattle.answering.specs.Serving.{world};
-ghost use Rattle.answering.specs.Visits.{IsVisit};
+ghost use Rattle.std.specs.Prelude.{◌≡◌, ◌≤◌, [], All, false, drop, length, OnOk, OnErr, IfErr, IfOk, IfSome};
+ghost use Rattle.std.specs.Option.{IfNone};
+ghost use Rattle.accept.specs.Calls.{AreNumbers};
+ghost use Rattle.requests.specs.Streams.{MayGrow};
+ghost use Rattle.answering.specs.Beginning.{IsAnsweredSo, IsRoomAfter, IsVisitedWithoutCalls, WaitsForCalls};
+ghost use Rattle.answering.specs.Connections.{with_bytes, without_bytes};
+ghost use Rattle.answering.specs.Demands.{calls_asked};
+ghost use Rattle.answering.specs.Turns.{MayComeAfter};
 
-use crate::calls::Calls;
 use crate::clock::Clock;
-use crate::visiting::{Visited, answer_requests};
-use requests::{Incoming, MAX_HEAD, Outbox, Outgoing, ServeFault};
+use crate::demands::Demand;
+use crate::ends::WriteEnd;
+use crate::responding::Halt;
+use crate::visiting::{Begun, Turn, begin_turn, turn_after};
+use requests::{Answer, Incoming, MAX_HEAD, Message, Outbox, Outgoing, ServeFault};
 use std::alloc::Global;
 use std::marker::Model;
-use std::sync::Wait;
 
 /// A connection without its ends: what has come of it and is not yet answered, what is to be sent, and whether it ends
 /// once that is sent. `P` is the pass by which its calls are made. Between two visits the same pass may serve others.
@@ -98,52 +103,86 @@ impl<P> Connection<P> {
         Ok(())
     }
 
-    /// Answers the requests that have come, at most this many. Their answers are to be sent after what was to be sent
-    /// before. When it returns, each of them is due: its calls have come back. `outgoing` is where answers are put
-    /// together.
-    ///
-    /// # Errors
-    ///
-    /// `Memory`: whole answers of a beginning of the requests are to be sent, and none of status 500 is lost.
-    /// `Write`: there was no memory for what is to be sent, and a beginning of it is. In both cases calls made before
-    /// stand, and the connection ends.
-    pub fn answer<S: Calls<Pass = P>, R: Wait, C: Clock>(
+    /// Looks at what stands at the front, and answers it where that needs no call. Otherwise gives the request, and what
+    /// it asks for: nothing has changed then, and `end` is due once its calls have come back.
+    pub(crate) fn begin<C: Clock>(
         &mut self,
-        rt: &R,
         alloc: Global,
-        service: &S,
-        pass: &mut P,
+        pass: &P,
         clock: &mut C,
         outgoing: &mut Outgoing,
-        most: u32,
-    ) -> Result<Visited, ServeFault>
-        requires pass { S.is_ready service.now pass.old }
-        ensures pass { S.is_ready service.now pass.new }
-        ensures left { IsLeftSo result self.old self.new }
-        ensures visits { IsVisit (S.gives service.now) C.ticks (λ _ _. Unit {0}) (λ _ _. Unit {0})
-            (Some self.old.text) (Some self.new.text) self.old.came
-            (world pass.old clock.old) self.new.came (world pass.new clock.new) result }
+    ) -> Option<(Message, Demand)>
+        ensures over { IfNone result (IsVisitedWithoutCalls C.ticks self.old clock.old self.new clock.new) }
+        ensures waits { IfSome result (λ p. WaitsForCalls C.ticks self.old.came clock.old clock.new p.0 p.1
+            × (self.new ≡ self.old)) }
+        ensures fits { IfSome result (λ p. (p.0.end ≤ length self.old.came)
+            × (length (drop p.0.end self.old.came) ≤ MAX_HEAD)) }
+        ensures numbers { IfSome result (λ p. All AreNumbers (calls_asked p.1)) }
     {
-        let visited = answer_requests(
-            rt,
-            alloc,
-            service,
-            pass,
-            clock,
-            &mut self.outbox,
-            &mut self.incoming,
-            outgoing,
-            most,
-        );
-        match visited {
-            Ok(Visited::More) => self.room = 0,
-            Ok(Visited::Unfinished(room)) => self.room = room,
-            _ => {
-                self.incoming = Incoming::new(alloc);
+        let mut end = WriteEnd {
+            writer: &mut self.outbox,
+            failed: false,
+        };
+        let turn = match begin_turn(alloc, pass, clock, &mut end, &mut self.incoming, outgoing) {
+            Ok(Begun::Waits(message, demand)) => return Some((message, demand)),
+            Ok(Begun::Over(turn)) => Ok(turn),
+            Err(fault) => Err(fault),
+        };
+        match settle(alloc, &mut self.incoming, turn) {
+            Some(room) => self.room = room,
+            None => {
                 self.room = 0;
                 self.closes = true;
             }
         }
-        visited
+        None
+    }
+
+    /// Puts the answer to a request, whose calls have come back, behind what is to be sent, and drops the request.
+    pub(crate) fn end(
+        &mut self,
+        alloc: Global,
+        pass: &P,
+        outgoing: &mut Outgoing,
+        message: &Message,
+        answered: Result<Answer, Halt>,
+    )
+        requires within { message.now.end ≤ length self.old.came }
+        requires little { length (drop message.now.end self.old.came) ≤ MAX_HEAD }
+        ensures { IsAnsweredSo message.now answered self.old self.new }
+    {
+        let mut end = WriteEnd {
+            writer: &mut self.outbox,
+            failed: false,
+        };
+        let turn = match end.reply(pass, outgoing, answered, message.closes) {
+            Ok(closes) => Ok(turn_after(closes)),
+            Err(fault) => Err(fault),
+        };
+        self.incoming.finish(message);
+        match settle(alloc, &mut self.incoming, turn) {
+            Some(room) => self.room = room,
+            None => {
+                self.room = 0;
+                self.closes = true;
+            }
+        }
+    }
+}
+
+// How many bytes may come after a turn: none, and what came is dropped, where the connection ends.
+fn settle(alloc: Global, incoming: &mut Incoming, turn: Result<Turn, ServeFault>) -> Option<usize>
+    requires { IfOk turn (λ turn. MayComeAfter turn incoming.old) }
+    ensures settled { IsRoomAfter turn incoming.old incoming.new result }
+    ensures grows { IfSome result (λ room. MayGrow incoming.new room) }
+{
+    match turn {
+        Ok(Turn::Unfinished(room)) => Some(room),
+        Ok(Turn::Answered) if incoming.len() == 0 => Some(MAX_HEAD),
+        Ok(Turn::Answered) => Some(0),
+        Ok(Turn::Closed) | Err(_) => {
+            *incoming = Incoming::new(alloc);
+            None
+        }
     }
 }

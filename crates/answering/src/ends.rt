@@ -4,10 +4,14 @@ ghost use Rattle.requests.specs.Answers.{answer_text, fixed_text, failure_text};
 ghost use Rattle.requests.specs.Streams.{Grows, IsCut, MayStand, MayGrow};
 ghost use Rattle.requests.specs.Writing.{WritesBeginning, Follows};
 ghost use Rattle.answering.specs.Ends.{IsOfAnswer, IsReadOn, IsSameEnd};
+ghost use Rattle.answering.specs.Replying.{ReplyIsDue, IsReplied};
+ghost use Rattle.answering.specs.Responses.{content_for};
 
+use crate::responding::Halt;
 use accept::CallFault;
 use requests::{
-    Answer, Answers, Content, FixedAnswer, Incoming, Outgoing, ServeFault, Served, failure_text,
+    Answer, Answers, Content, FixedAnswer, Incoming, Outgoing, ServeFault, Served, Status,
+    failure_text,
 };
 use std::io::Read;
 
@@ -80,6 +84,16 @@ impl<'a, I: Read> ReadEnd<'a, I> {
     }
 }
 
+fn content_for(status: Status) -> Content
+    ensures { result ≡ content_for status }
+{
+    if status == Status::Ok {
+        Content::Json
+    } else {
+        Content::Text
+    }
+}
+
 /// The end that answers go to, and whether it failed when it was asked last.
 #[derive(Drop)]
 pub(crate) struct WriteEnd<'a, O> {
@@ -148,6 +162,35 @@ impl<'a, O: Answers> WriteEnd<'a, O> {
         let said = self.writer.say(knows, failure_text(failure));
         self.failed = said.is_err();
         said
+    }
+
+    /// Puts the answer to a request there, or that of its failure. Whether the connection ends after it.
+    pub(crate) fn reply(
+        &mut self,
+        knows: &O::Knows,
+        outgoing: &mut Outgoing,
+        answered: Result<Answer, Halt>,
+        closes: bool,
+    ) -> Result<bool, ServeFault>
+        requires due { ReplyIsDue (O.due self.old.writer.now) knows.now answered closes }
+        ensures same { IsSameEnd O.through self.old self.new }
+        ensures told { IfErr result (λ fault. IsOfAnswer self.new fault) }
+        ensures replied { IsReplied (O.due self.old.writer.now) (O.due self.new.writer.now)
+            (O.contents self.old.writer.now) (O.contents self.new.writer.now) answered closes
+            result }
+    {
+        match answered {
+            Ok(answer) => {
+                let content = content_for(answer.status);
+                self.answer(knows, outgoing, answer, content, closes)?;
+                Ok(closes)
+            }
+            Err(Halt::Failed(failure)) => {
+                self.failure(knows, failure)?;
+                Ok(true)
+            }
+            Err(Halt::GivenUp) => Err(ServeFault::Memory),
+        }
     }
 
     fn say_answer(&mut self, knows: &O::Knows, outgoing: &mut Outgoing) -> Result<(), ServeFault>

@@ -1,24 +1,27 @@
 //! The answer to a request after its head: its body, its calls in body order, status and body of its answer.
 ghost use Rattle.std.specs.Prelude.{◌≡◌, ◌<◌, ◌≤◌, [], ℕ, List, All, IfOk, min, length, vec_capacity};
+ghost use Rattle.requests.specs.declared.route.Route.{Route};
 ghost use Rattle.std.specs.VecDeque.{deque_len};
 ghost use Rattle.accept.specs.OneStream.{end_of_time};
 ghost use Rattle.accept.specs.Calls.{AreNumbers};
 ghost use Rattle.requests.specs.Answers.{failure_body};
 ghost use Rattle.answering.specs.Calls.{max_window};
 ghost use Rattle.answering.specs.Asking.{Asked};
-ghost use Rattle.answering.specs.Parts.{BodyIsRefused, UncalledIsAnswered, BodyIsAnswered, AsksForCall, IsOfOne};
+ghost use Rattle.answering.specs.Demands.{IsDemand, calls_asked};
+ghost use Rattle.answering.specs.Parts.{BodyIsRefused, UncalledIsAnswered, BodyIsAnswered};
 ghost use Rattle.answering.specs.Responses.{RequestIsAnswered, RequestEnds, bad_time_text};
 ghost use Rattle.answering.specs.Showing.{IsShown};
-ghost use Rattle.answering.specs.Windows.{AreStreams, IsEmptyWindow, called};
+ghost use Rattle.answering.specs.Windows.{AreStreams, AsksForStreams, IsEmptyWindow, called};
 ghost use Rattle.answering.specs.declared.responding.Halt.TheVariants.{Failed, GivenUp};
 
-use crate::calling::{Uncalled, call_of_read, call_of_trim};
+use crate::calling::Uncalled;
 use crate::calls::Calls;
+use crate::demands::{Demand, answer_of_one, demand_of};
 use crate::lines::{PushLines, push_number};
-use crate::replies::{answer_of_moved, answer_of_refusal, answer_of_text};
-use crate::windows::{MAX_WINDOW, Streams, streams_of};
-use accept::{Call, CallFault};
-use labels::Tenant;
+use crate::replies::{answer_of_refusal, answer_of_text};
+use crate::windows::{MAX_WINDOW, Streams, Windows};
+use accept::CallFault;
+use labels::{LabelFault, Tenant};
 use pushjson::PushFault;
 use requests::{Answer, Route, ServeFault, Status};
 use std::alloc::{AllocError, Global};
@@ -101,24 +104,22 @@ fn take_windows<S: Calls, R: Wait>(
     alloc: Global,
     service: &S,
     pass: &mut S::Pass,
-    streams: Streams,
+    places: &[Option<LabelFault>],
+    windows: Windows,
 ) -> Result<Answer, Halt>
     requires pass { S.is_ready service.now pass.old }
-    requires fresh { IsEmptyWindow streams.windows.calls.items streams.windows.outcomes.items }
-    requires numbers { All AreNumbers streams.windows.left.items }
-    requires size { streams.windows.size ≡ min max_window (deque_len streams.windows.left) }
-    requires enough { called streams.places.items ≤ deque_len streams.windows.left }
+    requires fresh { IsEmptyWindow windows.calls.items windows.outcomes.items }
+    requires numbers { All AreNumbers windows.left.items }
+    requires size { windows.size ≡ min max_window (deque_len windows.left) }
+    requires enough { called places.now ≤ deque_len windows.left }
     ensures pass { S.is_ready service.now pass.new }
     ensures goes { (tenant : List ℕ) (all : List Asked)
-        → AreStreams tenant all streams.places.items streams.windows.left.items
+        → AreStreams tenant all places.now windows.left.items
         → BodyIsAnswered (S.gives service.now) tenant pass.old all result pass.new }
 {
-    let Streams {
-        places,
-        mut windows,
-    } = streams;
+    let mut windows = windows;
     let mut lines = PushLines::new(alloc);
-    let mut rest = places.as_slice();
+    let mut rest = places;
     while !rest.is_empty() {
         let (window, more) = rest.split_at(MAX_WINDOW.min(rest.len()));
         windows.take(rt, alloc, service, pass, window, &mut lines)?;
@@ -127,28 +128,30 @@ fn take_windows<S: Calls, R: Wait>(
     Ok(lines.into_answer())
 }
 
+// Makes the calls of the streams of a push.
 fn push<S: Calls, R: Wait>(
     rt: &R,
     alloc: Global,
     service: &S,
     pass: &mut S::Pass,
-    request: &RequestBody<'_>,
+    streams: Streams,
 ) -> Result<Answer, Halt>
     requires pass { S.is_ready service.now pass.old }
-    requires clock { request.now.time < end_of_time }
+    requires numbers { All AreNumbers streams.calls.items }
     ensures pass { S.is_ready service.now pass.new }
-    ensures responds { RequestEnds
-        (S.gives service.now) Route.Push request.now.time request.now.tenant.now
-        request.now.body.now pass.old result pass.new }
+    ensures responds { (now : ℕ) (tenant body : List ℕ)
+        → AsksForStreams now tenant body streams.places.items streams.calls.items
+        → RequestEnds (S.gives service.now) Route.Push now tenant body pass.old result pass.new }
 {
-    match streams_of(alloc, request) {
-        Ok(streams) => take_windows(rt, alloc, service, pass, streams),
-        Err(fault) => refuse(alloc, fault),
+    let Streams { places, calls } = streams;
+    match Windows::new(alloc, calls) {
+        Ok(windows) => take_windows(rt, alloc, service, pass, places.as_slice(), windows),
+        Err(AllocError) => Err(Halt::Failed(CallFault::Memory)),
     }
 }
 
 /// The answer to a body of which no call is made.
-fn answer_of_uncalled(alloc: Global, why: Uncalled) -> Result<Answer, Halt>
+pub(crate) fn answer_of_uncalled(alloc: Global, why: Uncalled) -> Result<Answer, Halt>
     ensures { UncalledIsAnswered why result }
 {
     match why {
@@ -157,57 +160,28 @@ fn answer_of_uncalled(alloc: Global, why: Uncalled) -> Result<Answer, Halt>
     }
 }
 
-/// The answer to a read or a trim, whose body asks for this call.
-fn answer_one<S: Calls, R: Wait>(
+/// Makes the calls that a request asks for, and gives its answer, unless it failed.
+pub(crate) fn make_calls<S: Calls, R: Wait>(
     rt: &R,
     alloc: Global,
     service: &S,
     pass: &mut S::Pass,
-    asked: Result<Call, Uncalled>,
+    demand: Demand,
 ) -> Result<Answer, Halt>
     requires pass { S.is_ready service.now pass.old }
-    requires numbers { IfOk asked (λ call. AreNumbers call) }
+    requires numbers { All AreNumbers (calls_asked demand) }
     ensures pass { S.is_ready service.now pass.new }
-    ensures responds { (route : Route) (now : ℕ) (tenant body : List ℕ) → IsOfOne route
-        → AsksForCall route tenant body asked
+    ensures responds { (route : Route) (now : ℕ) (tenant body : List ℕ)
+        → IsDemand route now tenant body demand
         → RequestEnds (S.gives service.now) route now tenant body pass.old result pass.new }
 {
-    match asked {
-        Ok(call) => {
-            let reply = service.call(rt, alloc, pass, call)?;
-            Ok(answer_of_moved(alloc, reply)?)
+    match demand {
+        Demand::Nothing(why) => answer_of_uncalled(alloc, why),
+        Demand::One(call) => {
+            let outcome = service.call(rt, alloc, pass, call);
+            answer_of_one(alloc, outcome)
         }
-        Err(why) => answer_of_uncalled(alloc, why),
-    }
-}
-
-/// The answer of a request, unless it failed.
-pub(crate) fn respond<S: Calls, R: Wait>(
-    rt: &R,
-    alloc: Global,
-    service: &S,
-    pass: &mut S::Pass,
-    request: &RequestBody<'_>,
-) -> Result<Answer, Halt>
-    requires pass { S.is_ready service.now pass.old }
-    requires clock { request.now.time < end_of_time }
-    ensures pass { S.is_ready service.now pass.new }
-    ensures responds { RequestEnds
-        (S.gives service.now) request.now.route request.now.time request.now.tenant.now
-        request.now.body.now pass.old result pass.new }
-{
-    let tenant = request.tenant;
-    let body = request.body;
-    match request.route {
-        Route::Push => push(rt, alloc, service, pass, request),
-        Route::Read => {
-            let asked = call_of_read(alloc, tenant, body);
-            answer_one(rt, alloc, service, pass, asked)
-        }
-        Route::Trim => {
-            let asked = call_of_trim(alloc, tenant, body);
-            answer_one(rt, alloc, service, pass, asked)
-        }
+        Demand::Streams(streams) => push(rt, alloc, service, pass, streams),
     }
 }
 
@@ -259,7 +233,8 @@ pub fn answer<S: Calls, R: Wait>(
         request.now.tenant.now request.now.body.now pass.old result pass.new }
 {
     let text = Vec::with_capacity(alloc, LONGEST_FAILURE)?;
-    match respond(rt, alloc, service, pass, request) {
+    let demand = demand_of(alloc, request);
+    match make_calls(rt, alloc, service, pass, demand) {
         Ok(answer) => Ok(answer),
         Err(Halt::Failed(failure)) => Ok(answer_of_failure(text, failure)),
         Err(Halt::GivenUp) => Err(ServeFault::Memory),

@@ -1,5 +1,5 @@
 //! The streams of a push by their places in its body, and their calls, made window by window.
-ghost use Rattle.std.specs.Prelude.{◌≡◌, ◌≤◌, ◌<◌, ◌+◌, ◌^◌, ◌++◌, [], ℕ, List, Option, None, Err, All, IfOk, IfErr, map, min, length};
+ghost use Rattle.std.specs.Prelude.{◌≡◌, ◌≤◌, ◌<◌, ◌+◌, ◌^◌, ◌++◌, [], ℕ, List, Option, None, Err, All, IfOk, IfErr, map, min, length, drop};
 ghost use Rattle.std.specs.VecDeque.{deque_len, deque_capacity};
 ghost use Rattle.labels.specs.declared.fault.LabelFault.{LabelFault};
 ghost use Rattle.accept.specs.OneStream.{end_of_time};
@@ -9,7 +9,7 @@ ghost use Rattle.answering.specs.Asking.{Asked, AsksFor, HasNumbers, asked_push}
 ghost use Rattle.answering.specs.Calls.{Came, max_window};
 ghost use Rattle.answering.specs.Courses.{first_failure};
 ghost use Rattle.answering.specs.Telling.{Tells, CameIsNoted};
-ghost use Rattle.answering.specs.Windows.{AreStreams, AsksForStreams, IsEmptyWindow, IsWindowOver, FitWindow, StreamsAreTaken, WindowIsTaken, AreNoted, called, came_of, halt_by, merged};
+ghost use Rattle.answering.specs.Windows.{AreStreams, AsksForStreams, IsEmptyWindow, IsWindowOver, FitWindow, StreamsAreTaken, WindowIsTaken, AreNoted, AreNotedUpTo, called, came_of, halt_by, merged};
 
 use crate::calling::{Uncalled, key_of};
 use crate::calls::Calls;
@@ -25,12 +25,24 @@ use std::sync::Wait;
 /// How many places a window has at most.
 pub(crate) const MAX_WINDOW: usize = 64;
 
-/// The streams of a push.
+/// The streams of a push, no call of which was made.
 #[derive(Drop)]
 pub(crate) struct Streams {
     /// At each place of the body, why the labels are refused; or nothing, where there is a call.
     pub(crate) places: Vec<Option<LabelFault>>,
-    pub(crate) windows: Windows,
+    /// The calls, in their order.
+    pub(crate) calls: VecDeque<Call>,
+    ghost counted: { called places.items ≡ deque_len calls },
+}
+
+/// The streams of a push whose calls stand in a window.
+#[derive(Drop)]
+pub(crate) struct TakenStreams {
+    /// At each place of the body, why the labels are refused; or nothing, where there is a call.
+    pub(crate) places: Vec<Option<LabelFault>>,
+    /// How many calls there are.
+    pub(crate) calls: usize,
+    ghost counted: { called places.items ≡ calls },
 }
 
 /// The calls of a push that were not made yet, in their order, with room for those of a window and for their outcomes.
@@ -45,7 +57,7 @@ pub(crate) struct Windows {
     ghost outcomes_fit: { size ≤ deque_capacity outcomes },
 }
 
-/// The streams that the body of a push asks for, no call of which was made.
+/// The streams that the body of a push asks for.
 ///
 /// # Errors
 ///
@@ -53,21 +65,14 @@ pub(crate) struct Windows {
 pub(crate) fn streams_of(alloc: Global, request: &RequestBody<'_>) -> Result<Streams, PushFault>
     requires clock { request.now.time < end_of_time }
     ensures ok { IfOk result (λ streams. AsksForStreams request.now.time request.now.tenant.now
-        request.now.body.now streams.places.items streams.windows.left.items) }
+        request.now.body.now streams.places.items streams.calls.items) }
     ensures cause { IfErr result (λ fault.
         AsksFor Push request.now.time request.now.body.now (Err fault)) }
-    ensures numbers { IfOk result (λ streams. All AreNumbers streams.windows.left.items) }
-    ensures fresh { IfOk result (λ streams.
-        IsEmptyWindow streams.windows.calls.items streams.windows.outcomes.items) }
-    ensures size { IfOk result (λ streams.
-        streams.windows.size ≡ min max_window (deque_len streams.windows.left)) }
+    ensures numbers { IfOk result (λ streams. All AreNumbers streams.calls.items) }
 {
     let batches = read_push(alloc, request.body)?;
-    let (places, left) = places_of(alloc, request.tenant, request.time, batches)?;
-    match Windows::new(alloc, left) {
-        Ok(windows) => Ok(Streams { places, windows }),
-        Err(AllocError) => Err(PushFault::Memory),
-    }
+    let (places, calls) = places_of(alloc, request.tenant, request.time, batches)?;
+    Ok(Streams { places, calls })
 }
 
 // Reads the labels of all streams of a push: why those of each place are refused, and the calls of the others.
@@ -103,8 +108,8 @@ fn places_of(
 }
 
 impl Windows {
-    // Of these calls none was made.
-    fn new(alloc: Global, left: VecDeque<Call>) -> Result<Windows, AllocError>
+    /// Of these calls none was made.
+    pub(crate) fn new(alloc: Global, left: VecDeque<Call>) -> Result<Windows, AllocError>
         ensures left { IfOk result (λ windows. windows.left ≡ left) }
         ensures fresh { IfOk result (λ windows.
             IsEmptyWindow windows.calls.items windows.outcomes.items) }
@@ -142,35 +147,6 @@ impl Windows {
         }
     }
 
-    // Takes what came of the streams at these places into the lines, up to one that failed, or for which there is no
-    // memory.
-    fn note(&mut self, places: &[Option<LabelFault>], lines: &mut PushLines) -> Result<(), Halt>
-        requires due { called places.now ≡ deque_len self.old.outcomes }
-        requires few { lines.old.streams + length places.now < 2 ^ 64 }
-        ensures noted { (before : List Came) → Tells before lines.old → first_failure before ≡ None
-            → AreNoted before (merged places.now self.old.outcomes.items)
-            (map came_of self.new.outcomes.items) result lines.new }
-        ensures count { IfOk result (λ _.
-            lines.new.streams ≡ lines.old.streams + length places.now) }
-        ensures fresh { IfOk result (λ _. self.new.outcomes.items ≡ []) }
-        ensures left { self.new.left ≡ self.old.left }
-        ensures calls { self.new.calls ≡ self.old.calls }
-        ensures size { self.new.size ≡ self.old.size }
-    {
-        for place in places {
-            match *place {
-                Some(fault) => lines.note_refusal(fault)?,
-                None => {
-                    let Some(outcome) = self.outcomes.pop_front() else {
-                        unreachable!()
-                    };
-                    note_outcome(lines, outcome)?;
-                }
-            }
-        }
-        Ok(())
-    }
-
     /// Makes the calls of the next places, and takes what came of their streams into the lines.
     pub(crate) fn take<S: Calls, R: Wait>(
         &mut self,
@@ -203,33 +179,89 @@ impl Windows {
     {
         self.fill(places);
         service.call_all(rt, alloc, pass, &mut self.calls, &mut self.outcomes);
-        match self.note(places, lines) {
-            Ok(()) => Ok(()),
-            Err(Halt::Failed(failure)) => Err(Halt::Failed(failure)),
-            Err(Halt::GivenUp) => Err(halt_of(&mut self.outcomes)),
-        }
+        let noted = note_streams(places, &self.outcomes, 0, lines);
+        self.outcomes.clear();
+        noted
     }
 }
 
-// Takes what came of a call into the lines, unless it failed.
-fn note_outcome(lines: &mut PushLines, outcome: Result<Reply, CallFault>) -> Result<(), Halt>
-    requires few { lines.old.streams + 1 < 2 ^ 64 }
-    ensures noted { CameIsNoted (came_of outcome) lines.old result lines.new }
-    ensures count { IfOk result (λ _. lines.new.streams ≡ lines.old.streams + 1) }
+/// Takes what came of the streams at these places into the lines, where the outcomes of their calls stand from `first`
+/// on.
+///
+/// # Errors
+///
+/// The first failure of a call; or `GivenUp`, where there was no memory for a line.
+pub(crate) fn note_streams(
+    places: &[Option<LabelFault>],
+    outcomes: &VecDeque<Result<Reply, CallFault>>,
+    first: usize,
+    lines: &mut PushLines,
+) -> Result<(), Halt>
+    requires due { first + called places.now ≡ deque_len outcomes.now }
+    requires few { lines.old.streams + length places.now < 2 ^ 64 }
+    ensures noted { (before : List Came) → Tells before lines.old → first_failure before ≡ None
+        → AreNoted before (merged places.now (drop first outcomes.now.items)) result lines.new }
+    ensures count { IfOk result (λ _.
+        lines.new.streams ≡ lines.old.streams + length places.now) }
 {
-    let reply = outcome?;
-    lines.note_reply(&reply)?;
+    match note_places(places, outcomes, first, lines) {
+        Err(Halt::GivenUp) => Err(halt_of(outcomes, first)),
+        noted => noted,
+    }
+}
+
+// The same up to a call that failed, or a stream for which there is no memory.
+fn note_places(
+    places: &[Option<LabelFault>],
+    outcomes: &VecDeque<Result<Reply, CallFault>>,
+    first: usize,
+    lines: &mut PushLines,
+) -> Result<(), Halt>
+    requires due { first + called places.now ≡ deque_len outcomes.now }
+    requires few { lines.old.streams + length places.now < 2 ^ 64 }
+    ensures noted { (before : List Came) → Tells before lines.old → first_failure before ≡ None
+        → AreNotedUpTo before (merged places.now (drop first outcomes.now.items)) result lines.new }
+    ensures count { IfOk result (λ _.
+        lines.new.streams ≡ lines.old.streams + length places.now) }
+{
+    let mut next = first;
+    for place in places {
+        match *place {
+            Some(fault) => lines.note_refusal(fault)?,
+            None => {
+                let Some(outcome) = outcomes.get(next) else {
+                    unreachable!()
+                };
+                next += 1;
+                note_outcome(lines, outcome)?;
+            }
+        }
+    }
     Ok(())
 }
 
-// Why a push ends that has no memory for its lines, where these outcomes are left: for the first failure among them.
-fn halt_of(outcomes: &mut VecDeque<Result<Reply, CallFault>>) -> Halt
-    ensures halt { result ≡ halt_by (first_failure (map came_of outcomes.old.items)) }
-    ensures capacity { deque_capacity outcomes.new ≡ deque_capacity outcomes.old }
+// Takes what came of a call into the lines, unless it failed.
+fn note_outcome(lines: &mut PushLines, outcome: &Result<Reply, CallFault>) -> Result<(), Halt>
+    requires few { lines.old.streams + 1 < 2 ^ 64 }
+    ensures noted { CameIsNoted (came_of outcome.now) lines.old result lines.new }
+    ensures count { IfOk result (λ _. lines.new.streams ≡ lines.old.streams + 1) }
 {
-    while let Some(outcome) = outcomes.pop_front() {
-        if let Err(failure) = outcome {
-            return Halt::Failed(failure);
+    match outcome {
+        Ok(reply) => {
+            lines.note_reply(reply)?;
+            Ok(())
+        }
+        Err(failure) => Err(Halt::Failed(*failure)),
+    }
+}
+
+// Why a push ends that has no memory for its lines: for the first failure among these outcomes.
+fn halt_of(outcomes: &VecDeque<Result<Reply, CallFault>>, first: usize) -> Halt
+    ensures { result ≡ halt_by (first_failure (map came_of (drop first outcomes.now.items))) }
+{
+    for place in first..outcomes.len() {
+        if let Some(Err(failure)) = outcomes.get(place) {
+            return Halt::Failed(*failure);
         }
     }
     Halt::GivenUp

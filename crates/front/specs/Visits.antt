@@ -3,8 +3,8 @@ use Rattle.std.specs.Prelude.{◌≡◌, ℕ, List, [], ◌∷◌, ◌++◌, Som
 use Rattle.std.specs.List.{flat_map}
 use Rattle.history.specs.Handles.{Passed}
 use Rattle.history.specs.Histories.{IsBeginning}
-use Rattle.requests.specs.Writing.{Dues}
 use Rattle.requests.specs.declared.fault.ServeFault.{ServeFault}
+use Rattle.answering.specs.Gathering.{Known, MayGoOn, among, any_text}
 use Rattle.answering.specs.Serving.{World}
 use Rattle.answering.specs.Visits.{IsVisit}
 use Rattle.answering.specs.declared.visiting.Visited.{Visited}
@@ -12,16 +12,16 @@ use Rattle.answering.specs.declared.visiting.Visited.TheVariants.{More, Unfinish
 use Rattle.front.specs.Calls.{CallGives}
 
 -- A visit of a connection: the bytes that the visit before it left, those that were taken in since, and the text that
--- waited to be sent; the text that the visit put behind that, and the bytes that it left; what the worker's pass knew
--- and its clock told, before and after; and how it ended.
+-- waited to be sent; the text that the visit put behind that, and the bytes that it left; what the worker's pass knew,
+-- whether its last call was in doubt, and what its clock told, before and after; and how it ended.
 pub record Visit (C : Type 0) : Type 0 where
   pub held : List ℕ
   pub taken : List ℕ
   pub waiting : List ℕ
   pub text : List ℕ
   pub rest : List ℕ
-  pub before : World Passed C
-  pub after : World Passed C
+  pub before : World (Known Passed) C
+  pub after : World (Known Passed) C
   pub result : Result Visited ServeFault
 
 -- A connection: its visits, one after another, the bytes that were taken in since the last of them, and what was sent.
@@ -51,20 +51,16 @@ AreJoined held [] later = Unit {0}
 AreJoined held (v ∷ vs) later = (v.held ≡ held)
     × IsKeptOrNot v.result (AreJoined v.rest vs later) ((vs ≡ []) × (later ≡ []))
 
--- whatever is to be sent
-abbrev pub anything : Dues Passed
-anything knows text = Unit {0}
-
 module _ {C : Type 0} (ticks : C → ℕ → C → Type 0) where
-  -- what `Service::visit` says
+  -- one of the visits that `Service::visit_all` makes
   abbrev pub IsVisited : Visit C → Type 0
-  IsVisited v = IsVisit CallGives ticks anything anything (Some v.waiting) (Some (v.waiting ++ v.text))
+  IsVisited v = IsVisit (among CallGives) ticks any_text any_text (Some v.waiting) (Some (v.waiting ++ v.text))
       (v.held ++ v.taken) v.before v.rest v.after v.result
 
   -- visits by one pass, one after another
-  abbrev pub AreVisits : Passed → List (Visit C) → Passed → Type 0
+  abbrev pub AreVisits : Known Passed → List (Visit C) → Known Passed → Type 0
   AreVisits start [] end = end ≡ start
-  AreVisits start (v ∷ vs) end = (v.before.knows ≡ start) × IsVisited v
+  AreVisits start (v ∷ vs) end = MayGoOn start v.before.knows × IsVisited v
       × AreVisits v.after.knows vs end
 
   -- each is a visit

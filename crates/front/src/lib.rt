@@ -6,7 +6,7 @@ mod laws;
 mod serving;
 
 pub use answering::{
-    Answer, Answers, Clock, Connection, Outgoing, Route, ServeFault, Served, Status, Visited,
+    Answer, Answers, Clock, Connection, Kept, Route, ServeFault, Served, Status, Workspace,
     answer_of_read,
 };
 pub use full::{FullShards, Untold};

@@ -1,19 +1,18 @@
 //! An ingester as what makes the calls of requests.
-ghost use Rattle.std.specs.Prelude.{◌≡◌, ◌<◌, Some};
+ghost use Rattle.std.specs.Prelude.{◌≡◌, ◌<◌, Bool, false, map};
 ghost use Rattle.accept.specs.OneStream.{end_of_time};
 ghost use Rattle.ingester.specs.Calls.{IsPassOf};
-ghost use Rattle.answering.specs.Connections.{IsLeftSo};
 ghost use Rattle.answering.specs.Due.{AreDueTexts};
+ghost use Rattle.answering.specs.Gathering.{AreVisitedSo, known};
 ghost use Rattle.answering.specs.Responses.{RequestIsAnswered};
 ghost use Rattle.answering.specs.Serving.{ConnectionIsServed, world, io};
-ghost use Rattle.answering.specs.Visits.{IsVisit};
 ghost use Rattle.front.specs.Calls.{CallGives};
 
 use crate::full::{FullShards, Untold};
 use accept::{Call, CallFault, Reply};
 use answering::{
-    Answer, Answers, Calls, Clock, Connection, Ends, Outgoing, RequestBody, Route, ServeFault,
-    Served, Visited,
+    Answer, Answers, Calls, Clock, Ends, Kept, RequestBody, Route, ServeFault, Served, Workspace,
+    answer_connections,
 };
 use disk::Disk;
 use ingester::{Ingester, Pass};
@@ -80,30 +79,23 @@ impl<'a, D: Disk + Drop, F: FullShards> Calls for Service<'a, D, F> {
 }
 
 impl<'a, D: Disk + Drop, F: FullShards> Service<'a, D, F> {
-    /// Answers the requests that have come of a connection, at most this many: `Connection::answer` by the calls of
-    /// this ingester.
-    ///
-    /// # Errors
-    ///
-    /// As `Connection::answer`.
-    pub fn visit<R: Wait, C: Clock>(
+    /// Answers a request of each connection: `answering::answer_connections` by the calls of this ingester.
+    pub fn visit_all<R: Wait, C: Clock, T: Kept<Pass> + Drop>(
         &self,
         rt: &R,
         alloc: Global,
         pass: &mut Pass,
         clock: &mut C,
-        connection: &mut Connection<Pass>,
-        outgoing: &mut Outgoing,
-        most: u32,
-    ) -> Result<Visited, ServeFault>
+        connections: &mut VecDeque<T>,
+        workspace: &mut Workspace,
+    )
         requires pass { IsPassOf self.now.ingester.now pass.old }
         ensures pass { IsPassOf self.now.ingester.now pass.new }
-        ensures left { IsLeftSo result connection.old connection.new }
-        ensures visits { IsVisit CallGives C.ticks (λ _ _. Unit {0}) (λ _ _. Unit {0})
-            (Some connection.old.text) (Some connection.new.text) connection.old.came
-            (world pass.old clock.old) connection.new.came (world pass.new clock.new) result }
+        ensures visits { (doubt : Bool) × AreVisitedSo CallGives C.ticks
+            (world (known pass.old false) clock.old) (map T.kept connections.old.items)
+            (world (known pass.new doubt) clock.new) (map T.kept connections.new.items) }
     {
-        connection.answer(rt, alloc, self, pass, clock, outgoing, most)
+        answer_connections(rt, alloc, self, pass, clock, connections, workspace);
     }
 }
 

@@ -7,15 +7,16 @@ use Rattle.std.specs.List.{flat_map}
 use Rattle.history.specs.Handles.{Passed}
 use Rattle.requests.specs.declared.fault.ServeFault.{ServeFault}
 use Rattle.answering.specs.Connections.{Unended, IsLeftSo}
+use Rattle.answering.specs.Gathering.{Known, among, any_text}
 use Rattle.answering.specs.Serving.{World}
 use Rattle.answering.specs.Visits.{IsVisit}
 use Rattle.answering.specs.declared.visiting.Visited.{Visited}
 use Rattle.answering.specs.declared.visiting.Visited.TheVariants.{More, Unfinished, Closed}
 use Rattle.front.specs.Calls.{CallGives}
-use Rattle.front.specs.Visits.{Visit, Line, bytes_of, text_put, IsKeptOrNot, AreJoined, anything, IsVisited, AreVisited, IsVisitedLine}
+use Rattle.front.specs.Visits.{Visit, Line, bytes_of, text_put, IsKeptOrNot, AreJoined, IsVisited, AreVisited, IsVisitedLine}
 use Rattle.workers.specs.Sockets.{SocketCall, heard_in, said_in}
 use Rattle.workers.specs.Talks.{Seen, HasNothing, IsSame, with_heard, with_said, Steps, TalksFor, IsOfTalk}
-use Rattle.ingesterd.specs.Visiting.{session_seen, IsVisitOf, WasVisited}
+use Rattle.ingesterd.specs.Visiting.{session_seen, WasVisited}
 use Rattle.ingesterd.proofs.Served.{appended}
 
 -- what holds of both ways
@@ -69,8 +70,8 @@ module _ {C : Type 0} where
       (stands.0, both_so (Stands v.rest vs later s) (Stands v.rest vs (later ++ bytes) s') (Over vs later s) (Over vs (later ++ bytes) s') v.result (stood v.rest vs later bytes s s' came closes none) (still_over vs later bytes s s' closes none) stands.1)
 
   -- a visit of one that goes on
-  module _ (ticks : C → ℕ → C → Type 0) (old new : Unended) (w w' : World Passed C) (result : Result Visited ServeFault) (left : IsLeftSo result old new)
-      (is : IsVisit CallGives ticks anything anything (Some old.text) (Some new.text) old.came w new.came w' result) where
+  module _ (ticks : C → ℕ → C → Type 0) (old new : Unended) (w w' : World (Known Passed) C) (result : Result Visited ServeFault) (left : IsLeftSo result old new)
+      (is : IsVisit (among CallGives) ticks any_text any_text (Some old.text) (Some new.text) old.came w new.came w' result) where
     abbrev Added : List ℕ → List (Visit C) → List ℕ → Type 0
     Added held vs later = (v : Visit C) × (v.taken ≡ later) × (new.text ≡ old.text ++ v.text) × IsVisited ticks v × Stands held (vs ++ v ∷ []) [] (session_seen new)
 
@@ -83,11 +84,11 @@ module _ {C : Type 0} where
     last : (held later : List ℕ) → old.came ≡ held ++ later → old.closes ≡ false → Added held [] later
     last held later came goes_on =
         let (text, more) = appended ticks old.text new.text old.came w new.came w' result is in
-        let read = subst (λ b. IsVisit CallGives ticks anything anything (Some old.text) (Some new.text) b w new.came w' result) came is in (
+        let read = subst (λ b. IsVisit (among CallGives) ticks any_text any_text (Some old.text) (Some new.text) b w new.came w' result) came is in (
           record { held = held; taken = later; waiting = old.text; text = text; rest = new.came; before = w; after = w'; result = result },
           refl,
           more,
-          subst (λ t. IsVisit CallGives ticks anything anything (Some old.text) (Some t) (held ++ later) w new.came w' result) more read,
+          subst (λ t. IsVisit (among CallGives) ticks any_text any_text (Some old.text) (Some t) (held ++ later) w new.came w' result) more read,
           (refl, left_so result left goes_on),
         )
 
@@ -139,8 +140,8 @@ module _ {C T : Type 0} (ticks : C → ℕ → C → Type 0) (connection : T →
   }
 
   visit_made : (t t' : T) (heard said heard' said' : List ℕ) → Lined t heard said → (seen t).closes ≡ false → was_visited t t' → heard' ≡ heard → said' ≡ said → Lined t' heard' said'
-  visit_made t t' heard said heard' said' so_far goes_on (w, w', (result, left, is)) h s =
-      let (v, taken, text, read, stands) = added ticks (connection t) (connection t') w w' result left is [] so_far.visits so_far.later so_far.stands goes_on in
+  visit_made t t' heard said heard' said' so_far goes_on (w, w', is) h s =
+      let (v, taken, text, read, stands) = added ticks (connection t) (connection t') w w' is.result is.left is.is [] so_far.visits so_far.later so_far.stands goes_on in
       let takens = flat_map (λ v. v.taken) so_far.visits in
       let all_taken : flat_map (λ v. v.taken) (so_far.visits ++ v ∷ []) ≡ takens ++ so_far.later =
       flat_map-append (λ v. v.taken) so_far.visits (v ∷ []) ∙ ap (λ l. takens ++ l) (append-nil v.taken ∙ taken) in

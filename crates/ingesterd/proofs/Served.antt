@@ -1,17 +1,18 @@
 -- The visits of a worker, as the server's contract tells them.
-use Rattle.std.proofs.Common.{◌≡◌, ◌⊎◌, inl, inr, ℕ, zero, suc, List, [], ◌∷◌, ◌++◌, length, Option, None, Some, Result, Ok, Err, slice_get, OnOk, option_map, string_bytes, refl, sym, ap, ◌∙◌, subst}
+use Rattle.std.proofs.Common.{◌≡◌, ◌⊎◌, inl, inr, ⊎_elim, ℕ, zero, suc, Bool, false, List, map, [], ◌∷◌, ◌++◌, length, Option, None, Some, Result, Ok, Err, slice_get, OnOk, option_map, string_bytes, refl, sym, ap, ◌∙◌, subst}
 use Rattle.std.proofs.lemmas.Option.{none-some, same_Some}
 use Rattle.std.specs.List.{flat_map}
 use Rattle.history.specs.Handles.{Passed}
 use Rattle.requests.specs.declared.fault.ServeFault.{ServeFault}
 use Rattle.requests.specs.declared.fault.ServeFault.TheVariants as faults
 use Rattle.answering.specs.Connections.{Unended}
+use Rattle.answering.specs.Gathering.{Known, MayGoOn, IsVisitedSo, AreVisitedSo, among, any_text, known}
 use Rattle.answering.specs.Serving.{World, world, response}
 use Rattle.answering.specs.Visits.{IsVisit}
 use Rattle.answering.specs.declared.visiting.Visited.{Visited}
 use Rattle.answering.specs.declared.visiting.Visited.TheVariants as visited
 use Rattle.front.specs.Calls.{CallGives}
-use Rattle.front.specs.Visits.{Visit, anything, IsVisited, AreVisits}
+use Rattle.front.specs.Visits.{Visit, IsVisited, AreVisits}
 use Rattle.accept.specs.declared.limits.Limits.{Limits}
 use Rattle.owners.specs.Openings.{Opening}
 use Rattle.words.specs.Words.{capacity_of}
@@ -22,10 +23,10 @@ use Rattle.programs.specs.Openings.{IsOpenedUnder}
 use Rattle.workers.specs.Talks.{HaveVisited, IsPassLeft, ArePassesLeft}
 use Rattle.ingesterd.specs.Served.{HasServed}
 use Rattle.ingesterd.specs.Endings.{HasServedAsAsked}
-use Rattle.ingesterd.specs.Visiting.{IsVisitOf}
+use Rattle.ingesterd.specs.Visiting.{WereVisited}
 
 module _ {C : Type 0} (ticks : C → ℕ → C → Type 0) where
-  pub appended : (a b bytes : List ℕ) (w : World Passed C) (rest : List ℕ) (w' : World Passed C) (result : Result Visited ServeFault) → IsVisit CallGives ticks anything anything (Some a) (Some b) bytes w rest w' result → (text : List ℕ) × (b ≡ a ++ text)
+  pub appended : (a b bytes : List ℕ) (w : World (Known Passed) C) (rest : List ℕ) (w' : World (Known Passed) C) (result : Result Visited ServeFault) → IsVisit (among CallGives) ticks any_text any_text (Some a) (Some b) bytes w rest w' result → (text : List ℕ) × (b ≡ a ++ text)
   appended a b bytes w rest w' (Ok visited.More) is = (flat_map response is.exchanges, is.appends)
   appended a b bytes w rest w' (Ok (visited.Unfinished n)) is = (flat_map response is.0.exchanges, is.0.appends)
   appended a b bytes w rest w' (Ok visited.Closed) is = (is.text, is.appends)
@@ -34,31 +35,56 @@ module _ {C : Type 0} (ticks : C → ℕ → C → Type 0) where
   appended a b bytes w rest w' (Err faults.Read) is = absurd is
   appended a b bytes w rest w' (Err faults.CutShort) is = absurd is
 
-  one : (w : World Passed C) (old : Unended) (w' : World Passed C) (new : Unended) → IsVisitOf ticks w old w' new → (v : Visit C) × (v.before ≡ w) × (v.after ≡ w') × IsVisited ticks v
-  one w old w' new (result, left, is) =
-      let (text, more) = appended old.text new.text old.came w new.came w' result is in (
-        record { held = []; taken = old.came; waiting = old.text; text = text; rest = new.came; before = w; after = w'; result = result },
+  one : (w : World (Known Passed) C) (old : Unended) (w' : World (Known Passed) C) (new : Unended) → IsVisitedSo CallGives ticks w old w' new → (v : Visit C) × (v.before ≡ w) × (v.after ≡ w') × IsVisited ticks v
+  one w old w' new it =
+      let (text, more) = appended old.text new.text old.came w new.came w' it.result it.is in (
+        record { held = []; taken = old.came; waiting = old.text; text = text; rest = new.came; before = w; after = w'; result = it.result },
         refl,
         refl,
-        subst (λ t. IsVisit CallGives ticks anything anything (Some old.text) (Some t) old.came w new.came w' result) more is,
+        subst (λ t. IsVisit (among CallGives) ticks any_text any_text (Some old.text) (Some t) old.came w new.came w' it.result) more it.is,
       )
 
+  each : (w : World (Known Passed) C) (olds : List Unended) (w' : World (Known Passed) C) (news : List Unended) → AreVisitedSo CallGives ticks w olds w' news → (vs : List (Visit C)) × AreVisits ticks w.knows vs w'.knows
+  each w [] w' [] same = ([], ap (λ x. x.knows) same)
+  each w [] w' (new ∷ news) never = absurd never
+  each w (old ∷ olds) w' [] never = absurd never
+  each w (old ∷ olds) w' (new ∷ news) (start, mid, goes_on, is, others) =
+      let (v, before, after, it) = one (world start w.clock) old mid new is in
+      let (vs, more) = each mid olds w' news others in
+      (v ∷ vs, (subst (MayGoOn w.knows) (sym (ap (λ x. x.knows) before)) goes_on, it, subst (λ k. AreVisits ticks k vs w'.knows) (sym (ap (λ x. x.knows) after)) more))
+
+  -- visits with none before them may come after any
+  after_any : (p q : Passed) (doubt last : Bool) (vs : List (Visit C)) → AreVisits ticks (known p false) vs (known q last) → (end : Bool) × AreVisits ticks (known p doubt) vs (known q end)
+  after_any p q doubt last [] same = (doubt, ap (λ k. known k.knows doubt) same)
+  after_any p q doubt last (v ∷ vs) (goes_on, is, others) = (last, (⊎_elim (λ (e : v.before.knows ≡ known p false). inr e) (λ (e : v.before.knows ≡ known p false). inr e) goes_on, is, others))
+
+  both : (start mid end : Known Passed) (vs us : List (Visit C)) → AreVisits ticks start vs mid → AreVisits ticks mid us end → AreVisits ticks start (vs ++ us) end
+  both start mid end [] us same more = subst (λ k. AreVisits ticks k us end) same more
+  both start mid end (v ∷ vs) us (goes_on, is, others) more = (goes_on, is, both v.after.knows mid end vs us others more)
+
+  -- visits that left a pass so
+  abbrev pub Left : Passed → Bool → Passed → Type 0
+  Left p doubt q = (vs : List (Visit C)) × (end : Bool) × AreVisits ticks (known p doubt) vs (known q end)
+
   module _ {I S K : Type 0} (clock : S → C) (connection : K → Unended) where
-    -- what the server's workers promise of a visit
-    abbrev pub Visiting : I → S → Passed → K → S → Passed → K → Type 0
-    Visiting service s p k s' p' k' = IsVisitOf ticks (world p (clock s)) (connection k) (world p' (clock s')) (connection k')
+    -- what the server's workers promise of visits
+    abbrev pub Visiting : I → S → Passed → List (K × K) → S → Passed → Type 0
+    Visiting service s p ks s' p' = WereVisited ticks (world p (clock s)) (map (λ both. connection both.0) ks) (world p' (clock s')) (map (λ both. connection both.1) ks)
 
     module _ (service : I) where
-      chain : (s : S) (p : Passed) (ks : List (K × K)) (s' : S) (p' : Passed) → HaveVisited Visiting service s p ks s' p' → (vs : List (Visit C)) × AreVisits ticks p vs p'
-      chain s p [] s' p' (same, kept) = ([], kept)
-      chain s p (k ∷ ks) s' p' (mid, between, first, others) =
-          let (v, before, after, is) = one (world p (clock s)) (connection k.0) (world between (clock mid)) (connection k.1) first in
-          let (vs, more) = chain mid between ks s' p' others in
-          (v ∷ vs, (ap (λ w. w.knows) before, is, subst (λ q. AreVisits ticks q vs p') (sym (ap (λ w. w.knows) after)) more))
+      chain : (s : S) (p : Passed) (doubt : Bool) (all : List (List (K × K))) (s' : S) (p' : Passed) → HaveVisited Visiting service s p all s' p' → Left p doubt p'
+      chain s p doubt [] s' p' (same, kept) = ([], doubt, ap (λ q. known q doubt) kept)
+      chain s p doubt (ks ∷ all) s' p' (mid, between, (last, are), others) =
+          let olds = map (λ (both : K × K). connection both.0) ks in
+          let news = map (λ (both : K × K). connection both.1) ks in
+          let (vs, made) = each (world (known p false) (clock s)) olds (world (known between last) (clock mid)) news are in
+          let (left, first) = after_any p between doubt last vs made in
+          let (us, end, more) = chain mid between left all s' p' others in
+          (vs ++ us, end, both (known p doubt) (known between left) (known p' end) vs us first more)
 
-      left_so : (p q : Passed) → IsPassLeft Visiting service p q → (vs : List (Visit C)) × AreVisits ticks p vs q
-      left_so p q (inl same) = ([], same)
-      left_so p q (inr (s, (s', (ks, were)))) = chain s p ks s' q were
+      left_so : (p q : Passed) → IsPassLeft Visiting service p q → Left p false q
+      left_so p q (inl same) = ([], false, ap (λ r. known r false) same)
+      left_so p q (inr (s, (s', (all, were)))) = chain s p false all s' q were
 
       pub as_many : (ps qs : List Passed) → ArePassesLeft Visiting service ps qs → length qs ≡ length ps
       as_many [] [] all = refl
@@ -67,11 +93,11 @@ module _ {C : Type 0} (ticks : C → ℕ → C → Type 0) where
       as_many (p ∷ ps) (q ∷ qs) all = ap suc (as_many ps qs all.1)
 
       pub each_left : (ps qs : List Passed) → ArePassesLeft Visiting service ps qs → (i : ℕ) (q : Passed) → slice_get qs i ≡ Some q
-          → (p : Passed) × (slice_get ps i ≡ Some p) × ((vs : List (Visit C)) × AreVisits ticks p vs q)
+          → (p : Passed) × (slice_get ps i ≡ Some p) × Left p false q
       each_left [] [] all i q got = absurd (none-some q got)
       each_left [] (x ∷ qs) all i q got = absurd all
       each_left (p ∷ ps) [] all i q got = absurd all
-      each_left (p ∷ ps) (x ∷ qs) all zero q got = (p, refl, subst (λ y. (vs : List (Visit C)) × AreVisits ticks p vs y) (same_Some x q got) (left_so p x all.0))
+      each_left (p ∷ ps) (x ∷ qs) all zero q got = (p, refl, subst (Left p false) (same_Some x q got) (left_so p x all.0))
       each_left (p ∷ ps) (x ∷ qs) all (suc i) q got = each_left ps qs all.1 i q got
 
       -- from what the workers promise to what the server's end says
@@ -89,6 +115,6 @@ module _ {C : Type 0} (ticks : C → ℕ → C → Type 0) where
             count = as_many ps qs left ∙ opened.fresh.count_is;
             served = λ p pass got.
                 let (start, at, more) = each_left ps qs left p pass got in
-                (more.0, subst (λ q. AreVisits ticks q more.0 pass) (opened.fresh.fresh p start at) more.1);
+                subst (λ q. Left q false pass) (opened.fresh.fresh p start at) more;
           } in
           (limits, given, (qs, served))

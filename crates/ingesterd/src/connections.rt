@@ -1,21 +1,18 @@
 //! How the server's workers serve connections.
-ghost use Rattle.std.specs.Prelude.{◌≡◌, ◌≤◌, length, not};
+ghost use Rattle.std.specs.Prelude.{◌≡◌, ◌≤◌, length, map, not};
 ghost use Rattle.history.specs.Handles.{is_closed_pass};
 ghost use Rattle.ingester.specs.Calls.{IsPassOf};
 ghost use Rattle.answering.specs.Serving.{world};
-ghost use Rattle.ingesterd.specs.Visiting.{session_seen, IsVisitOf, WasVisited};
+ghost use Rattle.ingesterd.specs.Visiting.{session_seen, WasVisited, WereVisited};
 
 use disk::Disk;
-use front::{Clock, Connection, FullShards, Outgoing, ServeFault, Service};
+use front::{Clock, Connection, FullShards, Kept, Service, Workspace};
 use ingester::{Ingester, Pass};
 use std::alloc::Global;
+use std::collections::VecDeque;
 use std::marker::PhantomData;
 use std::sync::Wait;
-use workers::{Progress, Serve, Session};
-
-/// The most requests of a connection that are answered in one visit: with two, a client that pipelines gets no more of
-/// its worker than others do, and the one request of any other client takes one visit.
-const MOST: u32 = 2;
+use workers::{Serve, Session};
 
 /// A connection as its worker keeps it. `C` is the clock by which it is served.
 #[derive(Drop)]
@@ -61,11 +58,20 @@ impl<C: Clock> Session for KeptConnection<C> {
     }
 }
 
-// What a worker is told of a visit.
-fn told_by(visited: &Result<front::Visited, ServeFault>) -> Progress {
-    match visited {
-        Ok(front::Visited::More) => Progress::More,
-        _ => Progress::Done,
+impl<C> Kept<Pass> for KeptConnection<C> {
+    ghost kept = { λ kept. kept.connection };
+
+    fn into_connection(self) -> Connection<Pass> {
+        self.connection
+    }
+
+    fn of_connection(connection: Connection<Pass>) -> KeptConnection<C>
+        ensures { result.connection ≡ connection }
+    {
+        KeptConnection {
+            connection,
+            of: PhantomData,
+        }
     }
 }
 
@@ -76,7 +82,7 @@ fn told_by(visited: &Result<front::Visited, ServeFault>) -> Progress {
 pub struct Connections<'a, C: Clock, F: FullShards> {
     clock: C,
     full: &'a F,
-    outgoing: Outgoing,
+    workspace: Workspace,
 }
 
 impl<'a, C: Clock, F: FullShards> Connections<'a, C, F> {
@@ -85,7 +91,7 @@ impl<'a, C: Clock, F: FullShards> Connections<'a, C, F> {
         Connections {
             clock,
             full,
-            outgoing: Outgoing::new(alloc),
+            workspace: Workspace::new(alloc),
         }
     }
 }
@@ -98,32 +104,30 @@ impl<'a, D: Disk + Drop, C: Clock, F: FullShards> Serve<Ingester<D>, Pass>
 
     ghost may_go_on = { λ pass. not (is_closed_pass pass) };
 
-    ghost visits = { λ ingester server pass kept server' pass' kept'.
-        IsVisitOf C.ticks (world pass server.clock) kept.connection
-        (world pass' server'.clock) kept'.connection };
+    ghost visits = { λ ingester server pass pairs server' pass'. WereVisited C.ticks
+        (world pass server.clock) (map (λ both. both.0.connection) pairs)
+        (world pass' server'.clock) (map (λ both. both.1.connection) pairs) };
 
-    fn visit<R: Wait>(
+    fn visit_all<R: Wait>(
         &mut self,
         rt: &R,
         alloc: Global,
         ingester: &Ingester<D>,
         pass: &mut Pass,
-        session: &mut KeptConnection<C>,
-    ) -> Progress {
+        sessions: &mut VecDeque<KeptConnection<C>>,
+    ) {
         let service = Service {
             ingester,
             full: self.full,
         };
-        let visited = service.visit(
+        service.visit_all(
             rt,
             alloc,
             pass,
             &mut self.clock,
-            &mut session.connection,
-            &mut self.outgoing,
-            MOST,
+            sessions,
+            &mut self.workspace,
         );
-        told_by(&visited)
     }
 
     fn may_go_on(&self, pass: &Pass) -> bool {

@@ -1,5 +1,5 @@
 -- What the calls of requests leave happens to their pass.
-use Rattle.std.proofs.Common.{◌≡◌, ◌⊎◌, ℕ, Bool, true, false, List, [], ◌∷◌, ◌++◌, map, Result, Ok, Err, refl, sym, ap, ◌∙◌, subst, inl, inr, ⊎_elim}
+use Rattle.std.proofs.Common.{◌≡◌, ◌⊎◌, ℕ, Bool, true, false, List, [], ◌∷◌, ◌++◌, map, Result, Ok, Err, refl, sym, ap, ◌∙◌, subst, inl, inr, append_assoc}
 use Rattle.std.proofs.lemmas.List.{map-append}
 use Rattle.std.proofs.lemmas.List.Concat.{flat_map-append}
 use Rattle.accept.specs.declared.call.Call.{Call as Asking}
@@ -17,16 +17,17 @@ use Rattle.requests.specs.Verdicts.{IsVerdict}
 use Rattle.history.specs.Handles.{Passed}
 use Rattle.owners.specs.Openings.{Opening}
 use Rattle.ingester.specs.Calls.{IsGivenAfter}
-use Rattle.headline.specs.Threads.{What, Called, Looked, Met, Closed, Happening, Happens, HappenAfter, leaves_call_in_doubt, answers_by}
+use Rattle.headline.specs.Threads.{What, Called, Looked, Met, Closed, Happening, Happens, HappenAfter, answers_by}
 use Rattle.headline.specs.Headline.{IsOneOf}
 use Rattle.headline.proofs.Among.{among_left}
 use Rattle.answering.specs.Asking.{Asked, AsksFor, IsCallOf}
 use Rattle.answering.specs.Calls.{Came, Refused, Replied, Failed}
 use Rattle.answering.specs.Courses.{Course, Unread, Whole, Broken, said_of, StreamsGiveAfter, BodyGives, BodyIsLeft}
+use Rattle.answering.specs.Gathering.{Known, MayGoOn, among, known}
 use Rattle.answering.specs.Serving.{Exchange, World, VerdictGives, VerdictIsLeft, ConnectionGives, IsExchange, IsAbandoned}
 use Rattle.answering.specs.Steps.{AreSteps, AreStepsOf, AreStepsBy, AreTheirSteps}
 use Rattle.front.specs.Calls.{CallGives}
-use Rattle.whole.specs.Visits.{HappenFrom, its_step, answered_among, steps_among}
+use Rattle.whole.specs.Visits.{its_step, answered_among, steps_among}
 use Rattle.whole.specs.Whole.{IsAskedIn}
 
 pub steps-append : (first others : List Happening) → steps_among (first ++ others) ≡ steps_among first ++ steps_among others
@@ -58,6 +59,10 @@ pub record IsAskedBy (r : Request) (verdict : Verdict) (call : Asking) : Type 0 
   pub one_of : IsOneOf stream streams
   pub call_is : IsCallOf tenant stream call
 
+-- From the one to the other these happened to a pass: so whatever happens then happens behind them.
+abbrev pub HappenFrom : {D : Type 0} → Opening D → Known Passed → List Happening → Known Passed → Type 0
+HappenFrom opening k hs k' = (more : List Happening) (end : Passed) → HappenAfter k'.doubt opening k'.knows more end → HappenAfter k.doubt opening k.knows (hs ++ more) end
+
 module _ {D : Type 0} (opening : Opening D) where
   given_weaker : (lost : Bool) (old new : Passed) (call : Asking) (outcome : Result Reply CallFault) → IsGivenAfter false old call outcome new → IsGivenAfter lost old call outcome new
   given_weaker false old new call outcome is = is
@@ -69,48 +74,55 @@ module _ {D : Type 0} (opening : Opening D) where
   weaker lost old new (Met other theirs) is = is
   weaker lost old new Closed is = is
 
-  from_none_lost : (start end : Passed) (hs : List Happening) → HappenAfter false opening start hs end → HappenFrom opening start hs end
-  from_none_lost start end [] same = λ lost. same
-  from_none_lost start end (h ∷ hs) (is, happens, others) = λ lost. (is, weaker lost h.before h.after h.what happens, others)
+  -- what happens where no call before is in doubt may happen behind any
+  behind_any : (lost : Bool) (start end : Passed) (hs : List Happening) → HappenAfter false opening start hs end → HappenAfter lost opening start hs end
+  behind_any lost start end [] same = same
+  behind_any lost start end (h ∷ hs) (is, happens, others) = (is, weaker lost h.before h.after h.what happens, others)
 
-  join : (lost : Bool) (start mid end : Passed) (first others : List Happening) → HappenAfter lost opening start first mid → HappenFrom opening mid others end → HappenAfter lost opening start (first ++ others) end
-  join lost start mid end [] others same more = subst (λ p. HappenAfter lost opening p others end) same (more lost)
-  join lost start mid end (h ∷ hs) others (is, happens, then) more = (is, happens, join (leaves_call_in_doubt h.what) h.after mid end hs others then more)
+  pub nothing : (k k' : Known Passed) → k' ≡ k → HappenFrom opening k [] k'
+  nothing k k' same = λ more end happen. subst (λ (x : Known Passed). HappenAfter x.doubt opening x.knows more end) same happen
 
-  pub both : (start mid end : Passed) (first others : List Happening) → HappenFrom opening start first mid → HappenFrom opening mid others end → HappenFrom opening start (first ++ others) end
-  both start mid end first others happen more = λ lost. join lost start mid end first others (happen lost) more
+  pub both : (k mid k' : Known Passed) (first others : List Happening) → HappenFrom opening k first mid → HappenFrom opening mid others k' → HappenFrom opening k (first ++ others) k'
+  both k mid k' first others happen then = λ more end next.
+      subst (λ l. HappenAfter k.doubt opening k.knows l end) (sym (append_assoc first others more)) (happen (others ++ more) end (then more end next))
 
-  pub nothing : (h h' : Passed) → h' ≡ h → HappenFrom opening h [] h'
-  nothing h h' same = λ lost. same
+  pub went_on : (k k' : Known Passed) → MayGoOn k k' → HappenFrom opening k [] k'
+  went_on k k' (inl same) = nothing k k' same
+  went_on k k' (inr alone) = λ more end happen. behind_any k.doubt k.knows end more (nothing (known k.knows false) k' alone more end happen)
 
-  each : (tenant : List ℕ) (doubt : Bool) (h h' : Passed) (all : List Asked) (cames : List Came) → StreamsGiveAfter CallGives tenant doubt h all cames h' → (hs : List Happening) × HappenAfter doubt opening h hs h' × AreSteps tenant all cames (steps_among hs)
-  each tenant doubt h h' [] [] same = ([], same, refl)
-  each tenant doubt h h' [] (c ∷ cs) never = absurd never
-  each tenant doubt h h' (a ∷ more) [] never = absurd never
-  each tenant doubt h h' (a ∷ more) (Refused fault ∷ cs) (mid, (why, same), others) =
-      each tenant doubt h h' more cs (subst (λ p. StreamsGiveAfter CallGives tenant doubt p more cs h') same others)
-  each tenant doubt h h' (a ∷ more) (Failed failure ∷ cs) (mid, (call, is, given), others) =
-      let (hs, happen, are) = each tenant (is_doubt (Err failure)) mid h' more cs others in
-      (record { before = h; what = Called call (Err failure); after = mid } ∷ hs, (refl, given, happen), are)
-  each tenant doubt h h' (a ∷ more) (Replied reply ∷ cs) (mid, (call, is, given), others) =
-      let (hs, happen, are) = each tenant false mid h' more cs others in
-      (record { before = h; what = Called call (Ok reply); after = mid } ∷ hs, (refl, given, happen), (is, refl, are))
+  abbrev called : Known Passed → Asking → Result Reply CallFault → Known Passed → Happening
+  called k call outcome k' = record { before = k.knows; what = Called call outcome; after = k'.knows }
 
-  streams : (tenant : List ℕ) (h h' : Passed) (all : List Asked) (cames : List Came) → StreamsGiveAfter CallGives tenant false h all cames h' → (hs : List Happening) × HappenFrom opening h hs h' × AreSteps tenant all cames (steps_among hs)
-  streams tenant h h' all cames given = let (hs, happen, are) = each tenant false h h' all cames given in (hs, from_none_lost h h' hs happen, are)
+  one : (doubt : Bool) (k k' : Known Passed) (call : Asking) (outcome : Result Reply CallFault) → among CallGives doubt k call outcome k' → HappenFrom opening k (called k call outcome k' ∷ []) k'
+  one doubt k k' call outcome (given, leaves) = λ more end happen. (refl, given, subst (λ d. HappenAfter d opening k'.knows more end) leaves happen)
+
+  streams : (tenant : List ℕ) (doubt : Bool) (k k' : Known Passed) (all : List Asked) (cames : List Came) → StreamsGiveAfter (among CallGives) tenant doubt k all cames k' → (hs : List Happening) × HappenFrom opening k hs k' × AreSteps tenant all cames (steps_among hs)
+  streams tenant doubt k k' [] [] same = ([], nothing k k' same, refl)
+  streams tenant doubt k k' [] (c ∷ cs) never = absurd never
+  streams tenant doubt k k' (a ∷ more) [] never = absurd never
+  streams tenant doubt k k' (a ∷ more) (Refused fault ∷ cs) (mid, (why, same), others) =
+      streams tenant doubt k k' more cs (subst (λ x. StreamsGiveAfter (among CallGives) tenant doubt x more cs k') same others)
+  streams tenant doubt k k' (a ∷ more) (Failed failure ∷ cs) (mid, (call, is, given), others) =
+      let (hs, happen, are) = streams tenant (is_doubt (Err failure)) mid k' more cs others in
+      let h = called k call (Err failure) mid in
+      (h ∷ hs, both k mid k' (h ∷ []) hs (one doubt k mid call (Err failure) given) happen, are)
+  streams tenant doubt k k' (a ∷ more) (Replied reply ∷ cs) (mid, (call, is, given), others) =
+      let (hs, happen, are) = streams tenant false mid k' more cs others in
+      let h = called k call (Ok reply) mid in
+      (h ∷ hs, both k mid k' (h ∷ []) hs (one doubt k mid call (Ok reply) given) happen, (is, refl, are))
 
   -- of streams at the front of those that were asked for
   of_front : (tenant : List ℕ) (asked : Result (List Asked) PushFault) (done more : List Asked) (cames : List Came) (steps : List Step) → asked ≡ Ok (done ++ more) → AreSteps tenant done cames steps → (s : Step) → IsOneOf s steps → IsAskedOn tenant asked s.ask.call
   of_front tenant asked done more cames steps is are s one = let it = stream_of tenant done cames steps s are one in (done ++ more, is, it.0, among_left it.0 done more it.1, it.2)
 
-  goes : (tenant : List ℕ) (h h' : Passed) (asked : Result (List Asked) PushFault) (course : Course) → BodyGives CallGives tenant h asked course h'
-      → (hs : List Happening) × HappenFrom opening h hs h' × AreStepsOf tenant asked course (steps_among hs) × ((s : Step) → IsOneOf s (steps_among hs) → IsAskedOn tenant asked s.ask.call)
-  goes tenant h h' asked (Unread fault) (why, same) = ([], nothing h h' same, refl, λ s one. absurd one)
-  goes tenant h h' asked (Whole cames) (all, is, went, whole) =
-      let (hs, happen, are) = streams tenant h h' all cames went in
+  goes : (tenant : List ℕ) (k k' : Known Passed) (asked : Result (List Asked) PushFault) (course : Course) → BodyGives (among CallGives) tenant k asked course k'
+      → (hs : List Happening) × HappenFrom opening k hs k' × AreStepsOf tenant asked course (steps_among hs) × ((s : Step) → IsOneOf s (steps_among hs) → IsAskedOn tenant asked s.ask.call)
+  goes tenant k k' asked (Unread fault) (why, same) = ([], nothing k k' same, refl, λ s one. absurd one)
+  goes tenant k k' asked (Whole cames) (all, is, went, whole) =
+      let (hs, happen, are) = streams tenant false k k' all cames went in
       (hs, happen, (all, is, are), λ s one. let it = stream_of tenant all cames (steps_among hs) s are one in (all, is, it.0, it.1, it.2))
-  goes tenant h h' asked (Broken cames failure) (all, is, ends) =
-      let (hs, happen, are) = streams tenant h h' ends.done cames ends.each in
+  goes tenant k k' asked (Broken cames failure) (all, is, ends) =
+      let (hs, happen, are) = streams tenant false k k' ends.done cames ends.each in
       let split = is ∙ ap (λ l. Ok l) ends.split in
       (hs, happen, (ends.done, ends.more, split, are), of_front tenant asked ends.done ends.more cames (steps_among hs) split are)
 
@@ -127,29 +139,29 @@ module _ {D : Type 0} (opening : Opening D) where
     call_is = it.4;
   }
 
-  handled : (now : ℕ) (r : Request) (h h' : Passed) (verdict : Verdict) (course : Course) → VerdictGives CallGives now r.body verdict h course h'
-      → (hs : List Happening) × HappenFrom opening h hs h' × AreStepsBy now r.body verdict course (steps_among hs) × ((s : Step) → IsOneOf s (steps_among hs) → IsAskedBy r verdict s.ask.call)
-  handled now r h h' (Fixed answer) course (what, same) = ([], nothing h h' same, refl, λ s one. absurd one)
-  handled now r h h' (Call route tenant) course takes =
-      let (hs, happen, are, asked) = goes tenant h h' takes.asked course takes.goes in
+  handled : (now : ℕ) (r : Request) (k k' : Known Passed) (verdict : Verdict) (course : Course) → VerdictGives (among CallGives) now r.body verdict k course k'
+      → (hs : List Happening) × HappenFrom opening k hs k' × AreStepsBy now r.body verdict course (steps_among hs) × ((s : Step) → IsOneOf s (steps_among hs) → IsAskedBy r verdict s.ask.call)
+  handled now r k k' (Fixed answer) course (what, same) = ([], nothing k k' same, refl, λ s one. absurd one)
+  handled now r k k' (Call route tenant) course takes =
+      let (hs, happen, are, asked) = goes tenant k k' takes.asked course takes.goes in
       (hs, happen, (takes.asked, takes.asks, are), λ s one. asked_by r route tenant now takes.asked s.ask.call takes.asks (asked s one))
-  handled now r h h' NoMemory course (what, same) = ([], nothing h h' same, refl, λ s one. absurd one)
+  handled now r k k' NoMemory course (what, same) = ([], nothing k k' same, refl, λ s one. absurd one)
 
-  gives_up : (tenant : List ℕ) (h h' : Passed) (says : ℕ → Came → List ℕ) (asked : Result (List Asked) PushFault) → BodyIsLeft CallGives tenant says h asked h'
-      → (hs : List Happening) × HappenFrom opening h hs h' × ((s : Step) → IsOneOf s (steps_among hs) → IsAskedOn tenant asked s.ask.call)
-  gives_up tenant h h' says (Err fault) (told, same) = ([], nothing h h' same, λ s one. absurd one)
-  gives_up tenant h h' says (Ok all) stops =
+  gives_up : (tenant : List ℕ) (k k' : Known Passed) (says : ℕ → Came → List ℕ) (asked : Result (List Asked) PushFault) → BodyIsLeft (among CallGives) tenant says k asked k'
+      → (hs : List Happening) × HappenFrom opening k hs k' × ((s : Step) → IsOneOf s (steps_among hs) → IsAskedOn tenant asked s.ask.call)
+  gives_up tenant k k' says (Err fault) (told, same) = ([], nothing k k' same, λ s one. absurd one)
+  gives_up tenant k k' says (Ok all) stops =
       let cames = stops.cames ++ stops.last ∷ stops.behind in
-      let (hs, happen, are) = streams tenant h h' stops.done cames stops.each in
+      let (hs, happen, are) = streams tenant false k k' stops.done cames stops.each in
       (hs, happen, of_front tenant (Ok all) stops.done stops.more cames (steps_among hs) (ap (λ l. Ok l) stops.split) are)
 
-  abandoned : (now : ℕ) (r : Request) (h h' : Passed) (verdict : Verdict) → VerdictIsLeft CallGives now r.body verdict h h'
-      → (hs : List Happening) × HappenFrom opening h hs h' × ((s : Step) → IsOneOf s (steps_among hs) → IsAskedBy r verdict s.ask.call)
-  abandoned now r h h' (Fixed answer) never = absurd never
-  abandoned now r h h' (Call route tenant) left =
-      let (hs, happen, asked) = gives_up tenant h h' (said_of route) left.asked left.left in
+  abandoned : (now : ℕ) (r : Request) (k k' : Known Passed) (verdict : Verdict) → VerdictIsLeft (among CallGives) now r.body verdict k k'
+      → (hs : List Happening) × HappenFrom opening k hs k' × ((s : Step) → IsOneOf s (steps_among hs) → IsAskedBy r verdict s.ask.call)
+  abandoned now r k k' (Fixed answer) never = absurd never
+  abandoned now r k k' (Call route tenant) left =
+      let (hs, happen, asked) = gives_up tenant k k' (said_of route) left.asked left.left in
       (hs, happen, λ s one. asked_by r route tenant now left.asked s.ask.call left.asks (asked s one))
-  abandoned now r h h' NoMemory never = absurd never
+  abandoned now r k k' NoMemory never = absurd never
 
 -- the request at the front of these bytes asks for it
 pub asked_in : (bytes : List ℕ) (r : Request) (left : List ℕ) (verdict : Verdict) (call : Asking) → ReadsMessage bytes r left → IsVerdict r.head.method r.head.target (fields_of r.head) verdict → IsAskedBy r verdict call → IsAskedIn bytes call
@@ -192,18 +204,18 @@ asked_behind bytes r mid call reads a = record {
 }
 
 module _ {C : Type 0} (ticks : C → ℕ → C → Type 0) where
-  pub asked_after : (bytes : List ℕ) (w : World Passed C) (es : List Exchange) (rest : List ℕ) (w' : World Passed C) (call : Asking) → ConnectionGives CallGives ticks bytes w es rest w' → IsAskedIn rest call → IsAskedIn bytes call
+  pub asked_after : (bytes : List ℕ) (w : World (Known Passed) C) (es : List Exchange) (rest : List ℕ) (w' : World (Known Passed) C) (call : Asking) → ConnectionGives (among CallGives) ticks bytes w es rest w' → IsAskedIn rest call → IsAskedIn bytes call
   asked_after bytes w [] rest w' call (same, still) a = subst (λ b. IsAskedIn b call) same a
   asked_after bytes w (e ∷ es) rest w' call (mid, between, x, stays, others) a = asked_behind bytes e.request mid call x.message (asked_after mid between es rest w' call others a)
 
   module _ {D : Type 0} (opening : Opening D) where
-    pub its_happenings : (bytes : List ℕ) (w : World Passed C) (e : Exchange) (rest : List ℕ) (w' : World Passed C) → IsExchange CallGives ticks bytes w e rest w'
+    pub its_happenings : (bytes : List ℕ) (w : World (Known Passed) C) (e : Exchange) (rest : List ℕ) (w' : World (Known Passed) C) → IsExchange (among CallGives) ticks bytes w e rest w'
         → (hs : List Happening) × HappenFrom opening w.knows hs w'.knows × AreStepsBy e.now e.request.body e.verdict e.course (steps_among hs) × ((s : Step) → IsOneOf s (steps_among hs) → IsAskedIn bytes s.ask.call)
     its_happenings bytes w e rest w' x =
         let (hs, happen, are, asked) = handled opening e.now e.request w.knows w'.knows e.verdict e.course x.calls in
         (hs, happen, are, λ s one. asked_in bytes e.request rest e.verdict s.ask.call x.message x.verdict (asked s one))
 
-    pub left_happenings : (bytes : List ℕ) (w w' : World Passed C) → IsAbandoned CallGives ticks bytes w w' → (hs : List Happening) × HappenFrom opening w.knows hs w'.knows × ((s : Step) → IsOneOf s (steps_among hs) → IsAskedIn bytes s.ask.call)
+    pub left_happenings : (bytes : List ℕ) (w w' : World (Known Passed) C) → IsAbandoned (among CallGives) ticks bytes w w' → (hs : List Happening) × HappenFrom opening w.knows hs w'.knows × ((s : Step) → IsOneOf s (steps_among hs) → IsAskedIn bytes s.ask.call)
     left_happenings bytes w w' left =
         let (hs, happen, asked) = abandoned opening left.now left.request w.knows w'.knows left.verdict left.calls in
         (hs, happen, λ s one. asked_in bytes left.request left.rest left.verdict s.ask.call left.message left.is (asked s one))

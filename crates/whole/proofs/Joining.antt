@@ -7,6 +7,7 @@ use Rattle.requests.proofs.Unique.{keeps_request}
 use Rattle.requests.specs.declared.fault.ServeFault.{ServeFault}
 use Rattle.headline.specs.Headline.{IsOneOf}
 use Rattle.headline.proofs.Among.{among_left, among_right, among_split}
+use Rattle.answering.specs.Gathering.{among}
 use Rattle.answering.specs.Joining.{AnswersApart}
 use Rattle.answering.specs.Serving.{Exchange, response}
 use Rattle.answering.specs.declared.visiting.Visited.{Visited}
@@ -41,7 +42,7 @@ taken_none some es text e f = ap (λ l. take some (flat_map response l ++ text))
     none (suc n) = refl
 
 module _ {C : Type 0} (ticks : C → ℕ → C → Type 0) where
-  more_apart : (bytes more : List ℕ) (es : List Exchange) (rest : List ℕ) → AnswersApart CallGives ticks bytes es rest → AnswersApart CallGives ticks (bytes ++ more) es (rest ++ more)
+  more_apart : (bytes more : List ℕ) (es : List Exchange) (rest : List ℕ) → AnswersApart (among CallGives) ticks bytes es rest → AnswersApart (among CallGives) ticks (bytes ++ more) es (rest ++ more)
   more_apart bytes more [] rest same = ap (λ l. l ++ more) same
   more_apart bytes more (e ∷ es) rest (mid, w, w', x, kept, others) = (
     mid ++ more,
@@ -52,15 +53,15 @@ module _ {C : Type 0} (ticks : C → ℕ → C → Type 0) where
     more_apart mid more es rest others,
   )
 
-  one_after : (bytes : List ℕ) (es ds : List Exchange) (mid rest : List ℕ) → AnswersApart CallGives ticks bytes es mid → AnswersApart CallGives ticks mid ds rest → AnswersApart CallGives ticks bytes (es ++ ds) rest
-  one_after bytes [] ds mid rest same then = subst (λ b. AnswersApart CallGives ticks b ds rest) same then
+  one_after : (bytes : List ℕ) (es ds : List Exchange) (mid rest : List ℕ) → AnswersApart (among CallGives) ticks bytes es mid → AnswersApart (among CallGives) ticks mid ds rest → AnswersApart (among CallGives) ticks bytes (es ++ ds) rest
+  one_after bytes [] ds mid rest same then = subst (λ b. AnswersApart (among CallGives) ticks b ds rest) same then
   one_after bytes (e ∷ es) ds mid rest (next, w, w', x, kept, others) then = (next, w, w', x, kept, one_after next es ds mid rest others then)
 
   -- what these visits answered, of the bytes from here on
   pub record Heard (bytes : List ℕ) (text : List ℕ) (steps : List Step) : Type 0 where
     pub exchanges : List Exchange
     pub rest : List ℕ
-    pub requests : AnswersApart CallGives ticks bytes exchanges rest
+    pub requests : AnswersApart (among CallGives) ticks bytes exchanges rest
     pub last : List Exchange
     pub refusal : List ℕ
     pub some : ℕ
@@ -87,7 +88,7 @@ module _ {C : Type 0} (ticks : C → ℕ → C → Type 0) where
         record {
           exchanges = a.exchanges;
           rest = a.mid;
-          requests = subst (λ b. AnswersApart CallGives ticks b a.exchanges a.mid) (sym bytes) (apart CallGives ticks (v.held ++ v.taken) v.before a.exchanges a.mid a.between a.serves);
+          requests = subst (λ b. AnswersApart (among CallGives) ticks b a.exchanges a.mid) (sym bytes) (apart (among CallGives) ticks (v.held ++ v.taken) v.before a.exchanges a.mid a.between a.serves);
           last = a.last;
           refusal = a.refusal;
           some = a.some;
@@ -103,14 +104,14 @@ module _ {C : Type 0} (ticks : C → ℕ → C → Type 0) where
         let extra : List ℕ = flat_map (λ (u : Visit C). u.taken) vs ++ later in
         let bytes : (v.held ++ v.taken) ++ extra ≡ v.held ++ ((v.taken ++ flat_map (λ (u : Visit C). u.taken) vs) ++ later) =
         append_assoc v.held v.taken extra ∙ ap (λ l. v.held ++ l) (sym (append_assoc v.taken (flat_map (λ (u : Visit C). u.taken) vs) later)) in
-        let first = more_apart (v.held ++ v.taken) extra a.exchanges a.mid (apart CallGives ticks (v.held ++ v.taken) v.before a.exchanges a.mid a.between a.serves) in
+        let first = more_apart (v.held ++ v.taken) extra a.exchanges a.mid (apart (among CallGives) ticks (v.held ++ v.taken) v.before a.exchanges a.mid a.between a.serves) in
         let here : v.text ≡ flat_map response a.exchanges = a.is ∙ ap (λ l. flat_map response a.exchanges ++ l) (taken_none a.some a.last a.refusal none nothing) ∙ append-nil (flat_map response a.exchanges) in
         let tail : List ℕ = take more.some (flat_map response more.last ++ more.refusal) in
         record {
           exchanges = a.exchanges ++ more.exchanges;
           rest = more.rest;
-          requests = subst (λ b. AnswersApart CallGives ticks b (a.exchanges ++ more.exchanges) more.rest) bytes
-              (one_after ((v.held ++ v.taken) ++ extra) a.exchanges more.exchanges (a.mid ++ extra) more.rest first (subst (λ m. AnswersApart CallGives ticks (m ++ extra) more.exchanges more.rest) left more.requests));
+          requests = subst (λ b. AnswersApart (among CallGives) ticks b (a.exchanges ++ more.exchanges) more.rest) bytes
+              (one_after ((v.held ++ v.taken) ++ extra) a.exchanges more.exchanges (a.mid ++ extra) more.rest first (subst (λ m. AnswersApart (among CallGives) ticks (m ++ extra) more.exchanges more.rest) left more.requests));
           last = more.last;
           refusal = more.refusal;
           some = more.some;

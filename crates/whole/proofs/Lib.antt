@@ -7,6 +7,5 @@ pub mod Lasting
 pub mod Saving
 pub mod Wholes
 pub mod Refusing
-pub mod Seeing
 pub mod Calling
 pub mod ServedOnce

@@ -1,5 +1,5 @@
 -- What was promised of one connection and of two shards, up to a turn that a crash cuts, is what the law asks for.
-use Rattle.std.proofs.Common.{◌≡◌, ℕ, zero, suc, List, [], ◌∷◌, Result, Ok, Err, Some, None, refl, sym, ap, ◌∙◌, subst, inl, inr, ⊎_elim, append-nil, arith}
+use Rattle.std.proofs.Common.{◌≡◌, ℕ, zero, suc, Bool, false, List, [], ◌∷◌, Result, Ok, Err, Some, None, refl, sym, ap, ◌∙◌, subst, inl, inr, ⊎_elim, append-nil, arith}
 use Rattle.std.specs.Prelude.{slice_get}
 use Rattle.atomic_table.specs.Seated.{TableId}
 use Rattle.accept.specs.declared.call.Call.{Call}
@@ -18,7 +18,8 @@ use Rattle.owners.specs.Places.{opened_shard}
 use Rattle.ingester.specs.Calls.{with_next, closed_now}
 use Rattle.ingester.specs.Closings.{IsTold}
 use Rattle.answering.specs.Connections.{Unended}
-use Rattle.answering.specs.Serving.{world}
+use Rattle.answering.specs.Gathering.{Known, IsVisitedSo, AreVisitedSo, among, any_text, known}
+use Rattle.answering.specs.Serving.{World, world}
 use Rattle.answering.specs.Visits.{IsVisit}
 use Rattle.answering.specs.declared.visiting.Visited.{Visited}
 use Rattle.answering.specs.declared.visiting.Visited.TheVariants.{More, Unfinished, Closed}
@@ -28,26 +29,46 @@ use Rattle.headline.specs.Turns.{Between, Within, IsInTime, Stretch, IsStretch}
 use Rattle.headline.specs.Lives.{Life, ShardEnd, CutAt, IsEnd, IsLife}
 use Rattle.headline.proofs.Owning.{in_time_told}
 use Rattle.front.specs.Calls.{CallGives}
-use Rattle.front.specs.Visits.{Visit, Line, IsKeptOrNot, IsVisited, anything}
+use Rattle.front.specs.Visits.{Visit, Line, IsKeptOrNot, IsVisited}
 use Rattle.one_life.specs.declared.opening.Two.{Two}
 use Rattle.one_life.specs.Cut.{AreOfOpening, AreOpened, HaveMetIn, IsCutTurn, opening_with}
 use Rattle.one_life.proofs.Ending.{in_doubt, of_start, told_closed}
 use Rattle.one_life.proofs.Staying.{met_of, own_of}
 use Rattle.whole.specs.Visits.{Worker, IsWorker, IsLine, AreThreadsOf}
-use Rattle.whole.specs.ServedOnce.{AreServing, FirstGives, IsServedOnce, first_visit, line_sent}
+use Rattle.whole.specs.ServedOnce.{AreServing, FirstGives, IsFirstVisited, IsServedOnce, first_visit, line_sent}
 use Rattle.whole.proofs.Calling.{first_book, second_book, one_idle}
-use Rattle.whole.proofs.Seeing.{visit_seen}
+use Rattle.answering.proofs.Seeing.{visit_seen}
 use Rattle.whole.proofs.Working.{Crew, crew}
 use Rattle.whole.proofs.Wholes.{is_whole}
 
+-- the first pass, of what both shards and passes are
+abbrev of_first : {D : Type 0} → Known (Two D) → Known Passed
+of_first k = known k.knows.one k.doubt
+
 -- the first visit of a connection, where contracts see both shards of what the pass knows
-pub first_visited : {D C : Type 0} (ticks : C → ℕ → C → Type 0) (bytes : List ℕ) (come left : Unended) (old new : Two D) (clock clock' : C) (result : Result Visited ServeFault) → come.came ≡ bytes → come.text ≡ []
-    → IsVisit FirstGives ticks (λ _ _. Unit {0}) (λ _ _. Unit {0}) (Some come.text) (Some left.text) come.came (world old clock) left.came (world new clock') result
-    → IsVisited ticks (first_visit bytes left (world old.one clock) (world new.one clock') result)
-first_visited {D = D} ticks bytes come left old new clock clock' result came none is =
-    subst (λ (b : List ℕ). IsVisit CallGives ticks anything anything (Some []) (Some left.text) b (world old.one clock) left.came (world new.one clock') result) came
-    (subst (λ (t : List ℕ). IsVisit CallGives ticks anything anything (Some t) (Some left.text) come.came (world old.one clock) left.came (world new.one clock') result) none
-    (visit_seen (λ (it : Two D). it.one) FirstGives CallGives (λ doubt h h' call outcome given. given) ticks (λ _ _. Unit {0}) (λ _ _. Unit {0}) anything (λ knows text. tt) (Some come.text) (Some left.text) come.came (world old clock) left.came (world new clock') result is))
+module _ {D C : Type 0} (ticks : C → ℕ → C → Type 0) (bytes : List ℕ) (come left : Unended) (came : come.came ≡ bytes) (none : come.text ≡ []) where
+  seen_first : (w w' : World (Known (Two D)) C) → IsVisitedSo FirstGives ticks w come w' left → IsFirstVisited ticks bytes left (world (of_first w.knows) w.clock) (world (of_first w'.knows) w'.clock)
+  seen_first w w' is =
+      let before : World (Known Passed) C = world (of_first w.knows) w.clock in
+      let after : World (Known Passed) C = world (of_first w'.knows) w'.clock in (
+        is.result,
+        subst (λ (b : List ℕ). IsVisit (among CallGives) ticks any_text any_text (Some []) (Some left.text) b before left.came after is.result) came
+            (subst (λ (t : List ℕ). IsVisit (among CallGives) ticks any_text any_text (Some t) (Some left.text) come.came before left.came after is.result) none
+            (visit_seen (of_first {D = D}) (among (FirstGives {D = D})) (among CallGives) (λ doubt k k' call outcome given. given) ticks any_text any_text any_text (λ knows text. tt) (Some come.text) (Some left.text) come.came w left.came w' is.result is.is)),
+      )
+
+  alone : (w w' : World (Known (Two D)) C) (rest : List Unended) → w.knows.doubt ≡ false → AreVisitedSo FirstGives ticks w (come ∷ []) w' (left ∷ rest) → IsFirstVisited ticks bytes left (world (of_first w.knows) w.clock) (world (of_first w'.knows) w'.clock)
+  alone w w' (r ∷ rest) sure (start, mid, goes_on, is, never) = absurd never
+  alone w w' [] sure (start, mid, goes_on, is, same) =
+      let here : start ≡ w.knows = ⊎_elim (λ (e : start ≡ w.knows). e) (λ (e : start ≡ known w.knows.knows false). e ∙ ap (known w.knows.knows) (sym sure)) goes_on in
+      seen_first w w' (subst (λ x. IsVisitedSo FirstGives ticks w come x left) (sym same) (subst (λ k. IsVisitedSo FirstGives ticks (world k w.clock) come mid left) here is))
+
+  pub first_visited : (old new : Two D) (clock clock' : C) (doubt : Bool) (olds news rest : List Unended) → olds ≡ come ∷ [] → news ≡ left ∷ rest → AreVisitedSo FirstGives ticks (world (known old false) clock) olds (world (known new doubt) clock') news
+      → (doubt : Bool) × IsFirstVisited ticks bytes left (world (known old.one false) clock) (world (known new.one doubt) clock')
+  first_visited old new clock clock' doubt olds news rest one some are =
+      let w = world (known old false) clock in
+      let w' = world (known new doubt) clock' in
+      (doubt, alone w w' rest refl (subst (λ l. AreVisitedSo FirstGives ticks w (come ∷ []) w' l) some (subst (λ l. AreVisitedSo FirstGives ticks w l w' news) one are)))
 
 -- ---- both shards and both passes
 
@@ -110,14 +131,14 @@ kept_or_not P Q (Ok Closed) p q = q
 kept_or_not P Q (Err fault) p q = q
 
 module _ {D : Type 0} (sight : D → Sight) (follows : D → Type 0) (only_now : (d : D) (c : List ℕ) → follows d → (sight d).left_since (sight d).moment c → (sight d).may_leave c) {C : Type 0} (ticks : C → ℕ → C → Type 0) (limits : Limits) (capacity : ℕ) (slots : List (List D)) (table : TableId)
-    (start mid end : Two D) (one two : Passed) (opened : AreOpened sight follows limits capacity slots (opening_with start) start) (serving : AreServing sight follows table (opening_with start) mid) (bytes : List ℕ) (left : Unended) (clock clock' : C) (result : Result Visited ServeFault)
-    (visited : IsVisited ticks (first_visit bytes left (world start.one clock) (world mid.one clock') result)) (meeting : HaveMetIn sight follows (opening_with start) mid.one mid.two (record mid { one = one; two = two })) (last : Call)
+    (start mid end : Two D) (one two : Passed) (opened : AreOpened sight follows limits capacity slots (opening_with start) start) (serving : AreServing sight follows table (opening_with start) mid) (bytes : List ℕ) (left : Unended) (clock clock' : C) (doubt : Bool) (result : Result Visited ServeFault)
+    (visited : IsVisited ticks (first_visit bytes left (world (known start.one false) clock) (world (known mid.one doubt) clock') result)) (meeting : HaveMetIn sight follows (opening_with start) mid.one mid.two (record mid { one = one; two = two })) (last : Call)
     (cut : IsCutTurn sight follows (record mid { one = one; two = two }) end last) where
   abbrev opening : Opening D
   opening = opening_with start
 
   abbrev visit : Visit C
-  visit = first_visit bytes left (world start.one clock) (world mid.one clock') result
+  visit = first_visit bytes left (world (known start.one false) clock) (world (known mid.one doubt) clock') result
 
   abbrev ended : Passed
   ended = closed_now (with_next one last)
@@ -148,13 +169,13 @@ module _ {D : Type 0} (sight : D → Sight) (follows : D → Type 0) (only_now :
 
   worker_is : IsWorker ticks opening worker
   worker_is = record {
-    between = mid.one;
-    visits = (opened.one, visited, refl);
+    between = known mid.one doubt;
+    visits = (inl (ap (λ (p : Passed). known p false) opened.one), visited, refl);
     since = λ lost. (refl, one_meets, (refl, in_doubt one last cut.open, refl));
   }
 
   other_is : IsWorker ticks opening other
-  other_is = record { between = mid.two; visits = serving.two; since = λ lost. (refl, two_meets, refl) }
+  other_is = record { between = known mid.two false; visits = ap (λ (p : Passed). known p false) serving.two; since = λ lost. (refl, two_meets, refl) }
 
   are_workers : (w : Worker C) → IsOneOf w workers → IsWorker ticks opening w
   are_workers = of_two (IsWorker ticks opening) worker_is other_is

@@ -18,16 +18,17 @@ use Rattle.headline.specs.Headline.{IsOneOf}
 use Rattle.headline.proofs.Among.{among_left, among_right, among_split}
 use Rattle.answering.specs.Calls.{Came}
 use Rattle.answering.specs.Courses.{Course, Unread, Whole, Broken, first_failure}
+use Rattle.answering.specs.Gathering.{Known, among, any_text}
 use Rattle.answering.specs.Serving.{Exchange, World, response, VerdictGives, IsSilent, IsNextResponse, ConnectionGives, ConnectionEnds, ConnectionIsAnswered}
 use Rattle.answering.specs.Steps.{AreStepsBy}
 use Rattle.answering.specs.Visits.{KeepsOn, IsOver}
 use Rattle.answering.specs.declared.visiting.Visited.{Visited}
 use Rattle.answering.specs.declared.visiting.Visited.TheVariants.{More, Unfinished, Closed}
 use Rattle.front.specs.Calls.{CallGives}
-use Rattle.front.specs.Visits.{Visit, IsKeptOrNot, IsVisited, anything}
-use Rattle.whole.specs.Visits.{HappenFrom, steps_among}
+use Rattle.front.specs.Visits.{Visit, IsKeptOrNot, IsVisited}
+use Rattle.whole.specs.Visits.{steps_among}
 use Rattle.whole.specs.Whole.{IsAskedIn, IsNextOf}
-use Rattle.whole.proofs.Happening.{steps-append, both, nothing, asked_after, its_happenings, left_happenings}
+use Rattle.whole.proofs.Happening.{HappenFrom, steps-append, both, nothing, asked_after, its_happenings, left_happenings}
 
 -- the steps of a request are among these, and where all its calls came back none failed
 pub record IsCalledBy (steps : List Step) (e : Exchange) : Type 0 where
@@ -39,7 +40,7 @@ pub record IsCalledBy (steps : List Step) (e : Exchange) : Type 0 where
 pub called_more : (steps more : List Step) (e : Exchange) → ((s : Step) → IsOneOf s steps → IsOneOf s more) → IsCalledBy steps e → IsCalledBy more e
 called_more steps more e into c = record { its = c.its; its_are = c.its_are; among = λ s one. into s (c.among s one); whole = c.whole }
 
-whole_of : (now : ℕ) (body : List ℕ) (h h' : Passed) (verdict : Verdict) (course : Course) → VerdictGives CallGives now body verdict h course h' → (cames : List Came) → course ≡ Whole cames → first_failure cames ≡ None
+whole_of : (now : ℕ) (body : List ℕ) (h h' : Known Passed) (verdict : Verdict) (course : Course) → VerdictGives (among CallGives) now body verdict h course h' → (cames : List Came) → course ≡ Whole cames → first_failure cames ≡ None
 whole_of now body h h' (Fixed answer) course (what, same) cames e = let both : Whole [] ≡ Whole cames = sym what ∙ e in let none : [] ≡ cames = cc in subst (λ l. first_failure l ≡ None) none refl
 whole_of now body h h' (Call route tenant) (Unread fault) takes cames e = absurd (cc)
 whole_of now body h h' (Call route tenant) (Whole cs) takes cames e = let same : cs ≡ cames = cc in subst (λ l. first_failure l ≡ None) same takes.goes.3
@@ -58,8 +59,8 @@ module _ {C : Type 0} (ticks : C → ℕ → C → Type 0) where
   pub record Answers (v : Visit C) (steps : List Step) : Type 0 where
     pub exchanges : List Exchange
     pub mid : List ℕ
-    pub between : World Passed C
-    pub serves : ConnectionGives CallGives ticks (v.held ++ v.taken) v.before exchanges mid between
+    pub between : World (Known Passed) C
+    pub serves : ConnectionGives (among CallGives) ticks (v.held ++ v.taken) v.before exchanges mid between
     pub last : List Exchange
     pub refusal : List ℕ
     pub some : ℕ
@@ -70,7 +71,7 @@ module _ {C : Type 0} (ticks : C → ℕ → C → Type 0) where
 
 module _ {D C : Type 0} (ticks : C → ℕ → C → Type 0) (opening : Opening D) where
   -- whole requests happened
-  record Went (bytes : List ℕ) (w : World Passed C) (es : List Exchange) (w' : World Passed C) : Type 0 where
+  record Went (bytes : List ℕ) (w : World (Known Passed) C) (es : List Exchange) (w' : World (Known Passed) C) : Type 0 where
     pub happened : List Happening
     pub happen : HappenFrom opening w.knows happened w'.knows
     pub calls : (e : Exchange) → IsOneOf e es → IsCalledBy (steps_among happened) e
@@ -85,7 +86,7 @@ module _ {D C : Type 0} (ticks : C → ℕ → C → Type 0) (opening : Opening 
   one_of_both : (first more : List Happening) (s : Step) → IsOneOf s (steps_among (first ++ more)) → IsOneOf s (steps_among first) ⊎ IsOneOf s (steps_among more)
   one_of_both first more s one = among_split s (steps_among first) (steps_among more) (subst (IsOneOf s) (steps-append first more) one)
 
-  went : (bytes : List ℕ) (w : World Passed C) (es : List Exchange) (rest : List ℕ) (w' : World Passed C) → ConnectionGives CallGives ticks bytes w es rest w' → Went bytes w es w'
+  went : (bytes : List ℕ) (w : World (Known Passed) C) (es : List Exchange) (rest : List ℕ) (w' : World (Known Passed) C) → ConnectionGives (among CallGives) ticks bytes w es rest w' → Went bytes w es w'
   went bytes w [] rest w' (same, still) = record { happened = []; happen = nothing opening w.knows w'.knows (ap (λ x. x.knows) still); calls = λ e one. absurd one; asked = λ s one. absurd one }
   went bytes w (e ∷ es) rest w' (mid, between, x, stays, others) =
       let (first, happen, are, asked) = its_happenings ticks opening bytes w e mid between x in
@@ -104,7 +105,7 @@ module _ {D C : Type 0} (ticks : C → ℕ → C → Type 0) (opening : Opening 
       }
 
   -- what happened after the last whole response, where this was put behind it
-  record Tail (mid : List ℕ) (w : World Passed C) (text : List ℕ) (w' : World Passed C) : Type 0 where
+  record Tail (mid : List ℕ) (w : World (Known Passed) C) (text : List ℕ) (w' : World (Known Passed) C) : Type 0 where
     pub happened : List Happening
     pub happen : HappenFrom opening w.knows happened w'.knows
     pub last : List Exchange
@@ -115,7 +116,7 @@ module _ {D C : Type 0} (ticks : C → ℕ → C → Type 0) (opening : Opening 
     pub calls : (e : Exchange) → IsOneOf e last → IsCalledBy (steps_among happened) e
     pub asked : (s : Step) → IsOneOf s (steps_among happened) → IsAskedIn mid s.ask.call
 
-  quiet : (mid : List ℕ) (w : World Passed C) (text : List ℕ) (w' : World Passed C) → IsSilent CallGives ticks w text w' → Tail mid w text w'
+  quiet : (mid : List ℕ) (w : World (Known Passed) C) (text : List ℕ) (w' : World (Known Passed) C) → IsSilent (among CallGives) ticks w text w' → Tail mid w text w'
   quiet mid w text w' (none, still) = record {
     happened = [];
     happen = nothing opening w.knows w'.knows (ap (λ x. x.knows) still);
@@ -129,7 +130,7 @@ module _ {D C : Type 0} (ticks : C → ℕ → C → Type 0) (opening : Opening 
   }
 
   -- a beginning of the next response, or all
-  next_part : (mid all text : List ℕ) (n : ℕ) (w w' : World Passed C) → IsNextResponse CallGives ticks mid w all w' → text ≡ take n all → Tail mid w text w'
+  next_part : (mid all text : List ℕ) (n : ℕ) (w w' : World (Known Passed) C) → IsNextResponse (among CallGives) ticks mid w all w' → text ≡ take n all → Tail mid w text w'
   next_part mid all text n w w' (inl (e, left, x, said)) is =
       let (hs, happen, are, asked) = its_happenings ticks opening mid w e left w' x in
       record {
@@ -159,10 +160,10 @@ module _ {D C : Type 0} (ticks : C → ℕ → C → Type 0) (opening : Opening 
   }
 
   -- nothing of what happened was answered
-  unsaid : (mid : List ℕ) (w : World Passed C) (text : List ℕ) (w' : World Passed C) (hs : List Happening) → HappenFrom opening w.knows hs w'.knows → ((s : Step) → IsOneOf s (steps_among hs) → IsAskedIn mid s.ask.call) → text ≡ [] → Tail mid w text w'
+  unsaid : (mid : List ℕ) (w : World (Known Passed) C) (text : List ℕ) (w' : World (Known Passed) C) (hs : List Happening) → HappenFrom opening w.knows hs w'.knows → ((s : Step) → IsOneOf s (steps_among hs) → IsAskedIn mid s.ask.call) → text ≡ [] → Tail mid w text w'
   unsaid mid w text w' hs happen asked none = record { happened = hs; happen = happen; last = []; refusal = []; some = 0; next = inl refl; is = none; calls = λ e one. absurd one; asked = asked }
 
-  ends : (mid : List ℕ) (left : Option (List ℕ)) (w : World Passed C) (text : List ℕ) (w' : World Passed C) (result : Result Served ServeFault) → ConnectionEnds CallGives ticks mid left w text w' result → Tail mid w text w'
+  ends : (mid : List ℕ) (left : Option (List ℕ)) (w : World (Known Passed) C) (text : List ℕ) (w' : World (Known Passed) C) (result : Result Served ServeFault) → ConnectionEnds (among CallGives) ticks mid left w text w' result → Tail mid w text w'
   ends mid left w text w' (Ok served.Ended) (none, end, silent) = quiet mid w text w' silent
   ends mid left w text w' (Ok served.Closed) (inl (e, more, x, stops, said)) = next_part mid text text (length text) w w' (inl (e, more, x, said)) (whole text text refl)
   ends mid left w text w' (Ok served.Closed) (inr turned) = next_part mid text text (length text) w w' (inr turned) (whole text text refl)
@@ -200,7 +201,7 @@ module _ {D C : Type 0} (ticks : C → ℕ → C → Type 0) (opening : Opening 
     pub answers : Answers ticks v (steps_among happened)
     pub asked : (s : Step) → IsOneOf s (steps_among happened) → IsAskedIn (v.held ++ v.taken) s.ask.call
 
-  kept_happened : (v : Visit C) → KeepsOn CallGives ticks anything anything (Some v.waiting) (Some (v.waiting ++ v.text)) (v.held ++ v.taken) v.before v.rest v.after → IsKeptOrNot v.result (Unit {0}) ⊥ → Happened v
+  kept_happened : (v : Visit C) → KeepsOn (among CallGives) ticks any_text any_text (Some v.waiting) (Some (v.waiting ++ v.text)) (v.held ++ v.taken) v.before v.rest v.after → IsKeptOrNot v.result (Unit {0}) ⊥ → Happened v
   kept_happened v k kept =
       let its = went (v.held ++ v.taken) v.before k.exchanges v.rest v.after k.serves in
       record {
@@ -222,9 +223,9 @@ module _ {D C : Type 0} (ticks : C → ℕ → C → Type 0) (opening : Opening 
         asked = its.asked;
       }
 
-  over_happened : (v : Visit C) (result : Result Served ServeFault) → IsOver CallGives ticks (Some v.waiting) (Some (v.waiting ++ v.text)) (v.held ++ v.taken) None v.before v.after result → IsKeptOrNot v.result ⊥ (Unit {0}) → Happened v
+  over_happened : (v : Visit C) (result : Result Served ServeFault) → IsOver (among CallGives) ticks (Some v.waiting) (Some (v.waiting ++ v.text)) (v.held ++ v.taken) None v.before v.after result → IsKeptOrNot v.result ⊥ (Unit {0}) → Happened v
   over_happened v result o over =
-      let a : ConnectionIsAnswered CallGives ticks (v.held ++ v.taken) None v.before o.text v.after result = o.served in
+      let a : ConnectionIsAnswered (among CallGives) ticks (v.held ++ v.taken) None v.before o.text v.after result = o.served in
       let first = went (v.held ++ v.taken) v.before a.exchanges a.rest a.between a.serves in
       let tail = ends a.rest None a.between a.last v.after result a.finishes in
       record {
@@ -252,7 +253,7 @@ module _ {D C : Type 0} (ticks : C → ℕ → C → Type 0) (opening : Opening 
             (one_of_both first.happened tail.happened s one);
       }
 
-  visit_happened : (held taken waiting text rest : List ℕ) (before after : World Passed C) (result : Result Visited ServeFault)
+  visit_happened : (held taken waiting text rest : List ℕ) (before after : World (Known Passed) C) (result : Result Visited ServeFault)
       → IsVisited ticks (record { held = held; taken = taken; waiting = waiting; text = text; rest = rest; before = before; after = after; result = result })
       → Happened (record { held = held; taken = taken; waiting = waiting; text = text; rest = rest; before = before; after = after; result = result })
   visit_happened held taken waiting text rest before after (Ok More) is = kept_happened _ is tt

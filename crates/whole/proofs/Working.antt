@@ -13,11 +13,12 @@ use Rattle.ingester.specs.Calls.{IsGiven, IsGivenAfter, IsRefused}
 use Rattle.headline.specs.Threads.{What, Called, Looked, Met, Closed, Happening, Happens, HappenAfter, Thread, IsThread, leaves_call_in_doubt, answers_by, happened_to}
 use Rattle.headline.specs.Headline.{IsOneOf}
 use Rattle.headline.proofs.Among.{among_left, among_right, among_split}
+use Rattle.answering.specs.Gathering.{Known, known}
 use Rattle.answering.specs.Serving.{Exchange, World}
 use Rattle.front.specs.Visits.{Visit, AreVisits}
-use Rattle.whole.specs.Visits.{Worker, IsWorker, IsThreadOf, AreThreadsOf, HappenFrom, visits_by, its_step, steps_among}
+use Rattle.whole.specs.Visits.{Worker, IsWorker, IsThreadOf, AreThreadsOf, visits_by, its_step, steps_among}
 use Rattle.whole.specs.Whole.{IsAskedIn}
-use Rattle.whole.proofs.Happening.{steps-append, both, nothing}
+use Rattle.whole.proofs.Happening.{HappenFrom, steps-append, both, nothing, went_on}
 use Rattle.whole.proofs.Visiting.{IsCalledBy, Answers, Happened, called_more, happened_of}
 
 -- what a pass has made is what was answered to it
@@ -84,20 +85,21 @@ module _ {C : Type 0} (ticks : C → ℕ → C → Type 0) where
 
   module _ {D : Type 0} (opening : Opening D) where
     -- visits of a worker
-    record Visited (start : Passed) (vs : List (Visit C)) (end : Passed) : Type 0 where
+    record Visited (start : Known Passed) (vs : List (Visit C)) (end : Known Passed) : Type 0 where
       pub happened : List Happening
       pub happen : HappenFrom opening start happened end
       pub answers : (v : Visit C) → IsOneOf v vs → Answers ticks v (steps_among happened)
       pub asked : (s : Step) → IsOneOf s (steps_among happened) → IsAskedAmong vs s
 
-    visited : (start : Passed) (vs : List (Visit C)) (end : Passed) → AreVisits ticks start vs end → Visited start vs end
+    visited : (start : Known Passed) (vs : List (Visit C)) (end : Known Passed) → AreVisits ticks start vs end → Visited start vs end
     visited start [] end same = record { happened = []; happen = nothing opening start end same; answers = λ v one. absurd one; asked = λ s one. absurd one }
-    visited start (v ∷ vs) end (is, made, others) =
+    visited start (v ∷ vs) end (goes_on, made, others) =
         let first : Happened ticks opening v = happened_of ticks opening v made in
         let more = visited v.after.knows vs end others in
+        let all : List Happening = first.happened ++ more.happened in
         record {
-          happened = first.happened ++ more.happened;
-          happen = both opening start v.after.knows end first.happened more.happened (subst (λ p. HappenFrom opening p first.happened v.after.knows) is first.happen) more.happen;
+          happened = all;
+          happen = both opening start v.before.knows end [] all (went_on opening start v.before.knows goes_on) (both opening v.before.knows v.after.knows end first.happened more.happened first.happen more.happen);
           answers = λ u one. ⊎_elim
               (λ (e : u ≡ v). subst (λ x. Answers ticks x (steps_among (first.happened ++ more.happened))) (sym e) (answers_more v (steps_among first.happened) (steps_among (first.happened ++ more.happened)) (into_left first.happened more.happened) first.answers))
               (λ (t : IsOneOf u vs). answers_more u (steps_among more.happened) (steps_among (first.happened ++ more.happened)) (into_right first.happened more.happened) (more.answers u t))
@@ -118,12 +120,12 @@ module _ {C : Type 0} (ticks : C → ℕ → C → Type 0) where
 
     threaded : (w : Worker C) → IsWorker ticks opening w → Threaded w
     threaded w is =
-        let start : Passed = fresh_pass opening.table opening.about w.number in
+        let start : Known Passed = known (fresh_pass opening.table opening.about w.number) false in
         let its = visited start w.visits is.between is.visits in
         record {
           thread = record { number = w.number; happened = its.happened ++ w.since; end = w.end };
           is_of = record { number = refl; end = refl; first = its.happened; happened = refl };
-          is_thread = record { happen = both opening start is.between w.end its.happened w.since its.happen is.since false };
+          is_thread = record { happen = its.happen w.since w.end (is.since is.between.doubt) };
           answers = λ v one. answers_more v (steps_among its.happened) (steps_among (its.happened ++ w.since)) (into_left its.happened w.since) (its.answers v one);
           asked = λ s one. ⊎_elim
               (λ (l : IsOneOf s (steps_among its.happened)). inl (its.asked s l))

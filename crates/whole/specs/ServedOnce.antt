@@ -17,6 +17,7 @@ use Rattle.owners.specs.Openings.{Opening}
 use Rattle.owners.specs.Places.{IsOf}
 use Rattle.answering.specs.Calls.{Giving}
 use Rattle.answering.specs.Connections.{Unended}
+use Rattle.answering.specs.Gathering.{Known}
 use Rattle.answering.specs.Serving.{World}
 use Rattle.answering.specs.declared.visiting.Visited.{Visited}
 use Rattle.headline.specs.Threads.{What, Called, Met, Thread, IsThread}
@@ -35,8 +36,8 @@ abbrev pub FirstGives : {D : Type 0} → Giving (Two D)
 FirstGives doubt old call outcome new = CallGives doubt old.one call outcome new.one
 
 -- the first visit of a connection, in which these bytes had come and nothing waited to be sent, and how it left it
-abbrev pub first_visit : {C : Type 0} → List ℕ → Unended → World Passed C → World Passed C
-    → Result Visited ServeFault → Visit C
+abbrev pub first_visit : {C : Type 0} → List ℕ → Unended → World (Known Passed) C
+    → World (Known Passed) C → Result Visited ServeFault → Visit C
 first_visit bytes left before after result = record {
   held = [];
   taken = bytes;
@@ -49,8 +50,8 @@ first_visit bytes left before after result = record {
 }
 
 -- so it was visited, however the visit ended
-abbrev pub IsFirstVisited : {C : Type 0} → (C → ℕ → C → Type 0) → List ℕ → Unended → World Passed C
-    → World Passed C → Type 0
+abbrev pub IsFirstVisited : {C : Type 0} → (C → ℕ → C → Type 0) → List ℕ → Unended
+    → World (Known Passed) C → World (Known Passed) C → Type 0
 IsFirstVisited ticks bytes left before after = (ended : Result Visited ServeFault)
     × IsVisited ticks (first_visit bytes left before after ended)
 

@@ -1,10 +1,11 @@
 -- Connections, the workers that visit them, and what happens to the passes of the workers meanwhile.
-use Rattle.std.specs.Prelude.{◌≡◌, ℕ, Bool, List, [], ◌∷◌, ◌++◌, map}
+use Rattle.std.specs.Prelude.{◌≡◌, ℕ, Bool, false, List, [], ◌∷◌, ◌++◌, map}
 use Rattle.std.specs.List.{flat_map}
 use Rattle.accept.specs.declared.history.Step.{Step}
 use Rattle.history.specs.Handles.{Passed, fresh_pass}
 use Rattle.history.specs.Histories.{IsBeginning, step_of}
 use Rattle.owners.specs.Openings.{Opening}
+use Rattle.answering.specs.Gathering.{Known, known}
 use Rattle.front.specs.Visits.{Visit, Line, AreVisits, AreJoined, text_put}
 use Rattle.headline.specs.Threads.{Happening, HappenAfter, Thread, AnsweredCall, answers_by}
 use Rattle.headline.specs.Headline.{IsOneOf, ask_for}
@@ -28,10 +29,6 @@ pub record IsLine {C : Type 0} (workers : List (Worker C)) (line : Line C) : Typ
   pub by_workers : (v : Visit C) → IsOneOf v line.visits → IsOneOf v (visits_by workers)
   pub sent : IsBeginning line.sent (text_put line)
 
--- these happened to a pass, one after another, whether or not the call before them is in doubt
-abbrev pub HappenFrom : {D : Type 0} → Opening D → Passed → List Happening → Passed → Type 0
-HappenFrom opening start hs end = (lost : Bool) → HappenAfter lost opening start hs end
-
 -- the steps of the calls that were answered
 abbrev pub its_step : AnsweredCall → Step
 its_step a = step_of (ask_for a) a.reply
@@ -42,12 +39,14 @@ answered_among hs = flat_map (λ h. answers_by h.before.caller h.what) hs
 abbrev pub steps_among : List Happening → List Step
 steps_among hs = map its_step (answered_among hs)
 
--- Of a worker of the opening: its pass was fresh, made its visits, and then this happened to it.
+-- Of a worker of the opening: its pass was fresh, made its visits, and then this happened to it, whether or not the
+-- call before is in doubt.
 pub record IsWorker {D C : Type 0} (ticks : C → ℕ → C → Type 0) (opening : Opening D)
     (w : Worker C) : Type 0 where
-  pub between : Passed
-  pub visits : AreVisits ticks (fresh_pass opening.table opening.about w.number) w.visits between
-  pub since : HappenFrom opening between w.since w.end
+  pub between : Known Passed
+  pub visits : AreVisits ticks (known (fresh_pass opening.table opening.about w.number) false)
+      w.visits between
+  pub since : (lost : Bool) → HappenAfter lost opening between.knows w.since w.end
 
 -- the worker's pass, with what happened to it
 pub record IsThreadOf {C : Type 0} (w : Worker C) (t : Thread) : Type 0 where

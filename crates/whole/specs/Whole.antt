@@ -34,6 +34,7 @@ use Rattle.requests.specs.declared.verdict.Verdict.TheVariants as verdicts
 use Rattle.answering.specs.Asking.{Asked, AsksFor, IsCallOf}
 use Rattle.answering.specs.Calls.{Came}
 use Rattle.answering.specs.Courses.{Whole}
+use Rattle.answering.specs.Gathering.{Known, among}
 use Rattle.answering.specs.Joining.{AnswersApart}
 use Rattle.answering.specs.Lines.{push_status}
 use Rattle.answering.specs.Serving.{Exchange, World, response, IsExchange}
@@ -122,8 +123,8 @@ abbrev pub IsNextOf : {C : Type 0} → (C → ℕ → C → Type 0) → List ℕ
 IsNextOf ticks rest [] refusal = (refusal ≡ [])
     ⊎ ((why : FixedAnswer) × BeginsRefused rest why × (refusal ≡ fixed_text why true))
 IsNextOf {C} ticks rest (e ∷ []) refusal = (refusal ≡ [])
-    × ((left : List ℕ) × (w : World Passed C) × (w' : World Passed C)
-    × IsExchange CallGives ticks rest w e left w')
+    × ((left : List ℕ) × (w : World (Known Passed) C) × (w' : World (Known Passed) C)
+    × IsExchange (among CallGives) ticks rest w e left w')
 IsNextOf ticks rest (e ∷ d ∷ es) refusal = ⊥
 
 module _ {D : Type 0} (sight : D → Sight) (follows : D → Type 0) {C : Type 0}
@@ -148,7 +149,7 @@ module _ {D : Type 0} (sight : D → Sight) (follows : D → Type 0) {C : Type 0
   pub record IsLineAnswered (line : Line C) : Type 0 where
     pub exchanges : List Exchange
     pub rest : List ℕ
-    pub requests : AnswersApart CallGives ticks (bytes_of line) exchanges rest
+    pub requests : AnswersApart (among CallGives) ticks (bytes_of line) exchanges rest
     pub last : List Exchange
     pub refusal : List ℕ
     pub next : IsNextOf ticks rest last refusal

@@ -1,18 +1,20 @@
 //! One connection, served without threads, until a crash cuts a turn.
-ghost use Rattle.std.specs.Prelude.{◌≤◌, ◌^◌, [], ◌∷◌, IfSome};
+ghost use Rattle.std.specs.Prelude.{◌≡◌, ◌≤◌, ◌^◌, [], ◌∷◌, Bool, false, IfSome};
 ghost use Rattle.accept.specs.OneStream.{AreLimits};
 ghost use Rattle.accept.specs.Calls.{AreNumbers};
+ghost use Rattle.answering.specs.Gathering.{known};
 ghost use Rattle.answering.specs.Serving.{world};
 ghost use Rattle.one_life.specs.Cut.{IsOn, opening_with};
 ghost use Rattle.whole.specs.ServedOnce.{AreServing, IsFirstVisited, IsServedOnce};
 
 use crate::by_turns::ByTurns;
 use accept::{Call, Limits};
-use answering::{Connection, Outgoing};
+use answering::{Connection, Kept, Workspace, answer_connections};
 use disk::Disk;
 use front::Clock;
 use one_life::{Two, cut_turn, open_two};
 use std::alloc::Global;
+use std::collections::VecDeque;
 use std::snapshot::Snapshot;
 use std::sync::Wait;
 
@@ -27,9 +29,29 @@ pub struct Beginning<D: Disk> {
     pub capacity: u64,
 }
 
+// A connection that is served for itself.
+#[derive(Drop)]
+struct Alone<D: Disk> {
+    connection: Connection<Two<D>>,
+}
+
+impl<D: Disk> Kept<Two<D>> for Alone<D> {
+    ghost kept = { λ alone. alone.connection };
+
+    fn into_connection(self) -> Connection<Two<D>> {
+        self.connection
+    }
+
+    fn of_connection(connection: Connection<Two<D>>) -> Alone<D>
+        ensures { result.connection ≡ connection }
+    {
+        Alone { connection }
+    }
+}
+
 impl<'a, D: Disk + Drop> ByTurns<'a, D> {
-    /// Takes in what has come of a new connection, and answers the requests in it, at most this many. `None` if that is
-    /// more than may come before a first visit, or there was no memory for it.
+    /// Takes in what has come of a new connection, and answers a request in it. `None` if that is more than may come
+    /// before a first visit, or there was no memory for it.
     pub fn visit<R: Wait, C: Clock>(
         &self,
         rt: &R,
@@ -37,14 +59,14 @@ impl<'a, D: Disk + Drop> ByTurns<'a, D> {
         it: &mut Two<D>,
         clock: &mut C,
         bytes: &[u8],
-        most: u32,
     ) -> Option<Connection<Two<D>>>
         requires { AreServing D.sight D.follows self.now.history.now
             (opening_with self.now.start.value) it.old }
         ensures serving { IfSome result (λ _. AreServing D.sight D.follows self.now.history.now
             (opening_with self.now.start.value) it.new) }
-        ensures visited { IfSome result (λ connection. IsFirstVisited C.ticks bytes.now connection
-            (world it.old.one clock.old) (world it.new.one clock.new)) }
+        ensures visited { IfSome result (λ connection. (doubt : Bool)
+            × IsFirstVisited C.ticks bytes.now connection
+            (world (known it.old.one false) clock.old) (world (known it.new.one doubt) clock.new)) }
     {
         let mut connection = Connection::new(alloc);
         if bytes.len() > connection.room() {
@@ -53,17 +75,23 @@ impl<'a, D: Disk + Drop> ByTurns<'a, D> {
         let Ok(()) = connection.take_in(bytes) else {
             return None;
         };
-        let mut outgoing = Outgoing::new(alloc);
-        let _ = connection.answer(rt, alloc, self, it, clock, &mut outgoing, most);
-        Some(connection)
+        let mut connections = VecDeque::new(alloc);
+        let Ok(()) = connections.push_back(Alone { connection }) else {
+            return None;
+        };
+        let mut workspace = Workspace::new(alloc);
+        answer_connections(rt, alloc, self, it, clock, &mut connections, &mut workspace);
+        match connections.pop_front() {
+            Some(alone) => Some(alone.connection),
+            None => None,
+        }
     }
 }
 
 /// Opens two shards with two passes, without threads, and serves a connection by the first pass: these bytes come of
-/// it, and of their requests at most so many are answered, each call by a turn of its shard. Then the passes meet. Then
-/// the first pass announces a further call, and the first shard makes a turn at it, at any moment of which a crash may
-/// come. Whatever beginning of the text of the connection was sent by then, this is what the law `whole` asks for, and
-/// so what it says.
+/// it, and a request in them is answered, each call by a turn of its shard. Then the passes meet. Then the first pass
+/// announces a further call, and the first shard makes a turn at it, at any moment of which a crash may come. Whatever
+/// beginning of the text of the connection was sent by then, this is what the law `whole` asks for, and so what it says.
 ///
 /// `None` if the slots are refused, if memory ran out, if more bytes came than may come before a first visit, or if the
 /// pass was closed.
@@ -73,7 +101,6 @@ pub fn serve_once<D: Disk + Drop, R: Wait, C: Clock>(
     beginning: Beginning<D>,
     clock: &mut C,
     bytes: &[u8],
-    most: u32,
     last: Call,
 ) -> Option<(Two<D>, Connection<Two<D>>)>
     requires limits { AreLimits beginning.limits }
@@ -93,7 +120,7 @@ pub fn serve_once<D: Disk + Drop, R: Wait, C: Clock>(
         history: &history,
         start: Snapshot::of(&it),
     };
-    let connection = service.visit(rt, alloc, &mut it, clock, bytes, most)?;
+    let connection = service.visit(rt, alloc, &mut it, clock, bytes)?;
     history.meet(&mut it.one, &mut it.two);
     match cut_turn(alloc, &history, &mut it, last) {
         Some(_) => Some((it, connection)),

@@ -14,7 +14,7 @@ module _ {P T : Type 0} (start : T → P) where
       ∙ sym (append_assoc new (start t ∷ []) (reverse (map start threads)))
       ∙ sym (ap (λ l. l ++ reverse (map start threads)) was)
 
-module _ {I S P T : Type 0} (visits : I → S → P → T → S → P → T → Type 0) (service : I) where
+module _ {I S P T : Type 0} (visits : I → S → P → List (T × T) → S → P → Type 0) (service : I) where
   pub same_left : (ps : List P) → ArePassesLeft visits service ps ps
   same_left [] = tt
   same_left (p ∷ ps) = (inl refl, same_left ps)

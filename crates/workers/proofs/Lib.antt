@@ -1,3 +1,4 @@
 pub mod Joining
 pub mod Lists
+pub mod Pairs
 pub mod Talking

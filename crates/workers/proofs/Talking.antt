@@ -54,8 +54,8 @@ module _ {T : Type 0} (seen : T → Seen) (visited : T → T → Type 0) where
   stepped t t' over calls step (heard, dropped, (steps, talks), all, none) =
       (heard, dropped, (tt ∷ steps, (t, heard, said_in calls, talks, step heard (said_in calls))), all, none)
 
-  pub was_visited : (t t' : T) (over : Bool) (calls : List SocketCall) → (seen t).closes ≡ false → visited t t' → ∥ Of t over calls ∥₁ → ∥ Of t' over calls ∥₁
-  was_visited t t' over calls goes_on is h = ∥∥₁_map h (stepped t t' over calls (λ heard said. inr (inl (goes_on, is, refl, refl))))
+  pub was_visited : (t t' : T) (over : Bool) (calls : List SocketCall) → (seen t).closes ≡ false → visited t t' → Of t over calls → Of t' over calls
+  was_visited t t' over calls goes_on is talked = stepped t t' over calls (λ heard said. inr (inl (goes_on, is, refl, refl))) talked
 
   pub is_same : (t t' : T) (over : Bool) (calls : List SocketCall) → IsSame (seen t) (seen t') → ∥ Of t over calls ∥₁ → ∥ Of t' over calls ∥₁
   is_same t t' over calls is h = ∥∥₁_map h (stepped t t' over calls (λ heard said. inr (inr (inr (is, refl, refl)))))
@@ -74,19 +74,19 @@ module _ {T : Type 0} (seen : T → Seen) (visited : T → T → Type 0) where
   text_went t t' over calls calls' text n that few is said h =
       subst (λ cs. ∥ Of t' over cs ∥₁) (sym (said ∙ ap (λ x. Said (take n x) ∷ calls) that)) (∥∥₁_map h (went t t' over calls n (subst (λ x. n ≤ length x) that few) is))
 
-module _ {I S P T : Type 0} (visits : I → S → P → T → S → P → T → Type 0) (service : I) where
+module _ {I S P T : Type 0} (visits : I → S → P → List (T × T) → S → P → Type 0) (service : I) where
   pub no_visit : (server : S) (pass : P) → Visits visits service server pass server pass
   no_visit server pass = ([], (refl, refl))
 
-  pub one_visit : (server : S) (pass : P) (t : T) (server' : S) (pass' : P) (t' : T) → visits service server pass t server' pass' t' → Visits visits service server pass server' pass'
-  one_visit server pass t server' pass' t' is = ((t, t') ∷ [], (server', pass', is, (refl, refl)))
+  pub one_batch : (server : S) (pass : P) (batch : List (T × T)) (server' : S) (pass' : P) → visits service server pass batch server' pass' → Visits visits service server pass server' pass'
+  one_batch server pass batch server' pass' is = (batch ∷ [], (server', pass', is, (refl, refl)))
 
-  join : (server : S) (pass : P) (ts us : List (T × T)) (mid : S) (between : P) (server' : S) (pass' : P) → HaveVisited visits service server pass ts mid between
-      → HaveVisited visits service mid between us server' pass' → HaveVisited visits service server pass (ts ++ us) server' pass'
-  join server pass [] us mid between server' pass' (same, kept) more =
-      subst (λ s. HaveVisited visits service s pass us server' pass') same (subst (λ p. HaveVisited visits service mid p us server' pass') kept more)
-  join server pass (t ∷ ts) us mid between server' pass' (next, after, first, others) more =
-      (next, after, first, join next after ts us mid between server' pass' others more)
+  join : (server : S) (pass : P) (batches more_batches : List (List (T × T))) (mid : S) (between : P) (server' : S) (pass' : P) → HaveVisited visits service server pass batches mid between
+      → HaveVisited visits service mid between more_batches server' pass' → HaveVisited visits service server pass (batches ++ more_batches) server' pass'
+  join server pass [] more_batches mid between server' pass' (same, kept) more =
+      subst (λ s. HaveVisited visits service s pass more_batches server' pass') same (subst (λ p. HaveVisited visits service mid p more_batches server' pass') kept more)
+  join server pass (batch ∷ batches) more_batches mid between server' pass' (next, after, first, others) more =
+      (next, after, first, join next after batches more_batches mid between server' pass' others more)
 
   pub visits_join : (server : S) (pass : P) (mid : S) (between : P) (server' : S) (pass' : P) → Visits visits service server pass mid between → Visits visits service mid between server' pass' → Visits visits service server pass server' pass'
-  visits_join server pass mid between server' pass' (ts, some) (us, more) = (ts ++ us, join server pass ts us mid between server' pass' some more)
+  visits_join server pass mid between server' pass' (batches, some) (more_batches, more) = (batches ++ more_batches, join server pass batches more_batches mid between server' pass' some more)

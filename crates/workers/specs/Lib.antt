@@ -1,2 +1,3 @@
+pub mod Batches
 pub mod Sockets
 pub mod Talks

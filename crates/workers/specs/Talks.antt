@@ -1,5 +1,6 @@
 -- A connection of a worker: what its session was, and what was said to it.
 use Rattle.std.specs.Prelude.{◌≡◌, ◌⊎◌, ℕ, ◌≤◌, ◌-◌, Bool, false, List, [], ◌∷◌, ◌++◌, length, map, reverse, take, drop}
+use Rattle.std.specs.List.{AllZip}
 use Rattle.workers.specs.Sockets.{SocketCall, heard_in, said_in}
 use Rattle.workers.specs.declared.accepting.AcceptEnd.{AcceptEnd}
 use Rattle.workers.specs.declared.accepting.AcceptEnd.TheVariants.{All, NoWorker}
@@ -52,22 +53,26 @@ module _ {T : Type 0} (seen : T → Seen) (visited : T → T → Type 0) where
   abbrev pub HasTalked : T → List ℕ → List ℕ → Type 0
   HasTalked t heard said = (steps : List (Unit {0})) × TalksFor steps t heard said
 
+-- Each of these sessions was visited: as many are left, each in its place.
+abbrev pub EachWasVisited : {T : Type 0} → (T → T → Type 0) → List T → List T → Type 0
+EachWasVisited visited ts ts' = AllZip visited ts ts'
+
 -- Passes that no thread has, and those with which threads started, the last thread first: so they stood before the
 -- threads were started, each with the last pass that was left.
 abbrev pub with_starts : {P T : Type 0} → (T → P) → List P → List T → List P
 with_starts start passes threads = passes ++ reverse (map start threads)
 
-module _ {I S P T : Type 0} (visits : I → S → P → T → S → P → T → Type 0) (service : I) where
-  -- from one server and pass to another by visits of sessions, one after another
-  abbrev pub HaveVisited : S → P → List (T × T) → S → P → Type 0
+module _ {I S P T : Type 0} (visits : I → S → P → List (T × T) → S → P → Type 0) (service : I) where
+  -- from one server and pass to another by visits of batches of sessions, one after another
+  abbrev pub HaveVisited : S → P → List (List (T × T)) → S → P → Type 0
   HaveVisited server pass [] server' pass' = (server' ≡ server) × (pass' ≡ pass)
-  HaveVisited server pass (t ∷ ts) server' pass' = (mid : S) × (between : P)
-      × visits service server pass t.0 mid between t.1
-      × HaveVisited mid between ts server' pass'
+  HaveVisited server pass (batch ∷ batches) server' pass' = (mid : S) × (between : P)
+      × visits service server pass batch mid between
+      × HaveVisited mid between batches server' pass'
 
   -- by some visits
   abbrev pub Visits : S → P → S → P → Type 0
-  Visits server pass server' pass' = (ts : List (T × T)) × HaveVisited server pass ts server' pass'
+  Visits server pass server' pass' = (batches : List (List (T × T))) × HaveVisited server pass batches server' pass'
 
   -- and so a pass, by whichever server it is then
   abbrev pub WasServed : S → P → P → Type 0

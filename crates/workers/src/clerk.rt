@@ -1,11 +1,13 @@
 //! A worker's turns: it visits each connection whose turn comes.
-ghost use Rattle.std.specs.Prelude.{◌≡◌};
+ghost use Rattle.std.specs.Prelude.{◌≡◌, false, IfOk};
 ghost use Rattle.workers.specs.Talks.{Visits};
 
+use crate::batch::{Batch, Returned, Visited};
 use crate::event_loop::EventLoop;
 use crate::peer::{Left, Peer};
-use crate::serve::{Progress, Serve};
+use crate::serve::Serve;
 use crate::session::Session;
+use crate::talk::Talk;
 use std::alloc::Global;
 use std::sync::Wait;
 
@@ -18,86 +20,139 @@ pub(crate) struct Clerk<'a, I, P, S> {
 }
 
 impl<'a, I, P, S: Serve<I, P>> Clerk<'a, I, P, S> {
-    /// A turn of a connection: what is to be sent is sent, what has come is read once, some requests are answered, and
-    /// their answers are sent.
-    fn turn<R: Wait>(
-        &mut self,
-        rt: &R,
-        alloc: Global,
-        peer: &mut Peer<S::Session>,
-        space: &mut [u8],
-        now: u64,
-    ) -> Left
-        requires { S.is_pass_of self.old.service.now self.old.pass }
-        ensures pass { S.is_pass_of self.new.service.now self.new.pass }
-        ensures same { self.new.service.now ≡ self.old.service.now }
-        ensures visits { Visits S.visits self.old.service.now self.old.server self.old.pass
-            self.new.server self.new.pass }
-    {
-        peer.begin();
-        if peer.is_leaving() {
-            return peer.drop_some(space);
-        }
-        if !peer.send(now) {
-            return Left::Over;
-        }
-        if peer.is_open() {
-            match peer.receive(space, now) {
-                Some(true) => self.answer(rt, alloc, peer, now),
-                Some(false) => {}
-                None => return Left::Over,
-            }
-            if !peer.send(now) {
-                return Left::Over;
-            }
-        }
-        peer.left(now)
-    }
-
-    /// Answers some requests of a connection.
-    fn answer<R: Wait>(&mut self, rt: &R, alloc: Global, peer: &mut Peer<S::Session>, now: u64)
-        requires { S.is_pass_of self.old.service.now self.old.pass }
-        ensures pass { S.is_pass_of self.new.service.now self.new.pass }
-        ensures same { self.new.service.now ≡ self.old.service.now }
-        ensures visits { Visits S.visits self.old.service.now self.old.server self.old.pass
-            self.new.server self.new.pass }
-    {
-        let before = peer.talk.session.text().len();
-        let visited = peer
-            .talk
-            .visit(rt, alloc, self.service, &mut self.pass, &mut self.server);
-        let answered = peer.talk.session.text().len() > before;
-        peer.visited(visited == Progress::More, answered, now);
-    }
-
-    /// Visits each connection whose turn has come, once, while the pass is not closed.
+    /// Visits each connection whose turn has come, once, while the pass is not closed: as many together as fit into a
+    /// batch. Gives the batch back.
     pub(crate) fn visit_ready<R: Wait>(
         &mut self,
         rt: &R,
         alloc: Global,
         event_loop: &mut EventLoop<S::Session>,
+        mut batch: Batch<S::Session>,
         now: u64,
-    )
+    ) -> Batch<S::Session>
         requires { S.is_pass_of self.old.service.now self.old.pass }
         ensures pass { S.is_pass_of self.new.service.now self.new.pass }
         ensures same { self.new.service.now ≡ self.old.service.now }
         ensures visits { Visits S.visits self.old.service.now self.old.server self.old.pass
             self.new.server self.new.pass }
     {
-        for _visit in 0..event_loop.ready.len() {
-            if !self.server.may_go_on(&self.pass) {
-                return;
+        let mut turns = event_loop.ready.len();
+        for _batch in 0..turns {
+            if turns == 0 || !self.server.may_go_on(&self.pass) {
+                return batch;
             }
-            let Some(key) = event_loop.ready.pop_front() else {
-                return;
-            };
-            let Some(peer) = event_loop.peers.get_mut(key) else {
-                continue;
-            };
-            let left = self.turn(rt, alloc, peer, &mut event_loop.space, now);
-            event_loop.put_back(key, left, now);
+            turns = fill(event_loop, &mut batch, turns, now);
+            batch = self.visit(rt, alloc, event_loop, batch, now);
+        }
+        batch
+    }
+
+    // Visits the sessions of a batch, and ends their turns.
+    fn visit<R: Wait>(
+        &mut self,
+        rt: &R,
+        alloc: Global,
+        event_loop: &mut EventLoop<S::Session>,
+        batch: Batch<S::Session>,
+        now: u64,
+    ) -> Batch<S::Session>
+        requires { S.is_pass_of self.old.service.now self.old.pass }
+        ensures pass { S.is_pass_of self.new.service.now self.new.pass }
+        ensures same { self.new.service.now ≡ self.old.service.now }
+        ensures visits { Visits S.visits self.old.service.now self.old.server self.old.pass
+            self.new.server self.new.pass }
+    {
+        if batch.is_empty() {
+            return batch;
+        }
+        let visited = batch.visit(rt, alloc, self.service, &mut self.pass, &mut self.server);
+        give_back(event_loop, visited, now)
+    }
+}
+
+// Begins so many turns, until no more sessions fit into the batch. How many turns are left.
+fn fill<T: Session + Drop>(
+    event_loop: &mut EventLoop<T>,
+    batch: &mut Batch<T>,
+    turns: usize,
+    now: u64,
+) -> usize {
+    for begun in 0..turns {
+        if !batch.has_room() {
+            return turns - begun;
+        }
+        let Some(key) = event_loop.ready.pop_front() else {
+            return 0;
+        };
+        let Some(peer) = event_loop.peers.get_mut(key) else {
+            continue;
+        };
+        match begin_turn(peer, &mut event_loop.space, now) {
+            Ok(talk) => batch.lend(key, talk),
+            Err(left) => event_loop.put_back(key, left, now),
         }
     }
+    0
+}
+
+// Begins a turn: what is to be sent is sent, and what has come is read once. Gives the talk where there may be something
+// to answer, and else what is left to do.
+fn begin_turn<T: Session + Drop>(
+    peer: &mut Peer<T>,
+    space: &mut [u8],
+    now: u64,
+) -> Result<Talk<T>, Left>
+    ensures { IfOk result (λ talk. (T.seen talk.session).closes ≡ false) }
+{
+    peer.begin();
+    if peer.is_leaving() {
+        return Err(peer.drop_some(space));
+    }
+    if !peer.send(now) {
+        return Err(Left::Over);
+    }
+    if peer.is_open() {
+        match peer.receive(space, now) {
+            Some(true) => {
+                if let Some(talk) = peer.lend() {
+                    return Ok(talk);
+                }
+                peer.visited(false, now);
+            }
+            Some(false) => {}
+            None => return Err(Left::Over),
+        }
+        if !peer.send(now) {
+            return Err(Left::Over);
+        }
+    }
+    Err(peer.left(now))
+}
+
+// Gives sessions back after their visit, in their order. Ends each turn: the answer is sent.
+fn give_back<T: Session + Drop>(
+    event_loop: &mut EventLoop<T>,
+    mut visited: Visited<T>,
+    now: u64,
+) -> Batch<T> {
+    while let Some(returned) = visited.next() {
+        let Returned {
+            key,
+            talk,
+            answered,
+        } = returned;
+        let Some(peer) = event_loop.peers.get_mut(key) else {
+            continue;
+        };
+        peer.take_back(talk, answered, now);
+        let left = if peer.send(now) {
+            peer.left(now)
+        } else {
+            Left::Over
+        };
+        event_loop.put_back(key, left, now);
+    }
+    visited.into_batch()
 }
 
 /// Sends what is left of each connection whose turn has come, and drops what still comes.

@@ -118,8 +118,11 @@ impl<T: Session + Drop> EventLoop<T> {
         let Some(peer) = self.peers.get_mut(key) else {
             return;
         };
+        let Some(talk) = &mut peer.talk else {
+            return;
+        };
         let both = Interest::READABLE | Interest::WRITABLE;
-        let stream = &mut peer.talk.socket.stream;
+        let stream = &mut talk.socket.stream;
         if self
             .poll
             .registry()
@@ -175,7 +178,7 @@ impl<T: Session + Drop> EventLoop<T> {
         let Some(peer) = self.peers.get_mut(key) else {
             return false;
         };
-        let (before, held) = (peer.held, peer.talk.session.held());
+        let (before, held) = (peer.held, peer.holds());
         peer.held = held;
         if held < before {
             self.shared.held.fetch_sub(before - held, Ordering::SeqCst);

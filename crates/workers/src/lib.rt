@@ -3,6 +3,7 @@
 #![tactic(auto)]
 
 mod accepting;
+mod batch;
 mod clerk;
 mod event_loop;
 mod fault;
@@ -19,7 +20,7 @@ mod worker;
 pub use accepting::{AcceptEnd, Bounds, Watch};
 pub use fault::WorkersFault;
 pub use inbox::NobodySends;
-pub use serve::{Progress, Serve};
+pub use serve::{BATCH, Serve};
 pub use serving::serve_listener;
 pub use session::Session;
 pub use worker::Why;

@@ -1,4 +1,5 @@
 //! A connection of a worker, with its times.
+ghost use Rattle.std.specs.Prelude.{◌≡◌, false, IfSome};
 
 use crate::session::Session;
 use crate::socket::Stalled;
@@ -45,7 +46,8 @@ enum Phase {
 /// A connection of a worker. Times are in seconds since the worker began.
 #[derive(Drop)]
 pub(crate) struct Peer<T: Session + Drop> {
-    pub(crate) talk: Talk<T>,
+    /// `None` while its session is visited.
+    pub(crate) talk: Option<Talk<T>>,
     phase: Phase,
     /// When its last byte came or went.
     heard: u64,
@@ -69,7 +71,7 @@ impl<T: Session + Drop> Peer<T> {
     /// Nothing has come yet.
     pub(crate) fn new(talk: Talk<T>, now: u64) -> Peer<T> {
         Peer {
-            talk,
+            talk: Some(talk),
             phase: Phase::Open,
             heard: now,
             began: None,
@@ -103,7 +105,15 @@ impl<T: Session + Drop> Peer<T> {
 
     /// Whether requests may be read and answered now.
     pub(crate) fn is_open(&self) -> bool {
-        self.phase == Phase::Open && self.talk.session.text().len() <= UNSENT
+        self.phase == Phase::Open && self.unsent() <= UNSENT
+    }
+
+    // How many bytes are to be sent.
+    fn unsent(&self) -> usize {
+        match &self.talk {
+            Some(talk) => talk.session.text().len(),
+            None => 0,
+        }
     }
 
     /// Reads no more.
@@ -122,8 +132,11 @@ impl<T: Session + Drop> Peer<T> {
         if !self.readable {
             return Some(false);
         }
-        let room = self.talk.session.room().min(space.len());
-        match self.talk.receive(space) {
+        let Some(talk) = &mut self.talk else {
+            return Some(false);
+        };
+        let room = talk.session.room().min(space.len());
+        match talk.receive(space) {
             Ok(0) => {
                 self.phase = Phase::Ending;
                 Some(false)
@@ -143,15 +156,35 @@ impl<T: Session + Drop> Peer<T> {
         }
     }
 
-    /// Notes what a visit left.
-    pub(crate) fn visited(&mut self, more: bool, answered: bool, now: u64) {
-        self.more = more;
-        let session = &self.talk.session;
-        let (closes, held) = (session.closes(), session.held());
+    /// Its talk, for a visit, where its session goes on.
+    pub(crate) fn lend(&mut self) -> Option<Talk<T>>
+        ensures { IfSome result (λ talk. (T.seen talk.session).closes ≡ false) }
+    {
+        let talk = self.talk.take()?;
+        if talk.session.closes() {
+            self.talk = Some(talk);
+            return None;
+        }
+        Some(talk)
+    }
+
+    /// Takes its talk back after a visit.
+    pub(crate) fn take_back(&mut self, talk: Talk<T>, answered: bool, now: u64) {
+        self.talk = Some(talk);
+        self.visited(answered, now);
+    }
+
+    /// Notes what a visit left. There may be more to answer where there is no room for more to come.
+    pub(crate) fn visited(&mut self, answered: bool, now: u64) {
+        let Some(talk) = &self.talk else {
+            return;
+        };
+        let (closes, held) = (talk.session.closes(), talk.session.held());
+        self.more = talk.session.room() == 0 && !closes;
         if closes {
             self.phase = Phase::Ending;
         }
-        if held == 0 || more {
+        if held == 0 || self.more {
             self.began = None;
         } else if answered || self.began.is_none() {
             self.began = Some(now);
@@ -160,11 +193,14 @@ impl<T: Session + Drop> Peer<T> {
 
     /// Sends what is to be sent, as far as that goes without waiting. Whether the connection goes on.
     pub(crate) fn send(&mut self, now: u64) -> bool {
+        let Some(talk) = &mut self.talk else {
+            return true;
+        };
         for _turn in 0..u64::MAX {
-            if self.talk.session.text().is_empty() {
+            if talk.session.text().is_empty() {
                 return true;
             }
-            match self.talk.send_some() {
+            match talk.send_some() {
                 Ok(0) => return false,
                 Ok(_) => self.heard = now,
                 Err(Stalled::Blocked) => return true,
@@ -177,12 +213,15 @@ impl<T: Session + Drop> Peer<T> {
 
     /// What is left to do. A connection that ends hangs up once all is sent, and what still comes is dropped.
     pub(crate) fn left(&mut self, now: u64) -> Left {
-        let unsent = !self.talk.session.text().is_empty();
+        let Some(talk) = &self.talk else {
+            return Left::Nothing;
+        };
+        let unsent = !talk.session.text().is_empty();
         match self.phase {
             Phase::Open if self.is_open() && (self.more || self.readable) => Left::More,
-            Phase::Ending if !unsent && !self.talk.session.closes() => Left::Over,
+            Phase::Ending if !unsent && !talk.session.closes() => Left::Over,
             Phase::Ending if !unsent => {
-                self.talk.hang_up();
+                talk.hang_up();
                 self.phase = Phase::Leaving(now);
                 Left::More
             }
@@ -192,7 +231,10 @@ impl<T: Session + Drop> Peer<T> {
 
     /// Drops what still comes, by one read.
     pub(crate) fn drop_some(&mut self, space: &mut [u8]) -> Left {
-        match self.talk.drop_some(space) {
+        let Some(talk) = &mut self.talk else {
+            return Left::Nothing;
+        };
+        match talk.drop_some(space) {
             Ok(0) => Left::Over,
             Ok(count) if count < space.len() && !self.hung_up => Left::Nothing,
             Ok(_) => Left::More,
@@ -219,12 +261,26 @@ impl<T: Session + Drop> Peer<T> {
     pub(crate) fn rest(&mut self, alloc: Global, now: u64) {
         if self.warm && now.saturating_sub(self.heard) >= REST_SECONDS {
             self.warm = false;
-            self.talk.rest(alloc);
+            if let Some(talk) = &mut self.talk {
+                talk.rest(alloc);
+            }
         }
     }
 
-    /// How many bytes a second its request comes, in thousandths: `None` where no request has begun to come.
+    /// How many bytes of a request it holds.
+    pub(crate) fn holds(&self) -> usize {
+        match &self.talk {
+            Some(talk) => talk.session.held(),
+            None => self.held,
+        }
+    }
+
+    /// How many bytes a second its request comes, in thousandths: `None` where no request has begun to come, and while
+    /// it is visited, when it must not end.
     pub(crate) fn pace(&self, now: u64) -> Option<u64> {
+        if self.talk.is_none() {
+            return None;
+        }
         let began = self.began?;
         let seconds = now.saturating_sub(began).saturating_add(1);
         Some((self.held as u64).saturating_mul(1_000) / seconds)

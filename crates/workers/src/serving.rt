@@ -3,6 +3,7 @@ ghost use Rattle.std.specs.Prelude.{◌≡◌, ℕ, Some, All, slice_get, IfOk, 
 ghost use Rattle.workers.specs.Talks.{ArePassesLeft, HasEnded, IsServedFor, WasServed, with_starts};
 
 use crate::accepting::{AcceptEnd, Acceptor, Bounds, Link, Watch, close};
+use crate::batch::Batch;
 use crate::clerk::Clerk;
 use crate::event_loop::{EventLoop, WAKER};
 use crate::fault::WorkersFault;
@@ -140,6 +141,7 @@ where
         crew.old.passes.items crew.old.threads.items) }
 {
     let (event_loop, link) = make(site.alloc, poll, load, &site.shared)?;
+    let batch = Batch::new(site.alloc)?;
     let Some(pass) = crew.passes.pop() else {
         return Ok(false);
     };
@@ -153,6 +155,7 @@ where
         alloc: site.alloc,
         clerk,
         event_loop,
+        batch,
     };
     let thread = start(scope, worker)?;
     if crew.threads.push(thread).is_err() {

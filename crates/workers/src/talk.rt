@@ -1,13 +1,11 @@
 //! A socket with the session that answers it.
 ghost use Rattle.std.specs.Prelude.{◌≡◌};
-ghost use Rattle.workers.specs.Talks.{HasNothing, IsOfTalk, Visits};
+ghost use Rattle.workers.specs.Talks.{HasNothing, IsOfTalk};
 
-use crate::serve::{Progress, Serve};
 use crate::session::Session;
 use crate::socket::{NewSocket, Socket, Stalled};
 use std::alloc::Global;
 use std::net::Shutdown;
-use std::sync::Wait;
 
 /// A socket, and the session of all that came from it. What it took is what the session had to say, in its order, and
 /// nothing twice; what the session had to say is what visits of it put there. Once it is over, what comes is dropped.
@@ -15,7 +13,7 @@ use std::sync::Wait;
 pub(crate) struct Talk<T: Session + Drop> {
     pub(crate) socket: Socket,
     pub(crate) session: T,
-    over: bool,
+    pub(crate) over: bool,
     ghost talked: { ∥ IsOfTalk T.seen T.visited session over socket.noted.calls ∥₁ },
 }
 
@@ -71,24 +69,5 @@ impl<T: Session + Drop> Talk<T> {
         if session.held() == 0 && session.text().is_empty() && !session.closes() {
             self.session = T::open(alloc);
         }
-    }
-
-    /// Answers some of the requests that have come, where the connection goes on.
-    pub(crate) fn visit<I, P, S: Serve<I, P, Session = T>, R: Wait>(
-        &mut self,
-        rt: &R,
-        alloc: Global,
-        service: &I,
-        pass: &mut P,
-        server: &mut S,
-    ) -> Progress
-        requires { S.is_pass_of service.now pass.old }
-        ensures pass { S.is_pass_of service.now pass.new }
-        ensures visits { Visits S.visits service.now server.old pass.old server.new pass.new }
-    {
-        if self.session.closes() {
-            return Progress::Done;
-        }
-        server.visit(rt, alloc, service, pass, &mut self.session)
     }
 }

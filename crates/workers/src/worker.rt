@@ -2,6 +2,7 @@
 ghost use Rattle.std.specs.Prelude.{◌≡◌};
 ghost use Rattle.workers.specs.Talks.{HasEnded, Visits, WasServed};
 
+use crate::batch::Batch;
 use crate::clerk::{Clerk, send_ready};
 use crate::event_loop::EventLoop;
 use crate::inbox::NobodySends;
@@ -21,6 +22,7 @@ pub(crate) struct Worker<'a, I, P, S: Serve<I, P>, R> {
     pub(crate) alloc: Global,
     pub(crate) clerk: Clerk<'a, I, P, S>,
     pub(crate) event_loop: EventLoop<S::Session>,
+    pub(crate) batch: Batch<S::Session>,
 }
 
 /// Why a worker has ended.
@@ -86,8 +88,9 @@ pub(crate) fn work<I, P, S: Serve<I, P> + Drop, R: Wait + Clock>(
         alloc,
         mut clerk,
         mut event_loop,
+        batch,
     } = worker;
-    let why = serve_all(rt, alloc, &mut clerk, &mut event_loop);
+    let why = serve_all(rt, alloc, &mut clerk, &mut event_loop, batch);
     leave(rt, alloc, event_loop);
     WorkerEnd {
         pass: clerk.pass,
@@ -101,6 +104,7 @@ fn serve_all<I, P, S: Serve<I, P>, R: Wait + Clock>(
     alloc: Global,
     clerk: &mut Clerk<'_, I, P, S>,
     event_loop: &mut EventLoop<S::Session>,
+    mut batch: Batch<S::Session>,
 ) -> Why
     requires { S.is_pass_of clerk.old.service.now clerk.old.pass }
     ensures pass { S.is_pass_of clerk.new.service.now clerk.new.pass }
@@ -112,7 +116,7 @@ fn serve_all<I, P, S: Serve<I, P>, R: Wait + Clock>(
     for _turn in rt.forever() {
         let now = event_loop.wait(rt);
         event_loop.admit_arrived(rt, alloc, now);
-        clerk.visit_ready(rt, alloc, event_loop, now);
+        batch = clerk.visit_ready(rt, alloc, event_loop, batch, now);
         event_loop.tick(alloc, now);
         if let Some(told) = event_loop.done() {
             return Why::NoMore(told);

@@ -1,23 +1,19 @@
-use Rattle.std.proofs.Common.{arith}
-use Rattle.requests.specs.declared.route.Route.TheVariants.{Push}
-use Rattle.answering.proofs.Going.{push, refused}
-use Rattle.answering.proofs.Pushing.{counted}
+use Rattle.std.proofs.Common.{◌≤◌, sym, subst, arith}
+use Rattle.std.specs.VecDeque.{deque_len}
+use Rattle.answering.specs.Windows.{AreStreams, called}
+use Rattle.answering.proofs.Going.{push, no_memory}
 use Rattle.answering.proofs.responding.push.Goals as goal
+
+pub returns-in-Ok-clause-responds : goal.returns-in-Ok-clause-responds
+returns-in-Ok-clause-responds g c now tenant body (all, asks, are) =
+    let streams = c.args.streams in
+    push (g.S.Calls.gives c.args.service.now) now tenant body c.args.pass.now c.take_windows.new.pass all c.take_windows.result asks
+    (c.take_windows.ensures.goes tenant all (subst (λ l. AreStreams tenant all l c.in-Ok.windows.left.items) (sym c.as_slice.ensures.value) (subst (λ l. AreStreams tenant all streams.places.items l.items) (sym c.in-Ok.ensures.left) are)))
+
+pub returns-clause-responds : goal.returns-clause-responds
+returns-clause-responds g c now tenant body asks = no_memory (g.S.Calls.gives c.args.service.now) now tenant body c.args.pass.now
 
 pub take_windows-requires-clause-enough : goal.take_windows-requires-clause-enough
 take_windows-requires-clause-enough g c =
-    let request = c.args.request.now in
-    let streams = c.in-Ok.streams in
-    let (all, asks, are) = c.in-Ok.ensures.ok in
-    omega (arith, counted request.tenant.now all streams.places.items streams.windows.left.items are, streams.windows.left.ok.0)
-
-pub returns-in-Ok-clause-responds : goal.returns-in-Ok-clause-responds
-returns-in-Ok-clause-responds g c =
-    let request = c.args.request.now in
-    let (all, asks, are) = c.in-Ok.ensures.ok in
-    push (g.S.Calls.gives c.args.service.now) request.time request.tenant.now request.body.now c.args.pass.now c.take_windows.new.pass all c.take_windows.result asks (c.take_windows.ensures.goes request.tenant.now all are)
-
-pub returns-in-Err-clause-responds : goal.returns-in-Err-clause-responds
-returns-in-Err-clause-responds g c =
-    let request = c.args.request.now in
-    refused (g.S.Calls.gives c.args.service.now) request.time request.tenant.now request.body.now Push c.args.pass.now c.in-Err.fault c.refuse.result c.in-Err.ensures.cause c.refuse.ensures
+    let streams = c.args.streams in
+    subst (λ l. called l ≤ deque_len c.in-Ok.windows.left) (sym c.as_slice.ensures.value) (subst (λ l. called streams.places.items ≤ deque_len l) (sym c.in-Ok.ensures.left) (omega (arith, streams.counted)))

@@ -1,7 +1,6 @@
-use Rattle.std.proofs.Common.{rules, ◌≡◌, ◌≤◌, ◌+◌, ◌∙◌, [], length, refl, sym, ap, subst, arith}
+use Rattle.std.proofs.Common.{rules, ◌≡◌, ◌≤◌, ◌+◌, ◌∙◌, [], length, refl, ap, subst, arith}
 use Rattle.std.proofs.lemmas.Grind.{common_steps}
-use Rattle.std.specs.VecDeque.{deque_len}
-use Rattle.answering.specs.Windows.{AreStreams, StreamsAreTaken, called}
+use Rattle.answering.specs.Windows.{StreamsAreTaken, called}
 use Rattle.answering.proofs.Pushing.{called_append, called_most, starts, ends}
 use Rattle.answering.proofs.responding.take_windows.Goals as goal
 
@@ -11,9 +10,9 @@ loop-rest-init g c = record {
   fresh = c.requires.fresh;
   numbers = c.requires.numbers;
   size = refl;
-  taken = λ tenant all are. starts (g.S.Calls.gives c.args.service.now) tenant c.args.pass.now all c.as_slice-rest.result.now c.args.streams.windows.left.items c.new-lines.result are c.new-lines.ensures;
+  taken = λ tenant all are. starts (g.S.Calls.gives c.args.service.now) tenant c.args.pass.now all c.args.places.now c.args.windows.left.items c.new-lines.result are c.new-lines.ensures;
   fits = omega (arith, c.new-lines.ensures.streams);
-  enough = subst (λ l. called l ≤ deque_len c.args.streams.windows.left) (sym c.as_slice-rest.ensures.value) c.requires.enough;
+  enough = c.requires.enough;
   most = omega arith;
 }
 
@@ -56,6 +55,5 @@ loop-rest-preserved g c =
 pub returns-clause-goes : goal.returns-clause-goes
 returns-clause-goes g c tenant all are =
     let none : c.loop-rest.rest.now ≡ [] = grind (arith, common_steps) in
-    let given = subst (λ l. AreStreams tenant all l c.args.streams.windows.left.items) (sym c.as_slice-rest.ensures.value) are in
-    let taken = subst (λ l. StreamsAreTaken (g.S.Calls.gives c.args.service.now) tenant c.args.pass.now all c.loop-rest.pass l c.loop-rest.windows.left.items c.loop-rest.lines) none (c.loop-rest.invariant.taken tenant all given) in
+    let taken = subst (λ l. StreamsAreTaken (g.S.Calls.gives c.args.service.now) tenant c.args.pass.now all c.loop-rest.pass l c.loop-rest.windows.left.items c.loop-rest.lines) none (c.loop-rest.invariant.taken tenant all are) in
     ends (g.S.Calls.gives c.args.service.now) tenant c.args.pass.now all c.loop-rest.pass c.loop-rest.windows.left.items c.loop-rest.lines taken c.into_answer.result c.into_answer.ensures

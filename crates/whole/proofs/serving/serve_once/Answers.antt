@@ -34,4 +34,4 @@ returns-in-Some g c =
     let serving = subst (λ (s : Two g.row.D.Denot). AreServing g.D.Disk.sight g.D.Disk.follows table (opening_with s) mid) c.of.ensures c.in_ok-connection.ensures.serving in
     let met = met_in g.D.Disk.sight g.D.Disk.follows table (opening_with start) mid c.meet.new.one c.meet.new.two serving c.meet.ensures.one c.meet.ensures.two c.meet.ensures.met in
     served g.D.Disk.sight g.D.Disk.follows g.met.D.Disk.only_now g.C.Clock.ticks c.args.beginning.limits c.args.beginning.capacity slots table start mid c.cut_turn.new.it c.meet.new.one c.meet.new.two c.in_ok-history.ensures.opened serving c.args.bytes.now c.in_ok-connection.connection c.args.clock.now c.visit.new.clock
-    c.in_ok-connection.ensures.visited.0 c.in_ok-connection.ensures.visited.1 met c.args.last c.in-Some.ensures
+    c.in_ok-connection.ensures.visited.0 c.in_ok-connection.ensures.visited.1.0 c.in_ok-connection.ensures.visited.1.1 met c.args.last c.in-Some.ensures

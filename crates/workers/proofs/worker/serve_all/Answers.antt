@@ -8,19 +8,19 @@ loop-turn-preserved g c =
     let visits = g.S.Serve.visits in
     let old = c.args.clerk.now in
     let mid = c.loop-turn.clerk in
-    let new = c.visit_ready.new.self in
+    let new = c.visit_ready-batch.new.self in
     let (is, same, some) = c.loop-turn.invariant in
-    let more = subst (λ s. Visits visits s mid.server mid.pass new.server new.pass) same c.visit_ready.ensures.visits in
-    (c.visit_ready.ensures.pass, c.visit_ready.ensures.same ∙ same, visits_join visits old.service.now old.server old.pass mid.server mid.pass new.server new.pass some more)
+    let more = subst (λ s. Visits visits s mid.server mid.pass new.server new.pass) same c.visit_ready-batch.ensures.visits in
+    (c.visit_ready-batch.ensures.pass, c.visit_ready-batch.ensures.same ∙ same, visits_join visits old.service.now old.server old.pass mid.server mid.pass new.server new.pass some more)
 
 pub returns-in-Some-done-clause-visits : goal.returns-in-Some-done-clause-visits
 returns-in-Some-done-clause-visits g c =
     let visits = g.S.Serve.visits in
     let old = c.args.clerk.now in
     let mid = c.loop-turn.clerk in
-    let new = c.visit_ready.new.self in
+    let new = c.visit_ready-batch.new.self in
     let (is, same, some) = c.loop-turn.invariant in
-    let more = subst (λ s. Visits visits s mid.server mid.pass new.server new.pass) same c.visit_ready.ensures.visits in
+    let more = subst (λ s. Visits visits s mid.server mid.pass new.server new.pass) same c.visit_ready-batch.ensures.visits in
     visits_join visits old.service.now old.server old.pass mid.server mid.pass new.server new.pass some more
 
 pub returns-then-not-may_go_on-clause-visits : goal.returns-then-not-may_go_on-clause-visits
@@ -28,7 +28,7 @@ returns-then-not-may_go_on-clause-visits g c =
     let visits = g.S.Serve.visits in
     let old = c.args.clerk.now in
     let mid = c.loop-turn.clerk in
-    let new = c.visit_ready.new.self in
+    let new = c.visit_ready-batch.new.self in
     let (is, same, some) = c.loop-turn.invariant in
-    let more = subst (λ s. Visits visits s mid.server mid.pass new.server new.pass) same c.visit_ready.ensures.visits in
+    let more = subst (λ s. Visits visits s mid.server mid.pass new.server new.pass) same c.visit_ready-batch.ensures.visits in
     visits_join visits old.service.now old.server old.pass mid.server mid.pass new.server new.pass some more

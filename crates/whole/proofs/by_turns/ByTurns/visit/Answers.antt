@@ -1,16 +1,21 @@
-use Rattle.std.proofs.Common.{ap, ◌∙◌}
+use Rattle.std.proofs.Common.{◌≡◌, List, ◌∷◌, [], ◌++◌, map, ap, subst, ◌∙◌}
 use Rattle.answering.specs.Connections.{Unended, with_bytes}
+use Rattle.whole.specs.declared.serving.Alone.{Alone}
 use Rattle.whole.proofs.ServedOnce.{first_visited}
 use Rattle.whole.proofs.by_turns.ByTurns.visit.Goals as goal
 
-pub returns : goal.returns
-returns g c =
-    let bytes = c.args.bytes.now in
-    let come = c.in-Ok.ensures.ok ∙ ap (with_bytes bytes) c.new-connection.ensures in
+pub returns-in-Some : goal.returns-in-Some
+returns-in-Some g c =
+    let come = c.in-Ok.ensures.ok ∙ ap (with_bytes c.args.bytes.now) c.new-connection.ensures in
+    let come_so : Alone g.row.D.Denot = record { connection = c.take_in.new.self } in
+    let pushed : List (Alone g.row.D.Denot) = c.push_back.new.self.items in
+    let one : pushed ≡ come_so ∷ [] = subst (λ (l : List (Alone g.row.D.Denot)). pushed ≡ l ++ come_so ∷ []) c.new-connections.ensures.items c.in-Ok-push_back.ensures.items in
+    let kept = λ (alone : Alone g.row.D.Denot). alone.connection in
+    let (doubt, are) = c.answer_connections.ensures.visits in
     record {
-      serving = c.answer.ensures.pass;
-      visited = (
-        c.answer.result,
-        first_visited g.C.Clock.ticks bytes c.take_in.new.self c.answer.new.self c.args.it.now c.answer.new.pass c.args.clock.now c.answer.new.clock c.answer.result (ap (λ (u : Unended). u.came) come) (ap (λ (u : Unended). u.text) come) c.answer.ensures.visits,
-      );
+      serving = c.answer_connections.ensures.pass;
+      visited = first_visited g.C.Clock.ticks c.args.bytes.now c.take_in.new.self c.in-Some.alone.connection (ap (λ (u : Unended). u.came) come) (ap (λ (u : Unended). u.text) come)
+          c.args.it.now c.answer_connections.new.pass c.args.clock.now c.answer_connections.new.clock doubt
+          (map kept pushed) (map kept c.answer_connections.new.connections.items) (map kept c.pop_front.new.self.items)
+          (ap (map kept) one) (ap (map kept) c.in-Some.ensures.items) are;
     }

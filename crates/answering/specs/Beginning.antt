@@ -1,0 +1,117 @@
+-- A turn in two parts: until its request waits for its calls, and after they have come back; for private clauses.
+use Rattle.std.specs.Prelude.{◌≡◌, ℕ, ◌≤◌, Bool, true, false, All, List, [], ◌∷◌, length, drop, slice_range, Option, None, Some, Result, Ok, Err}
+use Rattle.std.specs.Io.KnownBytes.{Appends}
+use Rattle.accept.specs.Calls.{AreNumbers}
+use Rattle.requests.specs.Streams.{Request, ReadsMessage, IsMessage, max_head}
+use Rattle.requests.specs.Writing.{Dues, Follows}
+use Rattle.requests.specs.declared.answer.Answer.{Answer}
+use Rattle.requests.specs.declared.fault.ServeFault.{ServeFault}
+use Rattle.requests.specs.declared.incoming.Message.{Message}
+use Rattle.requests.specs.declared.route.Route.{Route}
+use Rattle.requests.specs.declared.verdict.Verdict.TheVariants.{Call}
+use Rattle.answering.specs.Calls.{Giving}
+use Rattle.answering.specs.Connections.{Unended}
+use Rattle.answering.specs.Demands.{IsDemand, calls_asked}
+use Rattle.answering.specs.Gathering.{any_text}
+use Rattle.answering.specs.Replying.{IsReplied}
+use Rattle.answering.specs.Serving.{world}
+use Rattle.answering.specs.Turns.{OnKept, MayComeAfter, ConnectionTurnIsAnswered}
+use Rattle.answering.specs.declared.demands.Demand.{Demand}
+use Rattle.answering.specs.declared.responding.Halt.{Halt}
+use Rattle.answering.specs.declared.visiting.Begun.{Begun}
+use Rattle.answering.specs.declared.visiting.Begun.TheVariants.{Over, Waits}
+use Rattle.answering.specs.declared.visiting.Turn.{Turn}
+use Rattle.answering.specs.declared.visiting.Turn.TheVariants.{Answered, Closed, Unfinished}
+
+-- no call gives anything
+abbrev pub NoCalls : Giving (Unit {0})
+NoCalls doubt old call outcome new = ⊥
+
+-- the calls that it waits for may be made
+abbrev pub HasNumbersBegun : Result Begun ServeFault → Type 0
+HasNumbersBegun (Ok (Over turn)) = Unit {0}
+HasNumbersBegun (Ok (Waits m demand)) = All AreNumbers (calls_asked demand)
+HasNumbersBegun (Err fault) = Unit {0}
+
+-- what may stand there next; a request that waits lies there whole
+abbrev pub MayComeAfterBegun : Begun → List ℕ → Type 0
+MayComeAfterBegun (Over turn) rest = MayComeAfter turn rest
+MayComeAfterBegun (Waits m demand) rest = (m.start ≤ m.end) × (m.end ≤ length rest)
+    × (length (drop m.end rest) ≤ max_head)
+
+-- what a turn that answered a request leaves
+abbrev pub turn_after : Bool → Turn
+turn_after true = Closed
+turn_after false = Answered
+
+abbrev pub turn_by : Result Bool ServeFault → Result Turn ServeFault
+turn_by (Ok closes) = Ok (turn_after closes)
+turn_by (Err fault) = Err fault
+
+module _ {C : Type 0} (ticks : C → ℕ → C → Type 0) where
+  -- the request at the front of these bytes asks for this, and the clock was read for it
+  pub record WaitsForCalls (bytes : List ℕ) (clock clock' : C) (m : Message) (demand : Demand) : Type 0 where
+    pub request : Request
+    pub reads : ReadsMessage bytes request (drop m.end bytes)
+    pub is : IsMessage bytes request m
+    pub route : Route
+    pub tenant : List ℕ
+    pub verdict : m.verdict ≡ Call route tenant
+    pub now : ℕ
+    pub tick : ticks clock now clock'
+    pub demands : IsDemand route now tenant (slice_range bytes m.start m.end) demand
+
+  module _ {H : Type 0} (due due' : Dues H) (before after : Option (List ℕ)) where
+    -- a turn in which no call was made, whatever is known of calls
+    pub record IsTurnWithoutCalls (bytes : List ℕ) (clock : C) (rest : List ℕ) (clock' : C)
+        (result : Result Turn ServeFault) : Type 0 where
+      pub text : List ℕ
+      pub appends : Appends before after text
+      pub gives_next : ConnectionTurnIsAnswered NoCalls ticks bytes (world tt clock) text rest
+          (world tt clock') result
+      pub follows : OnKept result (Follows due text due')
+
+    -- the turn is over without a call, or its request waits, and nothing was put where answers go
+    abbrev pub IsTurnBegun : List ℕ → C → List ℕ → C → Result Begun ServeFault → Type 0
+    IsTurnBegun bytes clock rest clock' (Ok (Over turn)) =
+        IsTurnWithoutCalls bytes clock rest clock' (Ok turn)
+    IsTurnBegun bytes clock rest clock' (Err fault) =
+        IsTurnWithoutCalls bytes clock rest clock' (Err fault)
+    IsTurnBegun bytes clock rest clock' (Ok (Waits m demand)) =
+        WaitsForCalls bytes clock clock' m demand × (rest ≡ bytes) × (after ≡ before)
+        × ((knows : H) (text : List ℕ) → due knows text → due' knows text)
+
+-- how much may come where this is left of what came, after a request that was answered
+abbrev pub room_behind : List ℕ → ℕ
+room_behind [] = max_head
+room_behind (x ∷ xs) = 0
+
+-- what a turn leaves of a connection, where this is left of what came
+abbrev pub IsLeftByTurn : Result Turn ServeFault → List ℕ → Unended → Unended → Type 0
+IsLeftByTurn (Ok (Unfinished n)) rest old new = (new.came ≡ rest) × (new.room ≡ n) × (new.closes ≡ old.closes)
+IsLeftByTurn (Ok Answered) rest old new = (new.came ≡ rest) × (new.room ≡ room_behind rest)
+    × (new.closes ≡ old.closes)
+IsLeftByTurn (Ok Closed) rest old new = (new.came ≡ []) × (new.room ≡ 0) × (new.closes ≡ true)
+IsLeftByTurn (Err fault) rest old new = (new.came ≡ []) × (new.room ≡ 0) × (new.closes ≡ true)
+
+-- the same of what has come, and how much more may; none where the connection ends
+abbrev pub IsRoomAfter : Result Turn ServeFault → List ℕ → List ℕ → Option ℕ → Type 0
+IsRoomAfter (Ok (Unfinished n)) old new room = (new ≡ old) × (room ≡ Some n)
+IsRoomAfter (Ok Answered) old new room = (new ≡ old) × (room ≡ Some (room_behind old))
+IsRoomAfter (Ok Closed) old new room = (new ≡ []) × (room ≡ None)
+IsRoomAfter (Err fault) old new room = (new ≡ []) × (room ≡ None)
+
+-- a visit in which no call was made, by its turn and what that left of what came
+pub record IsVisitedWithoutCalls {C : Type 0} (ticks : C → ℕ → C → Type 0) (old : Unended)
+    (clock : C) (new : Unended) (clock' : C) : Type 0 where
+  pub turn : Result Turn ServeFault
+  pub rest : List ℕ
+  pub is : IsTurnWithoutCalls ticks (any_text {H = Unit {0}}) any_text (Some old.text) (Some new.text)
+      old.came clock rest clock' turn
+  pub left : IsLeftByTurn turn rest old new
+
+-- the request of this message was answered so, and dropped
+pub record IsAnsweredSo (m : Message) (answered : Result Answer Halt) (old new : Unended) : Type 0 where
+  pub replied : Result Bool ServeFault
+  pub is : IsReplied (any_text {H = Unit {0}}) any_text (Some old.text) (Some new.text) answered m.closes replied
+  pub left : IsLeftByTurn (turn_by replied) (drop m.end old.came) old new
