@@ -1,9 +1,9 @@
 # rt is the command of the Rattle toolchain.
 RT ?= rt
-# how many connections the server serves at a time
-WORKERS ?= 64
+# how many threads answer requests
+WORKERS ?= $(shell sed -n s/^WORKERS=//p deploy/needleazure.default)
 # the programs of the package
-ALL = server ingestctl ingest1 walcat walsplit
+ALL = ingesterd ingestctl ingest1 walcat walsplit
 # (memory that the process already has, since page faults would hide what a call costs)
 HELD = glibc.malloc.mmap_max=0:glibc.malloc.trim_threshold=17179869184
 
@@ -22,11 +22,11 @@ MALLOC_CONF = background_thread:true,max_background_threads:1
 TUNED = $(if $(JEMALLOC),LD_PRELOAD=$(JEMALLOC) MALLOC_CONF=$(MALLOC_CONF),GLIBC_TUNABLES=glibc.malloc.tcache_count=1000)
 
 # (without SHARDS, which stays the same for a folder, ./data keeps the number that it has, and a new one gets 8)
-run: ## the server on port 3100, with its log in ./data (SHARDS=8 WORKERS=64)
-	@RT='$(RT)' tests/gate/build server
+run: ## the server on port 3100, with its log in ./data (SHARDS=8 WORKERS=16)
+	@RT='$(RT)' tests/gate/build ingesterd
 	@deploy/check-filesystem "$(CURDIR)/data" || true
 	@SHARDS='$(SHARDS)' deploy/with-shards deploy/fill-slots "$(CURDIR)/data" {} || true
-	@SHARDS='$(SHARDS)' $(TUNED) exec deploy/with-shards crates/server/out/server "$(CURDIR)/data" 3100 {} $(WORKERS)
+	@SHARDS='$(SHARDS)' $(TUNED) exec deploy/with-shards crates/ingesterd/out/ingesterd "$(CURDIR)/data" 3100 {} $(WORKERS)
 
 demo: ## in another shell: pushes a line to that server, and reads it back
 	@tests/package/demo 3100
@@ -43,15 +43,15 @@ server: ## the built server as it is used: connections, sizes, a failing disk, k
 	@tests/gate/pytest tests/server --ignore=tests/server/test_programs.py --ignore=tests/server/test_refused_memory.py $(WORDS)
 
 kill: ## kills a server in the middle of pushes, reads and trims, and reads all back (CYCLES=100)
-	@RT='$(RT)' tests/gate/build server
+	@RT='$(RT)' tests/gate/build ingesterd
 	@CYCLES=$(or $(CYCLES),5) tests/gate/pytest tests/server/test_kills.py -s
 
 power-loss: ## what a server under load may leave at a loss of power, image by image (IMAGES=2000 SEED=1)
-	@RT='$(RT)' tests/gate/build server
+	@RT='$(RT)' tests/gate/build ingesterd
 	@tests/server/power_loss $(or $(IMAGES),2000) $(SEED)
 
 faults: ## hostile bytes, refused memory, bad files, held to the definitions (some minutes)
-	@RT='$(RT)' tests/gate/build bench bench_calls call_cases conformance $(ALL)
+	@RT='$(RT)' tests/gate/build bench call_cases conformance $(ALL)
 	@failed=0; for it in drawn files refused_memory; do \
 		tests/gate/pytest tests/server/test_$$it.py -m by_hand || failed=1; done; \
 		tests/gate/pytest tests/server/test_refused_memory.py tests/server/test_judges.py || failed=1; \
@@ -62,7 +62,7 @@ program-rows: ## the programs over their words, streams, files and slots, as the
 	@tests/gate/pytest tests/server/test_programs.py
 
 # what a check is run over, and its words
-%-check: PROGRAMS = server walcat
+%-check: PROGRAMS = ingesterd walcat
 kit-check theorem-check filesystem-check: PROGRAMS =
 deb-check: PROGRAMS = $(ALL)
 deb-check: WORDS = "$$(deploy/deb)"
@@ -76,13 +76,13 @@ deb-check edge-check gateway-check: gateway
 	@RT='$(RT)' $(or $(wildcard tests/*/$(CHECK)),$(if $(wildcard tests/*/$(CHECK).py),tests/run $(CHECK)),$(error there is no $(CHECK))) $(WORDS)
 
 measure: ## what is timed: soak scale roll start default_shards metrics_cost drain_cost gateway_speed window (NAME=soak WORDS=2)
-	@RT='$(RT)' tests/gate/build server walcat
+	@RT='$(RT)' tests/gate/build ingesterd walcat
 	@tests/run $(NAME) $(WORDS)
 
 bench: ## how fast bodies are read, calls are made, and connections are served
-	@RT='$(RT)' tests/gate/build bench bench_calls
-	@for it in bench bench_calls; do \
-		TMPDIR='$(CURDIR)' GLIBC_TUNABLES=$(HELD) crates/$$it/out/$$it time || exit 1; done
+	@RT='$(RT)' tests/gate/build bench
+	@for it in time_parts time_calls; do \
+		TMPDIR='$(CURDIR)' GLIBC_TUNABLES=$(HELD) crates/bench/out/bench $$it || exit 1; done
 
 edits: ## tries all wrong bodies, also those that rt ci tries, and prints the goal that each leaves open (CRATES="labels accept" JOBS=2)
 	@RT='$(RT)' tests/gate/edits $(if $(JOBS),--jobs $(JOBS)) $(CRATES)
@@ -110,7 +110,7 @@ deb-lint: gateway ## the Debian packages made twice, which gives the same bytes,
 	@tests/package/deb_lint
 
 filesystem-loss: ## losses of power on real file systems, block by block (as root; IMAGES=1000 SEED=1 FILESYSTEMS="ext4 xfs btrfs")
-	@RT='$(RT)' tests/gate/build server
+	@RT='$(RT)' tests/gate/build ingesterd
 	@tests/server/filesystem_loss $(if $(SEED),--seed $(SEED)) $(or $(IMAGES),1000) $(FILESYSTEMS)
 
 gateway: ## needleazure-gateway for Promtail and Alloy, in deploy/out, from Go and libraries of Debian

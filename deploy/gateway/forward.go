@@ -21,7 +21,7 @@ const (
 	readyPath = "/ready"
 	// for an answer of the server, as nginx waits for one
 	answerTime = 60 * time.Second
-	// the server closes a connection that is idle for 60 seconds
+	// less than the time after which the server closes an idle connection
 	idleTime = 30 * time.Second
 	// of the text of an answer, which has a line for each entry that is refused. (Those of a part are less.)
 	mostAnswer = 1 << 20

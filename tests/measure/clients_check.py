@@ -3,9 +3,9 @@ run` starts it.
 
 What a push takes, and a connection, is held to bounds beside NUMBER idle connections (10,000), a
 quarter of them in the middle of a body; over 1,000 kept clients with a push a second for MINUTES
-(10); and beside 1,000 clients that send a byte a second and 100 that never read. With OLD=PATH,
-another server program, it and this one serve wrk in turn, and are compared by medians of three
-rounds. It needs as many open files as connections."""
+(10); and beside 1,000 clients that send a byte a second and 100 that never read. With OLD=PATH, a
+server program each of whose workers has one connection, it and this one serve wrk in turn, and are
+compared by medians of three rounds. It needs as many open files as connections."""
 import os
 import selectors
 import statistics
@@ -134,11 +134,10 @@ def crowd(server):
     others.end()
 
 
-def load(program, script, connections):
+def load(program, script, connections, workers):
     """Pushes a second, and microseconds of a processor a push."""
     with servers.room("clients") as folder:
         servers.fill_slots(folder, SHARDS, {})
-        workers = min(64, connections)
         with servers.Server(folder, SHARDS, workers, servers.allocator(), executable=program) as server:
             before = server.processor()
             pushes, _ = full_shards.wrk(server.port, script, connections, SECONDS)
@@ -147,14 +146,15 @@ def load(program, script, connections):
 
 
 def beside(old):
-    new, before = servers.program("server"), 0
+    new, before = servers.program("ingesterd"), 0
     for name, script, numbers in LOADS:
         for connections in numbers:
             found, what = {new: [], old: []}, f"{name}, {connections} connections"
             for turn in range(ROUNDS):
                 for program in [new, old] if turn % 2 else [old, new]:
                     if connections <= 64 or program == new:
-                        found[program].append(load(program, script, connections))
+                        workers = full_shards.WORKERS if program == new else connections
+                        found[program].append(load(program, script, connections, workers))
             pushes, used = (statistics.median(it[at] for it in found[new]) for at in (0, 1))
             if connections > 64:
                 hold(pushes > before, f"{what}: {pushes:,.0f} pushes a second, and {before:,.0f} of the old one at 64")
@@ -172,7 +172,7 @@ def check(work, _, minutes=10, number=10_000):
     settings = {**servers.allocator(), "NEEDLEAZURE_OPEN_CONNECTIONS": str(number + 100)}
     parts = [lambda it: idle(it, number), lambda it: kept(it, minutes), crowd]
     for at, part in enumerate(parts):
-        with servers.Server(f"{work}/{at}", SHARDS, 64, settings, stderr=subprocess.DEVNULL) as it:
+        with servers.Server(f"{work}/{at}", SHARDS, full_shards.WORKERS, settings, stderr=subprocess.DEVNULL) as it:
             part(it)
     if old := os.environ.get("OLD"):
         beside(old)

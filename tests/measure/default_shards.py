@@ -86,7 +86,7 @@ def table(sharings):
         yield f"| {name} | {' | '.join(f'{it:,.0f}' if it >= 100 else f'{it:.2f}' for it in medians)} |"
 
 
-def check(above, _, program=servers.program("server")):
+def check(above, _, program=servers.program("ingesterd")):
     how, began = {"executable": os.path.abspath(program)}, time.monotonic()
     sharings = [Sharing(above, count, mib, how) for count, mib in SHARINGS]
     for number in range(ROUNDS):

@@ -13,7 +13,7 @@ import servers
 from segments import generation_of
 
 # (as `make run` has it)
-WORKERS = 64
+WORKERS = int(servers.setting_of("WORKERS"))
 STREAMS, LINES, LEAST, MOST = 50, 10, 100, 300
 HEADER = 21
 MILLISECONDS = {"us": 0.001, "ms": 1, "s": 1_000}

@@ -3,9 +3,11 @@
 With the allocator and the settings of deploy/needleazure.service it takes 300 MB of lines, of whose
 six hours a trim takes five, and then ten times five hours more. Within 30 seconds it may have at
 most 1.6 times the bytes of the lines that are kept, and 50 MB. A read of a stream of 127 MB may
-take twice the bytes of its answer."""
+take twice the bytes of its answer. Of many bodies of the largest size that come at once, each worker
+may have the lines of one in memory."""
 import concurrent.futures
 import re
+import threading
 import time
 
 import servers
@@ -15,6 +17,8 @@ SHARDS, STREAMS, ROUNDS, CAPACITY = 8, 32, 10, 128 << 20
 LENGTH, LINES, HOURS, KEPT_HOURS = 200, 500, 6, 1
 # bytes of lines: all of the first round
 FILLED = 300_000_000
+# bodies of 4 MB: what one takes as bytes, and with its lines
+BODIES, BODY_BYTES, BODY_LINES = 48, 5_000_000, 20_000_000
 
 
 def shipped():
@@ -79,9 +83,32 @@ def check_read(work, settings):
         hold(status == 200 and more <= 2 * length, f"{what} that the server had, {more / length:.2f} times its answer")
 
 
+def check_long_bodies(work, settings):
+    # (all entries but the first repeat it, and are not stored again)
+    ask = servers.push_request({"a": "??"}, [servers.entry("x" * 380)] * 10_000)
+    workers, start = 4, threading.Barrier(BODIES)
+    with servers.Server(f"{work}/bodies", 4, workers, settings) as server:
+
+        def push(number):
+            with servers.Client(server.port) as client:
+                client.ends.sendall(ask[:-1].replace(b"??", b"%02d" % number))
+                start.wait()
+                # (until all of them have come but for their last bytes)
+                time.sleep(2)
+                client.ends.sendall(ask[-1:])
+                return client.answer()[0]
+
+        with concurrent.futures.ThreadPoolExecutor(BODIES) as pool:
+            statuses = set(pool.map(push, range(BODIES)))
+        memory, most = server.memory("VmHWM"), BODIES * BODY_BYTES + workers * BODY_LINES
+        what = f"{BODIES} bodies of 4 MB at once take {memory / 1e6:.0f} MB with {workers} workers, of {most / 1e6:.0f}"
+        hold(statuses == {204} and memory <= most, f"{what}, answered {statuses}")
+
+
 def check(work, _):
     allocator = servers.allocator()
     hold("LD_PRELOAD" in allocator, "jemalloc is installed")
     settings = {**allocator, "MALLOC_CONF": shipped()}
     check_trims(work, settings)
     check_read(work, settings)
+    check_long_bodies(work, settings)

@@ -1,9 +1,9 @@
 """start [MB [SHARDS [SERVER ..]]]: how long a server takes to be ready over shards that a server filled.
 
 A server with SHARDS shards (16) is pushed to until the segment of each has MB million bytes (42), and is killed. Then
-servers are started over the files: the one of crates/server/out/server, or each SERVER in turn, which have to take the
-same slots. At last `cat` reads the same segments. Each of it is done with the files in the system's cache and without,
-and the figures are medians of RUNS. Only these files are dropped from the cache; the disk may have one of its own."""
+servers are started over the files: crates/ingesterd/out/ingesterd, or each SERVER in turn, which have to take the same
+slots. At last `cat` reads the same segments. Each of it is done with the files in the system's cache and without, and
+the figures are medians of RUNS. Only these files are dropped from the cache; the disk may have one of its own."""
 import functools
 import os
 import statistics
@@ -47,7 +47,7 @@ def table(found, length):
 
 def check(folder, _, megabytes=42, count=16, *programs):
     megabytes, count = float(megabytes), int(count)
-    programs = [*map(os.path.abspath, programs)] or [servers.program("server")]
+    programs = [*map(os.path.abspath, programs)] or [servers.program("ingesterd")]
     mib = min(1024, max(64, int(megabytes * 1.1e6) // 2**20 + 1))
     settings = full_shards.settings_for(mib)
     servers.fill_slots(folder, count, settings)

@@ -52,7 +52,7 @@ class Service:
         servers.write_program(self.script, SERVICE)
         self.port, = servers.free_ports(1)
         self.settings = {**os.environ, "PATH": servers.WITH_WALCAT, "PORT": str(self.port), "SHARDS": str(SHARDS),
-                         "PROGRAM": servers.program("server"), "NEEDLEAZURE_CAPACITY": str(128 << 20),
+                         "PROGRAM": servers.program("ingesterd"), "NEEDLEAZURE_CAPACITY": str(128 << 20),
                          "SETTINGS": " ".join(f"{name}={value}" for name, value in servers.allocator().items())}
 
     def call(self, word):
@@ -64,7 +64,7 @@ class Service:
     def sweep(self, *words, **how):
         begin = [f"{TOP}/deploy/sweep", f"{self.work}/log", str(self.port), str(SHARDS), f"{self.work}/lines",
                  "--stop", f"{self.script} stop", "--start", f"{self.script} start"]
-        server = [] if "--server" in words else ["--server", servers.program("server")]
+        server = [] if "--server" in words else ["--server", servers.program("ingesterd")]
         return subprocess.Popen([*begin, *server, *words], env=self.settings, stdout=subprocess.PIPE, stderr=subprocess.STDOUT,
                                 text=True, **how)
 
@@ -171,7 +171,7 @@ def check_unavailable(service, quiet):
     service.call("stop")
     settings = dict(service.settings)
     service.settings["PROGRAM"] = f"{service.work}/limited"
-    limited = f'#!/bin/bash\ntrap "" XFSZ\nulimit -f 1\nexec {servers.program("server")} "$@"\n'
+    limited = f'#!/bin/bash\ntrap "" XFSZ\nulimit -f 1\nexec {servers.program("ingesterd")} "$@"\n'
     servers.write_program(service.settings["PROGRAM"], limited)
     service.call("start")
     with servers.Client(service.port) as client:

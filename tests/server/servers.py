@@ -9,6 +9,7 @@ import http.client
 import itertools
 import json
 import os
+import re
 import resource
 import shutil
 import signal
@@ -112,7 +113,7 @@ def run(words, data=b"", **how):
         watch = threading.Timer(SECONDS, it.kill)
         watch.start()
         ends.callback(watch.cancel)
-        said = it.stdout.readline() if words[0].endswith("server") else b""
+        said = it.stdout.readline() if words[0].endswith("ingesterd") else b""
         if said.startswith(b"ready"):
             it.kill()
             return None, b"ready", b""
@@ -258,7 +259,7 @@ class Program(contextlib.AbstractContextManager):
 
 class Server(Program):
     def __init__(self, folder, shards=4, workers=8, settings=None, more=(), **how):
-        words = [program("server"), folder, "0", str(shards), str(workers), *more]
+        words = [program("ingesterd"), folder, "0", str(shards), str(workers), *more]
         super().__init__(words, broken(settings or {}), **how)
         # (which stays the same when it is started again)
         self.words[2] = str(self.port)
@@ -417,6 +418,16 @@ def last_run(folder):
 
 def text_at(path):
     return bytes_of(f"{TOP}/{path}").decode()
+
+
+def setting_of(name):
+    """What the package's settings say."""
+    return re.search(rf"^{name}=(.*)$", text_at("deploy/needleazure.default"), re.MULTILINE)[1]
+
+
+def number_in(path, name):
+    """A constant of the source."""
+    return int(re.search(rf"const {name}: \w+ = ([\d_]+);", text_at(path))[1])
 
 
 def write_program(path, text):

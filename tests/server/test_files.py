@@ -43,7 +43,7 @@ def programs(folder):
     """A folder of programs that any user may start."""
     os.chmod(folder, 0o755)
     os.mkdir(f"{folder}/programs")
-    for name in ("server", "ingestctl"):
+    for name in ("ingesterd", "ingestctl"):
         os.chmod(shutil.copy(servers.program(name), f"{folder}/programs/{name}"), 0o755)
     return f"{folder}/programs"
 
@@ -80,7 +80,7 @@ def test_slots(folder, programs, words, script, due, slot):
         for it in locks.keys() & {*words}:
             fcntl.flock(ends.enter_context(open(its["path"], "r+b")), locks[it])
         before = files_of(above)
-        for command, right in zip(("server {} 0 1 1", "ingestctl read {} 1 t 20"), wanted):
+        for command, right in zip(("ingesterd {} 0 1 1", "ingestctl read {} 1 t 20"), wanted):
             name, *more = command.format(above).split()
             assert servers.run([f"{programs}/{name}", *more], READ, **user) == right
             assert files_of(above) == before
@@ -92,7 +92,7 @@ def test_folders(folder, name):
     servers.write(f"{folder}/file", b"x")
     os.symlink("nothing/at/all", f"{folder}/link")
     before = files_of(folder)
-    for words in (["server", f"{folder}/{name}", "0", "1", "1"], ["ingestctl", "read", f"{folder}/{name}", "1", "t", "20"]):
+    for words in (["ingesterd", f"{folder}/{name}", "0", "1", "1"], ["ingestctl", "read", f"{folder}/{name}", "1", "t", "20"]):
         assert servers.run(words, READ) == (1, b"", f"cannot open {folder}/{name}\n".encode())
     assert files_of(folder) == before
 
@@ -129,7 +129,7 @@ def test_few_descriptors(folder):
     names = [f"cannot open {folder}/{{}}/shard-0{shard}-{slot}.wal\n" for shard in (0, 1) for slot in (0, 1)]
     limit = lambda count: lambda: resource.setrlimit(resource.RLIMIT_NOFILE, (count, count))
     for least in range(4, 24):
-        status, output, errors = servers.run(["server", f"{folder}/{least}", "0", "2", "2"], preexec_fn=limit(least))
+        status, output, errors = servers.run(["ingesterd", f"{folder}/{least}", "0", "2", "2"], preexec_fn=limit(least))
         assert not os.path.isdir(f"{folder}/{least}") or not files_of(f"{folder}/{least}")
         if status is None:
             break

@@ -61,7 +61,7 @@ def test_old_and_ahead(serve):
         assert client.read(LABELS) == pushed[2:]
 
 
-@pytest.mark.parametrize("words", ["ingestctl push {} 4 t 20", "server {} 0 4 3"])
+@pytest.mark.parametrize("words", ["ingestctl push {} 4 t 20", "ingesterd {} 0 4 3"])
 def test_refused_threads(folder, preload, words):
     """The thread of each shard is refused in turn: the program ends, changes nothing, and the slots open again."""
     body = b'{"streams":[{"stream":{"a":"1"},"values":[["20","x"]]}]}'

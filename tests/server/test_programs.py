@@ -22,8 +22,7 @@ from row_slots import Bytes
 FOLDER = f"{servers.TOP}/tests/rows/programs"
 ROWS = {it.removesuffix(".txt"): list(rows_of(f"{FOLDER}/{it}"))
         for it in sorted(os.listdir(FOLDER)) if it.endswith(".txt")}
-# the crates of the programs
-CRATES = {"ingesterd": "server", **{it: it for it in ("walcat", "ingest1", "ingestctl", "walsplit", "layer_cases")}}
+PROGRAMS = ["ingesterd", "walcat", "ingest1", "ingestctl", "walsplit", "layer_cases"]
 # words that run a program by another name
 RUNS = {"walcat": "|verdict|cuts|sets|beginnings", "layer_cases": "|drawn"}
 # a line that a shard has while others are worked on, and how long all took
@@ -53,7 +52,7 @@ class Programs:
     """The built programs, and the libraries that are preloaded where they are to fail."""
 
     def __init__(self, folder):
-        self.paths = {name: servers.program(crate) for name, crate in CRATES.items()}
+        self.paths = {it: servers.program(it) for it in PROGRAMS}
         self.folder = folder
 
     def run(self, name, words, folder, data, environment, errors=subprocess.PIPE):
@@ -96,7 +95,7 @@ class Row:
 
     def take(self, line):
         word, _, rest = line.partition(" ")
-        if word in CRATES:
+        if word in PROGRAMS:
             return run_shown(*self.run(word, self.words(rest), self.limits))
         if word == "each":
             return self.each(*rest.split(" ", 4))
@@ -239,7 +238,7 @@ def test_rows(programs, name):
 
 
 @pytest.mark.by_hand
-@pytest.mark.parametrize("name", CRATES)
+@pytest.mark.parametrize("name", PROGRAMS)
 def test_that_does_nothing(programs, name):
     """Each row finds a program that does nothing."""
     programs.paths[name] = "/bin/true"

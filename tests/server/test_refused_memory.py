@@ -430,10 +430,10 @@ def connections():
 
 BODIES = [*hostile_bytes.BODIES, hostile_bytes.BODY.replace(b"10", b"1e9")]
 # the runs of a program, and the least number of their requests
-RUNS = {"bench": (lambda: [Plain(["bench", "check"])], 2_000),
+RUNS = {"bench": (lambda: [Plain(["bench", "check_parts"])], 2_000),
         "ingest1": (lambda: [Plain(["ingest1", "20"], it) for it in BODIES], 300),
         "call_cases": (rows_of_calls, 4_500), "conformance": (lambda: [Served()], 200),
-        "ingestctl": (calls_of_ingestctl, 2_500), "server": (connections, 2_500)}
+        "ingestctl": (calls_of_ingestctl, 2_500), "ingesterd": (connections, 2_500)}
 
 
 def refuse_each(it):
@@ -450,7 +450,7 @@ def refuse_each(it):
 
 @pytest.mark.parametrize("name", [
     "bench", "ingest1", "call_cases", "conformance",
-    *(pytest.param(it, marks=pytest.mark.by_hand) for it in ("ingestctl", "server"))])
+    *(pytest.param(it, marks=pytest.mark.by_hand) for it in ("ingestctl", "ingesterd"))])
 def test_refused_requests(name, preload, folder, monkeypatch):
     # (the library was made before, elsewhere)
     monkeypatch.setattr(tempfile, "tempdir", folder)
@@ -461,15 +461,13 @@ def test_refused_requests(name, preload, folder, monkeypatch):
 
 
 def test_quiet_calls(folder):
-    """Of the calls that a bench begins and ends some make no request, one makes some."""
-    made = []
-    for bench in ("bench", "bench_calls"):
-        settings = {"MEMORY_COUNT_TO": f"{folder}/{bench}", "LD_PRELOAD": servers.library()}
-        status, output, errors = run([bench, "quiet"], b"", settings)
-        counts = list(map(int, servers.bytes_of(f"{folder}/{bench}").split()))
-        names = [line.removesuffix(" begins") for line in output.decode().splitlines()[::2]]
-        due = "".join(f"{name} begins\n{name} ends\n" for name in names)
-        assert (status, output.decode(), errors, len(counts)) == (0, due, b"", 2 * len(names))
-        made += [(name, end > begin) for name, begin, end in zip(names, counts[::2], counts[1::2])]
+    """Of the calls that the bench begins and ends some make no request, one makes some."""
+    settings = {"MEMORY_COUNT_TO": f"{folder}/bench", "LD_PRELOAD": servers.library()}
+    status, output, errors = run(["bench", "quiet"], b"", settings)
+    counts = list(map(int, servers.bytes_of(f"{folder}/bench").split()))
+    names = [line.removesuffix(" begins") for line in output.decode().splitlines()[::2]]
+    due = "".join(f"{name} begins\n{name} ends\n" for name in names)
+    assert (status, output.decode(), errors, len(counts)) == (0, due, b"", 2 * len(names))
+    made = [(name, end > begin) for name, begin, end in zip(names, counts[::2], counts[1::2])]
     quiet = ["append", "look", "meet", "roll", "take", "trim"]
     assert sorted(made) == sorted([("call", True), *((name, False) for name in quiet)])

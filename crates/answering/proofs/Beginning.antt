@@ -1,5 +1,5 @@
 -- A turn in two parts, as one; and a visit of one turn.
-use Rattle.std.proofs.Common.{◌≡◌, ℕ, Bool, true, false, List, [], ◌∷◌, ◌++◌, drop, slice_range, take, Option, None, Some, Result, Ok, Err, refl, sym, ap, ◌∙◌, subst, inl}
+use Rattle.std.proofs.Common.{◌≡◌, ◌≢◌, ℕ, Bool, true, false, List, [], ◌∷◌, ◌++◌, drop, slice_range, take, Option, None, Some, Result, Ok, Err, refl, sym, ap, ◌∙◌, subst, inl}
 use Rattle.std.proofs.lemmas.Option.{none-some, same_Some}
 use Rattle.std.proofs.Math.Seq.{take-length}
 use Rattle.requests.specs.Answers.{failure_text}
@@ -30,7 +30,7 @@ use Rattle.answering.specs.declared.visiting.Turn.TheVariants.{Answered, Closed,
 use Rattle.answering.specs.declared.visiting.Visited.{Visited}
 use Rattle.answering.specs.declared.visiting.Visited.TheVariants as visited
 use Rattle.answering.proofs.Seeing.{next_seen, turn_seen}
-use Rattle.answering.proofs.Turning.{answered, said_failed, ends_kept, ends_failed, out, not_out, not_memory, left_out, goes, stops, fails, response_due, starts, goes_on, stays, closed, stopped}
+use Rattle.answering.proofs.Turning.{answered, said_failed, ends_kept, ends_failed, out, not_out, not_memory, left_out, goes, stops, fails, response_due, starts, goes_on, goes_on_by_some, stays, closed, stopped}
 
 -- what was put there is the response, by how the calls went
 module _ {H : Type 0} (gives : Giving H) (now : ℕ) (route : Route) (tenant body : List ℕ) (close : Bool) (h h' : H) (due due' : Dues H) (before : Option (List ℕ)) where
@@ -131,7 +131,8 @@ module _ {H C : Type 0} (gives : Giving H) (ticks : C → ℕ → C → Type 0) 
   visit_of_turn (x ∷ xs) (Ok Answered) t (came, room, closes) = (
     Ok visited.More,
     (room, closes),
-    subst (λ l. KeepsOn gives ticks any_text any_text (Some old.text) (Some new.text) old.came w l w') (sym came) (kept (x ∷ xs) t),
+    subst (λ l. (k : KeepsOn gives ticks any_text any_text (Some old.text) (Some new.text) old.came w l w') × (k.exchanges ≢ [])) (sym came)
+        (goes_on_by_some gives ticks any_text any_text any_text (Some old.text) (Some old.text) (Some new.text) old.came old.came (x ∷ xs) w w w' (starts gives ticks any_text (Some old.text) old.came w) t),
   )
   visit_of_turn rest (Ok Closed) t (came, room, closes) = (
     Ok visited.Closed,

@@ -152,7 +152,8 @@ module _ {H K : Type 0} (f : H → K) (gives : Giving H) (shows : Giving K) (int
           }
 
       pub visit_seen : (result : Result Visited ServeFault) → IsVisit gives ticks due due' before after bytes w rest w' result → IsVisit shows ticks any any before after bytes (seen w) rest (seen w') result
-      visit_seen (Ok More) is = kept is
+      unfolding kept
+      visit_seen (Ok More) (is, some) = (kept is, some)
       visit_seen (Ok (Unfinished n)) is = (kept is.0, is.1)
       visit_seen (Ok Closed) is = over (Ok served.Closed) None is
       visit_seen (Err Write) is = over (Err Write) None is

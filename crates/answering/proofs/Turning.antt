@@ -1,5 +1,5 @@
 -- From one turn of a connection to all of them.
-use Rattle.std.proofs.Common.{◌≡◌, ℕ, Bool, true, false, List, [], ◌∷◌, ◌++◌, ◌||◌, take, drop, slice_range, Option, None, Some, Result, Ok, Err, refl, sym, ap, ap₂, ◌∙◌, subst, inl, inr, append_assoc}
+use Rattle.std.proofs.Common.{◌≡◌, ◌≢◌, ℕ, Bool, true, false, List, [], ◌∷◌, ◌++◌, ◌||◌, take, drop, slice_range, Option, None, Some, Result, Ok, Err, refl, sym, ap, ap₂, ◌∙◌, subst, inl, inr, append_assoc}
 use Rattle.std.proofs.lemmas.List.{append-nil}
 use Rattle.std.proofs.lemmas.List.Concat.{flat_map-append}
 use Rattle.std.proofs.Math.Seq.{take-length}
@@ -32,6 +32,10 @@ use Rattle.answering.specs.Turns.{IsSameVisit, ResponseGives, ResponseIsWritten,
 use Rattle.answering.specs.Visits.{KeepsOn, IsOver, IsVisit}
 use Rattle.answering.specs.declared.visiting.Visit.{Visit}
 use Rattle.answering.specs.declared.visiting.Turn.TheVariants.{Answered, Closed, Unfinished}
+
+not_none : {X : Type 0} (xs : List X) (x : X) → xs ++ x ∷ [] ≢ []
+not_none [] x e = cc
+not_none (y ∷ ys) x e = cc
 
 pub same_trans : {S P C O : Type 0} (through : O → ℕ) (a b c : Visit S P C O) → IsSameVisit through a b → IsSameVisit through b c → IsSameVisit through a c
 same_trans through a b c first more = record {
@@ -235,6 +239,11 @@ module _ {H C : Type 0} (gives : Giving H) (ticks : C → ℕ → C → Type 0) 
           serves = serves_push bytes w p.exchanges old mid e rest w' p.serves x stays;
           follows = λ knows more is. t.follows knows more (p.follows knows (t.text ++ more) (subst (due knows) (append_assoc (flat_map response p.exchanges) t.text more) (subst (λ l. due knows (l ++ more)) (sym texts) is)));
         }
+
+    -- and some were answered
+    pub goes_on_by_some : ConnectionTurnIsServed gives ticks due1 due2 between after old mid rest w' (Ok Answered) → (k : KeepsOn gives ticks due due2 before after bytes w rest w') × (k.exchanges ≢ [])
+    unfolding goes_on
+    goes_on_by_some t = (goes_on t, not_none p.exchanges t.gives_next.0)
 
     -- no whole request is left
     pub stays : (n : ℕ) → ConnectionTurnIsServed gives ticks due1 due2 between after old mid rest w' (Ok (Unfinished n)) → KeepsOn gives ticks due due2 before after bytes w rest w' × IsUnbegun rest

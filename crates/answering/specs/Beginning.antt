@@ -18,8 +18,8 @@ use Rattle.answering.specs.Serving.{world}
 use Rattle.answering.specs.Turns.{OnKept, MayComeAfter, ConnectionTurnIsAnswered}
 use Rattle.answering.specs.declared.demands.Demand.{Demand}
 use Rattle.answering.specs.declared.responding.Halt.{Halt}
-use Rattle.answering.specs.declared.visiting.Begun.{Begun}
-use Rattle.answering.specs.declared.visiting.Begun.TheVariants.{Over, Waits}
+use Rattle.answering.specs.declared.visiting.TurnBegun.{TurnBegun}
+use Rattle.answering.specs.declared.visiting.TurnBegun.TheVariants.{Over, Waits}
 use Rattle.answering.specs.declared.visiting.Turn.{Turn}
 use Rattle.answering.specs.declared.visiting.Turn.TheVariants.{Answered, Closed, Unfinished}
 
@@ -28,13 +28,13 @@ abbrev pub NoCalls : Giving (Unit {0})
 NoCalls doubt old call outcome new = ⊥
 
 -- the calls that it waits for may be made
-abbrev pub HasNumbersBegun : Result Begun ServeFault → Type 0
+abbrev pub HasNumbersBegun : Result TurnBegun ServeFault → Type 0
 HasNumbersBegun (Ok (Over turn)) = Unit {0}
 HasNumbersBegun (Ok (Waits m demand)) = All AreNumbers (calls_asked demand)
 HasNumbersBegun (Err fault) = Unit {0}
 
 -- what may stand there next; a request that waits lies there whole
-abbrev pub MayComeAfterBegun : Begun → List ℕ → Type 0
+abbrev pub MayComeAfterBegun : TurnBegun → List ℕ → Type 0
 MayComeAfterBegun (Over turn) rest = MayComeAfter turn rest
 MayComeAfterBegun (Waits m demand) rest = (m.start ≤ m.end) × (m.end ≤ length rest)
     × (length (drop m.end rest) ≤ max_head)
@@ -72,7 +72,7 @@ module _ {C : Type 0} (ticks : C → ℕ → C → Type 0) where
       pub follows : OnKept result (Follows due text due')
 
     -- the turn is over without a call, or its request waits, and nothing was put where answers go
-    abbrev pub IsTurnBegun : List ℕ → C → List ℕ → C → Result Begun ServeFault → Type 0
+    abbrev pub IsTurnBegun : List ℕ → C → List ℕ → C → Result TurnBegun ServeFault → Type 0
     IsTurnBegun bytes clock rest clock' (Ok (Over turn)) =
         IsTurnWithoutCalls bytes clock rest clock' (Ok turn)
     IsTurnBegun bytes clock rest clock' (Err fault) =

@@ -1,5 +1,5 @@
 -- What a visit of a connection says: some of the requests that have come are answered and it is kept, or it ends.
-use Rattle.std.specs.Prelude.{ℕ, List, Option, None, Result, Ok, Err}
+use Rattle.std.specs.Prelude.{◌≢◌, ℕ, List, [], Option, None, Result, Ok, Err}
 use Rattle.std.specs.List.{flat_map}
 use Rattle.std.specs.Io.KnownBytes.{Appends}
 use Rattle.requests.specs.Writing.{Dues, Follows}
@@ -28,12 +28,13 @@ module _ {H C : Type 0} (gives : Giving H) (ticks : C → ℕ → C → Type 0) 
     pub appends : Appends before after text
     pub served : ConnectionIsAnswered gives ticks bytes left w text w' result
 
-  -- a visit in which these bytes were there, and nothing was read
+  -- A visit in which these bytes were there, and nothing was read. There may be more where it answered some requests,
+  -- and else no whole one is left.
   abbrev pub IsVisit : Dues H → Dues H → Option (List ℕ) → Option (List ℕ) → List ℕ → World H C
       → List ℕ → World H C
       → Result Visited ServeFault → Type 0
   IsVisit due due' before after bytes w rest w' (Ok visited.More) =
-      KeepsOn due due' before after bytes w rest w'
+      (kept : KeepsOn due due' before after bytes w rest w') × (kept.exchanges ≢ [])
   IsVisit due due' before after bytes w rest w' (Ok (visited.Unfinished n)) =
       KeepsOn due due' before after bytes w rest w' × IsUnbegun rest
   IsVisit due due' before after bytes w rest w' (Ok visited.Closed) =

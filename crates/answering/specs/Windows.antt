@@ -93,7 +93,7 @@ AreNoted before cames (Err (halts.Failed failure)) new =
 AreNoted before cames (Err halts.GivenUp) new =
     (first_failure (before ++ cames) ≡ None) × StopsAmong before cames
 
--- the same up to where there was no memory: of what is behind that one may have failed
+-- the same up to where there was no memory: one of those after that may have failed
 abbrev pub AreNotedUpTo : List Came → List Came → Result (Unit {0}) Halt → PushLines → Type 0
 AreNotedUpTo before cames (Ok u) new = AreNoted before cames (Ok u) new
 AreNotedUpTo before cames (Err (halts.Failed failure)) new =

@@ -12,7 +12,7 @@ use crate::clock::Clock;
 use crate::demands::Demand;
 use crate::ends::WriteEnd;
 use crate::responding::Halt;
-use crate::visiting::{Begun, Turn, begin_turn, turn_after};
+use crate::visiting::{Turn, TurnBegun, begin_turn, turn_after};
 use requests::{Answer, Incoming, MAX_HEAD, Message, Outbox, Outgoing, ServeFault};
 use std::alloc::Global;
 use std::marker::Model;
@@ -103,8 +103,8 @@ impl<P> Connection<P> {
         Ok(())
     }
 
-    /// Looks at what stands at the front, and answers it where that needs no call. Otherwise gives the request, and what
-    /// it asks for: nothing has changed then, and `end` is due once its calls have come back.
+    /// Looks at what stands at the front, and answers it where that needs no call. Otherwise gives the request, and
+    /// what it asks for: nothing has changed then, and `end` is due once its calls have come back.
     pub(crate) fn begin<C: Clock>(
         &mut self,
         alloc: Global,
@@ -124,8 +124,8 @@ impl<P> Connection<P> {
             failed: false,
         };
         let turn = match begin_turn(alloc, pass, clock, &mut end, &mut self.incoming, outgoing) {
-            Ok(Begun::Waits(message, demand)) => return Some((message, demand)),
-            Ok(Begun::Over(turn)) => Ok(turn),
+            Ok(TurnBegun::Waits(message, demand)) => return Some((message, demand)),
+            Ok(TurnBegun::Over(turn)) => Ok(turn),
             Err(fault) => Err(fault),
         };
         match settle(alloc, &mut self.incoming, turn) {
@@ -138,18 +138,18 @@ impl<P> Connection<P> {
         None
     }
 
-    /// Puts the answer to a request, whose calls have come back, behind what is to be sent, and drops the request.
+    /// Adds the answer to a request, whose calls have come back, to what is to be sent, and drops the request.
     pub(crate) fn end(
         &mut self,
         alloc: Global,
         pass: &P,
         outgoing: &mut Outgoing,
-        message: &Message,
+        message: Message,
         answered: Result<Answer, Halt>,
     )
-        requires within { message.now.end ≤ length self.old.came }
-        requires little { length (drop message.now.end self.old.came) ≤ MAX_HEAD }
-        ensures { IsAnsweredSo message.now answered self.old self.new }
+        requires within { message.end ≤ length self.old.came }
+        requires little { length (drop message.end self.old.came) ≤ MAX_HEAD }
+        ensures { IsAnsweredSo message answered self.old self.new }
     {
         let mut end = WriteEnd {
             writer: &mut self.outbox,
@@ -159,7 +159,7 @@ impl<P> Connection<P> {
             Ok(closes) => Ok(turn_after(closes)),
             Err(fault) => Err(fault),
         };
-        self.incoming.finish(message);
+        self.incoming.finish(&message);
         match settle(alloc, &mut self.incoming, turn) {
             Some(room) => self.room = room,
             None => {

@@ -21,7 +21,7 @@ use std::mem;
 use std::sync::Wait;
 
 /// What is kept of a connection by those that serve it. `P` is the pass by which its calls are made.
-pub trait Kept<P>: Sized {
+pub trait KeepsConnection<P>: Sized {
     ghost use Rattle.std.specs.Prelude.{◌≡◌};
     ghost use Rattle.answering.specs.Connections.{Unended};
 
@@ -106,7 +106,7 @@ impl Window {
         places <= MAX_WINDOW - count && self.outcomes.reserve(count + places).is_ok()
     }
 
-    // Takes in the call of a read or a trim behind the others. One for which there is no room comes back.
+    // Takes in the call of a read or a trim after the others. One for which there is no room comes back.
     fn take_call(&mut self, call: Call) -> Result<Waiting, Demand>
         ensures ok { IfOk result (λ waiting. WaitsFor (Demand.One call) waiting
             × (self.new.calls.items ≡ self.old.calls.items ++ call ∷ [])) }
@@ -123,7 +123,7 @@ impl Window {
         }
     }
 
-    // Takes in the calls of a push behind the others. One for which there is no room comes back.
+    // Takes in the calls of a push after the others. One for which there is no room comes back.
     fn take_streams(&mut self, streams: Streams) -> Result<Waiting, Demand>
         ensures ok { IfOk result (λ waiting. WaitsFor (Demand.Streams streams) waiting
             × (self.new.calls.items ≡ self.old.calls.items ++ streams.calls.items)) }
@@ -143,7 +143,7 @@ impl Window {
         }
     }
 
-    // Takes in the calls of a request behind the others. One for which there is no room comes back.
+    // Takes in the calls of a request after the others. One for which there is no room comes back.
     fn take_in(&mut self, demand: Demand) -> Result<Waiting, Demand>
         requires numbers { All AreNumbers self.old.calls.items }
         requires more { All AreNumbers (calls_asked demand) }
@@ -190,7 +190,7 @@ impl Window {
 
 // Answers a request of each connection, after the calls that stand in the window: all are made together. What came of
 // those that stood there is left in the window.
-fn answer_each<S: Calls<Pass = P>, P, R: Wait, C: Clock, T: Kept<P> + Drop>(
+fn answer_each<S: Calls<Pass = P>, P, R: Wait, C: Clock, T: KeepsConnection<P> + Drop>(
     rt: &R,
     alloc: Global,
     service: &S,
@@ -222,12 +222,12 @@ fn answer_each<S: Calls<Pass = P>, P, R: Wait, C: Clock, T: Kept<P> + Drop>(
             Ok(waiting) => {
                 answer_each(rt, alloc, service, pass, clock, connections, workspace);
                 let answered = workspace.window.tell(alloc, waiting);
-                connection.end(alloc, pass, &mut workspace.outgoing, &message, answered);
+                connection.end(alloc, pass, &mut workspace.outgoing, message, answered);
             }
             Err(demand) => {
                 workspace.window.make(rt, alloc, service, pass);
                 let answered = make_calls(rt, alloc, service, pass, demand);
-                connection.end(alloc, pass, &mut workspace.outgoing, &message, answered);
+                connection.end(alloc, pass, &mut workspace.outgoing, message, answered);
                 let made = mem::replace(&mut workspace.window, Window::new(alloc));
                 answer_each(rt, alloc, service, pass, clock, connections, workspace);
                 workspace.window = made;
@@ -244,7 +244,7 @@ fn answer_each<S: Calls<Pass = P>, P, R: Wait, C: Clock, T: Kept<P> + Drop>(
 /// doubt, those made together with it that come after it may be, too.
 ///
 /// A connection whose answer closes it, or for whose answer there was no memory, ends once its text is sent.
-pub fn answer_connections<S: Calls<Pass = P>, P, R: Wait, C: Clock, T: Kept<P> + Drop>(
+pub fn answer_connections<S: Calls<Pass = P>, P, R: Wait, C: Clock, T: KeepsConnection<P> + Drop>(
     rt: &R,
     alloc: Global,
     service: &S,

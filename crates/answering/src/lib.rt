@@ -20,7 +20,7 @@ pub use calls::Calls;
 pub use clock::Clock;
 pub use connection::Connection;
 pub use ends::Ends;
-pub use gathering::{Kept, Workspace, answer_connections};
+pub use gathering::{KeepsConnection, Workspace, answer_connections};
 pub use laws::visits_join;
 pub use replies::answer_of_read;
 pub use requests::{Answer, Answers, Outgoing, Route, Sent, ServeFault, Served, Status};

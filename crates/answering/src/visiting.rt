@@ -30,7 +30,7 @@ pub(crate) enum Turn {
 
 /// How a turn begins.
 #[derive(Drop)]
-pub(crate) enum Begun {
+pub(crate) enum TurnBegun {
     /// No call was needed, and it is over.
     Over(Turn),
     /// This request waits for its calls.
@@ -64,7 +64,7 @@ fn begin_message<P, C: Clock, O: Answers<Knows = P>>(
     incoming: &mut Incoming,
     outgoing: &mut Outgoing,
     message: Message,
-) -> Result<Begun, ServeFault>
+) -> Result<TurnBegun, ServeFault>
     requires ordered { message.start ≤ message.end }
     requires within { message.end ≤ length incoming.old }
     requires little { length (drop message.end incoming.old) ≤ MAX_HEAD }
@@ -90,7 +90,7 @@ fn begin_message<P, C: Clock, O: Answers<Knows = P>>(
                 body: incoming.body(&message),
             };
             let demand = demand_of(alloc, &request);
-            return Ok(Begun::Waits(message, demand));
+            return Ok(TurnBegun::Waits(message, demand));
         }
         Verdict::Fixed(answer) => {
             end.fixed(knows, outgoing, *answer, message.closes)?;
@@ -102,7 +102,7 @@ fn begin_message<P, C: Clock, O: Answers<Knows = P>>(
         }
     };
     incoming.finish(&message);
-    Ok(Begun::Over(turn_after(closes)))
+    Ok(TurnBegun::Over(turn_after(closes)))
 }
 
 /// Looks at what stands at the front, and answers it where that needs no call.
@@ -113,7 +113,7 @@ pub(crate) fn begin_turn<P, C: Clock, O: Answers<Knows = P>>(
     end: &mut WriteEnd<'_, O>,
     incoming: &mut Incoming,
     outgoing: &mut Outgoing,
-) -> Result<Begun, ServeFault>
+) -> Result<TurnBegun, ServeFault>
     requires unread { MayStand incoming.old }
     requires due { NextIsDue NoCalls C.ticks incoming.old (world tt clock.old)
         (λ _ text. O.due end.old.writer.now knows.now text) }
@@ -126,10 +126,10 @@ pub(crate) fn begin_turn<P, C: Clock, O: Answers<Knows = P>>(
         incoming.old clock.old incoming.new clock.new result }
 {
     match incoming.next(alloc) {
-        Next::Unfinished(most) => Ok(Begun::Over(Turn::Unfinished(most))),
+        Next::Unfinished(most) => Ok(TurnBegun::Over(Turn::Unfinished(most))),
         Next::Refused(why) => {
             end.fixed(knows, outgoing, why, true)?;
-            Ok(Begun::Over(Turn::Closed))
+            Ok(TurnBegun::Over(Turn::Closed))
         }
         Next::Whole(message) => {
             begin_message(alloc, knows, clock, end, incoming, outgoing, message)
@@ -175,8 +175,8 @@ impl<'a, 'b, S: Calls<Pass = P>, P, C: Clock, O: Answers<Knows = P>> Visit<'a, '
             self.outgoing,
         )?;
         match begun {
-            Begun::Over(turn) => Ok(turn),
-            Begun::Waits(message, demand) => {
+            TurnBegun::Over(turn) => Ok(turn),
+            TurnBegun::Waits(message, demand) => {
                 let answered = make_calls(rt, alloc, self.service, self.pass, demand);
                 let closes = self
                     .end

@@ -2,9 +2,10 @@
 
 ghost use Rattle.std.specs.Prelude.{◌≡◌, ◌^◌, IfOk};
 
+use crate::folders::disk_in;
 use crate::frames::{SEGMENT, frame_of};
+use crate::stopwatch::{Mode, Stopwatch};
 use anyhow::{Result, bail};
-use bench_parts::{Mode, Stopwatch, disk_in};
 use disk::Disk;
 use memory_disk::MemDisk;
 use std::alloc::Global;

@@ -1,7 +1,8 @@
 //! How fast push bodies are read, beside JSON alone.
 
+use crate::pushes::{START, body_of};
+use crate::stopwatch::{Mode, Stopwatch};
 use anyhow::Result;
-use bench_parts::{Mode, START, Stopwatch, body_of};
 use pushjson::read_push;
 use serde_json::Value;
 use std::rt::Clock;

@@ -1,19 +1,30 @@
-//! `bench time` prints how fast push bodies and segments are read, how the log appends, and how long calls on one
-//! stream take. Files are in a folder of their own among the temporary files. `bench check` makes a few of all that
-//! needs no file, and `bench quiet` calls that request no memory. Several words are taken one after another.
+//! `bench time_parts` prints how fast push bodies and segments are read, how the log appends, and how long calls on one
+//! stream take; `bench time_calls` how many calls a shard makes in groups and an ingester by its passes, and how fast a
+//! connection is served. Files are in a folder of their own among the temporary files. `bench check_parts` and
+//! `bench check_calls` make a few of all that, the parts without files, and `bench quiet` calls that request no memory.
+//! Several words are taken one after another.
 #![tactic(auto)]
 
 mod appends;
 mod bodies;
+mod calls;
+mod folders;
 mod frames;
-mod quiet;
-mod slots;
+mod groups;
+mod pushes;
+mod quiet_calls;
+mod quiet_parts;
+mod segments;
+mod served;
+mod stopwatch;
 mod stream;
 
+use crate::stopwatch::Mode;
 use anyhow::{Result, bail};
-use bench_parts::Mode;
 use std::fs::File;
 use std::rt::{Clock, Files};
+use std::sync::Wait;
+use std::thread::Threads;
 use std::{env, process};
 
 fn main(rt: HostRuntime) -> Result<()> {
@@ -26,30 +37,43 @@ fn main(rt: HostRuntime) -> Result<()> {
     Ok(())
 }
 
-fn run<R: Clock + Print + Files<File = File> + AllocGlobal>(
-    rt: &R,
-    word: &str,
-    folder: &str,
-) -> Result<()> {
+fn run<R>(rt: &R, word: &str, folder: &str) -> Result<()>
+where
+    R: Clock + Print + Files<File = File> + Threads + Wait + Sync + AllocGlobal,
+    R: Copy + Send + 'static,
+{
     match word {
-        "time" => {
+        "time_parts" => {
             run_parts(rt, Mode::Time)?;
             appends::time(rt, folder)
         }
-        "check" => {
+        "time_calls" => run_calls(rt, Mode::Time, folder),
+        "check_parts" => {
             run_parts(rt, Mode::Check)?;
             appends::check(rt)
         }
+        "check_calls" => run_calls(rt, Mode::Check, folder),
         "quiet" => {
-            quiet::trim(rt)?;
-            quiet::write(rt)
+            quiet_parts::trim(rt)?;
+            quiet_parts::write(rt)?;
+            quiet_calls::run(rt)
         }
-        _ => bail!("usage: bench time|check|quiet"),
+        _ => bail!("usage: bench time_parts|time_calls|check_parts|check_calls|quiet"),
     }
 }
 
 fn run_parts<R: Clock + Print + AllocGlobal>(rt: &R, mode: Mode) -> Result<()> {
     bodies::run(rt, mode)?;
-    slots::run(rt, mode)?;
+    segments::run(rt, mode)?;
     stream::run(rt, mode)
+}
+
+fn run_calls<R>(rt: &R, mode: Mode, folder: &str) -> Result<()>
+where
+    R: Clock + Print + Files<File = File> + Threads + Wait + Sync + AllocGlobal,
+    R: Copy + Send + 'static,
+{
+    groups::run(rt, mode, folder)?;
+    calls::run(rt, mode)?;
+    served::run(rt, mode)
 }

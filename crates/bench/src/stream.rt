@@ -4,9 +4,10 @@ ghost use Rattle.std.specs.Prelude.{◌<◌, IfSome};
 ghost use Rattle.accept.specs.OneStream.{AreTimes, end_of_time};
 ghost use Rattle.accept.specs.Calls.{AreNumbers};
 
+use crate::pushes::{LINES, START, push_of, pushes_of};
+use crate::stopwatch::{Mode, Stopwatch};
 use accept::{Call, EntryList, Limits, StreamState};
 use anyhow::{Result, bail};
-use bench_parts::{LINES, Mode, START, Stopwatch, push_of, pushes_of};
 use std::alloc::Global;
 use std::rt::Clock;
 

@@ -1,8 +1,12 @@
 //! A shard alone over its slots, and its answers as text.
 
+use crate::calls::call_of;
+use crate::counted::Counted;
+use crate::gathered::Gathered;
+use crate::replies::write_outcome;
+use crate::settings::Settings;
 use accept::Call;
 use anyhow::Result;
-use call_words::{Counted, Gathered, Settings, call_of, write_outcome};
 use lone_shard::{Grouped, LoneShard, Turn};
 use memory_disk::MemDisk;
 use rows::Said;

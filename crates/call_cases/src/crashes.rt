@@ -1,11 +1,12 @@
 //! What a crash leaves of a shard, and what becomes of a call where a device fails.
 
 use crate::alone::{Alone, open_alone, say_call, say_calls, say_group};
+use crate::contents::{Contents, are_unavailable, hold_the_same, streams_found};
+use crate::counted::Counted;
+use crate::gathered::Gathered;
+use crate::settings::Settings;
+use crate::slots::{Way, calls_on, copy_of, fail_as_planned, slots_of};
 use anyhow::{Result, bail};
-use call_words::{
-    Contents, Counted, Gathered, Settings, Way, are_unavailable, calls_on, copy_of,
-    fail_as_planned, hold_the_same, slots_of, streams_found,
-};
 use lone_shard::LoneShard;
 use memory_disk::MemDisk;
 use rows::Said;

@@ -2,7 +2,17 @@
 #![tactic(auto)]
 
 mod alone;
+mod calls;
+mod contents;
+mod counted;
 mod crashes;
+mod gathered;
+mod left;
+mod pieces;
+mod replies;
+mod settings;
+mod shards;
+mod slots;
 mod stage;
 mod together;
 

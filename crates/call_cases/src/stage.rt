@@ -1,10 +1,16 @@
 //! What the lines of a row do.
 
 use crate::alone::{Alone, open_alone, open_apart, say_group, say_grouped, say_line};
+use crate::calls::number_of;
+use crate::contents::Contents;
 use crate::crashes::{Doing, Tries, say_contents, say_trials};
+use crate::gathered::Gathered;
+use crate::left::Ended;
+use crate::settings::Settings;
+use crate::shards::Shards;
+use crate::slots::Way;
 use crate::together::Together;
 use anyhow::{Result, bail};
-use call_words::{Contents, Ended, Gathered, Settings, Shards, Way, number_of};
 use memory_disk::MemDisk;
 use rows::{Said, word_of};
 use std::alloc::Global;

@@ -5,9 +5,14 @@ ghost use Rattle.accept.specs.contracts.image.Image as image;
 ghost use Rattle.history.specs.Handles.{Passed};
 ghost use Rattle.ingester.specs.Calls.{IsPassOf};
 
+use crate::calls::{call_of, number_of};
+use crate::counted::Counted;
+use crate::gathered::Gathered;
+use crate::left::Ended;
+use crate::replies::write_outcome;
+use crate::settings::Settings;
 use accept::{CallFault, Reply};
 use anyhow::{Result, bail};
-use call_words::{Counted, Ended, Gathered, Settings, call_of, number_of, write_outcome};
 use ingester::{Closed, Ingester, OpenFault, Pass};
 use memory_disk::MemDisk;
 use rows::{Said, word_of};

@@ -1,6 +1,8 @@
 //! Makes the calls of requests, with results that a list gives.
+use crate::manner::Manner;
 use crate::plan::Visit;
 use crate::script::{Script, Told};
+use crate::sink::Sink;
 use crate::visits::{Came, Ticking};
 use accept::{Call, CallFault, Outcome, Reply};
 use answering::{Calls, Ends, serve};
@@ -8,7 +10,6 @@ use anyhow::{Result, bail};
 use std::alloc::Global;
 use std::collections::VecDeque;
 use std::sync::Wait;
-use wire::{Manner, Sink};
 
 /// What comes of calls that no list tells of.
 pub const STORED: Told = Told::Each(Outcome::Stored);

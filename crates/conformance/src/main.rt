@@ -2,11 +2,17 @@
 //! the rows of the files say, and prints each row that does not say what it must.
 #![tactic(auto)]
 
+mod connection;
+mod each;
+mod groups;
 mod listed;
+mod manner;
 mod opened;
 mod plan;
 mod script;
 mod serving;
+mod sink;
+mod source;
 mod visits;
 
 use crate::plan::Plan;

@@ -4,7 +4,9 @@ ghost use Rattle.std.specs.Coded.{codes};
 ghost use Rattle.accept.specs.contracts.image.Image as image;
 ghost use Rattle.ingester.specs.Calls.{IsPassOf};
 
+use crate::manner::Manner;
 use crate::plan::{Plan, Visit};
+use crate::sink::Sink;
 use crate::visits::{Came, Ticking};
 use accept::Limits;
 use anyhow::{Result, bail};
@@ -14,7 +16,6 @@ use memory_disk::MemDisk;
 use std::alloc::{AllocError, Global};
 use std::sync::Wait;
 use std::thread::Threads;
-use wire::{Manner, Sink};
 
 /// The bytes for which the slots of a shard have room together. Their records have room for twice as many.
 const ROOM: u64 = 1 << 22;

@@ -1,9 +1,10 @@
+use crate::connection::Connection;
+use crate::each::Each;
 use crate::script::Told;
 use anyhow::{Result, anyhow};
 use rows::word_of;
 use std::alloc::Global;
 use std::mem;
-use wire::{Connection, Each};
 
 /// The bytes that a segment may have where a row does not say.
 const WIDE: u64 = 1 << 21;

@@ -1,6 +1,9 @@
 //! The connections of a row, one after another.
 
+use crate::each::Each;
+use crate::groups::Groups;
 use crate::listed::{STORED, run_alone, run_listed};
+use crate::manner::Manner;
 use crate::opened::Opened;
 use crate::plan::{Plan, Visit};
 use crate::script::{Script, Told};
@@ -10,7 +13,6 @@ use rows::Said;
 use std::alloc::Global;
 use std::sync::Wait;
 use std::thread::Threads;
-use wire::{Each, Groups, Manner};
 
 /// Serves the connections of a row, and says what each came to. Shards are opened where some connection needs them.
 ///

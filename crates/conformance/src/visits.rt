@@ -2,12 +2,12 @@
 ghost use Rattle.std.specs.Prelude.{◌≡◌};
 
 use crate::plan::Visit;
+use crate::sink::Sink;
 use accept::END_OF_TIME;
 use anyhow::Result;
 use front::{Clock, ServeFault, Served};
 use rows::Said;
 use std::alloc::Global;
-use wire::Sink;
 
 /// A clock that goes on by the same amount each time that it is asked.
 #[derive(Drop)]

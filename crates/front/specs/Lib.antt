@@ -1,3 +1,10 @@
 pub mod Calls
+pub mod Clocks
+pub mod Endings
 pub mod Laws
+pub mod Openings
+pub mod Readings
+pub mod ServedPasses
+pub mod Sessions
+pub mod Stops
 pub mod Visits

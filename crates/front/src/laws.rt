@@ -1,9 +1,15 @@
-ghost use Rattle.std.specs.Prelude.{ℕ, List};
+//! Each function does nothing: its contract is a law.
+ghost use Rattle.std.specs.Prelude.{◌≡◌, ◌++◌, ℕ, Bool, List};
 ghost use Rattle.history.specs.Handles.{Passed};
 ghost use Rattle.answering.specs.Serving.{Exchange, World};
 ghost use Rattle.answering.specs.Due.{IsDueText};
+ghost use Rattle.workers.specs.Sockets.{SocketCall, heard_in, said_in};
+ghost use Rattle.workers.specs.Talks.{IsOfTalk};
 ghost use Rattle.front.specs.Calls.{CallGives};
 ghost use Rattle.front.specs.Laws.{MakesItsCalls, MakesItsFirstCalls, MakesTheirCalls, AnswersAfterSteps};
+ghost use Rattle.front.specs.Sessions.{session_seen, WasVisited};
+ghost use Rattle.front.specs.Visits.{Line, IsVisitedLine, bytes_of};
+ghost use Rattle.front.specs.declared.connections.KeptConnection.{KeptConnection};
 
 use answering::Clock;
 
@@ -28,4 +34,15 @@ pub fn answers_after_steps<C: Clock>()
     ensures { (bytes : List ℕ) (w : World Passed C) (knows : Passed)
         (text : List ℕ) → IsDueText CallGives C.ticks bytes w knows text
         → AnswersAfterSteps w.knows knows text }
+{}
+
+/// What a socket of the server took of a connection is a beginning of what visits of it put to be sent. Each visit
+/// began with what the one before it left of the bytes that had come, and with all that came since. After one that ends
+/// the connection, what came was dropped.
+pub fn sockets_say_what_visits_put<C: Clock>()
+    ensures { (kept : KeptConnection C) (over : Bool) (calls : List SocketCall)
+        → IsOfTalk (λ k. session_seen k.connection)
+        (λ old new. WasVisited C.ticks old.connection new.connection) kept over calls
+        → (line : Line C) × IsVisitedLine C.ticks line × (line.sent ≡ said_in calls)
+        × ((dropped : List ℕ) × (heard_in calls ≡ bytes_of line ++ dropped)) }
 {}

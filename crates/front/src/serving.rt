@@ -11,8 +11,8 @@ ghost use Rattle.front.specs.Calls.{CallGives};
 use crate::full::{FullShards, Untold};
 use accept::{Call, CallFault, Reply};
 use answering::{
-    Answer, Answers, Calls, Clock, Ends, Kept, RequestBody, Route, ServeFault, Served, Workspace,
-    answer_connections,
+    Answer, Answers, Calls, Clock, Ends, KeepsConnection, RequestBody, Route, ServeFault, Served,
+    Workspace, answer_connections,
 };
 use disk::Disk;
 use ingester::{Ingester, Pass};
@@ -80,7 +80,7 @@ impl<'a, D: Disk + Drop, F: FullShards> Calls for Service<'a, D, F> {
 
 impl<'a, D: Disk + Drop, F: FullShards> Service<'a, D, F> {
     /// Answers a request of each connection: `answering::answer_connections` by the calls of this ingester.
-    pub fn visit_all<R: Wait, C: Clock, T: Kept<Pass> + Drop>(
+    pub fn visit_all<R: Wait, C: Clock, T: KeepsConnection<Pass> + Drop>(
         &self,
         rt: &R,
         alloc: Global,

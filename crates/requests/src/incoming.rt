@@ -230,6 +230,11 @@ impl Incoming {
         requires { message.now.end ≤ length self.old }
         ensures { self.new ≡ drop message.now.end self.old }
     {
-        self.buffer.drain(..message.end);
+        // (a drain takes each byte in turn, and mostly nothing has come after the request)
+        if message.end == self.buffer.len() {
+            self.buffer.clear();
+        } else {
+            self.buffer.drain(..message.end);
+        }
     }
 }

@@ -1,9 +1,8 @@
 //! The server over a folder, and `ingestctl` over the same while there is no server.
 
 use crate::client::{Client, NO_CONTENT, PUSH, READ, Step, answers_of, listen};
-use ingesterd::{Environment, run_server};
+use front::{Environment, SystemClock, run_server};
 use memory_disk::Gate;
-use programs::SystemClock;
 use std::alloc::Global;
 use std::fs::{self, File, Files};
 use std::net::{IpAddr, Ipv4Addr, Net, SocketAddr, TcpListener, TcpStream};

@@ -5,9 +5,8 @@ ghost use Rattle.ingester.specs.Calls.{IsPassOf};
 
 use crate::client::{Client, NO_CONTENT, PUSH, READ, Request, Step, answers_of, listen};
 use accept::Limits;
-use front::Untold;
+use front::{Connections, Untold};
 use ingester::{Ingester, Pass, Settings};
-use ingesterd::Connections;
 use memory_disk::{Gate, GateDisk, MemDisk};
 use std::alloc::{AllocError, Global};
 use std::net::{Net, TcpListener, TcpStream};

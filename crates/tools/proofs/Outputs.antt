@@ -10,7 +10,7 @@ use Rattle.requests.specs.declared.answer.Answer.{Answer}
 use Rattle.requests.specs.declared.route.Route.TheVariants.{Push}
 use Rattle.owners.specs.Openings.{Opening}
 use Rattle.words.specs.Words.{capacity_of}
-use Rattle.programs.specs.declared.stopped.Stopped.{Stopped}
+use Rattle.front.specs.declared.stopped.Stopped.{Stopped}
 use Rattle.tools.specs.Endings.{IsBodyOf, IsAnswerDue, IsDueToPush, answer_lines}
 
 -- some bytes, and then these

@@ -20,10 +20,10 @@ use Rattle.words.specs.declared.said.CallWords.{CallWords}
 use Rattle.words.specs.declared.environment.Environment.{Environment}
 use Rattle.words.specs.Environments.{limits_of}
 use Rattle.words.specs.Words.{SaysCall, SaysClock, capacity_of}
-use Rattle.programs.specs.declared.stopped.Stopped.{Stopped}
-use Rattle.programs.specs.declared.stopped.Stopped.TheVariants.{Output}
-use Rattle.programs.specs.Stops.{stop_status}
-use Rattle.programs.specs.Openings.{IsOpenedUnder}
+use Rattle.front.specs.declared.stopped.Stopped.{Stopped}
+use Rattle.front.specs.declared.stopped.Stopped.TheVariants.{Output}
+use Rattle.front.specs.Stops.{stop_status}
+use Rattle.front.specs.Openings.{IsOpenedUnder}
 
 -- an answer that was written: 0 for 200 and 204, else 1
 abbrev pub answer_status : Status → ℕ

@@ -4,8 +4,7 @@ ghost use Rattle.std.specs.Io.KnownBytes.{Appends};
 ghost use Rattle.requests.specs.Framings.{max_body};
 ghost use Rattle.tools.specs.Endings.{answer_lines};
 
-use front::Answer;
-use programs::Stopped;
+use front::{Answer, Stopped};
 use requests::MAX_BODY;
 use std::alloc::Global;
 use std::io::{ErrorKind, Read, Write};

@@ -7,14 +7,13 @@ ghost use Rattle.slots.specs.declared.watched.Watched.{Watched};
 ghost use Rattle.accept.specs.OneStream.{AreLimits};
 ghost use Rattle.words.specs.Words.{GiveCall, GivesCapacity};
 ghost use Rattle.words.specs.Environments.{limits_of};
-ghost use Rattle.programs.specs.Stops.{stop_status};
+ghost use Rattle.front.specs.Stops.{stop_status};
 ghost use Rattle.tools.specs.Endings.{CallEnds, IsBodyOf, IsDueToCall, answer_lines, answer_status};
 
 use crate::body::{read_body, write_answer};
 use crate::one_pass::{close_for_one, open_for_one};
 use accept::Limits;
-use front::{Answer, Status, answer};
-use programs::{Stopped, capacity_by, limits_by};
+use front::{Answer, Status, Stopped, answer, capacity_by, limits_by};
 use slots::open_slots;
 use std::alloc::Global;
 use std::fs::{File, Files};

@@ -6,12 +6,12 @@ ghost use Rattle.memory_disk.specs.MemDisk.{memory_sight};
 ghost use Rattle.memory_disk.specs.declared.memory.MemDisk.{MemDisk};
 ghost use Rattle.requests.specs.declared.answer.Answer.{Answer};
 ghost use Rattle.answering.specs.Responses.{RequestIsAnswered};
-ghost use Rattle.front.specs.Calls.{CallGives};
 ghost use Rattle.ingester.specs.Calls.{IsPassOf};
 ghost use Rattle.words.specs.Words.{GiveClock, capacity_of};
 ghost use Rattle.words.specs.Environments.{limits_of};
-ghost use Rattle.programs.specs.Openings.{IsOpenedUnder};
-ghost use Rattle.programs.specs.Stops.{stop_status};
+ghost use Rattle.front.specs.Calls.{CallGives};
+ghost use Rattle.front.specs.Openings.{IsOpenedUnder};
+ghost use Rattle.front.specs.Stops.{stop_status};
 ghost use Rattle.tools.specs.EmptySlots.{AreEmptySlots};
 ghost use Rattle.tools.specs.Endings.{PushEnds, IsAnswerDue, IsBodyOf, IsDueToPush, answer_lines};
 
@@ -19,11 +19,10 @@ use crate::body::{read_body, write_answer, write_bytes};
 use crate::one_pass::{close_for_one, open_for_one};
 use accept::{Call, END_OF_TIME, Limits};
 use disk::Disk;
-use front::{Answer, Route, Status, answer, answer_of_read};
+use front::{Answer, Route, Status, Stopped, answer, answer_of_read, limits_by};
 use ingester::{Ingester, Pass};
 use labels::{LabelFault, LabelSet, StreamKey, Tenant};
 use memory_disk::MemDisk;
-use programs::{Stopped, limits_by};
 use pushjson::{PushFault, RawBatch, read_push};
 use std::alloc::Global;
 use std::io::{Read, Write};
@@ -121,7 +120,8 @@ fn push_body<D: Disk + Drop, R: Wait, W: Write>(
     requires clock { now < end_of_time }
     ensures pass { IsPassOf ingester.now pass.new }
     ensures pushed { OnOk result ((answer : Answer) × (back : List ℕ)
-        × IsAnswerDue ingester.now ingester.now.about.limits 1 (capacity_of None) Route.Push now (codes "t") body.now answer
+        × IsAnswerDue ingester.now ingester.now.about.limits 1 (capacity_of None) Route.Push now
+        (codes "t") body.now answer
         × Appends (W.contents output.old) (W.contents output.new) (answer_lines answer ++ back)) }
     ensures stopped { IfErr result (λ stop. stop_status stop ≡ 1) }
 {

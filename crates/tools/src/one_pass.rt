@@ -6,13 +6,13 @@ ghost use Rattle.openings.specs.Findings.{AreOpenedFrom};
 ghost use Rattle.ingester.specs.Calls.{IsPassOf};
 ghost use Rattle.ingester.specs.declared.refusal.OpenFault.{OpenFault};
 ghost use Rattle.ingester.specs.Findings.{IsUnmade};
-ghost use Rattle.programs.specs.Openings.{IsOpenedUnder};
+ghost use Rattle.front.specs.Openings.{IsOpenedUnder};
 
 use accept::Limits;
 use disk::Disk;
+use front::{Stopped, close_shards, open_shards};
 use ingester::{Ingester, Pass};
 use openings::Unobserved;
-use programs::{Stopped, close_shards, open_shards};
 use std::alloc::Global;
 use std::sync::Wait;
 use std::thread::Threads;

@@ -1,7 +1,9 @@
 //! `walcat FILE SHARD COUNT`: prints the segment in the file, which is a slot of shard SHARD among COUNT.
 #![tactic(auto)]
 
-use listing::{are_walcat_words, run_walcat};
+mod listing;
+
+use crate::listing::{are_walcat_words, run_walcat};
 use std::fs::{File, Files};
 use std::io;
 use std::process::ExitCode;

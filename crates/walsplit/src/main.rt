@@ -1,7 +1,15 @@
 //! `walsplit OLD NEW COUNT`: writes the streams of the slots in OLD into slots of COUNT shards in NEW.
 #![tactic(auto)]
 
-use splitting::run_walsplit;
+mod announced;
+mod asked;
+mod beside;
+mod found;
+mod program;
+mod said;
+mod stopped;
+
+use crate::program::run_walsplit;
 use std::process::ExitCode;
 use words::{setting_of, tell_about, words_of};
 

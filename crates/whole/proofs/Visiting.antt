@@ -256,7 +256,7 @@ module _ {D C : Type 0} (ticks : C → ℕ → C → Type 0) (opening : Opening 
   visit_happened : (held taken waiting text rest : List ℕ) (before after : World (Known Passed) C) (result : Result Visited ServeFault)
       → IsVisited ticks (record { held = held; taken = taken; waiting = waiting; text = text; rest = rest; before = before; after = after; result = result })
       → Happened (record { held = held; taken = taken; waiting = waiting; text = text; rest = rest; before = before; after = after; result = result })
-  visit_happened held taken waiting text rest before after (Ok More) is = kept_happened _ is tt
+  visit_happened held taken waiting text rest before after (Ok More) is = kept_happened _ is.0 tt
   visit_happened held taken waiting text rest before after (Ok (Unfinished n)) is = kept_happened _ is.0 tt
   visit_happened held taken waiting text rest before after (Ok Closed) is = over_happened _ (Ok served.Closed) is tt
   visit_happened held taken waiting text rest before after (Err Write) is = over_happened _ (Err Write) is tt

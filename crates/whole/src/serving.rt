@@ -9,7 +9,7 @@ ghost use Rattle.whole.specs.ServedOnce.{AreServing, IsFirstVisited, IsServedOnc
 
 use crate::by_turns::ByTurns;
 use accept::{Call, Limits};
-use answering::{Connection, Kept, Workspace, answer_connections};
+use answering::{Connection, KeepsConnection, Workspace, answer_connections};
 use disk::Disk;
 use front::Clock;
 use one_life::{Two, cut_turn, open_two};
@@ -31,21 +31,21 @@ pub struct Beginning<D: Disk> {
 
 // A connection that is served for itself.
 #[derive(Drop)]
-struct Alone<D: Disk> {
+struct LoneConnection<D: Disk> {
     connection: Connection<Two<D>>,
 }
 
-impl<D: Disk> Kept<Two<D>> for Alone<D> {
+impl<D: Disk> KeepsConnection<Two<D>> for LoneConnection<D> {
     ghost kept = { λ alone. alone.connection };
 
     fn into_connection(self) -> Connection<Two<D>> {
         self.connection
     }
 
-    fn of_connection(connection: Connection<Two<D>>) -> Alone<D>
+    fn of_connection(connection: Connection<Two<D>>) -> LoneConnection<D>
         ensures { result.connection ≡ connection }
     {
-        Alone { connection }
+        LoneConnection { connection }
     }
 }
 
@@ -76,7 +76,7 @@ impl<'a, D: Disk + Drop> ByTurns<'a, D> {
             return None;
         };
         let mut connections = VecDeque::new(alloc);
-        let Ok(()) = connections.push_back(Alone { connection }) else {
+        let Ok(()) = connections.push_back(LoneConnection { connection }) else {
             return None;
         };
         let mut workspace = Workspace::new(alloc);
@@ -91,7 +91,8 @@ impl<'a, D: Disk + Drop> ByTurns<'a, D> {
 /// Opens two shards with two passes, without threads, and serves a connection by the first pass: these bytes come of
 /// it, and a request in them is answered, each call by a turn of its shard. Then the passes meet. Then the first pass
 /// announces a further call, and the first shard makes a turn at it, at any moment of which a crash may come. Whatever
-/// beginning of the text of the connection was sent by then, this is what the law `whole` asks for, and so what it says.
+/// beginning of the text of the connection was sent by then, this is what the law `whole` asks for, and so what it
+/// says.
 ///
 /// `None` if the slots are refused, if memory ran out, if more bytes came than may come before a first visit, or if the
 /// pass was closed.

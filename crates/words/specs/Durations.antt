@@ -35,7 +35,8 @@ with_unit nanos (Some number) (Some unit) = Some (record { nanos = number * unit
 -- what is read with one more byte: a digit of a number, or its unit
 abbrev pub read_byte : Parts → ℕ → Option Parts
 read_byte parts byte =
-    if is_digit byte then Some (record { nanos = parts.nanos; number = Some (number_or_zero parts.number * 10 + (byte - 48)) })
+    if is_digit byte
+    then Some (record { nanos = parts.nanos; number = Some (number_or_zero parts.number * 10 + (byte - 48)) })
     else with_unit parts.nanos parts.number (unit_nanos byte)
 
 abbrev pub read_next : Option Parts → ℕ → Option Parts

@@ -58,7 +58,8 @@ pub fn limits_in(environment: &Environment) -> Result<Limits, LimitSetting>
 
 // What a variable gives, in nanoseconds.
 fn limit_in(environment: &Environment, setting: LimitSetting) -> Result<u64, LimitSetting>
-    ensures given { MatchResult result (λ nanos. (limit_of environment.now setting ≡ Some nanos) × (nanos < end_of_time))
+    ensures given { MatchResult result
+        (λ nanos. (limit_of environment.now setting ≡ Some nanos) × (nanos < end_of_time))
         (λ wrong. (wrong ≡ setting) × (limit_of environment.now setting ≡ None)) }
 {
     let (text, unset, least) = match setting {

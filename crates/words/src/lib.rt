@@ -171,8 +171,8 @@ pub fn capacity_in(setting: Option<&str>) -> Option<u64>
     }
 }
 
-/// How many connections may be open by the environment: 1 to 1,000,000, and 10,000 where it says nothing. `None` where it
-/// says anything else.
+/// How many connections may be open by the environment: 1 to 1,000,000, and 10,000 where it says nothing. `None` where
+/// it says anything else.
 pub fn open_connections_in(setting: Option<&str>) -> Option<u64>
     ensures given { MatchOption result (¬ GivesOpen (option_map (λ s. s.now) setting.entry))
         (λ _. GivesOpen (option_map (λ s. s.now) setting.entry)) }

@@ -14,6 +14,10 @@ use std::alloc::{AllocError, Global};
 use std::collections::VecDeque;
 use std::sync::Wait;
 
+/// How many bytes may have come of the sessions in a batch before one more is added. So a worker answers long requests
+/// one at a time, and has the memory of one.
+const MOST_HELD: usize = 262_144;
+
 /// What is left of a talk while its session is visited.
 #[derive(Drop)]
 pub(crate) struct Lent {
@@ -30,13 +34,15 @@ pub(crate) struct Lent {
 pub(crate) struct Batch<T: Session + Drop> {
     sessions: VecDeque<T>,
     lent: VecDeque<Lent>,
+    /// How many bytes have come of them that are not answered.
+    held: usize,
     ghost few: { deque_len sessions ≤ BATCH },
     ghost talked: { ∥ AllZip (MayBeVisited T.seen T.visited) sessions.items lent.items ∥₁ },
 }
 
 /// The same after the visit.
 #[derive(Drop)]
-pub(crate) struct Visited<T: Session + Drop> {
+pub(crate) struct VisitedBatch<T: Session + Drop> {
     sessions: VecDeque<T>,
     lent: VecDeque<Lent>,
     ghost talked: { ∥ AllZip (IsSessionOf T.seen T.visited) sessions.items lent.items ∥₁ },
@@ -57,7 +63,11 @@ impl<T: Session + Drop> Batch<T> {
     pub(crate) fn new(alloc: Global) -> Result<Batch<T>, AllocError> {
         let sessions = VecDeque::with_capacity(alloc, 1)?;
         let lent = VecDeque::with_capacity(alloc, 1)?;
-        Ok(Batch { sessions, lent })
+        Ok(Batch {
+            sessions,
+            lent,
+            held: 0,
+        })
     }
 
     pub(crate) fn is_empty(&self) -> bool {
@@ -70,7 +80,8 @@ impl<T: Session + Drop> Batch<T> {
         ensures room { IsTrue result → deque_len self.new.sessions < deque_capacity self.new.sessions }
         ensures beside { IsTrue result → deque_len self.new.lent < deque_capacity self.new.lent }
     {
-        self.sessions.len() < BATCH
+        self.held < MOST_HELD
+            && self.sessions.len() < BATCH
             && self.sessions.reserve(1).is_ok()
             && self.lent.reserve(1).is_ok()
     }
@@ -88,6 +99,7 @@ impl<T: Session + Drop> Batch<T> {
             over,
         } = talk;
         let unsent = session.text().len();
+        self.held = self.held.saturating_add(session.held());
         let lent = Lent {
             key,
             unsent,
@@ -106,18 +118,22 @@ impl<T: Session + Drop> Batch<T> {
         service: &I,
         pass: &mut P,
         server: &mut S,
-    ) -> Visited<T>
+    ) -> VisitedBatch<T>
         requires { S.is_pass_of service.now pass.old }
         ensures pass { S.is_pass_of service.now pass.new }
         ensures visits { Visits S.visits service.now server.old pass.old server.new pass.new }
     {
-        let Batch { mut sessions, lent } = self;
+        let Batch {
+            mut sessions,
+            lent,
+            ..
+        } = self;
         server.visit_all(rt, alloc, service, pass, &mut sessions);
-        Visited { sessions, lent }
+        VisitedBatch { sessions, lent }
     }
 }
 
-impl<T: Session + Drop> Visited<T> {
+impl<T: Session + Drop> VisitedBatch<T> {
     /// The first talk, with its session again.
     pub(crate) fn next(&mut self) -> Option<Returned<T>>
         ensures { MatchOption result (self.new.sessions.items ≡ [])
@@ -150,7 +166,11 @@ impl<T: Session + Drop> Visited<T> {
     pub(crate) fn into_batch(self) -> Batch<T>
         requires { self.sessions.items ≡ [] }
     {
-        let Visited { sessions, lent } = self;
-        Batch { sessions, lent }
+        let VisitedBatch { sessions, lent } = self;
+        Batch {
+            sessions,
+            lent,
+            held: 0,
+        }
     }
 }

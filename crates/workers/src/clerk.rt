@@ -2,7 +2,7 @@
 ghost use Rattle.std.specs.Prelude.{◌≡◌, false, IfOk};
 ghost use Rattle.workers.specs.Talks.{Visits};
 
-use crate::batch::{Batch, Returned, Visited};
+use crate::batch::{Batch, Returned, VisitedBatch};
 use crate::event_loop::EventLoop;
 use crate::peer::{Left, Peer};
 use crate::serve::Serve;
@@ -70,7 +70,7 @@ impl<'a, I, P, S: Serve<I, P>> Clerk<'a, I, P, S> {
     }
 }
 
-// Begins so many turns, until no more sessions fit into the batch. How many turns are left.
+// Begins at most this many turns, until no more sessions fit into the batch. How many turns are left.
 fn fill<T: Session + Drop>(
     event_loop: &mut EventLoop<T>,
     batch: &mut Batch<T>,
@@ -95,8 +95,8 @@ fn fill<T: Session + Drop>(
     0
 }
 
-// Begins a turn: what is to be sent is sent, and what has come is read once. Gives the talk where there may be something
-// to answer, and else what is left to do.
+// Begins a turn: what is to be sent is sent, and what has come is read once. Gives the talk where there may be
+// something to answer, and else what is left to do.
 fn begin_turn<T: Session + Drop>(
     peer: &mut Peer<T>,
     space: &mut [u8],
@@ -132,7 +132,7 @@ fn begin_turn<T: Session + Drop>(
 // Gives sessions back after their visit, in their order. Ends each turn: the answer is sent.
 fn give_back<T: Session + Drop>(
     event_loop: &mut EventLoop<T>,
-    mut visited: Visited<T>,
+    mut visited: VisitedBatch<T>,
     now: u64,
 ) -> Batch<T> {
     while let Some(returned) = visited.next() {

@@ -20,6 +20,7 @@ mod worker;
 pub use accepting::{AcceptEnd, Bounds, Watch};
 pub use fault::WorkersFault;
 pub use inbox::NobodySends;
+pub use peer::{IDLE_SECONDS, REQUEST_SECONDS};
 pub use serve::{BATCH, Serve};
 pub use serving::serve_listener;
 pub use session::Session;

@@ -10,10 +10,10 @@ use std::alloc::Global;
 const UNSENT: usize = 1 << 20;
 
 /// For how many seconds a connection may send nothing, or take nothing, before it is closed.
-const IDLE_SECONDS: u64 = 60;
+pub const IDLE_SECONDS: u64 = 60;
 
 /// How many seconds there may be between a request's first byte and its last.
-const REQUEST_SECONDS: u64 = 300;
+pub const REQUEST_SECONDS: u64 = 300;
 
 /// For how many seconds what still comes is dropped, so that the last answer arrives.
 const LEAVING_SECONDS: u64 = 2;

@@ -296,8 +296,8 @@ fn accept<I, R: Wait + Clock + Net, W: Watch>(
 /// It ends when this many connections have come and each has ended. A worker ends once its server tells that it may
 /// not go on: what it has answered is still sent, and its other connections are closed. Where no worker is left, all
 /// ends within a second. It ends at once, with an error, where there is no memory or a thread cannot be started. A
-/// connection is closed after 60 seconds without a byte either way, and five minutes after the first byte of a request
-/// that has not come whole. A connection that could not be accepted is not counted, and costs 10 milliseconds.
+/// connection is closed after `IDLE_SECONDS` without a byte either way, and `REQUEST_SECONDS` after the first byte of a
+/// request that has not come whole. A connection that could not be accepted is not counted, and costs 10 milliseconds.
 pub fn serve_listener<I, P, S, R, W: Watch>(
     rt: &R,
     alloc: Global,

@@ -1,16 +1,16 @@
 use Rattle.std.proofs.Common.{◌≡◌, List, ◌∷◌, [], ◌++◌, map, ap, subst, ◌∙◌}
 use Rattle.answering.specs.Connections.{Unended, with_bytes}
-use Rattle.whole.specs.declared.serving.Alone.{Alone}
+use Rattle.whole.specs.declared.serving.LoneConnection.{LoneConnection}
 use Rattle.whole.proofs.ServedOnce.{first_visited}
 use Rattle.whole.proofs.by_turns.ByTurns.visit.Goals as goal
 
 pub returns-in-Some : goal.returns-in-Some
 returns-in-Some g c =
     let come = c.in-Ok.ensures.ok ∙ ap (with_bytes c.args.bytes.now) c.new-connection.ensures in
-    let come_so : Alone g.row.D.Denot = record { connection = c.take_in.new.self } in
-    let pushed : List (Alone g.row.D.Denot) = c.push_back.new.self.items in
-    let one : pushed ≡ come_so ∷ [] = subst (λ (l : List (Alone g.row.D.Denot)). pushed ≡ l ++ come_so ∷ []) c.new-connections.ensures.items c.in-Ok-push_back.ensures.items in
-    let kept = λ (alone : Alone g.row.D.Denot). alone.connection in
+    let come_so : LoneConnection g.row.D.Denot = record { connection = c.take_in.new.self } in
+    let pushed : List (LoneConnection g.row.D.Denot) = c.push_back.new.self.items in
+    let one : pushed ≡ come_so ∷ [] = subst (λ (l : List (LoneConnection g.row.D.Denot)). pushed ≡ l ++ come_so ∷ []) c.new-connections.ensures.items c.in-Ok-push_back.ensures.items in
+    let kept = λ (alone : LoneConnection g.row.D.Denot). alone.connection in
     let (doubt, are) = c.answer_connections.ensures.visits in
     record {
       serving = c.answer_connections.ensures.pass;

@@ -1,0 +1,73 @@
+//! Shards that programs open and close.
+ghost use Rattle.std.specs.Prelude.{◌≡◌, ◌<◌, ◌≤◌, ◌^◌, ℕ, List, Some, slice_get, vec_len, IfOk, IfErr};
+ghost use Rattle.labels.specs.Shards.{max_shards};
+ghost use Rattle.accept.specs.OneStream.{AreLimits};
+ghost use Rattle.history.specs.Handles.{Passed};
+ghost use Rattle.ingester.specs.Calls.{IsPassOf};
+ghost use Rattle.ingester.specs.declared.refusal.OpenFault.{OpenFault};
+ghost use Rattle.openings.specs.Findings.{AreOpenedFrom};
+ghost use Rattle.history.specs.Histories.{max_passes};
+ghost use Rattle.ingester.specs.Findings.{IsUnmade};
+ghost use Rattle.front.specs.Openings.{IsOpenedUnder};
+
+use crate::stopped::Stopped;
+use accept::Limits;
+use disk::Disk;
+use ingester::{Ingester, Pass, Settings};
+use openings::Observer;
+use std::alloc::Global;
+use std::sync::Wait;
+use std::thread::Threads;
+
+/// Opens shards over these slots under these limits, with 1 to 64 passes, and starts a thread for each shard that owns
+/// it. `capacity` is how many bytes a segment may have, at most 2^30. `observer` is told of each shard as
+/// soon as it is replayed.
+pub fn open_shards<D, R, O>(
+    rt: &R,
+    alloc: Global,
+    slots: Vec<[D; 2]>,
+    passes: u32,
+    limits: Limits,
+    capacity: u64,
+    observer: &O,
+) -> Result<(Ingester<D>, Vec<Pass>), Stopped>
+where
+    D: Disk + Drop + Send + 'static,
+    R: Threads + Wait + Copy + Send + Sync + 'static,
+    O: Observer + Sync,
+    requires slots { (0 < vec_len slots) × (vec_len slots ≤ max_shards) }
+    requires passes { (0 < passes) × (passes ≤ max_passes) }
+    requires limits { AreLimits limits }
+    requires capacity { capacity ≤ 2 ^ 30 }
+    ensures opened { IfOk result
+        (λ it. IsOpenedUnder limits (vec_len slots) passes capacity it.0 it.1.items) }
+    ensures found { IfOk result (λ it.
+        AreOpenedFrom D.sight D.follows
+        (vec_len slots) capacity 0 slots.items it.0.logs it.0.about.bases) }
+    ensures refused { IfErr result (λ stop. (fault : OpenFault) × (backs : List (List D))
+        × (stop ≡ Stopped.Opening fault)
+        × IsUnmade D.sight D.follows (vec_len slots) slots.items backs fault) }
+    ensures passes { IfOk result (λ it. (p : ℕ) (pass : Passed) → slice_get it.1.items p ≡ Some pass
+        → IsPassOf it.0 pass) }
+{
+    let settings = Settings {
+        passes,
+        limits,
+        capacity,
+    };
+    match Ingester::open_observed(rt, *rt, alloc, slots, settings, observer) {
+        Ok(opened) => Ok(opened),
+        Err(refusal) => Err(Stopped::Opening(refusal.0)),
+    }
+}
+
+/// Closes shards and their slots by the passes that are left. Where no pass is left, the threads of the shards end by
+/// themselves, a little later.
+pub fn close_shards<D: Disk + Drop, R: Wait>(rt: &R, ingester: Ingester<D>, passes: Vec<Pass>)
+    requires passes { (p : ℕ) (pass : Passed) → slice_get passes.items p ≡ Some pass
+        → IsPassOf ingester pass }
+{
+    if !passes.is_empty() {
+        drop(ingester.close(rt, passes));
+    }
+}

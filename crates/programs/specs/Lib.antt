@@ -1,4 +1,0 @@
-pub mod Readings
-pub mod Clocks
-pub mod Openings
-pub mod Stops
