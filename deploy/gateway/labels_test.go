@@ -78,7 +78,7 @@ func TestLabelFaults(t *testing.T) {
 // However many labels a text has, no more are kept than the server needs to refuse them, and none is longer.
 func TestLabelsAreCut(t *testing.T) {
 	many, err := parseLabels("{" + strings.Repeat(`a="1",`, 100_000) + "}")
-	if err != nil || len(many) != 16 {
+	if err != nil || len(many) != mostLabels+1 {
 		t.Errorf("%d labels, %v", len(many), err)
 	}
 	if _, err := parseLabels(strings.Repeat(" ", mostLabelText+1)); err == nil || err.Error() != "more than 1048576 bytes" {

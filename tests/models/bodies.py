@@ -9,7 +9,7 @@ import math
 import re
 
 MOST_TIME = 2**63 - 1
-MOST_LINE, MOST_ENTRIES = 262_144, 10_000
+MOST_LABELS, MOST_LINE, MOST_ENTRIES = 15, 262_144, 10_000
 MOST_PAIRS, MOST_NAME, MOST_VALUE = 16, 256, 1_024
 MOST_DEPTH = 127
 
@@ -22,8 +22,8 @@ def label_fault(pairs):
     """The first fault of labels, pairs of bytes in the order given, or None. (Names of a JSON object never stand twice.)"""
     if not pairs:
         return "no labels"
-    if len(pairs) > 15:
-        return "more than 15 labels"
+    if len(pairs) > MOST_LABELS:
+        return f"more than {MOST_LABELS} labels"
     for name, value in pairs:
         if not re.fullmatch(rb"[A-Za-z_][A-Za-z0-9_]*", name):
             return "bad label name"

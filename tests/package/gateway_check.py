@@ -14,6 +14,7 @@ import time
 
 import servers
 import snappy
+from bodies import MOST_LABELS
 from gateway_bodies import MINUTE, Draw, Writer, kept, load_messages, texts, value_of
 from gateway_runs import Client, Gateway
 from row_files import pieces_of
@@ -102,8 +103,8 @@ class Faults:
         labels = self.draw.labels(8)
         fault = self.random.randrange(12)
         if fault < 4:
-            labels = [{}, {b"l%d" % it: b"v" for it in range(self.random.choice([16, 17, 40]))}, {b"l" * 1025: b"v"},
-                      {b"l": b"v" * 2049}][fault]
+            many = MOST_LABELS + self.random.choice([1, 2, 25])
+            labels = [{}, {b"l%d" % it: b"v" for it in range(many)}, {b"l" * 1025: b"v"}, {b"l": b"v" * 2049}][fault]
         labels = {name: kept(value).encode() for name, value in labels.items() if value}
         return labels, [self.entry() for _ in range(self.random.randint(1, 6))]
 

@@ -92,7 +92,9 @@ class OfRow(Run):
         said = found[1].decode().partition("\nsaid\n")[2].rpartition("\nend\n")[0].splitlines()
         # (a line that is said several times, one behind the other, is said once with its number)
         times = [re.fullmatch(r"(?:(\d+) times )?(.*)", it) for it in said]
-        return [it[2] for it in times for _ in range(int(it[1] or 1))], found
+        # (a call on an ingester says the name of its fault)
+        texts = [(NO_MEMORY if it[2] == "Memory" else it[2], int(it[1] or 1)) for it in times]
+        return [text for text, count in texts for _ in range(count)], found
 
     def wrong(self, _, environment):
         said, found = self.made(environment)

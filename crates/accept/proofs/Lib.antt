@@ -1,5 +1,6 @@
 pub mod KeyOrder
 pub mod Pasts
+pub mod Outcomes
 pub mod Composing
 pub mod Growing
 pub mod Meanings

@@ -23,10 +23,10 @@ use Rattle.answering.specs.Serving.{World, world, VerdictGives, failure_at, ends
 use Rattle.answering.specs.Turns.{ResponseIsWritten, ConnectionTurnIsAnswered, ConnectionTurnIsServed}
 use Rattle.answering.specs.Visits.{KeepsOn, IsVisit}
 use Rattle.answering.specs.declared.demands.Demand.{Demand}
-use Rattle.answering.specs.declared.responding.Halt.{Halt}
-use Rattle.answering.specs.declared.responding.Halt.TheVariants.{Failed, GivenUp}
-use Rattle.answering.specs.declared.visiting.Turn.{Turn}
-use Rattle.answering.specs.declared.visiting.Turn.TheVariants.{Answered, Closed, Unfinished}
+use Rattle.answering.specs.declared.responding.NoAnswer.{NoAnswer}
+use Rattle.answering.specs.declared.responding.NoAnswer.TheVariants.{Failed, GivenUp}
+use Rattle.answering.specs.declared.visiting.TurnOutcome.{TurnOutcome}
+use Rattle.answering.specs.declared.visiting.TurnOutcome.TheVariants.{Answered, Closed, Unfinished}
 use Rattle.answering.specs.declared.visiting.Visited.{Visited}
 use Rattle.answering.specs.declared.visiting.Visited.TheVariants as visited
 use Rattle.answering.proofs.Seeing.{next_seen, turn_seen}
@@ -34,7 +34,7 @@ use Rattle.answering.proofs.Turning.{answered, said_failed, ends_kept, ends_fail
 
 -- what was put there is the response, by how the calls went
 module _ {H : Type 0} (gives : Giving H) (now : ℕ) (route : Route) (tenant body : List ℕ) (close : Bool) (h h' : H) (due due' : Dues H) (before : Option (List ℕ)) where
-  pub replied : (after : Option (List ℕ)) (told : Result Answer Halt) (result : Result Bool ServeFault) → RequestEnds gives route now tenant body h told h' → IsReplied due due' before after told close result
+  pub replied : (after : Option (List ℕ)) (told : Result Answer NoAnswer) (result : Result Bool ServeFault) → RequestEnds gives route now tenant body h told h' → IsReplied due due' before after told close result
       → ResponseIsWritten gives now body due due' before after (Call route tenant) close h h' result
   replied after (Ok answer) (Ok ends) (course, went, none, shows) put =
       let same = answered route close course answer (content_for answer.status) none shows refl in
@@ -54,7 +54,7 @@ module _ {H : Type 0} (gives : Giving H) (now : ℕ) (route : Route) (tenant bod
 
 module _ {H C : Type 0} (gives : Giving H) (ticks : C → ℕ → C → Type 0) (h : H) where
   -- what no call changed is so whatever is known
-  pub without_calls : (due due' : Dues H) (before after : Option (List ℕ)) (bytes : List ℕ) (clock : C) (rest : List ℕ) (clock' : C) (result : Result Turn ServeFault) → IsTurnWithoutCalls ticks due due' before after bytes clock rest clock' result
+  pub without_calls : (due due' : Dues H) (before after : Option (List ℕ)) (bytes : List ℕ) (clock : C) (rest : List ℕ) (clock' : C) (result : Result TurnOutcome ServeFault) → IsTurnWithoutCalls ticks due due' before after bytes clock rest clock' result
       → ConnectionTurnIsServed gives ticks due due' before after bytes (world h clock) rest (world h clock') result
   without_calls due due' before after bytes clock rest clock' result t = record {
     text = t.text;
@@ -77,18 +77,18 @@ module _ {H C : Type 0} (gives : Giving H) (ticks : C → ℕ → C → Type 0) 
       (response_due gives ticks bytes w.request m w.now body (world h clock) (world h' clock') w.is w.reads w.tick refl due course next (subst (λ v. VerdictGives gives w.now body v h course h') (sym w.verdict) went))
 
   -- the answer is due once the calls have come back
-  pub reply_due : (due : Dues H) (told : Result Answer Halt) → NextIsDue gives ticks bytes (world h clock) due → RequestEnds gives w.route w.now w.tenant body h told h' → ReplyIsDue due h' told m.closes
+  pub reply_due : (due : Dues H) (told : Result Answer NoAnswer) → NextIsDue gives ticks bytes (world h clock) due → RequestEnds gives w.route w.now w.tenant body h told h' → ReplyIsDue due h' told m.closes
   reply_due due (Ok answer) next (course, went, none, shows) = subst (due h') (sym (answered w.route m.closes course answer (content_for answer.status) none shows refl)) (said due course next went)
   reply_due due (Err (Failed failure)) next (course, went, failed) = subst (due h') (sym (said_failed w.route m.closes course failure failed)) (said due course next went)
   reply_due due (Err GivenUp) next left = tt
 
-  response : (due due' : Dues H) (before after : Option (List ℕ)) (told : Result Answer Halt) (result : Result Bool ServeFault) → RequestEnds gives w.route w.now w.tenant body h told h' → IsReplied due due' before after told m.closes result
+  response : (due due' : Dues H) (before after : Option (List ℕ)) (told : Result Answer NoAnswer) (result : Result Bool ServeFault) → RequestEnds gives w.route w.now w.tenant body h told h' → IsReplied due due' before after told m.closes result
       → ResponseIsWritten gives w.now body due due' before after m.verdict m.closes h h' result
   response due due' before after told result ends put =
       subst (λ v. ResponseIsWritten gives w.now body due due' before after v m.closes h h' result) (sym w.verdict) (replied gives w.now w.route w.tenant body m.closes h h' due due' before after told result ends put)
 
   -- a request that waited was answered
-  pub turn_told : (due due' : Dues H) (before after : Option (List ℕ)) (told : Result Answer Halt) (rest : List ℕ) (result : Result Bool ServeFault) → RequestEnds gives w.route w.now w.tenant body h told h' → IsReplied due due' before after told m.closes result
+  pub turn_told : (due due' : Dues H) (before after : Option (List ℕ)) (told : Result Answer NoAnswer) (rest : List ℕ) (result : Result Bool ServeFault) → RequestEnds gives w.route w.now w.tenant body h told h' → IsReplied due due' before after told m.closes result
       → (result ≡ Ok false → rest ≡ drop m.end bytes) → ConnectionTurnIsServed gives ticks due due' before after bytes (world h clock) rest (world h' clock') (turn_by result)
   turn_told due due' before after told rest (Ok false) ends put dropped =
       let r = response due due' before after told (Ok false) ends put in
@@ -107,7 +107,7 @@ module _ {H C : Type 0} (gives : Giving H) (ticks : C → ℕ → C → Type 0) 
 
 -- a visit of one turn
 module _ {H C : Type 0} (gives : Giving H) (ticks : C → ℕ → C → Type 0) (old new : Unended) (w w' : World H C) where
-  abbrev Served : List ℕ → Result Turn ServeFault → Type 0
+  abbrev Served : List ℕ → Result TurnOutcome ServeFault → Type 0
   Served rest turn = ConnectionTurnIsServed gives ticks any_text any_text (Some old.text) (Some new.text) old.came w rest w' turn
 
   abbrev Left : Type 0
@@ -116,7 +116,7 @@ module _ {H C : Type 0} (gives : Giving H) (ticks : C → ℕ → C → Type 0) 
   kept : (rest : List ℕ) → Served rest (Ok Answered) → KeepsOn gives ticks any_text any_text (Some old.text) (Some new.text) old.came w rest w'
   kept rest t = goes_on gives ticks any_text any_text any_text (Some old.text) (Some old.text) (Some new.text) old.came old.came rest w w w' (starts gives ticks any_text (Some old.text) old.came w) t
 
-  pub visit_of_turn : (rest : List ℕ) (turn : Result Turn ServeFault) → Served rest turn → IsLeftByTurn turn rest old new → Left
+  pub visit_of_turn : (rest : List ℕ) (turn : Result TurnOutcome ServeFault) → Served rest turn → IsLeftByTurn turn rest old new → Left
   visit_of_turn rest (Ok (Unfinished n)) t (came, room, closes) = (
     Ok (visited.Unfinished n),
     (room, closes),
@@ -153,13 +153,13 @@ module _ {H C : Type 0} (gives : Giving H) (ticks : C → ℕ → C → Type 0) 
   )
 
 -- what was due before is, too
-pub still_due : {H : Type 0} (due due' : Dues H) (knows : H) (told : Result Answer Halt) (close : Bool) → ((k : H) (text : List ℕ) → due k text → due' k text) → ReplyIsDue due knows told close → ReplyIsDue due' knows told close
+pub still_due : {H : Type 0} (due due' : Dues H) (knows : H) (told : Result Answer NoAnswer) (close : Bool) → ((k : H) (text : List ℕ) → due k text → due' k text) → ReplyIsDue due knows told close → ReplyIsDue due' knows told close
 still_due due due' knows (Ok answer) close more is = more knows (text_of_answer answer close) is
 still_due due due' knows (Err (Failed failure)) close more is = more knows (failure_text failure) is
 still_due due due' knows (Err GivenUp) close more is = tt
 
 -- where nothing was put there before
-pub replied_after : {H : Type 0} (due due1 due2 : Dues H) (before mid after : Option (List ℕ)) (told : Result Answer Halt) (close : Bool) (result : Result Bool ServeFault) → mid ≡ before → ((k : H) (text : List ℕ) → due k text → due1 k text)
+pub replied_after : {H : Type 0} (due due1 due2 : Dues H) (before mid after : Option (List ℕ)) (told : Result Answer NoAnswer) (close : Bool) (result : Result Bool ServeFault) → mid ≡ before → ((k : H) (text : List ℕ) → due k text → due1 k text)
     → IsReplied due1 due2 mid after told close result → IsReplied due due2 before after told close result
 replied_after due due1 due2 before mid after (Ok answer) close (Ok ends) same more put = record {
   writes = subst (λ b. WritesBeginning b after (text_of_answer answer close) (Ok tt)) same put.writes;
@@ -177,7 +177,7 @@ replied_after due due1 due2 before mid after (Err (Failed failure)) close (Err f
 replied_after due due1 due2 before mid after (Err GivenUp) close result same more (nothing, is) = (nothing ∙ same, is)
 
 -- where anything may be sent
-pub replied_any : {H : Type 0} (K : Type 0) (due due' : Dues H) (before after : Option (List ℕ)) (told : Result Answer Halt) (close : Bool) (result : Result Bool ServeFault) → IsReplied due due' before after told close result
+pub replied_any : {H : Type 0} (K : Type 0) (due due' : Dues H) (before after : Option (List ℕ)) (told : Result Answer NoAnswer) (close : Bool) (result : Result Bool ServeFault) → IsReplied due due' before after told close result
     → IsReplied (any_text {H = K}) any_text before after told close result
 replied_any K due due' before after (Ok answer) close (Ok ends) put = record { writes = put.writes; told = (put.told.0, λ knows more is. tt) }
 replied_any K due due' before after (Ok answer) close (Err fault) put = record { writes = put.writes; told = tt }
@@ -216,7 +216,7 @@ module _ {H C : Type 0} (ticks : C → ℕ → C → Type 0) (bytes : List ℕ) 
       record { text = w.text; appends = w.appends; gives_next = fails NoCalls ticks bytes r m now (slice_range bytes m.start m.end) (world tt clock) (world tt clock') is reads tick refl w.text rest fault w.replies; follows = tt }
 
 -- whatever may be sent
-pub without_dues : {H C : Type 0} (K : Type 0) (ticks : C → ℕ → C → Type 0) (due due' : Dues H) (before after : Option (List ℕ)) (bytes : List ℕ) (clock : C) (rest : List ℕ) (clock' : C) (turn : Result Turn ServeFault)
+pub without_dues : {H C : Type 0} (K : Type 0) (ticks : C → ℕ → C → Type 0) (due due' : Dues H) (before after : Option (List ℕ)) (bytes : List ℕ) (clock : C) (rest : List ℕ) (clock' : C) (turn : Result TurnOutcome ServeFault)
     → IsTurnWithoutCalls ticks due due' before after bytes clock rest clock' turn → IsTurnWithoutCalls ticks (any_text {H = K}) any_text before after bytes clock rest clock' turn
 without_dues K ticks due due' before after bytes clock rest clock' (Ok (Unfinished n)) t = record { text = t.text; appends = t.appends; gives_next = t.gives_next; follows = λ knows more is. tt }
 without_dues K ticks due due' before after bytes clock rest clock' (Ok Answered) t = record { text = t.text; appends = t.appends; gives_next = t.gives_next; follows = λ knows more is. tt }
@@ -224,13 +224,13 @@ without_dues K ticks due due' before after bytes clock rest clock' (Ok Closed) t
 without_dues K ticks due due' before after bytes clock rest clock' (Err fault) t = record { text = t.text; appends = t.appends; gives_next = t.gives_next; follows = tt }
 
 -- what is left of a connection that goes on, and of one that ends
-pub goes_on_so : (turn : Result Turn ServeFault) (rest came : List ℕ) (room : Option ℕ) (n : ℕ) (old new : Unended) → IsRoomAfter turn rest came room → room ≡ Some n → new.came ≡ came → new.room ≡ n → new.closes ≡ old.closes → IsLeftByTurn turn rest old new
+pub goes_on_so : (turn : Result TurnOutcome ServeFault) (rest came : List ℕ) (room : Option ℕ) (n : ℕ) (old new : Unended) → IsRoomAfter turn rest came room → room ≡ Some n → new.came ≡ came → new.room ≡ n → new.closes ≡ old.closes → IsLeftByTurn turn rest old new
 goes_on_so (Ok (Unfinished k)) rest came room n old new (same, is) some left may closes = (left ∙ same, may ∙ same_Some n _ (sym some ∙ is), closes)
 goes_on_so (Ok Answered) rest came room n old new (same, is) some left may closes = (left ∙ same, may ∙ same_Some n _ (sym some ∙ is), closes)
 goes_on_so (Ok Closed) rest came room n old new (same, is) some left may closes = absurd (none-some n (sym is ∙ some))
 goes_on_so (Err fault) rest came room n old new (same, is) some left may closes = absurd (none-some n (sym is ∙ some))
 
-pub ends_so : (turn : Result Turn ServeFault) (rest came : List ℕ) (room : Option ℕ) (old new : Unended) → IsRoomAfter turn rest came room → room ≡ None → new.came ≡ came → new.room ≡ 0 → new.closes ≡ true → IsLeftByTurn turn rest old new
+pub ends_so : (turn : Result TurnOutcome ServeFault) (rest came : List ℕ) (room : Option ℕ) (old new : Unended) → IsRoomAfter turn rest came room → room ≡ None → new.came ≡ came → new.room ≡ 0 → new.closes ≡ true → IsLeftByTurn turn rest old new
 ends_so (Ok (Unfinished k)) rest came room old new (same, is) none left may closes = absurd (none-some _ (sym none ∙ is))
 ends_so (Ok Answered) rest came room old new (same, is) none left may closes = absurd (none-some _ (sym none ∙ is))
 ends_so (Ok Closed) rest came room old new (same, is) none left may closes = (left ∙ same, may, closes)

@@ -8,8 +8,8 @@ use Rattle.requests.specs.declared.answer.Answer.{Answer}
 use Rattle.accept.specs.declared.fault.CallFault.{CallFault}
 use Rattle.requests.specs.declared.route.Route.{Route}
 use Rattle.requests.specs.declared.route.Route.TheVariants.{Push, Read, Trim}
-use Rattle.answering.specs.declared.responding.Halt.{Halt}
-use Rattle.answering.specs.declared.responding.Halt.TheVariants.{Failed, GivenUp}
+use Rattle.answering.specs.declared.responding.NoAnswer.{NoAnswer}
+use Rattle.answering.specs.declared.responding.NoAnswer.TheVariants.{Failed, GivenUp}
 use Rattle.answering.specs.Asking.{Asked, AsksFor, IsCallOf, HasNumbers, asked_push}
 use Rattle.pushjson.specs.Bodies.{Stream, batch_of, entry_of_line, entry_count}
 use Rattle.std.proofs.lemmas.List.{length-map}
@@ -52,7 +52,7 @@ says_one Read single came said = said
 says_one Trim single came said = said
 
 module _ {H : Type 0} (gives : Giving H) (now : ℕ) (tenant body : List ℕ) where
-  pub refused : (route : Route) (h : H) (fault : PushFault) (result : Result Answer Halt) → AsksFor route now body (Err fault) → BodyIsRefused fault result → RequestEnds gives route now tenant body h result h
+  pub refused : (route : Route) (h : H) (fault : PushFault) (result : Result Answer NoAnswer) → AsksFor route now body (Err fault) → BodyIsRefused fault result → RequestEnds gives route now tenant body h result h
   refused route h fault (Ok answer) asks (none, shows) = (Unread fault, record { asked = Err fault; asks = asks; goes = (refl, refl) }, none, shows)
   refused route h fault (Err (Failed failure)) asks some = (Unread fault, record { asked = Err fault; asks = asks; goes = (refl, refl) }, some)
   refused route h fault (Err GivenUp) asks none = record { asked = Err fault; asks = asks; left = (none, refl) }
@@ -75,7 +75,7 @@ module _ {H : Type 0} (gives : Giving H) (now : ℕ) (tenant body : List ℕ) wh
     }
 
     -- and so by what came of its call
-    told : (call : Call) (outcome : Result Reply CallFault) (result : Result Answer Halt) → IsCallOf tenant asked call → gives false h call outcome h' → OneIsTold outcome result → RequestEnds gives route now tenant body h result h'
+    told : (call : Call) (outcome : Result Reply CallFault) (result : Result Answer NoAnswer) → IsCallOf tenant asked call → gives false h call outcome h' → OneIsTold outcome result → RequestEnds gives route now tenant body h result h'
     told call (Ok reply) (Ok answer) is given shows = one (cames.Replied reply) answer (call, is, given) refl shows
     told call (Ok reply) (Err (Failed failure)) is given never = absurd never
     told call (Ok reply) (Err GivenUp) is given said = one_left (cames.Replied reply) (call, is, given) refl said
@@ -91,17 +91,17 @@ module _ {H : Type 0} (gives : Giving H) (now : ℕ) (tenant body : List ℕ) wh
     )
     told call (Err failure) (Err GivenUp) is given never = absurd never
 
-  pub one_told : (route : Route) → IsOfOne route → (h h' : H) (call : Call) (outcome : Result Reply CallFault) (result : Result Answer Halt) → AsksForCall route tenant body (Ok call) → gives false h call outcome h' → OneIsTold outcome result
+  pub one_told : (route : Route) → IsOfOne route → (h h' : H) (call : Call) (outcome : Result Reply CallFault) (result : Result Answer NoAnswer) → AsksForCall route tenant body (Ok call) → gives false h call outcome h' → OneIsTold outcome result
       → RequestEnds gives route now tenant body h result h'
   one_told route single h h' call outcome result (asked, asks, is) given shows = told route single h h' asked (asks now) call outcome result is given shows
 
-  pub none_called : (route : Route) → IsOfOne route → (h : H) (why : Uncalled) (result : Result Answer Halt) → AsksForCall route tenant body (Err why) → UncalledIsAnswered why result → RequestEnds gives route now tenant body h result h
+  pub none_called : (route : Route) → IsOfOne route → (h : H) (why : Uncalled) (result : Result Answer NoAnswer) → AsksForCall route tenant body (Err why) → UncalledIsAnswered why result → RequestEnds gives route now tenant body h result h
   none_called route single h (Body fault) result asks is = refused route h fault result (asks now) is
   none_called route single h (Labels fault) (Ok answer) (asked, asks, why) shows = one route single h h asked (asks now) (cames.Refused fault) answer (why, refl) refl shows
   none_called route single h (Labels fault) (Err (Failed failure)) asks never = absurd never
   none_called route single h (Labels fault) (Err GivenUp) (asked, asks, why) said = one_left route single h h asked (asks now) (cames.Refused fault) (why, refl) refl said
 
-  pub push : (h h' : H) (all : List Asked) (result : Result Answer Halt) → AsksFor Push now body (Ok all) → BodyIsAnswered gives tenant h all result h' → RequestEnds gives Push now tenant body h result h'
+  pub push : (h h' : H) (all : List Asked) (result : Result Answer NoAnswer) → AsksFor Push now body (Ok all) → BodyIsAnswered gives tenant h all result h' → RequestEnds gives Push now tenant body h result h'
   push h h' all (Ok answer) asks (cames, each, whole, shows) = (Whole cames, record { asked = Ok all; asks = asks; goes = (all, refl, each, whole) }, refl, shows)
   push h h' all (Err (Failed failure)) asks (cames, ends) = (Broken cames failure, record { asked = Ok all; asks = asks; goes = (all, refl, ends) }, refl)
   push h h' all (Err GivenUp) asks s = record {
@@ -111,20 +111,20 @@ module _ {H : Type 0} (gives : Giving H) (now : ℕ) (tenant body : List ℕ) wh
   }
 
   -- no call was made
-  pub nothing : (route : Route) (h : H) (why : Uncalled) (result : Result Answer Halt) → IsDemand route now tenant body (demands.Nothing why) → UncalledIsAnswered why result → RequestEnds gives route now tenant body h result h
+  pub nothing : (route : Route) (h : H) (why : Uncalled) (result : Result Answer NoAnswer) → IsDemand route now tenant body (demands.Nothing why) → UncalledIsAnswered why result → RequestEnds gives route now tenant body h result h
   nothing Push h (Body fault) result asks is = refused Push h fault result asks is
   nothing Push h (Labels fault) result never is = absurd never
   nothing Read h why result asks is = none_called Read tt h why result asks is
   nothing Trim h why result asks is = none_called Trim tt h why result asks is
 
   -- a read or a trim was made
-  pub one_made : (route : Route) (h h' : H) (call : Call) (outcome : Result Reply CallFault) (result : Result Answer Halt) → IsDemand route now tenant body (demands.One call) → gives false h call outcome h' → OneIsTold outcome result → RequestEnds gives route now tenant body h result h'
+  pub one_made : (route : Route) (h h' : H) (call : Call) (outcome : Result Reply CallFault) (result : Result Answer NoAnswer) → IsDemand route now tenant body (demands.One call) → gives false h call outcome h' → OneIsTold outcome result → RequestEnds gives route now tenant body h result h'
   one_made Push h h' call outcome result never given told = absurd never
   one_made Read h h' call outcome result asks given told = one_told Read tt h h' call outcome result asks given told
   one_made Trim h h' call outcome result asks given told = one_told Trim tt h h' call outcome result asks given told
 
   -- a push was, or there was no memory for it
-  pub push_made : (route : Route) (h h' : H) (streams : Streams) (result : Result Answer Halt) → IsDemand route now tenant body (demands.Streams streams)
+  pub push_made : (route : Route) (h h' : H) (streams : Streams) (result : Result Answer NoAnswer) → IsDemand route now tenant body (demands.Streams streams)
       → (AsksForStreams now tenant body streams.places.items streams.calls.items → RequestEnds gives Push now tenant body h result h') → RequestEnds gives route now tenant body h result h'
   push_made Push h h' streams result asks ends = ends asks
   push_made Read h h' streams result never ends = absurd never

@@ -13,15 +13,15 @@ use Rattle.answering.specs.Asking.{Asked, IsCallOf}
 use Rattle.answering.specs.Calls.{Giving, Came, CallsGive, CallsGiveAfter}
 use Rattle.answering.specs.Calls as cames
 use Rattle.answering.specs.declared.lines.PushLines.{PushLines}
-use Rattle.answering.specs.declared.responding.Halt.{Halt}
-use Rattle.answering.specs.declared.responding.Halt.TheVariants.{Failed, GivenUp}
+use Rattle.answering.specs.declared.responding.NoAnswer.{NoAnswer}
+use Rattle.answering.specs.declared.responding.NoAnswer.TheVariants.{Failed, GivenUp}
 use Rattle.answering.specs.Courses.{first_failure, behind_failure, doubt_behind, StreamGives, StreamsGive, StreamsGiveAfter}
 use Rattle.answering.specs.Lines.{push_status, lines_from, came_lines}
 use Rattle.answering.specs.Parts.{BodyIsAnswered}
 use Rattle.answering.specs.Showing.{IsShown}
 use Rattle.answering.specs.Telling.{Tells, CameIsNoted}
 use Rattle.answering.specs.Demands.{StreamsAreTold}
-use Rattle.answering.specs.Windows.{AreStreams, called, came_of, halt_by, merged, StopsAmong, AreNoted, AreNotedUpTo, AreNotedTo, StreamsAreTaken, WindowIsTaken}
+use Rattle.answering.specs.Windows.{AreStreams, called, came_of, no_answer_by, merged, StopsAmong, AreNoted, AreNotedUpTo, AreNotedTo, StreamsAreTaken, WindowIsTaken}
 
 -- the next stream of a push: its labels are refused, or it has a call
 module _ (tenant : List ℕ) (all : List Asked) (places : List (Option LabelFault)) (calls : List Call) where
@@ -157,9 +157,9 @@ module _ (before all : List Came) where
       few = omega (arith, p.few);
     }
 
-    pub noted_halt : (halt : Halt) → CameIsNoted came lines (Err halt) new → AreNotedUpTo before all (Err halt) new
-    noted_halt (Failed failure) is = ap first_failure p.split ∙ failure_behind p.noted (came ∷ left) p.whole ∙ ap (λ c. first_failure (c ∷ left)) is
-    noted_halt GivenUp (whole, said) = record {
+    pub noted_no_answer : (no_answer : NoAnswer) → CameIsNoted came lines (Err no_answer) new → AreNotedUpTo before all (Err no_answer) new
+    noted_no_answer (Failed failure) is = ap first_failure p.split ∙ failure_behind p.noted (came ∷ left) p.whole ∙ ap (λ c. first_failure (c ∷ left)) is
+    noted_no_answer GivenUp (whole, said) = record {
       first = p.noted;
       last = came;
       behind = left;
@@ -170,13 +170,13 @@ module _ (before all : List Came) where
 
 -- where there was no memory for the lines, what is told is the first failure, if there is one
 pub noted_up_to : (before : List Came) (places : List (Option LabelFault)) (outcomes : List (Result Reply CallFault)) (new : PushLines) → called places ≡ length outcomes → first_failure before ≡ None
-    → (failure : Option CallFault) → first_failure (map came_of outcomes) ≡ failure → StopsAmong before (merged places outcomes) → AreNoted before (merged places outcomes) (Err (halt_by failure)) new
+    → (failure : Option CallFault) → first_failure (map came_of outcomes) ≡ failure → StopsAmong before (merged places outcomes) → AreNoted before (merged places outcomes) (Err (no_answer_by failure)) new
 noted_up_to before places outcomes new due whole (Some failure) is stops = failure_behind before (merged places outcomes) whole ∙ same_failure places outcomes due ∙ is
 noted_up_to before places outcomes new due whole None is stops = (failure_behind before (merged places outcomes) whole ∙ same_failure places outcomes due ∙ is, stops)
 
-pub told_halt : (places : List (Option LabelFault)) (outcomes : List (Result Reply CallFault)) (new : PushLines) (halt : Halt) → AreNoted [] (merged places outcomes) (Err halt) new → StreamsAreTold places outcomes (Err halt)
-told_halt places outcomes new (Failed failure) is = is
-told_halt places outcomes new GivenUp is = is
+pub told_no_answer : (places : List (Option LabelFault)) (outcomes : List (Result Reply CallFault)) (new : PushLines) (no_answer : NoAnswer) → AreNoted [] (merged places outcomes) (Err no_answer) new → StreamsAreTold places outcomes (Err no_answer)
+told_no_answer places outcomes new (Failed failure) is = is
+told_no_answer places outcomes new GivenUp is = is
 
 module _ {H : Type 0} (gives : Giving H) (tenant : List ℕ) where
   came_given : (doubt : Bool) (h h' : H) (asked : Asked) (call : Call) (outcome : Result Reply CallFault) → IsCallOf tenant asked call → gives doubt h call outcome h' → StreamGives gives tenant doubt h asked (came_of outcome) h'
@@ -233,10 +233,10 @@ module _ {H : Type 0} (gives : Giving H) (tenant : List ℕ) where
             others,
           )
 
-      abbrev pub Noted : Result (Unit {0}) Halt → Type 0
+      abbrev pub Noted : Result (Unit {0}) NoAnswer → Type 0
       Noted result = (before : List Came) → Tells before lines → first_failure before ≡ None → AreNoted before (merged window outcomes) result new
 
-      pub window_taken : (result : Result (Unit {0}) Halt) → Noted result → WindowIsTaken gives tenant h all result m' more left new
+      pub window_taken : (result : Result (Unit {0}) NoAnswer) → Noted result → WindowIsTaken gives tenant h all result m' more left new
       window_taken (Ok u) noted =
           let (done, rest, is, each, others) = parts in
           let (whole, tells) = noted taken.cames taken.tells taken.whole in
@@ -284,7 +284,7 @@ module _ {H : Type 0} (gives : Giving H) (tenant : List ℕ) where
 
     -- the answer to a push whose calls were made together
     pub streams_told : (h' : H) (places : List (Option LabelFault)) (calls : List Call) (outcomes : List (Result Reply CallFault)) → AreStreams tenant all places calls → called places ≡ length outcomes → length places ≤ 64
-        → CallsGive gives h calls outcomes h' → (result : Result Answer Halt) → StreamsAreTold places outcomes result → BodyIsAnswered gives tenant h all result h'
+        → CallsGive gives h calls outcomes h' → (result : Result Answer NoAnswer) → StreamsAreTold places outcomes result → BodyIsAnswered gives tenant h all result h'
     streams_told h' places calls outcomes are due few given (Ok answer) (none, shows) = (merged places outcomes, given_streams false h h' all places calls outcomes are given, none, shows)
     streams_told h' places calls outcomes are due few given (Err (Failed failure)) fails =
         let cs = merged places outcomes in

@@ -17,8 +17,8 @@ use Rattle.answering.specs.Courses.{Course, Unread, Whole, Broken, doubt_behind,
 use Rattle.answering.specs.Serving.{Exchange, World, VerdictGives, VerdictIsLeft, ConnectionGives, IsExchange, IsAbandoned, IsTurnedAway, IsNextResponse, IsUnanswered, IsSilent, ConnectionEnds, ConnectionIsAnswered}
 use Rattle.answering.specs.Turns.{ConnectionTurnIsAnswered}
 use Rattle.answering.specs.Visits.{KeepsOn, IsOver, IsVisit}
-use Rattle.answering.specs.declared.visiting.Turn.{Turn}
-use Rattle.answering.specs.declared.visiting.Turn.TheVariants as turns
+use Rattle.answering.specs.declared.visiting.TurnOutcome.{TurnOutcome}
+use Rattle.answering.specs.declared.visiting.TurnOutcome.TheVariants as turns
 use Rattle.answering.specs.declared.visiting.Visited.{Visited}
 use Rattle.answering.specs.declared.visiting.Visited.TheVariants.{More, Unfinished, Closed}
 
@@ -119,7 +119,7 @@ module _ {H K : Type 0} (f : H → K) (gives : Giving H) (shows : Giving K) (int
     pub next_seen : (bytes : List ℕ) (w : World H C) (text : List ℕ) (w' : World H C) → IsNextResponse gives ticks bytes w text w' → IsNextResponse shows ticks bytes (seen w) text (seen w')
     next_seen bytes w text w' is = next bytes w text w' is
 
-    pub turn_seen : (bytes : List ℕ) (w : World H C) (text rest : List ℕ) (w' : World H C) (result : Result Turn ServeFault) → ConnectionTurnIsAnswered gives ticks bytes w text rest w' result
+    pub turn_seen : (bytes : List ℕ) (w : World H C) (text rest : List ℕ) (w' : World H C) (result : Result TurnOutcome ServeFault) → ConnectionTurnIsAnswered gives ticks bytes w text rest w' result
         → ConnectionTurnIsAnswered shows ticks bytes (seen w) text rest (seen w') result
     turn_seen bytes w text rest w' (Ok turns.Answered) (e, x, stays, out) = (e, exchange bytes w e rest w' x, stays, out)
     turn_seen bytes w text rest w' (Ok turns.Closed) is = ends bytes None w text w' (Ok served.Closed) is

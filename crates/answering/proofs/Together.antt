@@ -29,8 +29,8 @@ use Rattle.answering.specs.declared.demands.Demand.{Demand}
 use Rattle.answering.specs.declared.demands.Demand.TheVariants.{Nothing, One, Streams}
 use Rattle.answering.specs.declared.demands.Waiting.{Waiting}
 use Rattle.answering.specs.declared.demands.Waiting.TheVariants as waits
-use Rattle.answering.specs.declared.responding.Halt.{Halt}
-use Rattle.answering.specs.declared.responding.Halt.TheVariants.{Failed, GivenUp}
+use Rattle.answering.specs.declared.responding.NoAnswer.{NoAnswer}
+use Rattle.answering.specs.declared.responding.NoAnswer.TheVariants.{Failed, GivenUp}
 use Rattle.answering.proofs.Beginning.{replied_any, turn_told, visit_of_turn, without_calls, without_dues}
 use Rattle.answering.proofs.Going.{nothing, one_made, push, push_made}
 use Rattle.answering.proofs.Pushing.{counted, streams_told}
@@ -107,13 +107,13 @@ module _ {H : Type 0} (gives : Giving H) where
       (after, record { asked = it.asked; asks = it.asks; left = left })
 
   -- and so of a request that was made alone
-  pub ends_among : (route : Route) (now : ℕ) (tenant body : List ℕ) (h h' : H) (answered : Result Answer Halt) → RequestEnds gives route now tenant body h answered h' → (after : Bool) × RequestEnds (among gives) route now tenant body (known h false) answered (known h' after)
+  pub ends_among : (route : Route) (now : ℕ) (tenant body : List ℕ) (h h' : H) (answered : Result Answer NoAnswer) → RequestEnds gives route now tenant body h answered h' → (after : Bool) × RequestEnds (among gives) route now tenant body (known h false) answered (known h' after)
   ends_among route now tenant body h h' (Ok answer) (course, went, none, shows) = let (after, is) = course_among route now tenant body h h' course went in (after, (course, is, none, shows))
   ends_among route now tenant body h h' (Err (Failed failure)) (course, went, failed) = let (after, is) = course_among route now tenant body h h' course went in (after, (course, is, failed))
   ends_among route now tenant body h h' (Err GivenUp) left = left_among route now tenant body h h' left
 
   -- the answer to a request that waited, by what came of its calls
-  pub told : (route : Route) (now : ℕ) (tenant body : List ℕ) (demand : Demand) (waiting : Waiting) (h h' : H) (outcomes : List (Result Reply CallFault)) (answered : Result Answer Halt) → IsDemand route now tenant body demand → WaitsFor demand waiting
+  pub told : (route : Route) (now : ℕ) (tenant body : List ℕ) (demand : Demand) (waiting : Waiting) (h h' : H) (outcomes : List (Result Reply CallFault)) (answered : Result Answer NoAnswer) → IsDemand route now tenant body demand → WaitsFor demand waiting
       → CallsGive gives h (calls_asked demand) outcomes h' → IsAnsweredBy waiting outcomes answered → RequestEnds gives route now tenant body h answered h'
   told route now tenant body (Nothing why) (waits.Nothing same) h h' [] answered asks is given shows =
       subst (RequestEnds gives route now tenant body h answered) (sym given) (nothing gives now tenant body route h why answered asks (subst (λ w. UncalledIsAnswered w answered) is shows))
@@ -162,7 +162,7 @@ module _ {H C : Type 0} (gives : Giving H) (ticks : C → ℕ → C → Type 0) 
       let (result, left, is) = visit_of_turn (among gives) ticks old new (world k clock) (world k clock') v.rest v.turn t v.left in
       record { result = result; left = left; is = is }
 
-  visited_told : (old new : Unended) (clock clock' : C) (m : Message) (demand : Demand) (w : WaitsForCalls ticks old.came clock clock' m demand) (k k' : Known H) (answered : Result Answer Halt)
+  visited_told : (old new : Unended) (clock clock' : C) (m : Message) (demand : Demand) (w : WaitsForCalls ticks old.came clock clock' m demand) (k k' : Known H) (answered : Result Answer NoAnswer)
       → RequestEnds (among gives) w.route w.now w.tenant (slice_range old.came m.start m.end) k answered k' → IsAnsweredSo m answered old new → IsVisitedSo gives ticks (world k clock) old (world k' clock') new
   visited_told old new clock clock' m demand w k k' answered ends a =
       let put = replied_any (Known H) any_text any_text (Some old.text) (Some new.text) answered m.closes a.replied a.is in
@@ -181,7 +181,7 @@ module _ {H C : Type 0} (gives : Giving H) (ticks : C → ℕ → C → Type 0) 
         let k = known g.between (doubt_after false outcomes) in
         record { between = g.between; given = g.given; doubt = g.doubt; visited = (k, world k c1, inl refl, visited_alone k c0 old c1 new v, g.visited) }
 
-    module _ (m : Message) (demand : Demand) (w : WaitsForCalls ticks old.came c0 c1 m demand) (answered : Result Answer Halt) (a : IsAnsweredSo m answered old new) where
+    module _ (m : Message) (demand : Demand) (w : WaitsForCalls ticks old.came c0 c1 m demand) (answered : Result Answer NoAnswer) (a : IsAnsweredSo m answered old new) where
       -- its calls are made with the others
       pub first_joins : (waiting : Waiting) (n : ℕ) (outcomes left : List (Result Reply CallFault)) → n ≡ length outcomes → WaitsFor demand waiting → AreGathered gives ticks (world p c1) (calls ++ calls_asked demand) olds outcomes (world p' c') news
           → IsAnsweredBy waiting (drop (n - awaited waiting) outcomes) answered → left ≡ take (n - awaited waiting) outcomes → AreGathered gives ticks (world p c0) calls (old ∷ olds) left (world p' c') (new ∷ news)
@@ -213,7 +213,7 @@ module _ {H C : Type 0} (gives : Giving H) (ticks : C → ℕ → C → Type 0) 
   none_before h after c olds (r ∷ rs) p' c' news g = absurd g.given
 
   -- the first is made alone, after the others
-  pub first_apart : (p mid h p' : H) (c0 c1 c' : C) (calls : List Call) (old new : Unended) (olds news : List Unended) (m : Message) (demand : Demand) (w : WaitsForCalls ticks old.came c0 c1 m demand) (answered : Result Answer Halt) (outcomes more : List (Result Reply CallFault))
+  pub first_apart : (p mid h p' : H) (c0 c1 c' : C) (calls : List Call) (old new : Unended) (olds news : List Unended) (m : Message) (demand : Demand) (w : WaitsForCalls ticks old.came c0 c1 m demand) (answered : Result Answer NoAnswer) (outcomes more : List (Result Reply CallFault))
       → IsAnsweredSo m answered old new → CallsGive gives p calls outcomes mid → RequestEnds gives w.route w.now w.tenant (slice_range old.came m.start m.end) mid answered h → AreGathered gives ticks (world h c1) [] olds more (world p' c') news
       → AreGathered gives ticks (world p c0) calls (old ∷ olds) outcomes (world p' c') (new ∷ news)
   first_apart p mid h p' c0 c1 c' calls old new olds news m demand w answered outcomes more a given ends g =
@@ -225,11 +225,6 @@ module _ {H C : Type 0} (gives : Giving H) (ticks : C → ℕ → C → Type 0) 
         doubt = doubt;
         visited = (known mid false, world (known h after) c1, inr refl, visited_told old new c0 c1 m demand w (known mid false) (known h after) answered ends_then a, others);
       }
-
-  -- no call was made before any of them
-  pub all_visited : (p p' : H) (c c' : C) (olds news : List Unended) (calls : List Call) (outcomes : List (Result Reply CallFault)) → calls ≡ [] → AreGathered gives ticks (world p c) calls olds outcomes (world p' c') news
-      → (doubt : Bool) × AreVisitedSo gives ticks (world (known p false) c) olds (world (known p' doubt) c') news
-  all_visited p p' c c' olds news calls outcomes none g = none_before p false c olds outcomes p' c' news (subst (λ l. AreGathered gives ticks (world p c) l olds outcomes (world p' c') news) none g)
 
 -- a request that came back asks for the same
 pub same_demand : (route : Route) (now : ℕ) (tenant body : List ℕ) (demand back : Demand) → SameCalls demand back → IsDemand route now tenant body demand → IsDemand route now tenant body back

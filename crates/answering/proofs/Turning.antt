@@ -31,7 +31,7 @@ use Rattle.answering.specs.Serving.{Exchange, World, world, response, closes, ca
 use Rattle.answering.specs.Turns.{IsSameVisit, ResponseGives, ResponseIsWritten, ConnectionTurnIsAnswered, ConnectionTurnIsServed}
 use Rattle.answering.specs.Visits.{KeepsOn, IsOver, IsVisit}
 use Rattle.answering.specs.declared.visiting.Visit.{Visit}
-use Rattle.answering.specs.declared.visiting.Turn.TheVariants.{Answered, Closed, Unfinished}
+use Rattle.answering.specs.declared.visiting.TurnOutcome.TheVariants.{Answered, Closed, Unfinished}
 
 not_none : {X : Type 0} (xs : List X) (x : X) → xs ++ x ∷ [] ≢ []
 not_none [] x e = cc
@@ -181,10 +181,6 @@ module _ {H C : Type 0} (gives : Giving H) (ticks : C → ℕ → C → Type 0) 
     gives_next = (ap (λ k. take k (fixed_text why true)) out, inr (inl (inr (fixed_text why true, (why, refused, refl, refl)))));
     follows = tt;
   }
-
-  -- no whole request has come
-  pub waits_for_more : (due : Dues H) (bytes : List ℕ) (before : Option (List ℕ)) (w : World H C) (n : ℕ) → IsUnbegun bytes → ConnectionTurnIsServed gives ticks due due before before bytes w bytes w (Ok (Unfinished n))
-  waits_for_more due bytes before w n unbegun = record { text = []; appends = Appends-nil before; gives_next = (unbegun, refl, (refl, refl)); follows = λ knows more is. is }
 
   -- more bytes change nothing of the requests before them
   serves_more : (bytes more : List ℕ) (w : World H C) (es : List Exchange) (rest : List ℕ) (w' : World H C) → ConnectionGives gives ticks bytes w es rest w' → ConnectionGives gives ticks (bytes ++ more) w es (rest ++ more) w'

@@ -17,11 +17,11 @@ use Rattle.answering.specs.Replying.{IsReplied}
 use Rattle.answering.specs.Serving.{world}
 use Rattle.answering.specs.Turns.{OnKept, MayComeAfter, ConnectionTurnIsAnswered}
 use Rattle.answering.specs.declared.demands.Demand.{Demand}
-use Rattle.answering.specs.declared.responding.Halt.{Halt}
+use Rattle.answering.specs.declared.responding.NoAnswer.{NoAnswer}
 use Rattle.answering.specs.declared.visiting.TurnBegun.{TurnBegun}
 use Rattle.answering.specs.declared.visiting.TurnBegun.TheVariants.{Over, Waits}
-use Rattle.answering.specs.declared.visiting.Turn.{Turn}
-use Rattle.answering.specs.declared.visiting.Turn.TheVariants.{Answered, Closed, Unfinished}
+use Rattle.answering.specs.declared.visiting.TurnOutcome.{TurnOutcome}
+use Rattle.answering.specs.declared.visiting.TurnOutcome.TheVariants.{Answered, Closed, Unfinished}
 
 -- no call gives anything
 abbrev pub NoCalls : Giving (Unit {0})
@@ -40,11 +40,11 @@ MayComeAfterBegun (Waits m demand) rest = (m.start ≤ m.end) × (m.end ≤ leng
     × (length (drop m.end rest) ≤ max_head)
 
 -- what a turn that answered a request leaves
-abbrev pub turn_after : Bool → Turn
+abbrev pub turn_after : Bool → TurnOutcome
 turn_after true = Closed
 turn_after false = Answered
 
-abbrev pub turn_by : Result Bool ServeFault → Result Turn ServeFault
+abbrev pub turn_by : Result Bool ServeFault → Result TurnOutcome ServeFault
 turn_by (Ok closes) = Ok (turn_after closes)
 turn_by (Err fault) = Err fault
 
@@ -64,7 +64,7 @@ module _ {C : Type 0} (ticks : C → ℕ → C → Type 0) where
   module _ {H : Type 0} (due due' : Dues H) (before after : Option (List ℕ)) where
     -- a turn in which no call was made, whatever is known of calls
     pub record IsTurnWithoutCalls (bytes : List ℕ) (clock : C) (rest : List ℕ) (clock' : C)
-        (result : Result Turn ServeFault) : Type 0 where
+        (result : Result TurnOutcome ServeFault) : Type 0 where
       pub text : List ℕ
       pub appends : Appends before after text
       pub gives_next : ConnectionTurnIsAnswered NoCalls ticks bytes (world tt clock) text rest
@@ -87,7 +87,7 @@ room_behind [] = max_head
 room_behind (x ∷ xs) = 0
 
 -- what a turn leaves of a connection, where this is left of what came
-abbrev pub IsLeftByTurn : Result Turn ServeFault → List ℕ → Unended → Unended → Type 0
+abbrev pub IsLeftByTurn : Result TurnOutcome ServeFault → List ℕ → Unended → Unended → Type 0
 IsLeftByTurn (Ok (Unfinished n)) rest old new = (new.came ≡ rest) × (new.room ≡ n) × (new.closes ≡ old.closes)
 IsLeftByTurn (Ok Answered) rest old new = (new.came ≡ rest) × (new.room ≡ room_behind rest)
     × (new.closes ≡ old.closes)
@@ -95,7 +95,7 @@ IsLeftByTurn (Ok Closed) rest old new = (new.came ≡ []) × (new.room ≡ 0) ×
 IsLeftByTurn (Err fault) rest old new = (new.came ≡ []) × (new.room ≡ 0) × (new.closes ≡ true)
 
 -- the same of what has come, and how much more may; none where the connection ends
-abbrev pub IsRoomAfter : Result Turn ServeFault → List ℕ → List ℕ → Option ℕ → Type 0
+abbrev pub IsRoomAfter : Result TurnOutcome ServeFault → List ℕ → List ℕ → Option ℕ → Type 0
 IsRoomAfter (Ok (Unfinished n)) old new room = (new ≡ old) × (room ≡ Some n)
 IsRoomAfter (Ok Answered) old new room = (new ≡ old) × (room ≡ Some (room_behind old))
 IsRoomAfter (Ok Closed) old new room = (new ≡ []) × (room ≡ None)
@@ -104,14 +104,14 @@ IsRoomAfter (Err fault) old new room = (new ≡ []) × (room ≡ None)
 -- a visit in which no call was made, by its turn and what that left of what came
 pub record IsVisitedWithoutCalls {C : Type 0} (ticks : C → ℕ → C → Type 0) (old : Unended)
     (clock : C) (new : Unended) (clock' : C) : Type 0 where
-  pub turn : Result Turn ServeFault
+  pub turn : Result TurnOutcome ServeFault
   pub rest : List ℕ
   pub is : IsTurnWithoutCalls ticks (any_text {H = Unit {0}}) any_text (Some old.text) (Some new.text)
       old.came clock rest clock' turn
   pub left : IsLeftByTurn turn rest old new
 
 -- the request of this message was answered so, and dropped
-pub record IsAnsweredSo (m : Message) (answered : Result Answer Halt) (old new : Unended) : Type 0 where
+pub record IsAnsweredSo (m : Message) (answered : Result Answer NoAnswer) (old new : Unended) : Type 0 where
   pub replied : Result Bool ServeFault
   pub is : IsReplied (any_text {H = Unit {0}}) any_text (Some old.text) (Some new.text) answered m.closes replied
   pub left : IsLeftByTurn (turn_by replied) (drop m.end old.came) old new

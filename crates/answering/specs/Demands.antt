@@ -20,8 +20,8 @@ use Rattle.answering.specs.declared.demands.Demand.{Demand}
 use Rattle.answering.specs.declared.demands.Demand.TheVariants.{Nothing, One, Streams}
 use Rattle.answering.specs.declared.demands.Waiting.{Waiting}
 use Rattle.answering.specs.declared.demands.Waiting.TheVariants as waits
-use Rattle.answering.specs.declared.responding.Halt.{Halt}
-use Rattle.answering.specs.declared.responding.Halt.TheVariants.{Failed, GivenUp}
+use Rattle.answering.specs.declared.responding.NoAnswer.{NoAnswer}
+use Rattle.answering.specs.declared.responding.NoAnswer.TheVariants.{Failed, GivenUp}
 
 -- its calls
 abbrev pub calls_asked : Demand → List Call
@@ -50,7 +50,7 @@ IsDemand Read now tenant body demand = IsDemandOfOne Read tenant body demand
 IsDemand Trim now tenant body demand = IsDemandOfOne Trim tenant body demand
 
 -- the answer to a read or a trim, by what came of its call
-abbrev pub OneIsTold : Result Reply CallFault → Result Answer Halt → Type 0
+abbrev pub OneIsTold : Result Reply CallFault → Result Answer NoAnswer → Type 0
 OneIsTold (Ok reply) (Ok answer) = IsShown (reply_status reply) (reply_text reply) answer
 OneIsTold (Ok reply) (Err (Failed failure)) = ⊥
 OneIsTold (Ok reply) (Err GivenUp) = reply_text reply ≢ []
@@ -60,7 +60,7 @@ OneIsTold (Err failure) (Err GivenUp) = ⊥
 
 -- the answer to a push, by what came of the calls of its streams
 abbrev pub StreamsAreTold : List (Option LabelFault) → List (Result Reply CallFault)
-    → Result Answer Halt → Type 0
+    → Result Answer NoAnswer → Type 0
 StreamsAreTold places outcomes (Ok answer) = (first_failure (merged places outcomes) ≡ None)
     × IsShown (push_status (merged places outcomes)) (lines_from 0 (merged places outcomes)) answer
 StreamsAreTold places outcomes (Err (Failed failure)) =
@@ -83,7 +83,7 @@ WaitsFor (Streams streams) (waits.Streams taken) = (taken.places ≡ streams.pla
 WaitsFor demand waiting = ⊥
 
 -- the answer, by what came of the calls that it waited for
-abbrev pub IsAnsweredBy : Waiting → List (Result Reply CallFault) → Result Answer Halt → Type 0
+abbrev pub IsAnsweredBy : Waiting → List (Result Reply CallFault) → Result Answer NoAnswer → Type 0
 IsAnsweredBy (waits.Nothing why) outcomes result = UncalledIsAnswered why result
 IsAnsweredBy waits.One [] result = ⊥
 IsAnsweredBy waits.One (outcome ∷ outcomes) result = OneIsTold outcome result

@@ -1,8 +1,7 @@
 -- The lines of the answer to a push: one for each refusal, in body order.
 use Rattle.std.specs.Prelude.{ℕ, ◌+◌, ◌==◌, if◌then◌else◌, Bool, true, false, List, [], ◌∷◌, ◌++◌, length, codes, decimal}
 use Rattle.std.specs.List.{list_any}
-use Rattle.labels.specs.declared.fault.LabelFault.{LabelFault}
-use Rattle.labels.specs.declared.fault.LabelFault.TheVariants as labels
+use Rattle.labels.specs.Faults.{label_words}
 use Rattle.accept.specs.declared.outcome.Outcome.{Outcome}
 use Rattle.accept.specs.declared.outcome.Outcome.TheVariants as outcomes
 use Rattle.accept.specs.declared.call.Reply.{Reply}
@@ -13,18 +12,6 @@ use Rattle.answering.specs.Calls.{Came, Refused, Replied, Failed}
 
 abbrev pub newline : List ℕ
 newline = 10 ∷ []
-
-abbrev pub label_words : LabelFault → List ℕ
-label_words labels.NoLabels = codes "no labels"
-label_words labels.TooManyLabels = codes "more than 15 labels"
-label_words labels.BadName = codes "bad label name"
-label_words labels.NameTooLong = codes "label name too long"
-label_words labels.EmptyValue = codes "empty label value"
-label_words labels.ValueTooLong = codes "label value too long"
-label_words labels.NameTwice = codes "label name twice"
-label_words labels.NotCanonical = codes "labels are not in canonical form"
-label_words labels.BadTenant = codes "bad tenant"
-label_words labels.Memory = codes "out of memory"
 
 -- a refusal of the stream at place i of the body
 unfoldable pub stream_line : ℕ → List ℕ → List ℕ

@@ -10,8 +10,8 @@ use Rattle.requests.specs.declared.route.Route.{Route}
 use Rattle.requests.specs.declared.route.Route.TheVariants.{Push, Read, Trim}
 use Rattle.answering.specs.declared.calling.Uncalled.{Uncalled}
 use Rattle.answering.specs.declared.calling.Uncalled.TheVariants.{Body, Labels}
-use Rattle.answering.specs.declared.responding.Halt.{Halt}
-use Rattle.answering.specs.declared.responding.Halt.TheVariants.{Failed, GivenUp}
+use Rattle.answering.specs.declared.responding.NoAnswer.{NoAnswer}
+use Rattle.answering.specs.declared.responding.NoAnswer.TheVariants.{Failed, GivenUp}
 use Rattle.answering.specs.Asking.{Asked, AsksFor, IsCallOf}
 use Rattle.answering.specs.Calls.{Giving, Came, Refused}
 use Rattle.answering.specs.Lines.{push_status, lines_from, came_lines}
@@ -21,14 +21,14 @@ use Rattle.answering.specs.Responses.{fault_status, fault_text}
 use Rattle.answering.specs.Showing.{IsShown}
 
 -- a body is refused
-abbrev pub BodyIsRefused : PushFault → Result Answer Halt → Type 0
+abbrev pub BodyIsRefused : PushFault → Result Answer NoAnswer → Type 0
 BodyIsRefused fault (Ok answer) = (fault_failure fault ≡ None)
     × IsShown (fault_status fault) (fault_text fault) answer
 BodyIsRefused fault (Err (Failed failure)) = fault_failure fault ≡ Some failure
 BodyIsRefused fault (Err GivenUp) = fault_failure fault ≡ None
 
 -- no call is made of a body that asks for one
-abbrev pub UncalledIsAnswered : Uncalled → Result Answer Halt → Type 0
+abbrev pub UncalledIsAnswered : Uncalled → Result Answer NoAnswer → Type 0
 UncalledIsAnswered (Body fault) result = BodyIsRefused fault result
 UncalledIsAnswered (Labels fault) (Ok answer) =
     IsShown (one_status (Refused fault)) (one_text (Refused fault)) answer
@@ -57,7 +57,7 @@ AsksForCall route tenant body (Err (Labels fault)) = (asked : Asked)
 
 module _ {H : Type 0} (gives : Giving H) (tenant : List ℕ) where
   -- the streams of a push
-  abbrev pub BodyIsAnswered : H → List Asked → Result Answer Halt → H → Type 0
+  abbrev pub BodyIsAnswered : H → List Asked → Result Answer NoAnswer → H → Type 0
   BodyIsAnswered h all (Ok answer) h' = (cames : List Came)
       × StreamsGive gives tenant h all cames h'
       × (first_failure cames ≡ None) × IsShown (push_status cames) (lines_from 0 cames) answer

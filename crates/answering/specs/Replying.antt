@@ -6,15 +6,15 @@ use Rattle.requests.specs.declared.answer.Answer.{Answer}
 use Rattle.requests.specs.declared.fault.ServeFault.{ServeFault}
 use Rattle.requests.specs.declared.fault.ServeFault.TheVariants.{Write, Memory}
 use Rattle.answering.specs.Responses.{content_for}
-use Rattle.answering.specs.declared.responding.Halt.{Halt}
-use Rattle.answering.specs.declared.responding.Halt.TheVariants.{Failed, GivenUp}
+use Rattle.answering.specs.declared.responding.NoAnswer.{NoAnswer}
+use Rattle.answering.specs.declared.responding.NoAnswer.TheVariants.{Failed, GivenUp}
 
 -- the text of an answer
 abbrev pub text_of_answer : Answer → Bool → List ℕ
 text_of_answer answer close = answer_text answer.status (content_for answer.status) None close answer.body.items
 
 -- it may be put there
-abbrev pub ReplyIsDue : {H : Type 0} → Dues H → H → Result Answer Halt → Bool → Type 0
+abbrev pub ReplyIsDue : {H : Type 0} → Dues H → H → Result Answer NoAnswer → Bool → Type 0
 ReplyIsDue due knows (Ok answer) close = due knows (text_of_answer answer close)
 ReplyIsDue due knows (Err (Failed failure)) close = due knows (failure_text failure)
 ReplyIsDue due knows (Err GivenUp) close = Unit {0}
@@ -32,7 +32,7 @@ module _ {H : Type 0} (due due' : Dues H) (before after : Option (List ℕ)) whe
 
   -- The answer was put there, or that of the failure, which takes no memory of its own and closes. Where there was no
   -- memory for an answer, nothing was.
-  abbrev pub IsReplied : Result Answer Halt → Bool → Result Bool ServeFault → Type 0
+  abbrev pub IsReplied : Result Answer NoAnswer → Bool → Result Bool ServeFault → Type 0
   IsReplied (Ok answer) close result = IsPut (text_of_answer answer close) close result
   IsReplied (Err (Failed failure)) close result = IsPut (failure_text failure) true result
       × IfErr result (λ fault. fault ≡ Write)

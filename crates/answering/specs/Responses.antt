@@ -14,8 +14,8 @@ use Rattle.requests.specs.declared.route.Route.{Route}
 use Rattle.requests.specs.declared.route.Route.TheVariants.{Push, Read, Trim}
 use Rattle.requests.specs.declared.status.Status.{Status}
 use Rattle.requests.specs.declared.status.Status.TheVariants as statuses
-use Rattle.answering.specs.declared.responding.Halt.{Halt}
-use Rattle.answering.specs.declared.responding.Halt.TheVariants.{Failed, GivenUp}
+use Rattle.answering.specs.declared.responding.NoAnswer.{NoAnswer}
+use Rattle.answering.specs.declared.responding.NoAnswer.TheVariants.{Failed, GivenUp}
 use Rattle.answering.specs.Calls.{Giving, Came}
 use Rattle.answering.specs.Lines.{push_status, lines_from}
 use Rattle.answering.specs.Replies.{one_status, one_text}
@@ -99,7 +99,7 @@ module _ {H : Type 0} (gives : Giving H) (route : Route) (now : ℕ) (tenant bod
   RequestIsAnswered h (Err faults.CutShort) h' = ⊥
 
   -- for private clauses: the same, with failures apart
-  abbrev pub RequestEnds : H → Result Answer Halt → H → Type 0
+  abbrev pub RequestEnds : H → Result Answer NoAnswer → H → Type 0
   RequestEnds h (Ok answer) h' =
       (course : Course) × RequestGives gives route now tenant body h course h'
       × (failure_in course ≡ None)

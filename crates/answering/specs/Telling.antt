@@ -3,8 +3,8 @@ use Rattle.std.specs.Prelude.{◌≡◌, ◌≢◌, List, [], ◌∷◌, ◌++�
 use Rattle.std.specs.declared.alloc.AllocError.{AllocError}
 use Rattle.std.specs.List.{list_any}
 use Rattle.answering.specs.declared.lines.PushLines.{PushLines}
-use Rattle.answering.specs.declared.responding.Halt.{Halt}
-use Rattle.answering.specs.declared.responding.Halt.TheVariants as halts
+use Rattle.answering.specs.declared.responding.NoAnswer.{NoAnswer}
+use Rattle.answering.specs.declared.responding.NoAnswer.TheVariants as no_answers
 use Rattle.answering.specs.Calls.{Came, Failed}
 use Rattle.answering.specs.Courses.{first_failure}
 use Rattle.answering.specs.Lines.{came_lines, lines_from, has_no_room, is_unavailable}
@@ -25,8 +25,8 @@ abbrev pub NotesNext : Came → PushLines → PushLines → Result (Unit {0}) Al
 NotesNext came old new result = OnOk result (TellsNext came old new)
 
 -- this came of the next stream, and it was taken in, unless it failed
-abbrev pub CameIsNoted : Came → PushLines → Result (Unit {0}) Halt → PushLines → Type 0
+abbrev pub CameIsNoted : Came → PushLines → Result (Unit {0}) NoAnswer → PushLines → Type 0
 CameIsNoted came old (Ok u) new = (first_failure (came ∷ []) ≡ None) × TellsNext came old new
-CameIsNoted came old (Err (halts.Failed failure)) new = came ≡ Failed failure
-CameIsNoted came old (Err halts.GivenUp) new = (first_failure (came ∷ []) ≡ None)
+CameIsNoted came old (Err (no_answers.Failed failure)) new = came ≡ Failed failure
+CameIsNoted came old (Err no_answers.GivenUp) new = (first_failure (came ∷ []) ≡ None)
     × (came_lines old.streams came ≢ [])

@@ -13,8 +13,8 @@ use Rattle.answering.specs.Ends.{IsSameEnd}
 use Rattle.answering.specs.Serving.{Exchange, World, world, Io, response, closes, response_text, failure_at, ends_behind, VerdictGives, VerdictIsLeft, IsExchange, ConnectionEnds, IsSilent, IsUnbegun}
 use Rattle.answering.specs.Visits.{KeepsOn}
 use Rattle.answering.specs.declared.visiting.Visit.{Visit}
-use Rattle.answering.specs.declared.visiting.Turn.{Turn}
-use Rattle.answering.specs.declared.visiting.Turn.TheVariants as turns
+use Rattle.answering.specs.declared.visiting.TurnOutcome.{TurnOutcome}
+use Rattle.answering.specs.declared.visiting.TurnOutcome.TheVariants as turns
 
 module _ {S P C O : Type 0} where
   -- it holds what it held, which may have changed
@@ -37,14 +37,14 @@ module _ {S P C O : Type 0} where
   taken_of contents visit = contents visit.end.now.writer.now
 
 -- so it is where the turn lets the connection go on
-abbrev pub OnKept : Result Turn ServeFault → Type 0 → Type 0
+abbrev pub OnKept : Result TurnOutcome ServeFault → Type 0 → Type 0
 OnKept (Ok turns.Answered) t = t
 OnKept (Ok (turns.Unfinished n)) t = t
 OnKept (Ok turns.Closed) t = Unit {0}
 OnKept (Err fault) t = Unit {0}
 
 -- what may stand there when it is looked at next: no more than before; or this many bytes more
-abbrev pub MayComeAfter : Turn → List ℕ → Type 0
+abbrev pub MayComeAfter : TurnOutcome → List ℕ → Type 0
 MayComeAfter turns.Answered rest = MayStand rest
 MayComeAfter (turns.Unfinished n) rest = (0 < n) × MayGrow rest n
 MayComeAfter turns.Closed rest = Unit {0}
@@ -77,7 +77,7 @@ module _ {H : Type 0} (gives : Giving H) (now : ℕ) (body : List ℕ) where
 module _ {H C : Type 0} (gives : Giving H) (ticks : C → ℕ → C → Type 0) where
   -- a turn over these bytes leaves these
   abbrev pub ConnectionTurnIsAnswered : List ℕ → World H C → List ℕ → List ℕ → World H C
-      → Result Turn ServeFault → Type 0
+      → Result TurnOutcome ServeFault → Type 0
   ConnectionTurnIsAnswered bytes w text rest w' (Ok turns.Answered) =
       (e : Exchange) × IsExchange gives ticks bytes w e rest w' × (closes e ≡ false)
       × (text ≡ response e)
@@ -95,7 +95,7 @@ module _ {H C : Type 0} (gives : Giving H) (ticks : C → ℕ → C → Type 0) 
   -- and its text was put where answers go
   pub record ConnectionTurnIsServed (due due' : Dues H) (before after : Option (List ℕ))
       (bytes : List ℕ)
-      (w : World H C) (rest : List ℕ) (w' : World H C) (result : Result Turn ServeFault)
+      (w : World H C) (rest : List ℕ) (w' : World H C) (result : Result TurnOutcome ServeFault)
       : Type 0 where
     pub text : List ℕ
     pub appends : Appends before after text

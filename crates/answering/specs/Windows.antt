@@ -7,8 +7,8 @@ use Rattle.accept.specs.declared.call.Reply.{Reply}
 use Rattle.accept.specs.declared.fault.CallFault.{CallFault}
 use Rattle.requests.specs.declared.route.Route.TheVariants.{Push}
 use Rattle.answering.specs.declared.lines.PushLines.{PushLines}
-use Rattle.answering.specs.declared.responding.Halt.{Halt}
-use Rattle.answering.specs.declared.responding.Halt.TheVariants as halts
+use Rattle.answering.specs.declared.responding.NoAnswer.{NoAnswer}
+use Rattle.answering.specs.declared.responding.NoAnswer.TheVariants as no_answers
 use Rattle.answering.specs.Asking.{Asked, AsksFor, IsCallOf}
 use Rattle.answering.specs.Calls.{max_window, Giving, Came, Refused, Replied, Failed}
 use Rattle.answering.specs.Courses.{first_failure, StreamsGive}
@@ -70,9 +70,9 @@ merged (None ∷ places) [] = []
 merged (None ∷ places) (r ∷ rs) = came_of r ∷ merged places rs
 
 -- a push without memory for its lines ends for the first failure, if there is one
-abbrev pub halt_by : Option CallFault → Halt
-halt_by None = halts.GivenUp
-halt_by (Some failure) = halts.Failed failure
+abbrev pub no_answer_by : Option CallFault → NoAnswer
+no_answer_by None = no_answers.GivenUp
+no_answer_by (Some failure) = no_answers.Failed failure
 
 -- after others these came, and of one of these there is something to say
 pub record StopsAmong (before cames : List Came) : Type 0 where
@@ -85,20 +85,20 @@ pub record StopsAmong (before cames : List Came) : Type 0 where
 
 -- after others these came, and they were taken into the lines; or one of them failed first; or none did, and there was
 -- no memory for the lines
-abbrev pub AreNoted : List Came → List Came → Result (Unit {0}) Halt → PushLines → Type 0
+abbrev pub AreNoted : List Came → List Came → Result (Unit {0}) NoAnswer → PushLines → Type 0
 AreNoted before cames (Ok u) new = (first_failure (before ++ cames) ≡ None)
     × Tells (before ++ cames) new
-AreNoted before cames (Err (halts.Failed failure)) new =
+AreNoted before cames (Err (no_answers.Failed failure)) new =
     first_failure (before ++ cames) ≡ Some failure
-AreNoted before cames (Err halts.GivenUp) new =
+AreNoted before cames (Err no_answers.GivenUp) new =
     (first_failure (before ++ cames) ≡ None) × StopsAmong before cames
 
 -- the same up to where there was no memory: one of those after that may have failed
-abbrev pub AreNotedUpTo : List Came → List Came → Result (Unit {0}) Halt → PushLines → Type 0
+abbrev pub AreNotedUpTo : List Came → List Came → Result (Unit {0}) NoAnswer → PushLines → Type 0
 AreNotedUpTo before cames (Ok u) new = AreNoted before cames (Ok u) new
-AreNotedUpTo before cames (Err (halts.Failed failure)) new =
-    AreNoted before cames (Err (halts.Failed failure)) new
-AreNotedUpTo before cames (Err halts.GivenUp) new = StopsAmong before cames
+AreNotedUpTo before cames (Err (no_answers.Failed failure)) new =
+    AreNoted before cames (Err (no_answers.Failed failure)) new
+AreNotedUpTo before cames (Err no_answers.GivenUp) new = StopsAmong before cames
 
 -- these were taken into the lines, and those are left
 pub record AreNotedTo (before cames left : List Came) (lines : PushLines) : Type 0 where
@@ -122,8 +122,8 @@ module _ {H : Type 0} (gives : Giving H) (tenant : List ℕ) (h : H) (all : List
     pub tells : Tells cames lines
 
   -- the streams of a window were taken
-  abbrev pub WindowIsTaken : Result (Unit {0}) Halt → H → List (Option LabelFault) → List Call
+  abbrev pub WindowIsTaken : Result (Unit {0}) NoAnswer → H → List (Option LabelFault) → List Call
       → PushLines
       → Type 0
   WindowIsTaken (Ok u) h' places calls lines = StreamsAreTaken h' places calls lines
-  WindowIsTaken (Err halt) h' places calls lines = BodyIsAnswered gives tenant h all (Err halt) h'
+  WindowIsTaken (Err no_answer) h' places calls lines = BodyIsAnswered gives tenant h all (Err no_answer) h'

@@ -11,8 +11,8 @@ ghost use Rattle.answering.specs.Turns.{MayComeAfter};
 use crate::clock::Clock;
 use crate::demands::Demand;
 use crate::ends::WriteEnd;
-use crate::responding::Halt;
-use crate::visiting::{Turn, TurnBegun, begin_turn, turn_after};
+use crate::responding::NoAnswer;
+use crate::visiting::{TurnBegun, TurnOutcome, begin_turn, turn_after};
 use requests::{Answer, Incoming, MAX_HEAD, Message, Outbox, Outgoing, ServeFault};
 use std::alloc::Global;
 use std::marker::Model;
@@ -145,7 +145,7 @@ impl<P> Connection<P> {
         pass: &P,
         outgoing: &mut Outgoing,
         message: Message,
-        answered: Result<Answer, Halt>,
+        answered: Result<Answer, NoAnswer>,
     )
         requires within { message.end ≤ length self.old.came }
         requires little { length (drop message.end self.old.came) ≤ MAX_HEAD }
@@ -171,16 +171,20 @@ impl<P> Connection<P> {
 }
 
 // How many bytes may come after a turn: none, and what came is dropped, where the connection ends.
-fn settle(alloc: Global, incoming: &mut Incoming, turn: Result<Turn, ServeFault>) -> Option<usize>
+fn settle(
+    alloc: Global,
+    incoming: &mut Incoming,
+    turn: Result<TurnOutcome, ServeFault>,
+) -> Option<usize>
     requires { IfOk turn (λ turn. MayComeAfter turn incoming.old) }
     ensures settled { IsRoomAfter turn incoming.old incoming.new result }
     ensures grows { IfSome result (λ room. MayGrow incoming.new room) }
 {
     match turn {
-        Ok(Turn::Unfinished(room)) => Some(room),
-        Ok(Turn::Answered) if incoming.len() == 0 => Some(MAX_HEAD),
-        Ok(Turn::Answered) => Some(0),
-        Ok(Turn::Closed) | Err(_) => {
+        Ok(TurnOutcome::Unfinished(room)) => Some(room),
+        Ok(TurnOutcome::Answered) if incoming.len() == 0 => Some(MAX_HEAD),
+        Ok(TurnOutcome::Answered) => Some(0),
+        Ok(TurnOutcome::Closed) | Err(_) => {
             *incoming = Incoming::new(alloc);
             None
         }

@@ -11,7 +11,7 @@ ghost use Rattle.answering.specs.Windows.{called};
 use crate::calling::{Uncalled, call_of_read, call_of_trim};
 use crate::lines::PushLines;
 use crate::replies::answer_of_moved;
-use crate::responding::{Halt, RequestBody};
+use crate::responding::{NoAnswer, RequestBody};
 use crate::windows::{Streams, TakenStreams, note_streams, streams_of};
 use accept::{Call, CallFault, Reply};
 use labels::LabelFault;
@@ -74,12 +74,12 @@ fn demand_of_one(asked: Result<Call, Uncalled>) -> Demand
 pub(crate) fn answer_of_one(
     alloc: Global,
     outcome: Result<Reply, CallFault>,
-) -> Result<Answer, Halt>
+) -> Result<Answer, NoAnswer>
     ensures { OneIsTold outcome result }
 {
     match outcome {
         Ok(reply) => Ok(answer_of_moved(alloc, reply)?),
-        Err(failure) => Err(Halt::Failed(failure)),
+        Err(failure) => Err(NoAnswer::Failed(failure)),
     }
 }
 
@@ -89,7 +89,7 @@ pub(crate) fn answer_of_streams(
     places: &[Option<LabelFault>],
     outcomes: &VecDeque<Result<Reply, CallFault>>,
     first: usize,
-) -> Result<Answer, Halt>
+) -> Result<Answer, NoAnswer>
     requires due { first + called places.now ≡ deque_len outcomes.now }
     ensures { StreamsAreTold places.now (drop first outcomes.now.items) result }
 {

@@ -7,7 +7,7 @@ ghost use Rattle.answering.specs.Ends.{IsOfAnswer, IsReadOn, IsSameEnd};
 ghost use Rattle.answering.specs.Replying.{ReplyIsDue, IsReplied};
 ghost use Rattle.answering.specs.Responses.{content_for};
 
-use crate::responding::Halt;
+use crate::responding::NoAnswer;
 use accept::CallFault;
 use requests::{
     Answer, Answers, Content, FixedAnswer, Incoming, Outgoing, ServeFault, Served, Status,
@@ -169,7 +169,7 @@ impl<'a, O: Answers> WriteEnd<'a, O> {
         &mut self,
         knows: &O::Knows,
         outgoing: &mut Outgoing,
-        answered: Result<Answer, Halt>,
+        answered: Result<Answer, NoAnswer>,
         closes: bool,
     ) -> Result<bool, ServeFault>
         requires due { ReplyIsDue (O.due self.old.writer.now) knows.now answered closes }
@@ -185,11 +185,11 @@ impl<'a, O: Answers> WriteEnd<'a, O> {
                 self.answer(knows, outgoing, answer, content, closes)?;
                 Ok(closes)
             }
-            Err(Halt::Failed(failure)) => {
+            Err(NoAnswer::Failed(failure)) => {
                 self.failure(knows, failure)?;
                 Ok(true)
             }
-            Err(Halt::GivenUp) => Err(ServeFault::Memory),
+            Err(NoAnswer::GivenUp) => Err(ServeFault::Memory),
         }
     }
 

@@ -11,7 +11,7 @@ use crate::calls::Calls;
 use crate::clock::Clock;
 use crate::connection::Connection;
 use crate::demands::{Demand, Waiting, answer_of_one, answer_of_streams};
-use crate::responding::{Halt, answer_of_uncalled, make_calls};
+use crate::responding::{NoAnswer, answer_of_uncalled, make_calls};
 use crate::windows::{MAX_WINDOW, Streams, TakenStreams};
 use accept::{Call, CallFault, Reply};
 use requests::{Answer, Outgoing};
@@ -162,7 +162,7 @@ impl Window {
     }
 
     // The answer to the request whose calls stand last, by what came of them, which goes with it.
-    fn tell(&mut self, alloc: Global, waiting: Waiting) -> Result<Answer, Halt>
+    fn tell(&mut self, alloc: Global, waiting: Waiting) -> Result<Answer, NoAnswer>
         requires there { awaited waiting ≤ deque_len self.old.outcomes }
         ensures told { IsAnsweredBy waiting
             (drop (deque_len self.old.outcomes - awaited waiting) self.old.outcomes.items) result }

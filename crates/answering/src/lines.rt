@@ -1,15 +1,14 @@
 //! The lines of the answer to a push.
 ghost use Rattle.std.specs.Prelude.{◌≡◌, ◌≢◌, ◌<◌, ◌+◌, ◌^◌, ◌++◌, [], List, decimal, OnOk, OnErr, codes};
 ghost use Rattle.answering.specs.Calls.{Came, Refused, Replied};
-ghost use Rattle.answering.specs.Lines.{label_words, stream_line, entry_front, entry_line, newline, outcome_line, outcome_lines, reply_lines, came_lines, reply_has_no_room, reply_is_unavailable, worst_status, push_status, lines_from};
+ghost use Rattle.answering.specs.Lines.{stream_line, entry_front, entry_line, newline, outcome_line, outcome_lines, reply_lines, came_lines, reply_has_no_room, reply_is_unavailable, worst_status, push_status, lines_from};
 ghost use Rattle.answering.specs.Showing.{IsShown};
 ghost use Rattle.answering.specs.Telling.{Tells, NotesNext};
 
 use accept::{Outcome, Reply};
 use labels::LabelFault;
-use requests::{Answer, Status};
+use requests::{Answer, Status, push_number};
 use std::alloc::{AllocError, Global};
-use std::io::Write;
 
 /// What is answered to a push while its streams are taken: a line for each refusal, in the order of the
 /// body, with streams and entries counted from 0.
@@ -20,29 +19,6 @@ pub(crate) struct PushLines {
     text: Vec<u8>,
     no_room: bool,
     unavailable: bool,
-}
-
-pub(crate) fn push_number(text: &mut Vec<u8>, number: u64) -> Result<(), AllocError>
-    ensures { OnOk result (text.new.items ≡ text.old.items ++ decimal number) }
-{
-    write!(text, "{number}").map_err(|_| AllocError)
-}
-
-fn label_words(fault: LabelFault) -> &'static [u8]
-    ensures { result.now ≡ label_words fault }
-{
-    match fault {
-        LabelFault::NoLabels => b"no labels",
-        LabelFault::TooManyLabels => b"more than 15 labels",
-        LabelFault::BadName => b"bad label name",
-        LabelFault::NameTooLong => b"label name too long",
-        LabelFault::EmptyValue => b"empty label value",
-        LabelFault::ValueTooLong => b"label value too long",
-        LabelFault::NameTwice => b"label name twice",
-        LabelFault::NotCanonical => b"labels are not in canonical form",
-        LabelFault::BadTenant => b"bad tenant",
-        LabelFault::Memory => b"out of memory",
-    }
 }
 
 #[tactic(auto, unfolding(crate::specs::Lines::stream_line))]
@@ -207,7 +183,7 @@ impl PushLines {
     {
         let stream = self.streams;
         self.streams += 1;
-        push_stream_line(&mut self.text, stream, label_words(fault))
+        push_stream_line(&mut self.text, stream, fault.words().as_bytes())
     }
 
     /// Takes in the reply to the call on the next stream.

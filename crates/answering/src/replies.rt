@@ -11,11 +11,11 @@ ghost use Rattle.answering.specs.Lines.{push_status, lines_from};
 ghost use Rattle.answering.specs.Replies.{meta_tree, entry_tree, read_tree, trimmed_text, reply_status, reply_text};
 ghost use Rattle.answering.specs.Showing.{IsShown};
 
-use crate::lines::{PushLines, push_number};
+use crate::lines::PushLines;
 use accept::{Entry, EntryList, Reply};
 use json::Writer;
 use labels::LabelFault;
-use requests::{Answer, ROOM_FOR_HEAD, ServeFault, Status};
+use requests::{Answer, ROOM_FOR_HEAD, ServeFault, Status, push_number};
 use std::alloc::{AllocError, Global};
 
 /// `["TIME","LINE"],` has at most so many bytes beside the line, and the brackets and the comma of metadata.

@@ -1,5 +1,5 @@
 //! The answer to a request after its head: its body, its calls in body order, status and body of its answer.
-ghost use Rattle.std.specs.Prelude.{◌≡◌, ◌<◌, ◌≤◌, [], ℕ, List, All, IfOk, min, length, vec_capacity};
+ghost use Rattle.std.specs.Prelude.{◌≡◌, ◌<◌, ◌≤◌, [], ℕ, List, All, IfOk, min, vec_capacity};
 ghost use Rattle.requests.specs.declared.route.Route.{Route};
 ghost use Rattle.std.specs.VecDeque.{deque_len};
 ghost use Rattle.accept.specs.OneStream.{end_of_time};
@@ -12,46 +12,43 @@ ghost use Rattle.answering.specs.Parts.{BodyIsRefused, UncalledIsAnswered, BodyI
 ghost use Rattle.answering.specs.Responses.{RequestIsAnswered, RequestEnds, bad_time_text};
 ghost use Rattle.answering.specs.Showing.{IsShown};
 ghost use Rattle.answering.specs.Windows.{AreStreams, AsksForStreams, IsEmptyWindow, called};
-ghost use Rattle.answering.specs.declared.responding.Halt.TheVariants.{Failed, GivenUp};
+ghost use Rattle.answering.specs.declared.responding.NoAnswer.TheVariants.{Failed, GivenUp};
 
 use crate::calling::Uncalled;
 use crate::calls::Calls;
 use crate::demands::{Demand, answer_of_one, demand_of};
-use crate::lines::{PushLines, push_number};
+use crate::lines::PushLines;
 use crate::replies::{answer_of_refusal, answer_of_text};
 use crate::windows::{MAX_WINDOW, Streams, Windows};
 use accept::CallFault;
 use labels::{LabelFault, Tenant};
 use pushjson::PushFault;
-use requests::{Answer, Route, ServeFault, Status};
+use requests::{Answer, LONGEST_FAILURE, Route, ServeFault, Status, failure_body, push_number};
 use std::alloc::{AllocError, Global};
 use std::sync::Wait;
 
-/// How many bytes the longest text of a failure has.
-const LONGEST_FAILURE: usize = 13;
-
 /// Why a request has no answer of its own.
 #[derive(Clone, Copy)]
-pub(crate) enum Halt {
+pub(crate) enum NoAnswer {
     /// Its calls ended at a failure, which is answered by a status 500.
     Failed(CallFault),
     /// There was no memory for its answer.
     GivenUp,
 }
 
-impl From<CallFault> for Halt {
-    ghost from_gives = { λ failure halt. halt ≡ Failed failure };
+impl From<CallFault> for NoAnswer {
+    ghost from_gives = { λ failure no_answer. no_answer ≡ Failed failure };
 
-    fn from(failure: CallFault) -> Halt {
-        Halt::Failed(failure)
+    fn from(failure: CallFault) -> NoAnswer {
+        NoAnswer::Failed(failure)
     }
 }
 
-impl From<AllocError> for Halt {
-    ghost from_gives = { λ _ halt. halt ≡ GivenUp };
+impl From<AllocError> for NoAnswer {
+    ghost from_gives = { λ _ no_answer. no_answer ≡ GivenUp };
 
-    fn from(_refused: AllocError) -> Halt {
-        Halt::GivenUp
+    fn from(_refused: AllocError) -> NoAnswer {
+        NoAnswer::GivenUp
     }
 }
 
@@ -81,7 +78,7 @@ fn answer_of_bad_time(alloc: Global, stream: usize, entry: usize) -> Result<Answ
 }
 
 /// The answer to a body that is refused at its form.
-fn refuse(alloc: Global, fault: PushFault) -> Result<Answer, Halt>
+fn refuse(alloc: Global, fault: PushFault) -> Result<Answer, NoAnswer>
     ensures { BodyIsRefused fault result }
 {
     let answer = match fault {
@@ -93,7 +90,7 @@ fn refuse(alloc: Global, fault: PushFault) -> Result<Answer, Halt>
             Status::BadRequest,
             b"more than 10000 entries",
         ),
-        PushFault::Memory => return Err(Halt::Failed(CallFault::Memory)),
+        PushFault::Memory => return Err(NoAnswer::Failed(CallFault::Memory)),
     };
     Ok(answer?)
 }
@@ -106,7 +103,7 @@ fn take_windows<S: Calls, R: Wait>(
     pass: &mut S::Pass,
     places: &[Option<LabelFault>],
     windows: Windows,
-) -> Result<Answer, Halt>
+) -> Result<Answer, NoAnswer>
     requires pass { S.is_ready service.now pass.old }
     requires fresh { IsEmptyWindow windows.calls.items windows.outcomes.items }
     requires numbers { All AreNumbers windows.left.items }
@@ -135,7 +132,7 @@ fn push<S: Calls, R: Wait>(
     service: &S,
     pass: &mut S::Pass,
     streams: Streams,
-) -> Result<Answer, Halt>
+) -> Result<Answer, NoAnswer>
     requires pass { S.is_ready service.now pass.old }
     requires numbers { All AreNumbers streams.calls.items }
     ensures pass { S.is_ready service.now pass.new }
@@ -146,12 +143,12 @@ fn push<S: Calls, R: Wait>(
     let Streams { places, calls } = streams;
     match Windows::new(alloc, calls) {
         Ok(windows) => take_windows(rt, alloc, service, pass, places.as_slice(), windows),
-        Err(AllocError) => Err(Halt::Failed(CallFault::Memory)),
+        Err(AllocError) => Err(NoAnswer::Failed(CallFault::Memory)),
     }
 }
 
 /// The answer to a body of which no call is made.
-pub(crate) fn answer_of_uncalled(alloc: Global, why: Uncalled) -> Result<Answer, Halt>
+pub(crate) fn answer_of_uncalled(alloc: Global, why: Uncalled) -> Result<Answer, NoAnswer>
     ensures { UncalledIsAnswered why result }
 {
     match why {
@@ -167,7 +164,7 @@ pub(crate) fn make_calls<S: Calls, R: Wait>(
     service: &S,
     pass: &mut S::Pass,
     demand: Demand,
-) -> Result<Answer, Halt>
+) -> Result<Answer, NoAnswer>
     requires pass { S.is_ready service.now pass.old }
     requires numbers { All AreNumbers (calls_asked demand) }
     ensures pass { S.is_ready service.now pass.new }
@@ -185,25 +182,14 @@ pub(crate) fn make_calls<S: Calls, R: Wait>(
     }
 }
 
-fn failure_body(failure: CallFault) -> &'static [u8]
-    ensures body { result.now ≡ failure_body failure }
-    ensures short { length result.now ≤ LONGEST_FAILURE }
-{
-    match failure {
-        CallFault::Memory => b"out of memory",
-        CallFault::PassClosed => b"pass closed",
-        CallFault::InDoubt => b"call in doubt",
-        CallFault::LogSpent => b"log spent",
-    }
-}
-
 /// The answer of a failure. Its text has room already.
 fn answer_of_failure(mut text: Vec<u8>, failure: CallFault) -> Answer
     requires empty { text.items ≡ [] }
     requires room { LONGEST_FAILURE ≤ vec_capacity text }
     ensures { IsShown Status.InternalServerError (failure_body failure) result }
 {
-    text.extend_from_slice(failure_body(failure)).unwrap();
+    text.extend_from_slice(failure_body(failure).as_bytes())
+        .unwrap();
     Answer {
         status: Status::InternalServerError,
         body: text,
@@ -236,7 +222,7 @@ pub fn answer<S: Calls, R: Wait>(
     let demand = demand_of(alloc, request);
     match make_calls(rt, alloc, service, pass, demand) {
         Ok(answer) => Ok(answer),
-        Err(Halt::Failed(failure)) => Ok(answer_of_failure(text, failure)),
-        Err(Halt::GivenUp) => Err(ServeFault::Memory),
+        Err(NoAnswer::Failed(failure)) => Ok(answer_of_failure(text, failure)),
+        Err(NoAnswer::GivenUp) => Err(ServeFault::Memory),
     }
 }

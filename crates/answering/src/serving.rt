@@ -9,7 +9,7 @@ ghost use Rattle.answering.specs.Turns.{IsSameVisit, world_of, due_of, taken_of}
 use crate::calls::Calls;
 use crate::clock::Clock;
 use crate::ends::{Ends, ReadEnd, WriteEnd};
-use crate::visiting::{Turn, Visit};
+use crate::visiting::{TurnOutcome, Visit};
 use requests::{Answers, Incoming, Outgoing, Sent, ServeFault, Served};
 use std::alloc::Global;
 use std::io::{Read, Write};
@@ -39,9 +39,9 @@ impl<'a, 'b, S: Calls<Pass = P>, P, C: Clock, O: Answers<Knows = P>> Visit<'a, '
     {
         for _turn in rt.forever() {
             match self.take_turn(rt, alloc)? {
-                Turn::Answered => {}
-                Turn::Closed => return Ok(Served::Closed),
-                Turn::Unfinished(most) => {
+                TurnOutcome::Answered => {}
+                TurnOutcome::Closed => return Ok(Served::Closed),
+                TurnOutcome::Unfinished(most) => {
                     if let Some(served) = source.read_on(self.incoming, most)? {
                         return Ok(served);
                     }

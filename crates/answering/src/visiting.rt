@@ -19,7 +19,7 @@ use std::sync::Wait;
 
 /// What came of a turn.
 #[derive(Clone, Copy)]
-pub(crate) enum Turn {
+pub(crate) enum TurnOutcome {
     /// A request was answered, and the connection goes on.
     Answered,
     /// An answer closed it.
@@ -32,7 +32,7 @@ pub(crate) enum Turn {
 #[derive(Drop)]
 pub(crate) enum TurnBegun {
     /// No call was needed, and it is over.
-    Over(Turn),
+    Over(TurnOutcome),
     /// This request waits for its calls.
     Waits(Message, Demand),
 }
@@ -49,10 +49,14 @@ pub enum Visited {
 }
 
 /// What is left after a request that was answered.
-pub(crate) fn turn_after(closes: bool) -> Turn
+pub(crate) fn turn_after(closes: bool) -> TurnOutcome
     ensures { result ≡ turn_after closes }
 {
-    if closes { Turn::Closed } else { Turn::Answered }
+    if closes {
+        TurnOutcome::Closed
+    } else {
+        TurnOutcome::Answered
+    }
 }
 
 // Begins to answer a whole request that stands at the front. One that needs no call is answered, and dropped.
@@ -126,10 +130,10 @@ pub(crate) fn begin_turn<P, C: Clock, O: Answers<Knows = P>>(
         incoming.old clock.old incoming.new clock.new result }
 {
     match incoming.next(alloc) {
-        Next::Unfinished(most) => Ok(TurnBegun::Over(Turn::Unfinished(most))),
+        Next::Unfinished(most) => Ok(TurnBegun::Over(TurnOutcome::Unfinished(most))),
         Next::Refused(why) => {
             end.fixed(knows, outgoing, why, true)?;
-            Ok(TurnBegun::Over(Turn::Closed))
+            Ok(TurnBegun::Over(TurnOutcome::Closed))
         }
         Next::Whole(message) => {
             begin_message(alloc, knows, clock, end, incoming, outgoing, message)
@@ -151,7 +155,11 @@ pub(crate) struct Visit<'a, 'b, S, P, C, O> {
 
 impl<'a, 'b, S: Calls<Pass = P>, P, C: Clock, O: Answers<Knows = P>> Visit<'a, 'b, S, P, C, O> {
     // Answers what stands at the front.
-    pub(crate) fn take_turn<R: Wait>(&mut self, rt: &R, alloc: Global) -> Result<Turn, ServeFault>
+    pub(crate) fn take_turn<R: Wait>(
+        &mut self,
+        rt: &R,
+        alloc: Global,
+    ) -> Result<TurnOutcome, ServeFault>
         requires ready { S.is_ready self.old.service.now self.old.pass.now }
         requires unread { MayStand self.old.incoming.now }
         requires due { NextIsDue (S.gives self.old.service.now) C.ticks self.old.incoming.now

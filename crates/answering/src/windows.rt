@@ -9,12 +9,12 @@ ghost use Rattle.answering.specs.Asking.{Asked, AsksFor, HasNumbers, asked_push}
 ghost use Rattle.answering.specs.Calls.{Came, max_window};
 ghost use Rattle.answering.specs.Courses.{first_failure};
 ghost use Rattle.answering.specs.Telling.{Tells, CameIsNoted};
-ghost use Rattle.answering.specs.Windows.{AreStreams, AsksForStreams, IsEmptyWindow, IsWindowOver, FitWindow, StreamsAreTaken, WindowIsTaken, AreNoted, AreNotedUpTo, called, came_of, halt_by, merged};
+ghost use Rattle.answering.specs.Windows.{AreStreams, AsksForStreams, IsEmptyWindow, IsWindowOver, FitWindow, StreamsAreTaken, WindowIsTaken, AreNoted, AreNotedUpTo, called, came_of, no_answer_by, merged};
 
 use crate::calling::{Uncalled, key_of};
 use crate::calls::Calls;
 use crate::lines::PushLines;
-use crate::responding::{Halt, RequestBody};
+use crate::responding::{NoAnswer, RequestBody};
 use accept::{Call, CallFault, Reply};
 use labels::{LabelFault, Tenant};
 use pushjson::{PushFault, RawBatch, read_push};
@@ -156,7 +156,7 @@ impl Windows {
         pass: &mut S::Pass,
         places: &[Option<LabelFault>],
         lines: &mut PushLines,
-    ) -> Result<(), Halt>
+    ) -> Result<(), NoAnswer>
         requires pass { S.is_ready service.now pass.old }
         requires fresh { IsEmptyWindow self.old.calls.items self.old.outcomes.items }
         requires numbers { All AreNumbers self.old.left.items }
@@ -196,7 +196,7 @@ pub(crate) fn note_streams(
     outcomes: &VecDeque<Result<Reply, CallFault>>,
     first: usize,
     lines: &mut PushLines,
-) -> Result<(), Halt>
+) -> Result<(), NoAnswer>
     requires due { first + called places.now ≡ deque_len outcomes.now }
     requires few { lines.old.streams + length places.now < 2 ^ 64 }
     ensures noted { (before : List Came) → Tells before lines.old → first_failure before ≡ None
@@ -205,7 +205,7 @@ pub(crate) fn note_streams(
         lines.new.streams ≡ lines.old.streams + length places.now) }
 {
     match note_places(places, outcomes, first, lines) {
-        Err(Halt::GivenUp) => Err(halt_of(outcomes, first)),
+        Err(NoAnswer::GivenUp) => Err(no_answer_of(outcomes, first)),
         noted => noted,
     }
 }
@@ -216,7 +216,7 @@ fn note_places(
     outcomes: &VecDeque<Result<Reply, CallFault>>,
     first: usize,
     lines: &mut PushLines,
-) -> Result<(), Halt>
+) -> Result<(), NoAnswer>
     requires due { first + called places.now ≡ deque_len outcomes.now }
     requires few { lines.old.streams + length places.now < 2 ^ 64 }
     ensures noted { (before : List Came) → Tells before lines.old → first_failure before ≡ None
@@ -241,7 +241,7 @@ fn note_places(
 }
 
 // Takes what came of a call into the lines, unless it failed.
-fn note_outcome(lines: &mut PushLines, outcome: &Result<Reply, CallFault>) -> Result<(), Halt>
+fn note_outcome(lines: &mut PushLines, outcome: &Result<Reply, CallFault>) -> Result<(), NoAnswer>
     requires few { lines.old.streams + 1 < 2 ^ 64 }
     ensures noted { CameIsNoted (came_of outcome.now) lines.old result lines.new }
     ensures count { IfOk result (λ _. lines.new.streams ≡ lines.old.streams + 1) }
@@ -251,18 +251,18 @@ fn note_outcome(lines: &mut PushLines, outcome: &Result<Reply, CallFault>) -> Re
             lines.note_reply(reply)?;
             Ok(())
         }
-        Err(failure) => Err(Halt::Failed(*failure)),
+        Err(failure) => Err(NoAnswer::Failed(*failure)),
     }
 }
 
 // Why a push ends that has no memory for its lines: for the first failure among these outcomes.
-fn halt_of(outcomes: &VecDeque<Result<Reply, CallFault>>, first: usize) -> Halt
-    ensures { result ≡ halt_by (first_failure (map came_of (drop first outcomes.now.items))) }
+fn no_answer_of(outcomes: &VecDeque<Result<Reply, CallFault>>, first: usize) -> NoAnswer
+    ensures { result ≡ no_answer_by (first_failure (map came_of (drop first outcomes.now.items))) }
 {
     for place in first..outcomes.len() {
         if let Some(Err(failure)) = outcomes.get(place) {
-            return Halt::Failed(*failure);
+            return NoAnswer::Failed(*failure);
         }
     }
-    Halt::GivenUp
+    NoAnswer::GivenUp
 }

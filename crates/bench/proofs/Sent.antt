@@ -10,10 +10,10 @@ use Rattle.memory_disk.specs.contracts.memory.MemDisk as memory
 use Rattle.memory_disk.specs.contracts.memory.MemDiskDisk.TheImpl as memory_disk
 use Rattle.ingester.proofs.Sent.{ingester_sync}
 use Rattle.ingester.specs.contracts.opened.Ingester as ingester
-use Rattle.bench.specs.contracts.calls.Course as course
+use Rattle.bench.specs.contracts.calls.RunContext as context
 
-course_fields : (κ : NamedLft) (R : RattleType) → IsSync R → AllSync (declared.fields (course.the_type κ R))
-course_fields κ R r = (
+context_fields : (κ : NamedLft) (R : RattleType) → IsSync R → AllSync (declared.fields (context.the_type κ R))
+context_fields κ R r = (
   search (r, sendable),
   (
     search sendable,
@@ -24,5 +24,5 @@ course_fields κ R r = (
   ),
 )
 
-pub course_sync : (κ : NamedLft) (R : RattleType) → IsSync R → IsSync (course.the_row κ R)
-course_sync κ R r = let T = course.the_type κ R in recorded_sync (Struct (declared.shape T)) T.D T.to T.to_one (struct_sync (declared.shape T) (course_fields κ R r))
+pub context_sync : (κ : NamedLft) (R : RattleType) → IsSync R → IsSync (context.the_row κ R)
+context_sync κ R r = let T = context.the_type κ R in recorded_sync (Struct (declared.shape T)) T.D T.to T.to_one (struct_sync (declared.shape T) (context_fields κ R r))

@@ -27,7 +27,7 @@ const PUSHES: u64 = 32_000;
 
 /// What the threads of a run share.
 #[derive(Drop)]
-struct Course<'a, R> {
+struct RunContext<'a, R> {
     rt: &'a R,
     alloc: Global,
     ingester: &'a Ingester<MemDisk>,
@@ -108,12 +108,12 @@ pub fn push<R: Wait>(
 }
 
 /// Makes all pushes of a thread, one after another: how many were stored.
-fn push_all<R: Wait>(course: &Course<R>, mut pass: Pass, calls: Vec<Call>) -> u64
-    requires { IsPassOf course.now.ingester.now pass }
+fn push_all<R: Wait>(context: &RunContext<R>, mut pass: Pass, calls: Vec<Call>) -> u64
+    requires { IsPassOf context.now.ingester.now pass }
 {
     let mut stored: u64 = 0;
     for call in calls {
-        if push(course.rt, course.alloc, course.ingester, &mut pass, call) {
+        if push(context.rt, context.alloc, context.ingester, &mut pass, call) {
             stored = stored.saturating_add(1);
         }
     }
@@ -121,19 +121,25 @@ fn push_all<R: Wait>(course: &Course<R>, mut pass: Pass, calls: Vec<Call>) -> u6
 }
 
 /// What a thread does: it gets its pushes ready, and makes them once all threads have theirs.
-fn work<R: Clock + Wait>(course: &Course<R>, pass: Pass) -> Done
-    requires { IsPassOf course.now.ingester.now pass }
+fn work<R: Clock + Wait>(context: &RunContext<R>, pass: Pass) -> Done
+    requires { IsPassOf context.now.ingester.now pass }
 {
-    let ready = pushes_of(course.alloc, pass.number() as u64, START, 1, course.pushes);
-    let came = course.all.wait(course.rt);
+    let ready = pushes_of(
+        context.alloc,
+        pass.number() as u64,
+        START,
+        1,
+        context.pushes,
+    );
+    let came = context.all.wait(context.rt);
     let is_last = came.is_leader();
     let started = if is_last {
-        Instant::now(course.rt).ok()
+        Instant::now(context.rt).ok()
     } else {
         None
     };
     let stored = match ready {
-        Ok(calls) => push_all(course, pass, calls),
+        Ok(calls) => push_all(context, pass, calls),
         Err(_) => 0,
     };
     Done { stored, started }
@@ -141,18 +147,18 @@ fn work<R: Clock + Wait>(course: &Course<R>, pass: Pass) -> Done
 
 /// Lets a thread for each pass make its pushes: what each did.
 fn work_in_threads<R: Clock + Threads + Wait + Sync>(
-    course: &Course<R>,
+    context: &RunContext<R>,
     passes: Vec<Pass>,
 ) -> Result<Vec<Done>>
     requires { (p : ℕ) (pass : Passed) → slice_get passes.items p ≡ Some pass
-        → IsPassOf course.now.ingester.now pass }
+        → IsPassOf context.now.ingester.now pass }
 {
     Ok(thread::map_vec(
-        course.rt,
+        context.rt,
         passes,
         &move |pass: Pass| -> Done
-            requires { IsPassOf course.now.ingester.now pass }
-        { work(course, pass) },
+            requires { IsPassOf context.now.ingester.now pass }
+        { work(context, pass) },
     )?)
 }
 
@@ -176,14 +182,14 @@ where
     R: Clock + Threads + Wait + Sync + AllocGlobal + Copy + Send + 'static,
 {
     let (ingester, all) = open(rt, rt.alloc(), 1, passes, pushes)?;
-    let course = Course {
+    let context = RunContext {
         rt,
         alloc: rt.alloc(),
         ingester: &ingester,
         pushes: pushes / u64::from(passes).max(1),
         all: Barrier::new(all.len()),
     };
-    let done = work_in_threads(&course, all)?;
+    let done = work_in_threads(&context, all)?;
     stop(rt, watch, &done);
     Ok(())
 }

@@ -6,7 +6,7 @@ use crate::stopwatch::{Mode, Stopwatch};
 use accept::{Call, Limits};
 use anyhow::{Result, bail};
 use disk::{Disk, FileDisk};
-use lone_shard::{LoneShard, Round};
+use lone_shard::{BusyShard, LoneShard};
 use std::alloc::Global;
 use std::collections::VecDeque;
 use std::fs::{self, File, Files};
@@ -64,8 +64,8 @@ fn run_over<R: Clock + Files<File = File> + AllocGlobal>(
     calls: &mut VecDeque<Call>,
     size: usize,
 ) -> Result<()> {
-    let mut round = Round::of(rt.alloc(), open(rt, folder)?)?;
-    push_all(rt, watch, &mut round, calls, size)
+    let mut busy_shard = BusyShard::of(rt.alloc(), open(rt, folder)?)?;
+    push_all(rt, watch, &mut busy_shard, calls, size)
 }
 
 /// A shard over empty files.
@@ -81,16 +81,16 @@ fn open<R: Files<File = File> + AllocGlobal>(rt: &R, folder: &str) -> Result<Lon
 fn push_all<R: Clock + AllocGlobal, D: Disk + Drop>(
     rt: &R,
     watch: &mut Stopwatch,
-    round: &mut Round<D>,
+    busy_shard: &mut BusyShard<D>,
     calls: &mut VecDeque<Call>,
     size: usize,
 ) -> Result<()> {
-    push_group(rt.alloc(), round, calls, 1)?;
+    push_group(rt.alloc(), busy_shard, calls, 1)?;
     let pushes = calls.len() as u64;
     watch.start(rt);
     for _ in 0..pushes {
         if !calls.is_empty() {
-            push_group(rt.alloc(), round, calls, size)?;
+            push_group(rt.alloc(), busy_shard, calls, size)?;
         }
     }
     watch.stop(rt, pushes);
@@ -100,19 +100,19 @@ fn push_all<R: Clock + AllocGlobal, D: Disk + Drop>(
 /// Makes the first pushes as a group of this size, by one turn. All their lines are stored.
 fn push_group<D: Disk + Drop>(
     alloc: Global,
-    round: &mut Round<D>,
+    busy_shard: &mut BusyShard<D>,
     calls: &mut VecDeque<Call>,
     size: usize,
 ) -> Result<()> {
-    round.announce_all(calls, size)?;
-    round.turn(alloc)?;
+    busy_shard.announce_all(calls, size)?;
+    busy_shard.turn(alloc)?;
     for _ in 0..size {
-        match round.take_in() {
+        match busy_shard.take_in() {
             Some(Ok(reply)) if is_stored(&reply) => {}
             _ => bail!("a push was not stored"),
         }
     }
-    if !round.is_empty() {
+    if !busy_shard.is_empty() {
         bail!("a group took more than a turn");
     }
     Ok(())

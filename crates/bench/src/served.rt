@@ -37,9 +37,9 @@ struct Load {
 
 /// A clock that always tells the same time.
 #[derive(Drop)]
-struct Standing;
+struct FixedClock;
 
-impl front::Clock for Standing {
+impl front::Clock for FixedClock {
     ghost ticks = { λ old time new. new ≡ old };
 
     fn now(&mut self) -> u64 {
@@ -91,7 +91,7 @@ fn serve_load<R: Clock + Wait + AllocGlobal>(
 {
     let requests = load.bodies.len();
     let wanted = requests.saturating_mul(NO_CONTENT.len());
-    let mut clock = Standing;
+    let mut clock = FixedClock;
     let mut reader = load.text.as_bytes();
     let mut writer: Vec<u8> = Vec::with_capacity(rt.alloc(), wanted)?;
     watch.start(rt);

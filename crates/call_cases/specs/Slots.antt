@@ -3,8 +3,8 @@ use Rattle.std.specs.Prelude.{◌≡◌, ◌≤◌, ◌<◌, ◌↔◌, ℕ, Lis
 use Rattle.disk.specs.Sight.{Holds, IsSynced}
 use Rattle.memory_disk.specs.MemDisk.{WillFail, memory_sight}
 use Rattle.memory_disk.specs.declared.memory.MemDisk.{MemDisk}
-use Rattle.call_cases.specs.declared.slots.Way.{Way}
-use Rattle.call_cases.specs.declared.slots.Way.TheVariants.{Fails, Stops}
+use Rattle.call_cases.specs.declared.slots.FailureMode.{FailureMode}
+use Rattle.call_cases.specs.declared.slots.FailureMode.TheVariants.{Fails, Stops}
 
 -- what a read gives
 abbrev pub bytes_in : MemDisk → List ℕ
@@ -17,10 +17,10 @@ IsWritten at bytes old new =
     × IsSynced (memory_sight new)
 
 -- the calls, counted from 1, that fail by what was planned for the one with this number; with 0 none
-abbrev pub IsStruck : Way → ℕ → ℕ → Type 0
+abbrev pub IsStruck : FailureMode → ℕ → ℕ → Type 0
 IsStruck Fails call k = k ≡ call
 IsStruck Stops call k = (0 < call) × (call ≤ k)
 
 -- the slot fails at those of its next calls
-abbrev pub FailsAsPlanned : Way → ℕ → MemDisk → Type 0
-FailsAsPlanned way call slot = (k : ℕ) → 0 < k → (WillFail slot k ↔ IsStruck way call k)
+abbrev pub FailsAsPlanned : FailureMode → ℕ → MemDisk → Type 0
+FailsAsPlanned mode call slot = (k : ℕ) → 0 < k → (WillFail slot k ↔ IsStruck mode call k)

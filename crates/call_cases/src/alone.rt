@@ -4,10 +4,10 @@ use crate::calls::call_of;
 use crate::counted::Counted;
 use crate::gathered::Gathered;
 use crate::replies::write_outcome;
-use crate::settings::Settings;
+use crate::settings::CaseSettings;
 use accept::Call;
 use anyhow::Result;
-use lone_shard::{Grouped, LoneShard, Turn};
+use lone_shard::{Grouped, LoneShard, TurnReport};
 use memory_disk::MemDisk;
 use rows::Said;
 use shard::GroupEnd;
@@ -19,10 +19,14 @@ use wal::OpenFault;
 pub type Alone = Box<LoneShard<MemDisk>>;
 
 /// The shard that was opened, or why it was refused, and its slots.
-pub type Opening = Result<Alone, (OpenFault, [MemDisk; 2])>;
+pub type OpenResult = Result<Alone, (OpenFault, [MemDisk; 2])>;
 
 /// Opens the shard in these slots.
-pub fn open_alone(alloc: Global, slots: [MemDisk; 2], settings: Settings) -> Result<Opening> {
+pub fn open_alone(
+    alloc: Global,
+    slots: [MemDisk; 2],
+    settings: CaseSettings,
+) -> Result<OpenResult> {
     match LoneShard::open(alloc, slots, settings.limits, settings.capacity)? {
         Ok(shard) => Ok(Ok(Box::new(alloc, shard)?)),
         Err(refusal) => Ok(Err(refusal)),
@@ -36,10 +40,10 @@ pub type Apart = Result<(Alone, Grouped), (OpenFault, [MemDisk; 2])>;
 pub fn open_apart(
     alloc: Global,
     slots: [MemDisk; 2],
-    settings: Settings,
+    settings: CaseSettings,
     calls: &Gathered,
 ) -> Result<Apart> {
-    let Settings {
+    let CaseSettings {
         limits,
         capacity,
         ..
@@ -124,8 +128,8 @@ pub fn say_grouped(alloc: Global, grouped: &Grouped, said: &mut Said) -> Result<
     Ok(())
 }
 
-fn text_of_turn(alloc: Global, turn: &Turn) -> Result<String> {
-    let Turn { calls, ended } = turn;
+fn text_of_turn(alloc: Global, turn: &TurnReport) -> Result<String> {
+    let TurnReport { calls, ended } = turn;
     let why = match ended {
         GroupEnd::Most => "most",
         GroupEnd::Last => "last",

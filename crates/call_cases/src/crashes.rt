@@ -4,8 +4,8 @@ use crate::alone::{Alone, open_alone, say_call, say_calls, say_group};
 use crate::contents::{Contents, are_unavailable, hold_the_same, streams_found};
 use crate::counted::Counted;
 use crate::gathered::Gathered;
-use crate::settings::Settings;
-use crate::slots::{Way, calls_on, copy_of, fail_as_planned, slots_of};
+use crate::settings::CaseSettings;
+use crate::slots::{FailureMode, calls_on, copy_of, fail_as_planned, slots_of};
 use anyhow::{Result, bail};
 use lone_shard::LoneShard;
 use memory_disk::MemDisk;
@@ -78,8 +78,8 @@ struct Ran {
 #[derive(Clone, Copy)]
 pub struct Tries<'a> {
     pub alloc: Global,
-    pub settings: Settings,
-    pub way: Way,
+    pub settings: CaseSettings,
+    pub mode: FailureMode,
     pub doing: &'a Doing,
 }
 
@@ -128,7 +128,7 @@ impl Tries<'_> {
     ) -> Result<Ran> {
         let mut copy = copy_of(self.alloc, slots)?;
         if slot < 2 {
-            fail_as_planned(&mut copy[slot], self.way, call);
+            fail_as_planned(&mut copy[slot], self.mode, call);
         }
         self.run(copy, goes_on)
     }
@@ -163,7 +163,7 @@ impl Tries<'_> {
 fn found_in(
     alloc: Global,
     slots: [MemDisk; 2],
-    settings: Settings,
+    settings: CaseSettings,
     reads: &Gathered,
 ) -> Result<String> {
     let mut found = Said::new(alloc);
@@ -178,7 +178,7 @@ fn found_in(
 fn found_in_each(
     alloc: Global,
     contents: &Contents,
-    settings: Settings,
+    settings: CaseSettings,
     reads: &Gathered,
 ) -> Result<Vec<String>> {
     let mut found = Vec::new(alloc);
@@ -195,7 +195,7 @@ fn found_in_each(
 pub fn say_contents(
     alloc: Global,
     contents: &Contents,
-    settings: Settings,
+    settings: CaseSettings,
     reads: &Gathered,
     said: &mut Said,
 ) -> Result<()> {

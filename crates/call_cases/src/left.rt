@@ -13,7 +13,7 @@ const CAPACITY: u64 = 16_384;
 
 /// What became of a shard that was opened.
 #[derive(Clone, Copy)]
-pub struct Ended {
+pub struct FinalState {
     /// How long its history is.
     pub steps: u64,
     /// Whether its history has a failure mark.
@@ -27,13 +27,13 @@ pub(crate) fn state_of(
     alloc: Global,
     slots: &mut [MemDisk; 2],
     place: (u32, u32),
-    ended: Option<Ended>,
+    ended: Option<FinalState>,
     before: (u64, u64),
 ) -> Result<String> {
     let mut state = Said::new(alloc);
     let mut mark = "";
     match ended {
-        Some(Ended { steps, is_marked }) => {
+        Some(FinalState { steps, is_marked }) => {
             state.tell(format_args!("steps {steps}"));
             mark = if is_marked { " marked" } else { "" };
         }

@@ -1,17 +1,25 @@
 //! The answers to calls, as words of rows.
 
-use accept::{Entry, Outcome, Reply};
+use accept::{CallFault, Entry, Outcome, Reply};
 use rows::{Said, only_character};
 use std::fmt::Display;
 
 /// A line that is longer than this and repeats one character is written by its length.
 const LONG: usize = 8;
 
-/// Says the answer to a call, or why it was refused.
+/// Says the answer to a call on a shard alone, or why it was refused.
 pub fn write_outcome<F: Display>(outcome: &Result<Reply, F>, into: &mut Said) {
     match outcome {
         Ok(reply) => write_reply(reply, into),
         Err(fault) => into.tell(format_args!("{fault}")),
+    }
+}
+
+/// Says the answer to a call on an ingester, or the name of its fault.
+pub fn write_told(outcome: &Result<Reply, CallFault>, into: &mut Said) {
+    match outcome {
+        Ok(reply) => write_reply(reply, into),
+        Err(fault) => into.tell(format_args!("{fault:?}")),
     }
 }
 

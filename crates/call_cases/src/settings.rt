@@ -6,7 +6,7 @@ use anyhow::{Result, bail};
 
 /// The settings with which slots are opened.
 #[derive(Clone, Copy)]
-pub struct Settings {
+pub struct CaseSettings {
     /// The limits of all calls.
     pub limits: Limits,
     /// The greatest length of a segment, in bytes.
@@ -15,9 +15,9 @@ pub struct Settings {
     pub passes: u32,
 }
 
-impl Settings {
+impl CaseSettings {
     /// The limits of the profile, a small capacity, and one pass.
-    pub const USUAL: Settings = Settings {
+    pub const USUAL: CaseSettings = CaseSettings {
         limits: Limits::PROFILE,
         capacity: 4_096,
         passes: 1,

@@ -2,9 +2,11 @@
 
 use crate::calls::number_of;
 use crate::counted::Counted;
-use crate::left::{Ended, state_of};
+use crate::left::{FinalState, state_of};
 use crate::pieces::{bytes_in_pieces, say_from};
-use crate::slots::{Way, bytes_of, calls_on, fail_as_planned, slot_of, slots_of, write_through};
+use crate::slots::{
+    FailureMode, bytes_of, calls_on, fail_as_planned, slot_of, slots_of, write_through,
+};
 use anyhow::{Result, bail};
 use memory_disk::MemDisk;
 use rows::Said;
@@ -93,7 +95,7 @@ impl Shards {
     pub fn put_back(
         &mut self,
         slots: Vec<[MemDisk; 2]>,
-        ended: &[Ended],
+        ended: &[FinalState],
         said: &mut Said,
     ) -> Result<()> {
         let count = u32::try_from(slots.len())?;
@@ -107,7 +109,7 @@ impl Shards {
         Ok(())
     }
 
-    fn state(&mut self, shard: u32, count: u32, ended: Option<Ended>) -> Result<String> {
+    fn state(&mut self, shard: u32, count: u32, ended: Option<FinalState>) -> Result<String> {
         let (alloc, at) = (self.alloc, shard as usize);
         let before = self.before.get(at).copied().unwrap_or((0, 0));
         let Some(slots) = self.slots.get_mut(at) else {
@@ -133,8 +135,8 @@ fn take_slot(
     let (number, text) = number_of(text)?;
     match word {
         "write" => write_through(slot, number, &bytes_in_pieces(alloc, text)?)?,
-        "fail" => fail_as_planned(slot, Way::Fails, number),
-        "stop" => fail_as_planned(slot, Way::Stops, number),
+        "fail" => fail_as_planned(slot, FailureMode::Fails, number),
+        "stop" => fail_as_planned(slot, FailureMode::Stops, number),
         _ => say_from(number, &bytes_of(alloc, slot)?, said),
     }
     Ok(())

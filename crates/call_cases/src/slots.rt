@@ -10,7 +10,7 @@ use std::alloc::Global;
 
 /// What a device does at a call that is to fail.
 #[derive(Clone, Copy)]
-pub enum Way {
+pub enum FailureMode {
     /// It fails that call, and no other.
     Fails,
     /// It fails that call and all later ones.
@@ -67,12 +67,12 @@ pub(crate) fn write_through(slot: &mut MemDisk, at: u64, bytes: &[u8]) -> Result
 }
 
 /// Makes a slot fail at its call with this number, where the next is 1. With 0 it works.
-pub fn fail_as_planned(slot: &mut MemDisk, way: Way, call: u64)
-    ensures { FailsAsPlanned way call slot.new }
+pub fn fail_as_planned(slot: &mut MemDisk, mode: FailureMode, call: u64)
+    ensures { FailsAsPlanned mode call slot.new }
 {
-    match way {
-        Way::Stops if call > 0 => slot.stop_at(call),
-        Way::Fails | Way::Stops => slot.fail_at(call),
+    match mode {
+        FailureMode::Stops if call > 0 => slot.stop_at(call),
+        FailureMode::Fails | FailureMode::Stops => slot.fail_at(call),
     }
 }
 

@@ -5,10 +5,10 @@ use crate::calls::number_of;
 use crate::contents::Contents;
 use crate::crashes::{Doing, Tries, say_contents, say_trials};
 use crate::gathered::Gathered;
-use crate::left::Ended;
-use crate::settings::Settings;
+use crate::left::FinalState;
+use crate::settings::CaseSettings;
 use crate::shards::Shards;
-use crate::slots::Way;
+use crate::slots::FailureMode;
 use crate::together::Together;
 use anyhow::{Result, bail};
 use memory_disk::MemDisk;
@@ -23,7 +23,7 @@ use wal::OpenFault;
 #[derive(Drop)]
 pub struct Stage {
     alloc: Global,
-    settings: Settings,
+    settings: CaseSettings,
     /// The slots of all shards, while nothing is opened.
     shards: Shards,
     /// The only shard without an ingester, where it is open.
@@ -41,7 +41,7 @@ impl Stage {
     pub fn new(alloc: Global) -> Result<Stage> {
         Ok(Stage {
             alloc,
-            settings: Settings::USUAL,
+            settings: CaseSettings::USUAL,
             shards: Shards::new(alloc, 1)?,
             alone: None,
             together: None,
@@ -80,8 +80,8 @@ impl Stage {
             "with" => self.gathered.add(self.alloc, rest),
             "with*" => self.gathered.add_each(self.alloc, rest),
             "crash" => self.crash(rest, said),
-            "fails" => self.try_each(Way::Fails, rest, said),
-            "stops" => self.try_each(Way::Stops, rest, said),
+            "fails" => self.try_each(FailureMode::Fails, rest, said),
+            "stops" => self.try_each(FailureMode::Stops, rest, said),
             "contents" => {
                 said.tell(format_args!("{} contents\n", self.contents));
                 Ok(())
@@ -168,7 +168,7 @@ impl Stage {
         let slots = Box::into_inner(shard).into_slots();
         let all = vec![in self.alloc; slots]?;
         self.shards
-            .put_back(all, &[Ended { steps, is_marked }], said)
+            .put_back(all, &[FinalState { steps, is_marked }], said)
     }
 
     /// What is done with what is open: a call, and the other words of an ingester or of a shard alone.
@@ -215,7 +215,7 @@ impl Stage {
 
     /// `fails CALL` and `stops CALL`: a call where each of its device calls in turn fails, or all from there on; then
     /// the call itself. `fails group` and `stops group`: the same for the calls that were gathered.
-    fn try_each(&mut self, way: Way, call: &str, said: &mut Said) -> Result<()> {
+    fn try_each(&mut self, mode: FailureMode, call: &str, said: &mut Said) -> Result<()> {
         let is_group = call == "group";
         let calls = if is_group {
             self.take_gathered()
@@ -229,7 +229,7 @@ impl Stage {
         let tries = Tries {
             alloc: self.alloc,
             settings: self.settings,
-            way,
+            mode,
             doing: &doing,
         };
         let contents = say_trials(tries, slots, said)?;

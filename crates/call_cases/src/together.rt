@@ -8,9 +8,9 @@ ghost use Rattle.ingester.specs.Calls.{IsPassOf};
 use crate::calls::{call_of, number_of};
 use crate::counted::Counted;
 use crate::gathered::Gathered;
-use crate::left::Ended;
-use crate::replies::write_outcome;
-use crate::settings::Settings;
+use crate::left::FinalState;
+use crate::replies::write_told;
+use crate::settings::CaseSettings;
 use accept::{CallFault, Reply};
 use anyhow::{Result, bail};
 use ingester::{Closed, Ingester, OpenFault, Pass};
@@ -47,12 +47,12 @@ impl Together {
         rt: &R,
         alloc: Global,
         slots: AllSlots,
-        settings: Settings,
+        settings: CaseSettings,
     ) -> Result<Result<Together, (OpenFault, AllSlots)>>
     where
         R: Threads + Wait + Copy + Send + Sync + 'static,
     {
-        let Settings {
+        let CaseSettings {
             limits,
             capacity,
             passes,
@@ -114,7 +114,7 @@ impl Together {
     /// Makes the call of a line, and says its answer, or why it was refused.
     fn call<R: Wait>(&mut self, rt: &R, alloc: Global, line: &str, into: &mut Said) -> Result<()> {
         let call = call_of(alloc, line)?;
-        write_outcome(&self.ingester.call(rt, alloc, &mut self.pass, call), into);
+        write_told(&self.ingester.call(rt, alloc, &mut self.pass, call), into);
         Ok(())
     }
 
@@ -181,7 +181,7 @@ impl Together {
     }
 
     /// The slots of each shard, shard 0 first, and what became of it.
-    pub fn close<R: Wait>(self, rt: &R, alloc: Global) -> Result<(AllSlots, Vec<Ended>)> {
+    pub fn close<R: Wait>(self, rt: &R, alloc: Global) -> Result<(AllSlots, Vec<FinalState>)> {
         let mut open = self;
         let steps = open.all_steps(alloc)?;
         take_apart(alloc, open.end(rt)?, &steps)
@@ -216,7 +216,7 @@ fn say_outcomes(
     let mut answers = Counted::new(alloc, "\n");
     for outcome in outcomes.iter() {
         let mut answer = Said::new(alloc);
-        write_outcome(outcome, &mut answer);
+        write_told(outcome, &mut answer);
         answers.add(answer.end()?);
     }
     answers.say(said);
@@ -228,14 +228,14 @@ fn take_apart(
     alloc: Global,
     closed: Closed<MemDisk>,
     steps: &[u64],
-) -> Result<(AllSlots, Vec<Ended>)> {
+) -> Result<(AllSlots, Vec<FinalState>)> {
     let mut closed = closed;
     let (mut slots, mut ended) = (Vec::new(alloc), Vec::new(alloc));
     for steps in steps.iter().rev() {
         let Some(shard) = closed.take() else {
             bail!("a shard is lost");
         };
-        ended.push(Ended {
+        ended.push(FinalState {
             steps: *steps,
             is_marked: shard.1,
         })?;

@@ -10,17 +10,17 @@ use std::io::Write;
 
 /// The bytes of a connection and the manner in which they come, put together from lines.
 #[derive(Drop)]
-pub struct Connection {
+pub struct ConnectionInput {
     bytes: Vec<u8>,
     /// The body of the next `post` so far.
     body: Vec<u8>,
     pub manner: Manner,
 }
 
-impl Connection {
+impl ConnectionInput {
     /// No bytes.
-    pub fn new(alloc: Global) -> Connection {
-        Connection {
+    pub fn new(alloc: Global) -> ConnectionInput {
+        ConnectionInput {
             bytes: Vec::new(alloc),
             body: Vec::new(alloc),
             manner: Manner::PLAIN,

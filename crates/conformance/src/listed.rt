@@ -1,6 +1,6 @@
 //! Makes the calls of requests, with results that a list gives.
 use crate::manner::Manner;
-use crate::plan::Visit;
+use crate::plan::ConnectionCase;
 use crate::script::{Script, Told};
 use crate::sink::Sink;
 use crate::visits::{Came, Ticking};
@@ -53,7 +53,7 @@ impl Calls for Listed {
 pub fn run_listed<R: Wait>(
     rt: &R,
     alloc: Global,
-    visit: &Visit,
+    visit: &ConnectionCase,
     manner: Manner,
     mut script: Script,
 ) -> Came {
@@ -76,7 +76,12 @@ pub fn run_listed<R: Wait>(
 ///
 /// # Errors
 /// It makes one.
-pub fn run_alone<R: Wait>(rt: &R, alloc: Global, visit: &Visit, manner: Manner) -> Result<Came> {
+pub fn run_alone<R: Wait>(
+    rt: &R,
+    alloc: Global,
+    visit: &ConnectionCase,
+    manner: Manner,
+) -> Result<Came> {
     let script = Script::new(Vec::new(alloc), STORED);
     let mut came = run_listed(rt, alloc, visit, manner, script);
     if came.count > 0 {

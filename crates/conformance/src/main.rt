@@ -15,7 +15,7 @@ mod sink;
 mod source;
 mod visits;
 
-use crate::plan::Plan;
+use crate::plan::CasePlan;
 use anyhow::{Context, Result};
 use rows::{Row, Said, Tally, rows_of};
 use std::rt::Files;
@@ -56,5 +56,5 @@ where
     R: Threads + Wait + AllocGlobal + Copy + Send + Sync + 'static,
 {
     let alloc = rt.alloc();
-    serving::serve_plan(rt, alloc, &Plan::read(alloc, &row.given)?, said)
+    serving::serve_plan(rt, alloc, &CasePlan::read(alloc, &row.given)?, said)
 }

@@ -5,7 +5,7 @@ ghost use Rattle.accept.specs.contracts.image.Image as image;
 ghost use Rattle.ingester.specs.Calls.{IsPassOf};
 
 use crate::manner::Manner;
-use crate::plan::{Plan, Visit};
+use crate::plan::{CasePlan, ConnectionCase};
 use crate::sink::Sink;
 use crate::visits::{Came, Ticking};
 use accept::Limits;
@@ -25,7 +25,7 @@ const CALLS: u64 = 1_000;
 
 /// An ingester and its one pass.
 #[derive(Drop)]
-pub struct Opened {
+pub struct OnePassIngester {
     ingester: Ingester<MemDisk>,
     pass: Pass,
     count: u32,
@@ -53,12 +53,12 @@ fn slots_of(alloc: Global, shards: u32, stops: u64) -> Result<Vec<[MemDisk; 2]>>
     Ok(slots)
 }
 
-impl Opened {
+impl OnePassIngester {
     /// Opens the shards, slots and capacity of a plan.
     ///
     /// # Errors
     /// Fewer than 1 or more than 64 shards; want of memory; a thread that could not be started.
-    pub fn open<R>(rt: &R, alloc: Global, plan: &Plan) -> Result<Opened>
+    pub fn open<R>(rt: &R, alloc: Global, plan: &CasePlan) -> Result<OnePassIngester>
     where
         R: Threads + Wait + Copy + Send + Sync + 'static,
     {
@@ -78,7 +78,7 @@ impl Opened {
                 let Some(pass) = passes.pop() else {
                     bail!("there is no pass");
                 };
-                Ok(Opened {
+                Ok(OnePassIngester {
                     ingester,
                     pass,
                     count,
@@ -107,7 +107,7 @@ impl Opened {
         &mut self,
         rt: &R,
         alloc: Global,
-        visit: &Visit,
+        visit: &ConnectionCase,
         manner: Manner,
     ) -> Came {
         let before = self.steps();
@@ -139,7 +139,7 @@ impl Opened {
     /// # Errors
     /// Want of memory.
     pub fn close<R: Wait>(self, rt: &R, alloc: Global) -> Result<()> {
-        let Opened {
+        let OnePassIngester {
             ingester,
             pass,
             count: _,

@@ -1,4 +1,4 @@
-use crate::connection::Connection;
+use crate::connection::ConnectionInput;
 use crate::each::Each;
 use crate::script::Told;
 use anyhow::{Result, anyhow};
@@ -14,12 +14,12 @@ const TIME: u64 = 20;
 
 /// One connection.
 #[derive(Drop)]
-pub struct Visit {
+pub struct ConnectionCase {
     /// What the clock tells to its first request.
     pub time: u64,
     /// How much later each further request comes.
     pub tick: u64,
-    pub connection: Connection,
+    pub connection: ConnectionInput,
     /// The places at which it is run again.
     pub each: Option<Each>,
     /// Whether the owners of the shards end before it.
@@ -30,12 +30,12 @@ pub struct Visit {
     pub at_each: Option<Told>,
 }
 
-impl Visit {
-    fn new(alloc: Global, time: u64) -> Visit {
-        Visit {
+impl ConnectionCase {
+    fn new(alloc: Global, time: u64) -> ConnectionCase {
+        ConnectionCase {
             time,
             tick: 0,
-            connection: Connection::new(alloc),
+            connection: ConnectionInput::new(alloc),
             each: None,
             ends_owners: false,
             list: Vec::new(alloc),
@@ -71,7 +71,7 @@ impl Visit {
 
 /// What a row asks for: connections, and shards over empty slots for their calls.
 #[derive(Drop)]
-pub struct Plan {
+pub struct CasePlan {
     alloc: Global,
     /// Whether it says that no connection without a list makes a call.
     is_alone: bool,
@@ -82,25 +82,25 @@ pub struct Plan {
     /// The device call of slot 1 of the first shard from which on all fail, or 0.
     pub stops: u64,
     /// The connections before the last one.
-    pub visits: Vec<Visit>,
+    pub visits: Vec<ConnectionCase>,
     /// The last one.
-    pub last: Visit,
+    pub last: ConnectionCase,
 }
 
-impl Plan {
+impl CasePlan {
     /// Reads the lines of a row.
     ///
     /// # Errors
     /// A line that no row has; want of memory.
-    pub fn read(alloc: Global, lines: &[&str]) -> Result<Plan> {
-        let mut plan = Plan {
+    pub fn read(alloc: Global, lines: &[&str]) -> Result<CasePlan> {
+        let mut plan = CasePlan {
             alloc,
             is_alone: false,
             capacity: WIDE,
             shards: 1,
             stops: 0,
             visits: Vec::new(alloc),
-            last: Visit::new(alloc, TIME),
+            last: ConnectionCase::new(alloc, TIME),
         };
         for line in lines {
             plan.take_line(line)
@@ -130,7 +130,7 @@ impl Plan {
     }
 
     fn begin_next(&mut self, time: u64) -> Result<()> {
-        let next = Visit::new(self.alloc, time);
+        let next = ConnectionCase::new(self.alloc, time);
         self.visits.push(mem::replace(&mut self.last, next))?;
         Ok(())
     }

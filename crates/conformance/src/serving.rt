@@ -4,8 +4,8 @@ use crate::each::Each;
 use crate::groups::Groups;
 use crate::listed::{STORED, run_alone, run_listed};
 use crate::manner::Manner;
-use crate::opened::Opened;
-use crate::plan::{Plan, Visit};
+use crate::opened::OnePassIngester;
+use crate::plan::{CasePlan, ConnectionCase};
 use crate::script::{Script, Told};
 use crate::visits::Came;
 use anyhow::Result;
@@ -18,14 +18,14 @@ use std::thread::Threads;
 ///
 /// # Errors
 /// Want of memory; a thread that could not be started.
-pub fn serve_plan<R>(rt: &R, alloc: Global, plan: &Plan, said: &mut Said) -> Result<()>
+pub fn serve_plan<R>(rt: &R, alloc: Global, plan: &CasePlan, said: &mut Said) -> Result<()>
 where
     R: Threads + Wait + Copy + Send + Sync + 'static,
 {
     if !plan.has_shards() {
         return serve_visits(rt, alloc, &mut None, plan, said);
     }
-    let mut opened = Some(Opened::open(rt, alloc, plan)?);
+    let mut opened = Some(OnePassIngester::open(rt, alloc, plan)?);
     serve_visits(rt, alloc, &mut opened, plan, said)?;
     match opened {
         Some(opened) => opened.close(rt, alloc),
@@ -36,8 +36,8 @@ where
 fn serve_visits<R: Wait>(
     rt: &R,
     alloc: Global,
-    opened: &mut Option<Opened>,
-    plan: &Plan,
+    opened: &mut Option<OnePassIngester>,
+    plan: &CasePlan,
     said: &mut Said,
 ) -> Result<()> {
     for visit in &plan.visits {
@@ -51,8 +51,8 @@ fn serve_visits<R: Wait>(
 fn run_visit<R: Wait>(
     rt: &R,
     alloc: Global,
-    opened: &mut Option<Opened>,
-    visit: &Visit,
+    opened: &mut Option<OnePassIngester>,
+    visit: &ConnectionCase,
     manner: Manner,
 ) -> Result<Came> {
     if visit.is_listed() {
@@ -69,8 +69,8 @@ fn run_visit<R: Wait>(
 fn serve_visit<R: Wait>(
     rt: &R,
     alloc: Global,
-    opened: &mut Option<Opened>,
-    visit: &Visit,
+    opened: &mut Option<OnePassIngester>,
+    visit: &ConnectionCase,
     said: &mut Said,
 ) -> Result<()> {
     if let Some(opened) = opened {
@@ -92,8 +92,8 @@ fn serve_visit<R: Wait>(
 fn serve_each<R: Wait>(
     rt: &R,
     alloc: Global,
-    opened: &mut Option<Opened>,
-    visit: &Visit,
+    opened: &mut Option<OnePassIngester>,
+    visit: &ConnectionCase,
     each: Each,
     whole: &Came,
     said: &mut Said,
@@ -114,7 +114,7 @@ fn serve_each<R: Wait>(
 fn serve_each_call<R: Wait>(
     rt: &R,
     alloc: Global,
-    visit: &Visit,
+    visit: &ConnectionCase,
     told: Told,
     calls: u64,
     said: &mut Said,

@@ -1,7 +1,7 @@
 //! What one run of a connection comes to.
 ghost use Rattle.std.specs.Prelude.{◌≡◌};
 
-use crate::plan::Visit;
+use crate::plan::ConnectionCase;
 use crate::sink::Sink;
 use accept::END_OF_TIME;
 use anyhow::Result;
@@ -18,7 +18,7 @@ pub struct Ticking {
 
 impl Ticking {
     /// The clock of a connection.
-    pub fn of(visit: &Visit) -> Ticking {
+    pub fn of(visit: &ConnectionCase) -> Ticking {
         Ticking {
             time: visit.time,
             tick: visit.tick,

@@ -2,20 +2,20 @@
 use Rattle.std.proofs.Common.{◌≡◌, ◌≤◌, ◌<◌, ℕ, ◌+◌, ◌-◌, ◌^◌, List, [], ◌∷◌, ◌++◌, length, get_or, take, drop, refl, ap, subst, sym, inl, inr, ◌∙◌, arith, length-append, length-take, length-drop, append_assoc}
 use borrow.Rule.Slice.PartMut.{put_mid, post_of}
 use Rattle.std.proofs.lemmas.List.{take_all, take_rest, take-append-drop, take-take, drop-take, drop-drop, length-take-le, take-append-le, take_at, drop_at}
-use Rattle.std.proofs.lemmas.List.Elements.{All-nil, All-cons}
+use Rattle.std.proofs.lemmas.List.Elements.{All-cons}
 use Rattle.std.proofs.lemmas.Slice.{take-put_mid_below}
 use Rattle.std.specs.Prelude.{Ok, Err}
-use Rattle.disk.specs.declared.calls.Record.{Record}
+use Rattle.disk.specs.declared.calls.CallRecord.{CallRecord}
 use Rattle.disk.specs.Sight.{Sight, Elapses, Looks, Writes, IsSynced, Torn, Holds}
 use Rattle.disk.specs.State.{Act, Write, Sync, State, over, state_after, IsImage}
 use Rattle.disk.specs.Laws.{length-over}
 use Rattle.disk.specs.Calls.{Call, acts_by, IsRead, start_sound, IsFailedCall, HaveWorked, IsServedByCalls}
-use Rattle.disk.specs.Record.{HasFollowed, acts_in, sight_by, OnlyAsks, Goes, ReadsSoFar, WritesSoFar}
+use Rattle.disk.specs.CallRecord.{HasFollowed, acts_in, sight_by, OnlyAsks, Goes, ReadsSoFar, WritesSoFar}
 use Rattle.disk.proofs.Acts.{state_after-push}
 use Rattle.disk.proofs.Crash.{IsOver, seen-write, writes-push, synced-push, looks-sync}
 
 -- one more call
-pub acts-more : (old new : Record) (call : Call) → new.start ≡ old.start → new.calls ≡ call ∷ old.calls
+pub acts-more : (old new : CallRecord) (call : Call) → new.start ≡ old.start → new.calls ≡ call ∷ old.calls
     → acts_in new ≡ acts_in old ++ acts_by (get_or old.start.left (length old.calls) []) call
 acts-more old new call es ec = rw (es, ec) refl
 
@@ -32,26 +32,26 @@ stays-push start acts a at n b c one image =
     subst (λ (t : State). IsImage t c) (sym (state_after-push start acts a ∙ one.state)) later
 
 -- a record with one more write, done or failed
-pub record-goes : (old new : Record) (a : Act) (at n : ℕ) (b : List ℕ) (f f' : ℕ) → new.start ≡ old.start → acts_in new ≡ acts_in old ++ a ∷ []
+pub record-goes : (old new : CallRecord) (a : Act) (at n : ℕ) (b : List ℕ) (f f' : ℕ) → new.start ≡ old.start → acts_in new ≡ acts_in old ++ a ∷ []
     → HasFollowed old → IsOver (state_after old.start.state (acts_in old)) a at n b → Goes at n (sight_by old f) (sight_by new f')
 record-goes old new a at n b f f' es ea follows one = rw (ea, es) (record {
   writes = writes-push old.start.state (start_sound old.start old.calls follows) (acts_in old) a at n b f f' one;
   stays = λ c image. stays-push old.start.state (acts_in old) a at n b c one image;
 })
 
-pub record-holds : (old new : Record) (at : ℕ) (b : List ℕ) → new.start ≡ old.start → acts_in new ≡ acts_in old ++ Write at b ∷ []
+pub record-holds : (old new : CallRecord) (at : ℕ) (b : List ℕ) → new.start ≡ old.start → acts_in new ≡ acts_in old ++ Write at b ∷ []
     → at ≤ length (sight_by old 0).seen → Holds (sight_by old 0).seen at b (sight_by new 0).seen
 record-holds old new at b es ea le = rw (ea, es) (seen-write old.start.state (acts_in old) at b le)
 
 -- a record with one more sync
-pub record-looks : (old new : Record) (f f' : ℕ) → new.start ≡ old.start → acts_in new ≡ acts_in old ++ Sync ∷ []
+pub record-looks : (old new : CallRecord) (f f' : ℕ) → new.start ≡ old.start → acts_in new ≡ acts_in old ++ Sync ∷ []
     → HasFollowed old → Looks (sight_by old f) (sight_by new f')
 record-looks old new f f' es ea follows = rw (ea, es) (looks-sync old.start.state (start_sound old.start old.calls follows) (acts_in old) f f')
 
-pub record-synced : (old new : Record) (f : ℕ) → new.start ≡ old.start → acts_in new ≡ acts_in old ++ Sync ∷ [] → IsSynced (sight_by new f)
+pub record-synced : (old new : CallRecord) (f : ℕ) → new.start ≡ old.start → acts_in new ≡ acts_in old ++ Sync ∷ [] → IsSynced (sight_by new f)
 record-synced old new f es ea = rw (ea, es) (synced-push old.start.state (acts_in old) f)
 
-pub asks-on : (a b c : Record) → OnlyAsks a b → OnlyAsks b c → OnlyAsks a c
+pub asks-on : (a b c : CallRecord) → OnlyAsks a b → OnlyAsks b c → OnlyAsks a c
 asks-on a b c one more = record {
   start = more.start ∙ one.start;
   acts = more.acts ∙ one.acts;
@@ -59,11 +59,11 @@ asks-on a b c one more = record {
 }
 
 -- what a read gives, after calls that did nothing
-pub asks-seen : (a b : Record) → OnlyAsks a b → (sight_by b 0).seen ≡ (sight_by a 0).seen
+pub asks-seen : (a b : CallRecord) → OnlyAsks a b → (sight_by b 0).seen ≡ (sight_by a 0).seen
 asks-seen a b one = rw (one.acts, one.start) refl
 
 -- What a loop of reads has done so far.
-pub record ReadLoop (r r' : Record) (at from : ℕ) (buf : List ℕ) : Type 0 where
+pub record ReadLoop (r r' : CallRecord) (at from : ℕ) (buf : List ℕ) : Type 0 where
   pub fits : from ≤ length buf
   pub asks : OnlyAsks r r'
   pub bytes : HasFollowed r' → ReadsSoFar (sight_by r 0).seen at from buf
@@ -95,7 +95,7 @@ length-put : (buf piece : List ℕ) (from : ℕ) → from ≤ length buf → len
 length-put buf piece from fits long = simp (length-append, length-take, length-drop) (omega (arith, long))
 
 -- after one more read into the rest of the buffer
-pub read-loop-on : (r r' r'' : Record) (at from n : ℕ) (buf piece : List ℕ) → ReadLoop r r' at from buf → OnlyAsks r' r''
+pub read-loop-on : (r r' r'' : CallRecord) (at from n : ℕ) (buf piece : List ℕ) → ReadLoop r r' at from buf → OnlyAsks r' r''
     → length piece ≡ length buf - from → n ≤ length piece
     → (HasFollowed r'' → IsRead (sight_by r' 0).seen (at + from) (length buf - from) (take n piece))
     → ReadLoop r r'' at (from + n) (put_mid from (length buf - from) buf piece)
@@ -113,7 +113,7 @@ read-loop-on r r' r'' at from n buf piece old more long fits answer =
     }
 
 -- after a read that was interrupted
-pub read-loop-again : (r r' r'' : Record) (at from : ℕ) (buf piece : List ℕ) → ReadLoop r r' at from buf → OnlyAsks r' r''
+pub read-loop-again : (r r' r'' : CallRecord) (at from : ℕ) (buf piece : List ℕ) → ReadLoop r r' at from buf → OnlyAsks r' r''
     → length piece ≡ length buf - from → ReadLoop r r'' at from (put_mid from (length buf - from) buf piece)
 read-loop-again r r' r'' at from buf piece old more long =
     let whole : length (put_mid from (length buf - from) buf piece) ≡ length buf = omega (arith, length-put buf piece from old.fits long) in
@@ -187,7 +187,7 @@ goes-longer a b at n m le one = record {
 }
 
 -- What a loop of writes has done so far.
-pub record WriteLoop (r r' : Record) (at from : ℕ) (bytes : List ℕ) : Type 0 where
+pub record WriteLoop (r r' : CallRecord) (at from : ℕ) (bytes : List ℕ) : Type 0 where
   pub fits : from ≤ length bytes
   pub before : HasFollowed r' → HasFollowed r
   pub written : HasFollowed r' → at ≤ length (sight_by r 0).seen → (f f' : ℕ) → WritesSoFar at from bytes (sight_by r f) (sight_by r' f')
@@ -222,7 +222,7 @@ holds-on a b c bytes at from n le fits one more =
     ∙ ap (λ (xs : List ℕ). xs ++ drop (at + (from + n)) a) joined)
 
 -- after one more piece
-pub write-loop-on : (r r' r'' : Record) (at from n : ℕ) (bytes rest : List ℕ) → WriteLoop r r' at from bytes → rest ≡ drop from bytes → n ≤ length rest
+pub write-loop-on : (r r' r'' : CallRecord) (at from n : ℕ) (bytes rest : List ℕ) → WriteLoop r r' at from bytes → rest ≡ drop from bytes → n ≤ length rest
     → (HasFollowed r'' → HasFollowed r')
     → ((f f' : ℕ) → HasFollowed r'' → at + from ≤ length (sight_by r' 0).seen → WritesSoFar (at + from) n rest (sight_by r' f) (sight_by r'' f'))
     → WriteLoop r r'' at (from + n) bytes
@@ -242,7 +242,7 @@ write-loop-on r r' r'' at from n bytes rest old e h before more =
     }
 
 -- after a write that was interrupted
-pub write-loop-again : (r r' r'' : Record) (at from : ℕ) (bytes : List ℕ) → WriteLoop r r' at from bytes → OnlyAsks r' r'' → WriteLoop r r'' at from bytes
+pub write-loop-again : (r r' r'' : CallRecord) (at from : ℕ) (bytes : List ℕ) → WriteLoop r r' at from bytes → OnlyAsks r' r'' → WriteLoop r r'' at from bytes
 write-loop-again r r' r'' at from bytes old one = record {
   fits = old.fits;
   before = λ follows. old.before (one.before follows);
@@ -250,7 +250,7 @@ write-loop-again r r' r'' at from bytes old one = record {
 }
 
 -- after a write that failed
-pub write-loop-broke : (r r' r'' : Record) (at from f f' : ℕ) (bytes rest : List ℕ) → WriteLoop r r' at from bytes → length rest ≡ length bytes - from
+pub write-loop-broke : (r r' r'' : CallRecord) (at from f f' : ℕ) (bytes rest : List ℕ) → WriteLoop r r' at from bytes → length rest ≡ length bytes - from
     → (HasFollowed r'' → HasFollowed r')
     → ((f f' : ℕ) → HasFollowed r'' → at + from ≤ length (sight_by r' 0).seen → Goes (at + from) (length rest) (sight_by r' f) (sight_by r'' f'))
     → HasFollowed r'' → at ≤ length (sight_by r 0).seen → Writes at (length bytes) (sight_by r f) (sight_by r'' f')
@@ -261,12 +261,12 @@ write-loop-broke r r' r'' at from f f' bytes rest old size before goes follows l
     (goes-on (sight_by r f) (sight_by r' 0) (sight_by r'' f') at from (length rest) so_far.goes (goes 0 f' follows place))).writes
 
 -- what was written so far is a write of the whole
-pub write-loop-so-far : (r r' : Record) (at from f f' : ℕ) (bytes : List ℕ) → WriteLoop r r' at from bytes
+pub write-loop-so-far : (r r' : CallRecord) (at from f f' : ℕ) (bytes : List ℕ) → WriteLoop r r' at from bytes
     → HasFollowed r' → at ≤ length (sight_by r 0).seen → Writes at (length bytes) (sight_by r f) (sight_by r' f')
 write-loop-so-far r r' at from f f' bytes old follows le =
     (goes-longer (sight_by r f) (sight_by r' f') at from (length bytes) old.fits (old.written follows le f f').goes).writes
 
-pub write-loop-whole : (r r' : Record) (at from : ℕ) (bytes : List ℕ) → WriteLoop r r' at from bytes → from ≡ length bytes
+pub write-loop-whole : (r r' : CallRecord) (at from : ℕ) (bytes : List ℕ) → WriteLoop r r' at from bytes → from ≡ length bytes
     → HasFollowed r' → at ≤ length (sight_by r 0).seen → Holds (sight_by r 0).seen at bytes (sight_by r' 0).seen
 write-loop-whole r r' at from bytes old all follows le =
     subst (λ (xs : List ℕ). Holds (sight_by r 0).seen at xs (sight_by r' 0).seen) (take_all from bytes (omega arith)) (old.written follows le 0 0).holds
@@ -277,9 +277,6 @@ pub record CallLoop (k : ℕ) (old new : List Call) : Type 0 where
   pub noted : new ≡ made ++ old
   pub size : length made ≡ k
   pub worked : HaveWorked made
-
-pub call-loop-none : (old : List Call) → CallLoop 0 old old
-call-loop-none old = record { made = []; noted = refl; size = refl; worked = All-nil (λ (call : Call). ¬ IsFailedCall call) }
 
 pub call-loop-on : (k : ℕ) (old mid new : List Call) (call : Call) → CallLoop k old mid → new ≡ call ∷ mid → ¬ IsFailedCall call
     → CallLoop (k + 1) old new
@@ -308,24 +305,4 @@ served-failed e k at n old mid new call so_far more failed = record {
   noted = more ∙ ap (λ (calls : List Call). call ∷ calls) so_far.noted;
   ok = tt;
   err = inl (failed, so_far.worked);
-}
-
--- no call was made
-pub served-past : {T E : Type 0} (e : E) (at n : ℕ) (old : List Call) → 2 ^ 64 ≤ at + n
-    → IsServedByCalls {T = T} {E = E} at n (Err e) old old
-served-past e at n old past = record {
-  made = [];
-  noted = refl;
-  ok = tt;
-  err = inr (inl (refl, past));
-}
-
--- as many as there can be
-pub served-spent : {T E : Type 0} (e : E) (at n : ℕ) (old new : List Call) → CallLoop (2 ^ 64 - 1) old new
-    → IsServedByCalls {T = T} {E = E} at n (Err e) old new
-served-spent e at n old new so_far = record {
-  made = so_far.made;
-  noted = so_far.noted;
-  ok = tt;
-  err = inr (inr (so_far.worked, so_far.size));
 }

@@ -5,7 +5,7 @@ use Rattle.disk.specs.Sight.{Sight}
 use Rattle.disk.specs.State.{IsImage}
 use Rattle.disk.specs.Laws.{now_counts, just_now, always_sound}
 use Rattle.disk.specs.Calls.{Call, Start, start_sound}
-use Rattle.disk.specs.Record.{HasFollowed, acts_in, sight_by}
+use Rattle.disk.specs.CallRecord.{HasFollowed, acts_in, sight_by}
 
 -- so far each call of the system on the file answered what the model gives, from the state in which it was opened
 abbrev pub FileFollows : FileDisk → Type 0

@@ -3,5 +3,5 @@ pub mod Moments
 pub mod State
 pub mod Laws
 pub mod Calls
-pub mod Record
+pub mod CallRecord
 pub mod FileDisk

@@ -1,7 +1,7 @@
 -- What a crash at any moment of several calls leaves.
 use Rattle.std.specs.Prelude.{◌≤◌, ◌⊎◌, ℕ, List}
 use Rattle.std.proofs.Common.{inl, inr, arith}
-use Rattle.disk.specs.Sight.{Sight, Elapses}
+use Rattle.disk.specs.Sight.{Sight}
 
 -- A crash at any moment since old leaves bytes that have P.
 pub record LeavesOnly (old new : Sight) (P : List ℕ → Type 0) : Type 0 where
@@ -15,20 +15,6 @@ pub started : (old : Sight) (P : List ℕ → Type 0)
     → ((c : List ℕ) → old.left_since old.moment c → P c)
     → LeavesOnly old old P
 started old P each = record { later = omega arith; each = each; before = λ t c le left. inl left }
-
--- one more call
-pub leaves_only_on : {old mid new : Sight} (P : List ℕ → Type 0) → LeavesOnly old mid P
-    → Elapses mid new
-    → ((c : List ℕ) → new.may_leave c → P c) → LeavesOnly old new P
-leaves_only_on {old} {mid} {new} P so_far time now = record {
-  later = omega (arith, so_far.later, time.later);
-  each =
-      λ c left. elim (time.nothing_else old.moment c so_far.later left)
-      [ inl before ↦ so_far.each c before | inr later ↦ now c later ];
-  before =
-      λ t c le left. elim (time.nothing_else t c (omega (arith, so_far.later)) left)
-      [ inl before ↦ so_far.before t c le before | inr later ↦ inr (now c later) ];
-}
 
 -- one run of calls after another
 pub in_turn : {old mid new : Sight} (P : List ℕ → Type 0) → LeavesOnly old mid P

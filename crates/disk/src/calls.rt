@@ -29,26 +29,26 @@ const REFUSED: u64 = 6;
 /// The calls that were made on a file, the last first; the state that the file was in before them; and what each failed
 /// write leaves. It holds no byte: only clauses read it.
 #[derive(Drop)]
-pub struct Record {
+pub struct CallRecord {
     marker: PhantomData<u8>,
     pub ghost start: { Start },
     pub ghost calls: { List Call },
 }
 
-impl Model for Record {
+impl Model for CallRecord {
     ghost also_owns = { λ _. ftrue };
 }
 
 // It owns nothing.
-unsafe impl Send for Record {}
+unsafe impl Send for CallRecord {}
 
-impl Record {
+impl CallRecord {
     // A record with no call, from any start.
-    fn new() -> Record
+    fn new() -> CallRecord
         ghost start: { Start }
         ensures { (result.start ≡ start) × (result.calls ≡ []) }
     {
-        Record {
+        CallRecord {
             marker: PhantomData,
         }
     }
@@ -62,7 +62,7 @@ impl Record {
 
 /// Why a read or a write transferred nothing.
 #[derive(Clone, Copy)]
-pub enum Stop {
+pub enum NoTransfer {
     /// It did nothing, and will be tried again.
     Interrupted,
     Failed,
@@ -73,11 +73,11 @@ pub enum Stop {
 pub struct NotedFile {
     file: File,
     cause: Option<io::Error>,
-    pub noted: Record,
+    pub noted: CallRecord,
 }
 
 impl NotedFile {
-    ghost use Rattle.disk.specs.Record.{HasFollowed, OnlyAsks, Goes, WritesSoFar, sight_by};
+    ghost use Rattle.disk.specs.CallRecord.{HasFollowed, OnlyAsks, Goes, WritesSoFar, sight_by};
     ghost use Rattle.disk.specs.Sight.{IsSynced, Looks};
 
     /// A file in any state. No call was made on it yet.
@@ -88,7 +88,7 @@ impl NotedFile {
         NotedFile {
             file,
             cause: None,
-            noted: Record::new(),
+            noted: CallRecord::new(),
         }
     }
 
@@ -98,14 +98,14 @@ impl NotedFile {
     }
 
     /// Reads at a place. The system may give fewer bytes than fit. It gives none only at the end.
-    pub fn read_some(&mut self, at: u64, buf: &mut [u8]) -> Result<usize, Stop>
+    pub fn read_some(&mut self, at: u64, buf: &mut [u8]) -> Result<usize, NoTransfer>
         ensures noted { length self.new.noted.calls ≡ length self.old.noted.calls + 1 }
         ensures ok { IfOk result (λ n.
             self.new.noted.calls ≡ Read at (length buf.old)
             (take n buf.new) ∷ self.old.noted.calls) }
-        ensures interrupted { IsErrOf result Stop.Interrupted
+        ensures interrupted { IsErrOf result NoTransfer.Interrupted
             → self.new.noted.calls ≡ Interrupted ∷ self.old.noted.calls }
-        ensures failed { IsErrOf result Stop.Failed
+        ensures failed { IsErrOf result NoTransfer.Failed
             → self.new.noted.calls ≡ Refused ∷ self.old.noted.calls }
         ensures within { IfOk result (λ n. n ≤ length buf.old) }
         ensures bytes { IfOk result (λ n. HasFollowed self.new.noted
@@ -119,24 +119,24 @@ impl NotedFile {
             }
             Err(error) if error.kind() == ErrorKind::Interrupted => {
                 self.noted.note(&[INTERRUPTED, 0, 0], &[]);
-                Err(Stop::Interrupted)
+                Err(NoTransfer::Interrupted)
             }
             Err(error) => {
                 self.cause = Some(error);
                 self.noted.note(&[REFUSED, 0, 0], &[]);
-                Err(Stop::Failed)
+                Err(NoTransfer::Failed)
             }
         }
     }
 
     /// Writes at a place. The system may take fewer bytes than there are, or none.
-    pub fn write_some(&mut self, at: u64, bytes: &[u8]) -> Result<usize, Stop>
+    pub fn write_some(&mut self, at: u64, bytes: &[u8]) -> Result<usize, NoTransfer>
         ensures noted { length self.new.noted.calls ≡ length self.old.noted.calls + 1 }
         ensures ok { IfOk result (λ n. self.new.noted.calls
             ≡ Wrote at n bytes.now ∷ self.old.noted.calls) }
-        ensures interrupted { IsErrOf result Stop.Interrupted
+        ensures interrupted { IsErrOf result NoTransfer.Interrupted
             → self.new.noted.calls ≡ Interrupted ∷ self.old.noted.calls }
-        ensures failed { IsErrOf result Stop.Failed
+        ensures failed { IsErrOf result NoTransfer.Failed
             → self.new.noted.calls ≡ Broke at bytes.now ∷ self.old.noted.calls }
         ensures before { HasFollowed self.new.noted → HasFollowed self.old.noted }
         ensures within { IfOk result (λ n. n ≤ length bytes.now) }
@@ -144,7 +144,7 @@ impl NotedFile {
             → at ≤ length (sight_by self.old.noted 0).seen
             → WritesSoFar at n bytes.now (sight_by self.old.noted old)
             (sight_by self.new.noted new)) }
-        ensures asks { IsErrOf result Stop.Interrupted → OnlyAsks self.old.noted self.new.noted }
+        ensures asks { IsErrOf result NoTransfer.Interrupted → OnlyAsks self.old.noted self.new.noted }
         ensures broke { OnErr result ((old new : ℕ) → HasFollowed self.new.noted
             → at ≤ length (sight_by self.old.noted 0).seen
             → Goes at (length bytes.now) (sight_by self.old.noted old)
@@ -157,12 +157,12 @@ impl NotedFile {
             }
             Err(error) if error.kind() == ErrorKind::Interrupted => {
                 self.noted.note(&[INTERRUPTED, 0, 0], &[]);
-                Err(Stop::Interrupted)
+                Err(NoTransfer::Interrupted)
             }
             Err(error) => {
                 self.cause = Some(error);
                 self.noted.note(&[BROKE, at, 0], bytes);
-                Err(Stop::Failed)
+                Err(NoTransfer::Failed)
             }
         }
     }

@@ -2,7 +2,7 @@ ghost use Rattle.std.specs.Prelude.{◌≡◌, ◌≤◌, ◌∷◌, length, IfO
 ghost use Rattle.disk.specs.Sight.{Holds, Reads, IsSynced, Looks, Writes, Counts};
 ghost use Rattle.disk.specs.Calls.{Start, Synced, Measured, Refused, IsServedByCalls};
 
-use crate::calls::{NotedFile, Stop};
+use crate::calls::{NoTransfer, NotedFile};
 use crate::cause::Cause;
 use crate::device::failed;
 use crate::{DeviceFault, Disk};
@@ -152,8 +152,8 @@ impl Disk for FileDisk {
             match self.calls.read_some(at + from as u64, &mut buf[from..]) {
                 Ok(0) => return Ok(from),
                 Ok(n) => from += n,
-                Err(Stop::Interrupted) => {}
-                Err(Stop::Failed) => return Err(failed(&mut self.failures)),
+                Err(NoTransfer::Interrupted) => {}
+                Err(NoTransfer::Failed) => return Err(failed(&mut self.failures)),
             }
         }
         Err(failed(&mut self.failures))
@@ -184,8 +184,8 @@ impl Disk for FileDisk {
             match self.calls.write_some(at + from as u64, &bytes[from..]) {
                 Ok(0) => return Err(failed(&mut self.failures)),
                 Ok(n) => from += n,
-                Err(Stop::Interrupted) => {}
-                Err(Stop::Failed) => return Err(failed(&mut self.failures)),
+                Err(NoTransfer::Interrupted) => {}
+                Err(NoTransfer::Failed) => return Err(failed(&mut self.failures)),
             }
         }
         Err(failed(&mut self.failures))

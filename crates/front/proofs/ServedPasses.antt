@@ -15,10 +15,10 @@ use Rattle.front.specs.Calls.{CallGives}
 use Rattle.front.specs.Visits.{Visit, IsVisited, AreVisits}
 use Rattle.accept.specs.declared.limits.Limits.{Limits}
 use Rattle.owners.specs.Openings.{Opening}
-use Rattle.words.specs.Words.{capacity_of}
-use Rattle.words.specs.Environments.{limits_of}
-use Rattle.words.specs.declared.environment.Environment.{Environment}
-use Rattle.words.specs.declared.said.ServerWords.{ServerWords}
+use Rattle.programs.specs.Words.{capacity_of}
+use Rattle.programs.specs.Environments.{limits_of}
+use Rattle.programs.specs.declared.environment.Environment.{Environment}
+use Rattle.programs.specs.declared.said.ServerWords.{ServerWords}
 use Rattle.front.specs.Openings.{IsOpenedUnder}
 use Rattle.workers.specs.Talks.{HaveVisited, IsPassLeft, ArePassesLeft}
 use Rattle.front.specs.ServedPasses.{HasServed}

@@ -4,14 +4,14 @@ use Rattle.std.specs.Io.KnownBytes.{Appends}
 use Rattle.std.specs.declared.alloc.Global.{Global}
 use Rattle.workers.specs.declared.accepting.AcceptEnd.{AcceptEnd}
 use Rattle.workers.specs.Talks.{IsServedFor}
-use Rattle.words.specs.declared.said.ServerWords.{ServerWords}
-use Rattle.words.specs.Words.{SaysServer, capacity_of}
-use Rattle.words.specs.Environments.{limits_of}
-use Rattle.words.specs.declared.environment.Environment.{Environment}
+use Rattle.programs.specs.declared.said.ServerWords.{ServerWords}
+use Rattle.programs.specs.Words.{SaysServer, capacity_of}
+use Rattle.programs.specs.Environments.{limits_of}
+use Rattle.programs.specs.declared.environment.Environment.{Environment}
 use Rattle.accept.specs.declared.limits.Limits.{Limits}
 use Rattle.history.specs.Handles.{Passed}
-use Rattle.front.specs.declared.stopped.Stopped.{Stopped}
-use Rattle.front.specs.declared.stopped.Stopped.TheVariants.{Serving, Output}
+use Rattle.front.specs.declared.program_fault.ProgramFault.{ProgramFault}
+use Rattle.front.specs.declared.program_fault.ProgramFault.TheVariants.{Serving, Output}
 use Rattle.front.specs.Stops.{stop_status}
 use Rattle.front.specs.ServedPasses.{HasServed}
 
@@ -26,7 +26,7 @@ HasSaidReady asked before after = (port : ℕ) × ((port ≡ asked) ⊎ (asked �
 
 -- What it said until this stopped it: that it is ready, where it was serving. Where it could not write, that is not
 -- known. Else nothing.
-abbrev pub HasSaidUntil : ℕ → Option (List ℕ) → Option (List ℕ) → Stopped → Type 0
+abbrev pub HasSaidUntil : ℕ → Option (List ℕ) → Option (List ℕ) → ProgramFault → Type 0
 HasSaidUntil asked before after (Serving fault) = HasSaidReady asked before after
 HasSaidUntil asked before after Output = Unit {0}
 HasSaidUntil asked before after stop = after ≡ before
@@ -52,6 +52,6 @@ pub data ServerEnds {C : Type 0} (ticks : C → ℕ → C → Type 0) (words : L
       → ServesUntil server.connections served
       → HasServedAsAsked ticks environment server → status ≡ 0
       → ServerEnds ticks words environment before after status
-  stopped_server : (server : ServerWords) → SaysServer words server → (stop : Stopped)
+  stopped_server : (server : ServerWords) → SaysServer words server → (stop : ProgramFault)
       → HasSaidUntil server.port before after stop → status ≡ stop_status stop
       → ServerEnds ticks words environment before after status

@@ -1,10 +1,10 @@
 -- With which exit status programs stop.
 use Rattle.std.specs.Prelude.{ℕ}
-use Rattle.front.specs.declared.stopped.Stopped.{Stopped}
-use Rattle.front.specs.declared.stopped.Stopped.TheVariants.{Body, Slots, Opening as Unopened, Listen, Serving, Call, Memory, Output}
+use Rattle.front.specs.declared.program_fault.ProgramFault.{ProgramFault}
+use Rattle.front.specs.declared.program_fault.ProgramFault.TheVariants.{Body, Slots, Opening as Unopened, Listen, Serving, Call, Memory, Output}
 
 -- what stops a program: 3 for a refused opening, else 1
-abbrev pub stop_status : Stopped → ℕ
+abbrev pub stop_status : ProgramFault → ℕ
 stop_status Body = 1
 stop_status (Slots fault) = 1
 stop_status (Unopened fault) = 3

@@ -1,6 +1,6 @@
 //! What the server says when connections have to wait.
 
-use slots::say_line;
+use programs::say_line;
 use std::fmt::Display;
 use std::io::Stderr;
 use std::rt::Clock;

@@ -77,9 +77,9 @@ impl<C> KeepsConnection<Pass> for KeptConnection<C> {
     }
 }
 
-/// Serves connections by the calls of an ingester and a clock. What a connection was answered stands when it fails. A pass is
-/// closed when its numbers are used up or a call of it is in doubt, and its worker then ends. It tells `full` of calls
-/// that find no room.
+/// Serves connections by the calls of an ingester and a clock. What a connection was answered stands when it fails. A
+/// pass is closed when its numbers are used up or a call of it is in doubt, and its worker then ends. It tells `full`
+/// of calls that find no room.
 #[derive(Drop)]
 pub struct Connections<'a, C: Clock, F: FullShards> {
     clock: C,

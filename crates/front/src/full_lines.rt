@@ -1,7 +1,7 @@
 //! What the server says of shards that have no room.
 
 use crate::full::FullShards;
-use slots::say_line;
+use programs::say_line;
 use std::io::Stderr;
 use std::rt::Clock;
 use std::sync::{Mutex, Wait};

@@ -10,7 +10,7 @@ ghost use Rattle.history.specs.Histories.{max_passes};
 ghost use Rattle.ingester.specs.Findings.{IsUnmade};
 ghost use Rattle.front.specs.Openings.{IsOpenedUnder};
 
-use crate::stopped::Stopped;
+use crate::program_fault::ProgramFault;
 use accept::Limits;
 use disk::Disk;
 use ingester::{Ingester, Pass, Settings};
@@ -30,7 +30,7 @@ pub fn open_shards<D, R, O>(
     limits: Limits,
     capacity: u64,
     observer: &O,
-) -> Result<(Ingester<D>, Vec<Pass>), Stopped>
+) -> Result<(Ingester<D>, Vec<Pass>), ProgramFault>
 where
     D: Disk + Drop + Send + 'static,
     R: Threads + Wait + Copy + Send + Sync + 'static,
@@ -45,7 +45,7 @@ where
         AreOpenedFrom D.sight D.follows
         (vec_len slots) capacity 0 slots.items it.0.logs it.0.about.bases) }
     ensures refused { IfErr result (λ stop. (fault : OpenFault) × (backs : List (List D))
-        × (stop ≡ Stopped.Opening fault)
+        × (stop ≡ ProgramFault.Opening fault)
         × IsUnmade D.sight D.follows (vec_len slots) slots.items backs fault) }
     ensures passes { IfOk result (λ it. (p : ℕ) (pass : Passed) → slice_get it.1.items p ≡ Some pass
         → IsPassOf it.0 pass) }
@@ -57,7 +57,7 @@ where
     };
     match Ingester::open_observed(rt, *rt, alloc, slots, settings, observer) {
         Ok(opened) => Ok(opened),
-        Err(refusal) => Err(Stopped::Opening(refusal.0)),
+        Err(refusal) => Err(ProgramFault::Opening(refusal.0)),
     }
 }
 

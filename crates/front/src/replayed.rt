@@ -3,7 +3,7 @@
 use disk::Disk;
 use ingester::Ingester;
 use openings::Observer;
-use slots::say_line;
+use programs::say_line;
 use std::io::Stderr;
 use std::rt::Clock;
 use std::time::{Duration, Instant};

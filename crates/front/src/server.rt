@@ -3,8 +3,8 @@ ghost use Rattle.std.specs.Prelude.{◌≡◌, ◌≢◌, ◌↔◌, ◌≤◌, 
 ghost use Rattle.history.specs.Handles.{Passed};
 ghost use Rattle.ingester.specs.Calls.{IsPassOf};
 ghost use Rattle.accept.specs.OneStream.{AreLimits};
-ghost use Rattle.words.specs.Words.{GiveServer, GivesCapacity, capacity_of, GivesOpen, GivesHalfSent};
-ghost use Rattle.words.specs.Environments.{limits_of};
+ghost use Rattle.programs.specs.Words.{GiveServer, GivesCapacity, capacity_of, GivesOpen, GivesHalfSent};
+ghost use Rattle.programs.specs.Environments.{limits_of};
 ghost use Rattle.front.specs.Openings.{IsOpenedUnder};
 ghost use Rattle.front.specs.Stops.{stop_status};
 ghost use Rattle.front.specs.Clocks.{IsTick};
@@ -14,15 +14,15 @@ use crate::busy_lines::BusyLines;
 use crate::clock::SystemClock;
 use crate::connections::Connections;
 use crate::full_lines::FullShardLines;
+use crate::program_fault::ProgramFault;
 use crate::program_shards::{close_shards, open_shards};
 use crate::replayed::{Replaying, say_replayed};
 use crate::setting::{capacity_by, half_sent_by, limits_by, open_connections_by};
-use crate::stopped::Stopped;
 use crate::system_limits::open_files;
 use accept::Limits;
 use disk::Disk;
 use ingester::{Ingester, Pass};
-use slots::{open_slots, terminal_in};
+use programs::{Environment, ServerWords, open_slots, server_in, terminal_in};
 use std::alloc::Global;
 use std::fs::{File, Files};
 use std::io::{Stderr, Write};
@@ -31,7 +31,6 @@ use std::rt::Clock;
 use std::sync::Wait;
 use std::thread::Threads;
 use std::time::Instant;
-use words::{Environment, ServerWords, server_in};
 use workers::{AcceptEnd, Bounds, serve_listener};
 
 /// Runs `ingesterd DIR PORT SHARDS WORKERS [CONNECTIONS]`, and gives its exit status.
@@ -125,7 +124,7 @@ fn serve_folder<R, W: Write>(
     asked: Asked<'_>,
     output: &mut W,
     marks: Option<Stderr>,
-) -> Result<AcceptEnd, Stopped>
+) -> Result<AcceptEnd, ProgramFault>
 where
     R: Files<File = File> + Net<Listener = TcpListener, Stream = TcpStream>,
     R: Clock + Threads + Wait + Copy + Send + Sync + 'static,
@@ -140,7 +139,7 @@ where
     let words = asked.words;
     let slots = match open_slots(rt, alloc, words.folder, words.shards, marks) {
         Ok(slots) => slots,
-        Err(fault) => return Err(Stopped::Slots(fault)),
+        Err(fault) => return Err(ProgramFault::Slots(fault)),
     };
     let start = Instant::now(rt).ok();
     let terminal = terminal_in(marks);
@@ -195,7 +194,7 @@ fn serve_port<'a, D, R, W: Write>(
     passes: Vec<Pass>,
     lines: &'a Lines<'a, R>,
     output: &mut W,
-) -> (Vec<Pass>, Result<AcceptEnd, Stopped>)
+) -> (Vec<Pass>, Result<AcceptEnd, ProgramFault>)
 where
     D: Disk + Drop + Send,
     R: Net<Listener = TcpListener, Stream = TcpStream> + Clock + Threads + Wait + Sync,
@@ -233,7 +232,7 @@ where
     let (passes, served) = serve_listener(rt, alloc, ingester, passes, servers, &listener, &bounds);
     let served = match served {
         Ok(served) => Ok(served),
-        Err(fault) => Err(Stopped::Serving(fault)),
+        Err(fault) => Err(ProgramFault::Serving(fault)),
     };
     (passes, served)
 }
@@ -244,14 +243,14 @@ fn make_servers<'a, R: Clock>(
     alloc: Global,
     count: usize,
     full: &'a FullShardLines<'a, R>,
-) -> Result<Vec<Connections<'a, SystemClock<'a, R>, FullShardLines<'a, R>>>, Stopped>
-    ensures { IfErr result (λ stop. stop ≡ Stopped.Memory) }
+) -> Result<Vec<Connections<'a, SystemClock<'a, R>, FullShardLines<'a, R>>>, ProgramFault>
+    ensures { IfErr result (λ stop. stop ≡ ProgramFault.Memory) }
 {
     let mut servers = Vec::with_capacity(alloc, count)?;
     for _ in 0..count {
         let server = Connections::new(alloc, SystemClock::new(rt), full);
         if servers.push(server).is_err() {
-            return Err(Stopped::Memory);
+            return Err(ProgramFault::Memory);
         }
     }
     Ok(servers)
@@ -262,7 +261,7 @@ fn listen<R: Net<Listener = TcpListener, Stream = TcpStream>, W: Write>(
     rt: &R,
     port: u16,
     output: &mut W,
-) -> Result<TcpListener, Stopped>
+) -> Result<TcpListener, ProgramFault>
     ensures said { OnOk result
         (HasSaidReady port (W.contents output.old) (W.contents output.new)) }
     ensures stopped { IfErr result
@@ -271,17 +270,17 @@ fn listen<R: Net<Listener = TcpListener, Stream = TcpStream>, W: Write>(
 {
     let address = SocketAddr::new(IpAddr::V4(Ipv4Addr::LOCALHOST), port);
     let Ok(listener) = TcpListener::bind(rt, address) else {
-        return Err(Stopped::Listen);
+        return Err(ProgramFault::Listen);
     };
     let Ok(bound) = listener.local_addr() else {
-        return Err(Stopped::Listen);
+        return Err(ProgramFault::Listen);
     };
     let said = port_said(port, bound.port());
     let Ok(()) = writeln!(output, "ready {said}") else {
-        return Err(Stopped::Output);
+        return Err(ProgramFault::Output);
     };
     let Ok(()) = output.flush() else {
-        return Err(Stopped::Output);
+        return Err(ProgramFault::Output);
     };
     Ok(listener)
 }

@@ -1,12 +1,14 @@
 //! What the environment sets.
 ghost use Rattle.std.specs.Prelude.{◌≡◌, ◌≤◌, ◌^◌, IfSome, MatchOption, option_map, string_bytes};
 ghost use Rattle.accept.specs.OneStream.{AreLimits};
-ghost use Rattle.words.specs.Words.{GivesCapacity, capacity_of, GivesOpen, open_of, GivesHalfSent, half_sent_of};
-ghost use Rattle.words.specs.Environments.{limits_of};
+ghost use Rattle.programs.specs.Words.{GivesCapacity, capacity_of, GivesOpen, open_of, GivesHalfSent, half_sent_of};
+ghost use Rattle.programs.specs.Environments.{limits_of};
 
 use accept::Limits;
+use programs::{
+    Environment, LimitSetting, capacity_in, half_sent_in, limits_in, open_connections_in,
+};
 use std::io::Write;
-use words::{Environment, LimitSetting, capacity_in, half_sent_in, limits_in, open_connections_in};
 
 /// How many bytes a slot may have by the environment. `None` where it gives no such number; a line of `errors` then
 /// says which it may give.

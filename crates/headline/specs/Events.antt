@@ -32,8 +32,9 @@ pub record Splitting (D : Type 0) : Type 0 where
   pub new : List (List D)
   pub new_back : List (List D)
 
--- An opening, until each of its shards was closed or cut; one that was refused; one that a crash cut before it was made;
--- a split, after which the new shards are used; and one after which the old ones are, since it was refused or cut.
+-- An opening, until each of its shards was closed or cut; one that was refused; one that a crash cut before it was
+-- made; a split, after which the new shards are used; and one after which the old ones are, since it was refused or
+-- cut.
 pub data Event (D : Type 0) : Type 0 where
   Lived : Life D → Event D
   Refused : Attempt D → Event D

@@ -9,7 +9,7 @@ ghost use Rattle.history.specs.Histories.{max_passes};
 use crate::book::Book;
 use crate::handles::Pass;
 use crate::history::History;
-use crate::table::{Board, Names, Naming, NextBook, NextPass, ViewSeat};
+use crate::table::{Board, NamesOpening, Naming, NextBook, NextPass, ViewSeat};
 use crate::views::Sizes;
 use accept::{Image, Limits};
 use atomic_table::Table;
@@ -91,7 +91,7 @@ fn open<J: Naming>(
     };
     let zeros = vec![in alloc; 0; sizes.shards + sizes.passes]?;
     let (table, mut seat): (Board, ViewSeat) = Table::of_words(alloc, &zeros, &sizes)?;
-    table.shared.load::<Names<J>>(&mut seat, 0);
+    table.shared.load::<NamesOpening<J>>(&mut seat, 0);
     Ok((table, seat))
 }
 

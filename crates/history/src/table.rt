@@ -61,11 +61,11 @@ impl At for Brand {
 }
 
 /// The opening learns what it is for.
-pub struct Names<J> {
+pub struct NamesOpening<J> {
     of: PhantomData<J>,
 }
 
-impl<J: Naming> Play<(), View> for Names<J> {
+impl<J: Naming> Play<(), View> for NamesOpening<J> {
     ghost use Rattle.history.specs.Plays.{named};
 
     ghost then = { named J.about };

@@ -1,4 +1,4 @@
--- Jobs of a pass's open calls, in the letters to their shards.
+-- Jobs of a pass's open calls, in the messages to their shards.
 use Rattle.std.proofs.Common.{◌≡◌, ◌≢◌, ℕ, zero, suc, ◌+◌, ◌<◌, ◌≤◌, List, [], ◌∷◌, ◌++◌, Bool, true, false, cond, eqb, length, refl, sym, ap, ◌∙◌, subst, ⊎_elim, append_assoc, append-nil, get_or, arith, eq-eqb, ne_eqb}
 use lib.ListN.{replicate}
 use Rattle.std.specs.Prelude.{Option, Some, None, MatchOption, slice_set, slice_index_or}
@@ -20,12 +20,12 @@ use Rattle.ingester.proofs.Routing.{routed}
 use Rattle.shard.specs.declared.first_jobs.Job.{Job}
 use Rattle.shard.specs.Jobs.{tickets_of}
 use Rattle.keyed.specs.Queues.{sends_to, receives_as}
-use Rattle.owners.specs.declared.ways.Way.{Way}
+use Rattle.owners.specs.declared.routes.ShardRoute.{ShardRoute}
 use Rattle.owners.specs.Homes.{Homed}
 use Rattle.owners.specs.Calls.{IsWaiting, AreWaiting, AreOfPass}
-use Rattle.owners.specs.Ways.{IsReadyWay, AreReadyWays, AreLoaded, AreIdleWays, HasSameRest}
-use Rattle.owners.proofs.Each.{ways_set}
-use Rattle.ingester.specs.Batches.{IsBatchOf, AreBatchesOf, AreBelow, AreCountedFrom, IsPutIntoLetter}
+use Rattle.owners.specs.Routes.{IsReadyRoute, AreReadyRoutes, AreLoaded, AreIdleRoutes, HasSameRest}
+use Rattle.owners.proofs.Each.{routes_set}
+use Rattle.ingester.specs.Batches.{IsBatchOf, AreBatchesOf, AreBelow, AreCountedFrom, IsPutIntoMessage}
 
 tickets_more : (jobs : List Job) (job : Job) → tickets_of (jobs ++ job ∷ []) ≡ tickets_of jobs ++ job.ticket ∷ []
 tickets_more [] job = refl
@@ -92,27 +92,27 @@ module _ (table : TableId) (about : About) where
   batch_same c call k jobs ne h = record { batch = h.batch; asks = h.asks ∙ sym (asks_elsewhere about k c.pending (ask_of c (c.last + 1) call) ne) }
 
   -- one call more, in the batch of its shard
-  pub batches_more : (c : Caller) (call : Call) (batches : List (Way)) (k : ℕ) (was now : Way) → c.about ≡ about → AreNumbers call → shard_in about (ask_of c (c.last + 1) call) ≡ k → k < length batches
-      → was ≡ get_or batches k was → now.letter.jobs.items ≡ was.letter.jobs.items ++ job_of c call ∷ [] → AreBatchesOf table about c batches → AreBatchesOf table about (announce_to c (c.last + 1) call) (slice_set batches k now)
+  pub batches_more : (c : Caller) (call : Call) (batches : List (ShardRoute)) (k : ℕ) (was now : ShardRoute) → c.about ≡ about → AreNumbers call → shard_in about (ask_of c (c.last + 1) call) ≡ k → k < length batches
+      → was ≡ get_or batches k was → now.message.jobs.items ≡ was.message.jobs.items ++ job_of c call ∷ [] → AreBatchesOf table about c batches → AreBatchesOf table about (announce_to c (c.last + 1) call) (slice_set batches k now)
   batches_more c call batches k was now at numbers here lt there is all j jobs e = ⊎_elim
       (λ (same : j ≡ k).
       let mine : jobs ≡ now = sym (get_or_from_slice_get (slice_set batches k now) j jobs now e) ∙ ap (λ (n : ℕ). get_or (slice_set batches k now) n now) same ∙ get_or-set_same batches k now now lt in
-      let before : IsBatchOf table about k c was.letter.jobs.items = all k was (slice_get-get_or batches k was lt ∙ ap Some (sym there)) in
-      subst (λ (n : ℕ). IsBatchOf table about n (announce_to c (c.last + 1) call) jobs.letter.jobs.items) (here ∙ sym same) (batch_more c call was.letter.jobs.items jobs.letter.jobs.items at numbers (subst (λ (n : ℕ). IsBatchOf table about n c was.letter.jobs.items) (sym here) before) (ap (λ (d : Way). d.letter.jobs.items) mine ∙ is)))
+      let before : IsBatchOf table about k c was.message.jobs.items = all k was (slice_get-get_or batches k was lt ∙ ap Some (sym there)) in
+      subst (λ (n : ℕ). IsBatchOf table about n (announce_to c (c.last + 1) call) jobs.message.jobs.items) (here ∙ sym same) (batch_more c call was.message.jobs.items jobs.message.jobs.items at numbers (subst (λ (n : ℕ). IsBatchOf table about n c was.message.jobs.items) (sym here) before) (ap (λ (d : ShardRoute). d.message.jobs.items) mine ∙ is)))
       (λ (ne : j ≢ k).
       let long : length (slice_set batches k now) ≡ length batches = length-set batches k now in
       let within : j < length (slice_set batches k now) = slice_get_within (slice_set batches k now) j jobs e in
       let still : get_or batches j jobs ≡ jobs = sym (get_or-set_other batches k j now jobs ne) ∙ get_or_from_slice_get (slice_set batches k now) j jobs jobs e in
-      batch_same c call j jobs.letter.jobs.items (λ (same : j ≡ shard_in about (ask_of c (c.last + 1) call)). ne (same ∙ here)) (all j jobs (slice_get-get_or batches j jobs (omega arith) ∙ ap Some still)))
+      batch_same c call j jobs.message.jobs.items (λ (same : j ≡ shard_in about (ask_of c (c.last + 1) call)). ne (same ∙ here)) (all j jobs (slice_get-get_or batches j jobs (omega arith) ∙ ap Some still)))
       (cases_eq j k)
 
   -- no call more
-  pub batches_alike : (c : Caller) (batches : List (Way)) (k : ℕ) (was now : Way) → k < length batches → was ≡ get_or batches k was → now.letter.jobs.items ≡ was.letter.jobs.items → AreBatchesOf table about c batches → AreBatchesOf table about c (slice_set batches k now)
+  pub batches_alike : (c : Caller) (batches : List (ShardRoute)) (k : ℕ) (was now : ShardRoute) → k < length batches → was ≡ get_or batches k was → now.message.jobs.items ≡ was.message.jobs.items → AreBatchesOf table about c batches → AreBatchesOf table about c (slice_set batches k now)
   batches_alike c batches k was now lt there is all j jobs e = ⊎_elim
       (λ (same : j ≡ k).
       let mine : jobs ≡ now = sym (get_or_from_slice_get (slice_set batches k now) j jobs now e) ∙ ap (λ (n : ℕ). get_or (slice_set batches k now) n now) same ∙ get_or-set_same batches k now now lt in
-      let before : IsBatchOf table about k c was.letter.jobs.items = all k was (slice_get-get_or batches k was lt ∙ ap Some (sym there)) in
-      subst (λ (z : ℕ × List Job). IsBatchOf table about z.0 c z.1) (λ i. (sym same i, sym (ap (λ (d : Way). d.letter.jobs.items) mine ∙ is) i)) before)
+      let before : IsBatchOf table about k c was.message.jobs.items = all k was (slice_get-get_or batches k was lt ∙ ap Some (sym there)) in
+      subst (λ (z : ℕ × List Job). IsBatchOf table about z.0 c z.1) (λ i. (sym same i, sym (ap (λ (d : ShardRoute). d.message.jobs.items) mine ∙ is) i)) before)
       (λ (ne : j ≢ k).
       let long : length (slice_set batches k now) ≡ length batches = length-set batches k now in
       let within : j < length (slice_set batches k now) = slice_get_within (slice_set batches k now) j jobs e in
@@ -121,13 +121,13 @@ module _ (table : TableId) (about : About) where
       (cases_eq j k)
 
   -- one call more in the batch of its shard
-  pub batches_joined : (old new : Passed) (calls left : List Call) (batches : List (Way)) (k count number : ℕ) (was now : Way) (first : Call) → old.caller.about ≡ about → about.shards ≡ count → first ≡ get_or calls 0 first → k ≡ shard (key_of first) count → k < length batches
-      → was ≡ get_or batches k was → AreBatchesOf table about old.caller batches → IsPutIntoLetter table old new calls left was.letter.jobs.items now.letter.jobs.items number → AreBatchesOf table about new.caller (slice_set batches k now)
-  batches_joined old new calls left batches k count number was now first at shards is_first routes lt there all h =
+  pub batches_joined : (old new : Passed) (calls left : List Call) (batches : List (ShardRoute)) (k count number : ℕ) (was now : ShardRoute) (first : Call) → old.caller.about ≡ about → about.shards ≡ count → first ≡ get_or calls 0 first → k ≡ shard (key_of first) count → k < length batches
+      → was ≡ get_or batches k was → AreBatchesOf table about old.caller batches → IsPutIntoMessage table old new calls left was.message.jobs.items now.message.jobs.items number → AreBatchesOf table about new.caller (slice_set batches k now)
+  batches_joined old new calls left batches k count number was now first at shards is_first routed_to lt there all h =
       let a : Ask = ask_of old.caller (old.caller.last + 1) h.call in
       let same : h.call ≡ first = sym (is_first ∙ ap (λ (l : List Call). get_or l 0 first) h.calls_are) in
       subst (λ (p : Passed). AreBatchesOf table about p.caller (slice_set batches k now)) (sym h.pass)
-      (batches_more old.caller h.call batches k was now at h.numbers (routed about a first count k same shards routes) lt there h.jobs_are all)
+      (batches_more old.caller h.call batches k was now at h.numbers (routed about a first count k same shards routed_to) lt there h.jobs_are all)
 
   no_asks : (jobs : List Job) → asks_of (tickets_of jobs) ≡ [] → jobs ≡ []
   no_asks [] e = refl
@@ -136,11 +136,11 @@ module _ (table : TableId) (about : About) where
       clash : j.ticket.ask ∷ asks_of (tickets_of jobs) ≡ [] → ⊥
       clash e = cc
 
-  -- where no call is open, no call is in the letters
-  pub ways_idle : (home : Homed) (p : ℕ) (c : Caller) (ways : List Way) → c.pending ≡ [] → AreBatchesOf table about c ways → AreReadyWays home p ways → AreIdleWays home p ways
-  ways_idle home p c ways idle all ready k way e =
-      let r = ready k way e in
-      record { letter = record { pass = r.pass; jobs = no_asks way.letter.jobs.items ((all k way e).asks ∙ ap (λ (l : List Ask). asks_on about k l) idle); settled = r.settled }; orders = r.orders; answers = r.answers }
+  -- where no call is open, no call is in the messages
+  pub routes_idle : (home : Homed) (p : ℕ) (c : Caller) (routes : List ShardRoute) → c.pending ≡ [] → AreBatchesOf table about c routes → AreReadyRoutes home p routes → AreIdleRoutes home p routes
+  routes_idle home p c routes idle all ready k route e =
+      let r = ready k route e in
+      record { message = record { pass = r.pass; jobs = no_asks route.message.jobs.items ((all k route e).asks ∙ ap (λ (l : List Ask). asks_on about k l) idle); settled = r.settled }; orders = r.orders; answers = r.answers }
 
 few_asks : (about : About) (k : ℕ) (asks : List Ask) → length (asks_on about k asks) ≤ length asks
 few_asks about k [] = omega arith
@@ -154,19 +154,19 @@ as_many : (jobs : List Job) → length jobs ≡ length (asks_of (tickets_of jobs
 as_many [] = refl
 as_many (j ∷ jobs) = ap suc (as_many jobs)
 
--- the ways are loaded with the open calls
-pub ways_loaded : (home : Homed) (c : Caller) (ways : List Way) → length c.pending ≤ 64 → AreBatchesOf home.table home.about c ways → AreReadyWays home c.pass ways → AreLoaded home c.pass ways
-ways_loaded home c ways few all ready k way e =
-    let b = all k way e in
-    let long = as_many way.letter.jobs.items ∙ ap length b.asks in
+-- the routes are loaded with the open calls
+pub routes_loaded : (home : Homed) (c : Caller) (routes : List ShardRoute) → length c.pending ≤ 64 → AreBatchesOf home.table home.about c routes → AreReadyRoutes home c.pass routes → AreLoaded home c.pass routes
+routes_loaded home c routes few all ready k route e =
+    let b = all k route e in
+    let long = as_many route.message.jobs.items ∙ ap length b.asks in
     let less = few_asks home.about k c.pending in
-    record { ready = ready k way e; batch = b.batch; few = omega (arith, way.letter.jobs.ok.0) }
+    record { ready = ready k route e; batch = b.batch; few = omega (arith, route.message.jobs.ok.0) }
 
--- what a way was but for the calls in its letter
-pub ready_still : (home : Homed) (p : ℕ) (ways : List Way) (k : ℕ) (was now : Way) → k < length ways → was ≡ get_or ways k was → HasSameRest was now → AreReadyWays home p ways → AreReadyWays home p (slice_set ways k now)
-ready_still home p ways k was now lt there same all =
-    let r = all k was (slice_get-get_or ways k was lt ∙ ap Some (sym there)) in
-    ways_set (IsReadyWay home p) ways k now lt all (record { pass = same.pass ∙ r.pass; settled = same.settled ∙ r.settled; orders = ap (λ s. sends_to s) same.orders ∙ r.orders; answers = ap (λ s. receives_as s) same.answers ∙ r.answers })
+-- what a route was but for the calls in its message
+pub ready_still : (home : Homed) (p : ℕ) (routes : List ShardRoute) (k : ℕ) (was now : ShardRoute) → k < length routes → was ≡ get_or routes k was → HasSameRest was now → AreReadyRoutes home p routes → AreReadyRoutes home p (slice_set routes k now)
+ready_still home p routes k was now lt there same all =
+    let r = all k was (slice_get-get_or routes k was lt ∙ ap Some (sym there)) in
+    routes_set (IsReadyRoute home p) routes k now lt all (record { pass = same.pass ∙ r.pass; settled = same.settled ∙ r.settled; orders = ap (λ s. sends_to s) same.orders ∙ r.orders; answers = ap (λ s. receives_as s) same.answers ∙ r.answers })
 
 -- one number again and again
 pub below_same : (n x m : ℕ) → x < n → AreBelow n (replicate m x)

@@ -1,4 +1,4 @@
--- The ways of a pass, seen from its opening; and what comes of its only call.
+-- The routes of a pass, seen from its opening; and what comes of its only call.
 use Rattle.std.proofs.Common.{◌≡◌, ℕ, ◌+◌, ◌≤◌, true, false, List, [], ◌∷◌, inl, inr, refl, sym, ap, ◌∙◌, subst}
 use Rattle.std.specs.Prelude.{Result}
 use Rattle.std.proofs.lemmas.Bool.{false≢true}
@@ -14,43 +14,36 @@ use Rattle.history.specs.Handles.{Passed, is_closed_pass}
 use Rattle.keyed.specs.Queues.{sends_to, receives_as}
 use Rattle.shard.specs.declared.first_jobs.Job.{Job}
 use Rattle.owners.specs.Calls.{IsBatch}
-use Rattle.owners.specs.declared.ways.Way.{Way}
+use Rattle.owners.specs.declared.routes.ShardRoute.{ShardRoute}
 use Rattle.owners.specs.Homes.{Homed, home_at}
 use Rattle.owners.specs.Lists.{AreEach}
 use Rattle.owners.specs.Openings.{Opening, home_of}
-use Rattle.owners.specs.Seeds.{IsRow, IsSeatAt}
-use Rattle.owners.specs.Ways.{AreIdleWays, IsIdleWay, IsLoaded, HasSameRest}
+use Rattle.owners.specs.QueueEnds.{IsSeatAt}
+use Rattle.owners.specs.Routes.{AreIdleRoutes, IsIdleRoute, IsLoaded, HasSameRest}
 use Rattle.owners.proofs.Each.{each_of}
 use Rattle.accept.specs.declared.fault.CallFault.{CallFault}
-use Rattle.ingester.specs.Batches.{HasIdleWays}
+use Rattle.ingester.specs.Batches.{HasIdleRoutes}
 use Rattle.ingester.specs.Calls.{IsPassOf, IsGiven, shard_for, with_next}
 use Rattle.ingester.specs.Openings.{AreFresh}
-use Rattle.ingester.specs.Passes.{HasWays}
+use Rattle.ingester.specs.Passes.{HasRoutes}
 use Rattle.ingester.specs.Settling.{IsSettled}
 use Rattle.ingester.proofs.Batching.{job_of}
 use Rattle.ingester.proofs.Chaining.{idle_of, taken_next, all_lost}
 use Rattle.ingester.proofs.Receiving.{taken_behind, is_taken_back}
 
--- a pass's seat and its row
-pub ways_at : (home : Homed) (p : ℕ) (seat : Passed) (ways : List Way) → IsSeatAt home p seat → IsRow home home.about.shards p ways → HasWays seat ways
-ways_at home p seat ways is row = record {
-  idle = subst (λ (z : Homed × ℕ). AreIdleWays z.0 z.1 ways) (λ i. (sym is.of i, sym is.number i)) row.0;
-  count = row.1 ∙ ap (λ (h : Homed). h.about.shards) (sym is.of);
-}
-
 module _ {D : Type 0} (opening : Opening D) where
   pub same_home : (pass : Passed) → IsPassOf opening pass → home_at pass ≡ home_of opening
   same_home pass is = λ i. record { table = is.table i; about = is.about i }
 
-  pub idle_ways : (pass : Passed) (ways : List Way) → IsPassOf opening pass → HasWays pass ways → HasIdleWays opening pass.caller.pass ways
-  idle_ways pass ways is h = record {
-    idle = subst (λ home. AreIdleWays home pass.caller.pass ways) (same_home pass is) h.idle;
+  pub idle_routes : (pass : Passed) (routes : List ShardRoute) → IsPassOf opening pass → HasRoutes pass routes → HasIdleRoutes opening pass.caller.pass routes
+  idle_routes pass routes is h = record {
+    idle = subst (λ home. AreIdleRoutes home pass.caller.pass routes) (same_home pass is) h.idle;
     count = h.count ∙ ap (λ (a : About). a.shards) is.about;
   }
 
-  pub ways_back : (new : Passed) (p : ℕ) (ways : List Way) → IsPassOf opening new → new.caller.pass ≡ p → HasIdleWays opening p ways → HasWays new ways
-  ways_back new p ways is own h = record {
-    idle = subst (λ (z : Homed × ℕ). AreIdleWays z.0 z.1 ways) (λ i. (sym (same_home new is) i, sym own i)) h.idle;
+  pub routes_back : (new : Passed) (p : ℕ) (routes : List ShardRoute) → IsPassOf opening new → new.caller.pass ≡ p → HasIdleRoutes opening p routes → HasRoutes new routes
+  routes_back new p routes is own h = record {
+    idle = subst (λ (z : Homed × ℕ). AreIdleRoutes z.0 z.1 routes) (λ i. (sym (same_home new is) i, sym own i)) h.idle;
     count = h.count ∙ ap (λ (a : About). a.shards) (sym is.about);
   }
 
@@ -76,15 +69,15 @@ module _ {D : Type 0} (opening : Opening D) where
         own = ap (λ (p : Passed). p.caller.pass) lost.closed ∙ same.pass;
       }
 
-  -- the way with the next call of a pass in its letter
-  pub loaded_call : (was : Passed) (call : Call) (job : Job) (old way : Way) → IsPassOf opening was → is_closed_pass was ≡ false → AreNumbers call
-      → IsIdleWay (home_of opening) was.caller.pass (shard_for was.caller call) old → job ≡ job_of opening.table opening.about was.caller call → way.letter.jobs.items ≡ job ∷ []
-      → HasSameRest old way → deque_len way.letter.jobs ≤ max_open → IsLoaded (home_of opening) was.caller.pass (shard_for was.caller call) way
-  loaded_call was call job old way is up numbers idle job_is jobs rest few =
+  -- the route with the next call of a pass in its message
+  pub loaded_call : (was : Passed) (call : Call) (job : Job) (old route : ShardRoute) → IsPassOf opening was → is_closed_pass was ≡ false → AreNumbers call
+      → IsIdleRoute (home_of opening) was.caller.pass (shard_for was.caller call) old → job ≡ job_of opening.table opening.about was.caller call → route.message.jobs.items ≡ job ∷ []
+      → HasSameRest old route → deque_len route.message.jobs ≤ max_open → IsLoaded (home_of opening) was.caller.pass (shard_for was.caller call) route
+  loaded_call was call job old route is up numbers idle job_is jobs rest few =
       let k = shard_for was.caller call in
       let a : Ask = ask_of was.caller (was.caller.last + 1) call in
       record {
-        ready = record { pass = rest.pass ∙ idle.letter.pass; settled = rest.settled ∙ idle.letter.settled; orders = ap sends_to rest.orders ∙ idle.orders; answers = ap receives_as rest.answers ∙ idle.answers };
+        ready = record { pass = rest.pass ∙ idle.message.pass; settled = rest.settled ∙ idle.message.settled; orders = ap sends_to rest.orders ∙ idle.orders; answers = ap receives_as rest.answers ∙ idle.answers };
         batch = subst (IsBatch opening.table opening.about k was.caller.pass) (sym (jobs ∙ ap (λ (j : Job). j ∷ []) job_is)) (record {
           waiting = (record { ticket = record { same_table = refl; sure = refl }; shard = λ i. shard_in (sym is.about i) a; call = refl; numbers = numbers }, tt);
           pass = (refl, tt);

@@ -12,11 +12,11 @@ use Rattle.keyed.proofs.waiters.Waiters.TheSendSync as waiters
 use Rattle.shard.proofs.Sent.{shard_send}
 use Rattle.shard.specs.contracts.shard.Shard as shard
 use Rattle.owners.specs.contracts.places.OfOpening as of_opening
-use Rattle.owners.specs.contracts.places.OfOpeningFitsShardOrigin.TheImpl as of_opening_fits
-use Rattle.owners.specs.contracts.places.Origin as origin
+use Rattle.owners.specs.contracts.places.OfOpeningFitsShardOpeningSnapshot.TheImpl as of_opening_fits
+use Rattle.owners.specs.contracts.places.OpeningSnapshot as origin
 use Rattle.owners.specs.contracts.plan.Closer as closer
 use Rattle.owners.specs.contracts.plan.OfClosing as of_closing
-use Rattle.owners.specs.contracts.plan.OfClosingFitsCloserOrigin.TheImpl as of_closing_fits
+use Rattle.owners.specs.contracts.plan.OfClosingFitsCloserOpeningSnapshot.TheImpl as of_closing_fits
 use Rattle.ingester.specs.contracts.opened.Ingester.{the_row}
 use Rattle.ingester.specs.contracts.opened.Ingester.TheInside as inside
 

@@ -14,10 +14,10 @@ use Rattle.history.specs.Handles.{Passed, is_closed_pass, asks_of}
 use Rattle.shard.specs.declared.fault.ApplyFault.{ApplyFault}
 use Rattle.shard.specs.declared.first_jobs.Job.{Job}
 use Rattle.shard.specs.Jobs.{tickets_of}
-use Rattle.owners.specs.declared.ways.Way.{Way}
+use Rattle.owners.specs.declared.routes.ShardRoute.{ShardRoute}
 use Rattle.owners.specs.Calls.{IsBatch}
 use Rattle.owners.specs.Openings.{Opening, home_of}
-use Rattle.owners.specs.Ways.{AreReadyWays, AreIdleWays}
+use Rattle.owners.specs.Routes.{AreReadyRoutes, AreIdleRoutes}
 use Rattle.ingester.specs.declared.announcing.Round.{Round}
 use Rattle.accept.specs.declared.fault.CallFault.{CallFault}
 use Rattle.accept.specs.declared.fault.CallFault.TheVariants.{InDoubt}
@@ -36,29 +36,29 @@ pub record IsBatchOf (table : TableId) (about : About) (k : ℕ) (c : Caller)
   pub batch : IsBatch table about k c.pass jobs
   pub asks : asks_of (tickets_of jobs) ≡ asks_on about k c.pending
 
--- in the letter to each shard are the jobs of a pass's open calls there
-abbrev pub AreBatchesOf : TableId → About → Caller → List Way → Type 0
-AreBatchesOf table about c ways = (k : ℕ) (way : Way) → slice_get ways k ≡ Some way
-    → IsBatchOf table about k c way.letter.jobs.items
+-- in the message to each shard are the jobs of a pass's open calls there
+abbrev pub AreBatchesOf : TableId → About → Caller → List ShardRoute → Type 0
+AreBatchesOf table about c routes = (k : ℕ) (route : ShardRoute) → slice_get routes k ≡ Some route
+    → IsBatchOf table about k c route.message.jobs.items
 
--- Of pass p there is a way to each shard, and in the letters are the jobs of these open calls.
-pub record HasLetters {D : Type 0} (opening : Opening D) (p : ℕ) (c : Caller)
-    (ways : List Way) : Type 0 where
-  pub batches : AreBatchesOf opening.table opening.about c ways
-  pub ready : AreReadyWays (home_of opening) p ways
-  pub count : length ways ≡ opening.about.shards
+-- Of pass p there is a route to each shard, and in the messages are the jobs of these open calls.
+pub record HasMessages {D : Type 0} (opening : Opening D) (p : ℕ) (c : Caller)
+    (routes : List ShardRoute) : Type 0 where
+  pub batches : AreBatchesOf opening.table opening.about c routes
+  pub ready : AreReadyRoutes (home_of opening) p routes
+  pub count : length routes ≡ opening.about.shards
 
--- of pass p there is a way to each shard, on which no call is
-pub record HasIdleWays {D : Type 0} (opening : Opening D) (p : ℕ) (ways : List Way) : Type 0 where
-  pub idle : AreIdleWays (home_of opening) p ways
-  pub count : length ways ≡ opening.about.shards
+-- of pass p there is a route to each shard, on which no call is
+pub record HasIdleRoutes {D : Type 0} (opening : Opening D) (p : ℕ) (routes : List ShardRoute) : Type 0 where
+  pub idle : AreIdleRoutes (home_of opening) p routes
+  pub count : length routes ≡ opening.about.shards
 
 -- each number is below n
 abbrev pub AreBelow : ℕ → List ℕ → Type 0
 AreBelow n numbers = (k number : ℕ) → slice_get numbers k ≡ Some number → number < n
 
 -- the first of the calls was announced, under this number, and its job stands after the others of its shard
-pub record IsPutIntoLetter (table : TableId) (old new : Passed) (calls left : List Call)
+pub record IsPutIntoMessage (table : TableId) (old new : Passed) (calls left : List Call)
     (jobs now : List Job)
     (number : ℕ) : Type 0 where
   pub call : Call

@@ -6,11 +6,11 @@ use Rattle.history.specs.Handles.{about_of, fresh_book, fresh_books, fresh_passe
 use Rattle.owners.specs.Openings.{opening_of}
 use Rattle.owners.specs.Plans.{IsPlan}
 use Rattle.ingester.specs.declared.settings.Settings.{Settings}
-use Rattle.ingester.specs.declared.opened.Planned.{Planned}
+use Rattle.ingester.specs.declared.opened.PlannedOpening.{PlannedOpening}
 
 -- histories over these bases, as the settings say, with a plan for these logs
 pub record IsPlannedOpening {D : Type 0} (settings : Settings) (ms : List Streams) (logs : List (Wal D))
-    (it : Planned D) : Type 0 where
+    (it : PlannedOpening D) : Type 0 where
   pub books : it.books.items ≡ fresh_books it.history
       (about_of ms settings.passes settings.limits settings.capacity) (length ms)
   pub seats : it.seats.items ≡ fresh_passes it.history

@@ -6,9 +6,9 @@ ghost use Rattle.history.specs.Plays.{IsRested};
 ghost use Rattle.history.specs.Histories.{IsFirstNumber, max_open};
 ghost use Rattle.owners.specs.Calls.{IsDue, number_of_settled};
 ghost use Rattle.owners.specs.Openings.{home_of};
-ghost use Rattle.owners.specs.Ways.{IsWay, AreWays};
+ghost use Rattle.owners.specs.Routes.{IsRoute, AreRoutes};
 ghost use Rattle.ingester.specs.Calls.{IsPassOf, IsGiven, AreGiven};
-ghost use Rattle.ingester.specs.Batches.{HasLetters, HasIdleWays, IsUnderWay, IsTaken, IsTakenBack, AreReceived, AreLost, AreEnded, IsNextRefused};
+ghost use Rattle.ingester.specs.Batches.{HasMessages, HasIdleRoutes, IsUnderWay, IsTaken, IsTakenBack, AreReceived, AreLost, AreEnded, IsNextRefused};
 ghost use Rattle.ingester.specs.Settling.{told_of};
 
 use crate::announcing::Round;
@@ -18,31 +18,31 @@ use crate::passes::Pass;
 use accept::{Call, CallFault, Reply};
 use disk::Disk;
 use history::Pass as Seat;
-use owners::{Way, clear_letters, receive_letters, send_letters};
+use owners::{ShardRoute, clear_messages, receive_messages, send_messages};
 use shard::Settled;
 use std::alloc::Global;
 use std::collections::VecDeque;
 use std::sync::Wait;
 
 impl<D: Disk + Drop> Ingester<D> {
-    // Takes in what became of the first open call of a pass, which has this number, where that is next in the letter.
+    // Takes in what became of the first open call of a pass, which has this number, where that is next in the message.
     pub(crate) fn receive_next(
         &self,
         pass: &mut Seat,
-        way: &mut Way,
+        route: &mut ShardRoute,
         number: u64,
     ) -> Option<Result<Reply, CallFault>>
         requires table { pass.old.table ≡ self.now.table }
         requires about { pass.old.caller.about ≡ self.now.about }
-        requires way { (k : ℕ) × IsWay (home_of self.now) pass.old.caller.pass k way.old }
+        requires route { (k : ℕ) × IsRoute (home_of self.now) pass.old.caller.pass k route.old }
         requires number { IsFirstNumber number pass.old.caller.pending }
         requires rested { IsRested pass.old.caller }
         ensures taken { IfSome result (IsTaken pass.old pass.new) }
         ensures none { result ≡ None → pass.new ≡ pass.old }
-        ensures way { (k : ℕ) → IsWay (home_of self.now) pass.old.caller.pass k way.old
-            → IsWay (home_of self.now) pass.old.caller.pass k way.new }
+        ensures route { (k : ℕ) → IsRoute (home_of self.now) pass.old.caller.pass k route.old
+            → IsRoute (home_of self.now) pass.old.caller.pass k route.new }
     {
-        let settled = way.take(number)?;
+        let settled = route.take(number)?;
         Some(self.take_in(pass, settled))
     }
 
@@ -72,25 +72,25 @@ impl<D: Disk + Drop> Ingester<D> {
     fn receive_all(
         &self,
         pass: &mut Seat,
-        ways: &mut Vec<Way>,
+        routes: &mut Vec<ShardRoute>,
         round: &Round,
         outcomes: &mut VecDeque<Result<Reply, CallFault>>,
     ) -> usize
         requires round { IsUnderWay self.now pass.old round.now 0 }
-        requires ways { AreWays (home_of self.now) round.now.pass ways.old.items
-            × (length ways.old.items ≡ self.now.about.shards) }
+        requires routes { AreRoutes (home_of self.now) round.now.pass routes.old.items
+            × (length routes.old.items ≡ self.now.about.shards) }
         requires room { deque_len outcomes.old + round.now.count ≤ deque_capacity outcomes.old }
         ensures received { AreReceived pass.old pass.new outcomes.old.items
             outcomes.new.items result }
         ensures round { IsUnderWay self.now pass.new round.now result }
-        ensures ways { AreWays (home_of self.now) round.now.pass ways.new.items
-            × (length ways.new.items ≡ self.now.about.shards) }
+        ensures routes { AreRoutes (home_of self.now) round.now.pass routes.new.items
+            × (length routes.new.items ≡ self.now.about.shards) }
         ensures len { deque_len outcomes.new ≡ deque_len outcomes.old + result }
         ensures capacity { deque_capacity outcomes.new ≡ deque_capacity outcomes.old }
     {
         for i in 0..round.count {
             let shard = round.shards[i];
-            match self.receive_next(pass, &mut ways[shard], round.first + i as u64) {
+            match self.receive_next(pass, &mut routes[shard], round.first + i as u64) {
                 Some(came) => outcomes.push_back_reserved(came),
                 None => return i,
             }
@@ -99,16 +99,16 @@ impl<D: Disk + Drop> Ingester<D> {
     }
 
     // Takes back the first open call of a pass, which has this number, where it was not sent.
-    pub(crate) fn take_back(&self, pass: &mut Seat, way: &mut Way, number: u64)
+    pub(crate) fn take_back(&self, pass: &mut Seat, route: &mut ShardRoute, number: u64)
         requires table { pass.old.table ≡ self.now.table }
         requires about { pass.old.caller.about ≡ self.now.about }
-        requires way { (k : ℕ) × IsWay (home_of self.now) pass.old.caller.pass k way.old }
+        requires route { (k : ℕ) × IsRoute (home_of self.now) pass.old.caller.pass k route.old }
         requires number { IsFirstNumber number pass.old.caller.pending }
         ensures back { IsTakenBack pass.old pass.new }
-        ensures way { (k : ℕ) → IsWay (home_of self.now) pass.old.caller.pass k way.old
-            → IsWay (home_of self.now) pass.old.caller.pass k way.new }
+        ensures route { (k : ℕ) → IsRoute (home_of self.now) pass.old.caller.pass k route.old
+            → IsRoute (home_of self.now) pass.old.caller.pass k route.new }
     {
-        let Some(ticket) = way.take_back() else {
+        let Some(ticket) = route.take_back() else {
             return;
         };
         if ticket.number() == number {
@@ -120,58 +120,58 @@ impl<D: Disk + Drop> Ingester<D> {
     fn lose(
         &self,
         pass: &mut Seat,
-        ways: &mut Vec<Way>,
+        routes: &mut Vec<ShardRoute>,
         round: &Round,
         from: usize,
         outcomes: &mut VecDeque<Result<Reply, CallFault>>,
     )
         requires round { IsUnderWay self.now pass.old round.now from }
         requires some { from < round.now.count }
-        requires ways { AreWays (home_of self.now) round.now.pass ways.old.items
-            × (length ways.old.items ≡ self.now.about.shards) }
+        requires routes { AreRoutes (home_of self.now) round.now.pass routes.old.items
+            × (length routes.old.items ≡ self.now.about.shards) }
         requires room { deque_len outcomes.old + round.now.count
             ≤ deque_capacity outcomes.old + from }
         ensures lost { AreLost pass.old pass.new outcomes.old.items outcomes.new.items from
             round.now.count }
-        ensures ways { AreWays (home_of self.now) round.now.pass ways.new.items
-            × (length ways.new.items ≡ self.now.about.shards) }
+        ensures routes { AreRoutes (home_of self.now) round.now.pass routes.new.items
+            × (length routes.new.items ≡ self.now.about.shards) }
         ensures len { deque_len outcomes.new + from ≡ deque_len outcomes.old + round.now.count }
         ensures capacity { deque_capacity outcomes.new ≡ deque_capacity outcomes.old }
     {
         let shard = round.shards[from];
-        self.take_back(pass, &mut ways[shard], round.first + from as u64);
+        self.take_back(pass, &mut routes[shard], round.first + from as u64);
         pass.close();
         for _ in from..round.count {
             outcomes.push_back_reserved(Err(CallFault::InDoubt));
         }
     }
 
-    // Sends the letters with announced calls, and waits for what became of them.
+    // Sends the messages with announced calls, and waits for what became of them.
     fn make_round<R: Wait>(
         &self,
         rt: &R,
         alloc: Global,
         pass: &mut Seat,
-        ways: &mut Vec<Way>,
+        routes: &mut Vec<ShardRoute>,
         round: Round,
         outcomes: &mut VecDeque<Result<Reply, CallFault>>,
     )
         requires round { IsUnderWay self.now pass.old round 0 }
-        requires letters { HasLetters self.now round.pass pass.old.caller ways.old.items }
+        requires messages { HasMessages self.now round.pass pass.old.caller routes.old.items }
         requires room { deque_len outcomes.old + round.count ≤ deque_capacity outcomes.old }
         ensures ended { AreEnded pass.old pass.new outcomes.old.items outcomes.new.items
             round.count }
-        ensures ways { HasIdleWays self.now round.pass ways.new.items }
+        ensures routes { HasIdleRoutes self.now round.pass routes.new.items }
         ensures len { deque_len outcomes.new ≡ deque_len outcomes.old + round.count }
         ensures capacity { deque_capacity outcomes.new ≡ deque_capacity outcomes.old }
     {
-        send_letters(rt, alloc, ways);
-        receive_letters(rt, ways, &self.waiters);
-        let received = self.receive_all(pass, ways, &round, outcomes);
+        send_messages(rt, alloc, routes);
+        receive_messages(rt, routes, &self.waiters);
+        let received = self.receive_all(pass, routes, &round, outcomes);
         if received < round.count {
-            self.lose(pass, ways, &round, received, outcomes);
+            self.lose(pass, routes, &round, received, outcomes);
         }
-        clear_letters(ways);
+        clear_messages(routes);
     }
 
     // Refuses a call of a pass: for want of memory, or since the pass is closed.
@@ -207,24 +207,24 @@ impl<D: Disk + Drop> Ingester<D> {
         self.refuse(pass, &call)
     }
 
-    // Makes calls of a pass by its ways to the owners.
+    // Makes calls of a pass by its routes to the owners.
     fn call_by<R: Wait>(
         &self,
         rt: &R,
         alloc: Global,
         pass: &mut Seat,
-        ways: &mut Vec<Way>,
+        routes: &mut Vec<ShardRoute>,
         calls: &mut VecDeque<Call>,
         outcomes: &mut VecDeque<Result<Reply, CallFault>>,
     )
         requires pass { IsPassOf self.now pass.old }
-        requires ways { HasIdleWays self.now pass.old.caller.pass ways.old.items }
+        requires routes { HasIdleRoutes self.now pass.old.caller.pass routes.old.items }
         requires calls { (deque_len calls.old ≤ max_open) × All AreNumbers calls.old.items }
         requires outcomes { (outcomes.old.items ≡ [])
             × (deque_len calls.old ≤ deque_capacity outcomes.old) }
         ensures pass { IsPassOf self.now pass.new }
         ensures own { pass.new.caller.pass ≡ pass.old.caller.pass }
-        ensures ways { HasIdleWays self.now pass.old.caller.pass ways.new.items }
+        ensures routes { HasIdleRoutes self.now pass.old.caller.pass routes.new.items }
         ensures given { AreGiven pass.old calls.old.items outcomes.new.items pass.new }
         ensures taken { (calls.new.items ≡ []) × (deque_len calls.new ≡ 0)
             × (deque_capacity calls.new ≡ deque_capacity calls.old) }
@@ -233,8 +233,8 @@ impl<D: Disk + Drop> Ingester<D> {
     {
         let mut was_refused = false;
         while !calls.is_empty() {
-            match self.announce_some(pass, calls, ways, was_refused) {
-                Some(round) => self.make_round(rt, alloc, pass, ways, round, outcomes),
+            match self.announce_some(pass, calls, routes, was_refused) {
+                Some(round) => self.make_round(rt, alloc, pass, routes, round, outcomes),
                 None => {
                     was_refused = true;
                     let fault = self.refuse_next(pass, calls);
@@ -271,6 +271,6 @@ impl<D: Disk + Drop> Ingester<D> {
         ensures capacities { (deque_capacity calls.new ≡ deque_capacity calls.old)
             × (deque_capacity outcomes.new ≡ deque_capacity outcomes.old) }
     {
-        self.call_by(rt, alloc, &mut pass.seat, &mut pass.ways, calls, outcomes);
+        self.call_by(rt, alloc, &mut pass.seat, &mut pass.routes, calls, outcomes);
     }
 }

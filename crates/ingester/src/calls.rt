@@ -8,7 +8,7 @@ ghost use Rattle.history.specs.Histories.{IsBeginning, IsLegalAt, IsByPasses, Is
 ghost use Rattle.history.specs.Plays.{seen_at, look_to, HasStepsOf, IsRested};
 ghost use Rattle.history.specs.Handles.{is_closed_pass, with_seen, HaveMet};
 ghost use Rattle.owners.specs.Openings.{home_of};
-ghost use Rattle.owners.specs.Ways.{IsWay, IsLoaded, IsIdleWay};
+ghost use Rattle.owners.specs.Routes.{IsRoute, IsLoaded, IsIdleRoute};
 ghost use Rattle.ingester.specs.Calls.{IsPassOf, IsAnswered, IsRefused, IsGiven, shard_for};
 ghost use Rattle.ingester.specs.Settling.{IsSettled};
 ghost use Rattle.accept.specs.declared.fault.CallFault.TheVariants as faults;
@@ -19,7 +19,7 @@ use accept::{Call, CallFault, Reply};
 use disk::Disk;
 use history::Pass as Seat;
 use labels::shard_of;
-use owners::Way;
+use owners::ShardRoute;
 use shard::Job;
 use std::alloc::Global;
 use std::sync::Wait;
@@ -36,80 +36,85 @@ pub(crate) fn shard_number(call: &Call, shards: u32) -> usize
 impl<D: Disk + Drop> Ingester<D> {
     // Takes in what became of the only open call of a pass, which has this number. Where its answer is lost, the pass
     // is closed.
-    fn settle(&self, pass: &mut Seat, way: &mut Way, number: u64) -> Result<Reply, CallFault>
+    fn settle(
+        &self,
+        pass: &mut Seat,
+        route: &mut ShardRoute,
+        number: u64,
+    ) -> Result<Reply, CallFault>
         requires table { pass.old.table ≡ self.now.table }
         requires about { pass.old.caller.about ≡ self.now.about }
-        requires way { (k : ℕ) × IsWay (home_of self.now) pass.old.caller.pass k way.old }
+        requires route { (k : ℕ) × IsRoute (home_of self.now) pass.old.caller.pass k route.old }
         requires number { IsFirstNumber number pass.old.caller.pending }
         requires rested { IsRested pass.old.caller }
         ensures settled { IsSettled pass.old pass.new result }
-        ensures way { (k : ℕ) → IsWay (home_of self.now) pass.old.caller.pass k way.old
-            → IsWay (home_of self.now) pass.old.caller.pass k way.new }
+        ensures route { (k : ℕ) → IsRoute (home_of self.now) pass.old.caller.pass k route.old
+            → IsRoute (home_of self.now) pass.old.caller.pass k route.new }
     {
-        match self.receive_next(pass, way, number) {
+        match self.receive_next(pass, route, number) {
             Some(outcome) => outcome,
             None => {
-                self.take_back(pass, way, number);
+                self.take_back(pass, route, number);
                 pass.close();
                 Err(CallFault::InDoubt)
             }
         }
     }
 
-    // Sends the only open call of a pass, which has this number and lies in the letter of the way, and waits for what
-    // comes of it.
+    // Sends the only open call of a pass, which has this number and lies in the message of the route, and waits for
+    // what comes of it.
     fn make_call<R: Wait>(
         &self,
         rt: &R,
         alloc: Global,
         pass: &mut Seat,
-        way: &mut Way,
+        route: &mut ShardRoute,
         number: u64,
     ) -> Result<Reply, CallFault>
         requires table { pass.old.table ≡ self.now.table }
         requires about { pass.old.caller.about ≡ self.now.about }
-        requires way { (k : ℕ) × IsLoaded (home_of self.now) pass.old.caller.pass k way.old }
+        requires route { (k : ℕ) × IsLoaded (home_of self.now) pass.old.caller.pass k route.old }
         requires number { IsFirstNumber number pass.old.caller.pending }
         requires rested { IsRested pass.old.caller }
         ensures settled { IsSettled pass.old pass.new result }
-        ensures way { (k : ℕ) → IsLoaded (home_of self.now) pass.old.caller.pass k way.old
-            → IsIdleWay (home_of self.now) pass.old.caller.pass k way.new }
+        ensures route { (k : ℕ) → IsLoaded (home_of self.now) pass.old.caller.pass k route.old
+            → IsIdleRoute (home_of self.now) pass.old.caller.pass k route.new }
     {
-        way.exchange(rt, alloc, &self.waiters);
-        let outcome = self.settle(pass, way, number);
-        way.clear();
+        route.exchange(rt, alloc, &self.waiters);
+        let outcome = self.settle(pass, route, number);
+        route.clear();
         outcome
     }
 
-    // Makes a call of a pass that isn't closed, by its way to the call's shard.
-    fn call_by_way<R: Wait>(
+    // Makes a call of a pass that isn't closed, by its route to the call's shard.
+    fn call_by_route<R: Wait>(
         &self,
         rt: &R,
         alloc: Global,
         pass: &mut Seat,
-        way: &mut Way,
+        route: &mut ShardRoute,
         call: Call,
     ) -> Result<Reply, CallFault>
         requires pass { IsPassOf self.now pass.old }
         requires open { is_closed_pass pass.old ≡ false }
         requires numbers { AreNumbers call }
-        requires way { IsIdleWay (home_of self.now) pass.old.caller.pass
-            (shard_for pass.old.caller call) way.old }
+        requires route { IsIdleRoute (home_of self.now) pass.old.caller.pass
+            (shard_for pass.old.caller call) route.old }
         ensures given { IsGiven pass.old call result pass.new }
         ensures pass { IsPassOf self.now pass.new }
         ensures own { pass.new.caller.pass ≡ pass.old.caller.pass }
-        ensures way { IsIdleWay (home_of self.now) pass.old.caller.pass
-            (shard_for pass.old.caller call) way.new }
+        ensures route { IsIdleRoute (home_of self.now) pass.old.caller.pass
+            (shard_for pass.old.caller call) route.new }
     {
-        if !way.letter.make_room() {
+        if !route.message.make_room() {
             return Err(self.refuse(pass, &call));
         }
         let Ok(ticket) = self.history.announce(pass, &call) else {
             unreachable!()
         };
         let number = ticket.number();
-        way.letter.jobs.push_back_reserved(Job { ticket, call });
-        self.make_call(rt, alloc, pass, way, number)
+        route.message.jobs.push_back_reserved(Job { ticket, call });
+        self.make_call(rt, alloc, pass, route, number)
     }
 
     /// Makes a call. It waits for the owner of its key's shard alone, which writes the calls that have come to it
@@ -138,7 +143,7 @@ impl<D: Disk + Drop> Ingester<D> {
             return Err(CallFault::PassClosed);
         }
         let shard = shard_number(&call, self.count);
-        self.call_by_way(rt, alloc, &mut pass.seat, &mut pass.ways[shard], call)
+        self.call_by_route(rt, alloc, &mut pass.seat, &mut pass.routes[shard], call)
     }
 
     /// How many shards there are.

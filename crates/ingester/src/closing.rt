@@ -8,7 +8,7 @@ use crate::opened::Ingester;
 use crate::passes::Pass;
 use disk::Disk;
 use history::Ended;
-use owners::{Closer, Origin, take_shard};
+use owners::{Closer, OpeningSnapshot, take_shard};
 use shard::Shard;
 use std::marker::Model;
 use std::sync::Wait;
@@ -18,7 +18,7 @@ use std::sync::Wait;
 pub struct Closed<D: Disk + Drop> {
     shards: Vec<Shard<D>>,
     passes: Vec<Pass>,
-    origin: Origin<D>,
+    origin: OpeningSnapshot<D>,
     ended: Ended,
 }
 

@@ -6,7 +6,7 @@ ghost use Rattle.owners.specs.Lists.{AreEach};
 ghost use Rattle.owners.specs.Openings.{home_of};
 ghost use Rattle.owners.specs.Owners.{AreEnds};
 ghost use Rattle.owners.specs.Places.{AreShardsOf};
-ghost use Rattle.owners.specs.Seeds.{AreRows, IsSeatAt};
+ghost use Rattle.owners.specs.QueueEnds.{AreRows, IsSeatAt};
 ghost use Rattle.ingester.specs.Openings.{AreSettings, IsOpenedAs};
 ghost use Rattle.ingester.specs.Parts.{HasParts};
 ghost use Rattle.ingester.specs.Findings.{IsUnmade};
@@ -22,7 +22,7 @@ use disk::Disk;
 use history::{Book, History, Pass as Seat};
 use keyed::Waiters;
 use openings::{Observer, Unobserved, give_back, open_logs};
-use owners::{Closing, Ends, Origin, Plan, Team, hand_all, make_plan};
+use owners::{Closing, OpeningSnapshot, OwnerEnds, Plan, Team, hand_all, make_plan};
 use shard::Shard;
 use std::alloc::{AllocError, Global};
 use std::collections::VecDeque;
@@ -40,7 +40,7 @@ pub struct Ingester<D: Disk + Drop> {
     pub(crate) sizes: Vec<Size>,
     pub(crate) waiters: Waiters,
     pub(crate) count: u32,
-    pub(crate) origin: Origin<D>,
+    pub(crate) origin: OpeningSnapshot<D>,
 }
 
 impl<D: Disk + Drop> Model for Ingester<D> {
@@ -64,7 +64,7 @@ pub(crate) struct Opened<D: Disk + Drop> {
     pub(crate) ingester: Ingester<D>,
     pub(crate) passes: Vec<Pass>,
     pub(crate) shards: Vec<Option<Shard<D>>>,
-    pub(crate) ends: VecDeque<Ends<D>>,
+    pub(crate) ends: VecDeque<OwnerEnds<D>>,
 }
 
 impl<D: Disk + Drop> Ingester<D> {
@@ -162,7 +162,7 @@ fn begin<D: Disk + Drop, R: Wait>(
 }
 
 // What an opening has of its logs before its shards are made.
-pub(crate) struct Planned<D: Disk + Drop> {
+pub(crate) struct PlannedOpening<D: Disk + Drop> {
     pub(crate) history: History,
     pub(crate) books: Vec<Book>,
     pub(crate) seats: Vec<Seat>,
@@ -175,7 +175,7 @@ fn plan_opening<D: Disk + Drop>(
     images: &Vec<Image>,
     logs: &Vec<Wal<D>>,
     settings: &Settings,
-) -> Result<Planned<D>, AllocError>
+) -> Result<PlannedOpening<D>, AllocError>
     requires some { (0 < vec_len logs.now) × (vec_len logs.now ≤ max_shards) }
     requires same { vec_len images.now ≡ vec_len logs.now }
     requires settings { AreSettings settings.now }
@@ -188,7 +188,7 @@ fn plan_opening<D: Disk + Drop>(
     } = *settings;
     let (history, books, seats) = History::new(alloc, images, passes, limits, capacity)?;
     let plan = make_plan(alloc, &books[0], logs, passes as usize)?;
-    Ok(Planned {
+    Ok(PlannedOpening {
         history,
         books,
         seats,
@@ -224,7 +224,7 @@ fn open_all<D: Disk + Drop + Send, R: Threads + Sync, O: Observer + Sync>(
         give_back(slots, &mut logs);
         return Err(OpenFault::Memory);
     };
-    let Planned {
+    let PlannedOpening {
         history,
         books,
         seats,
@@ -239,7 +239,7 @@ fn open_all<D: Disk + Drop + Send, R: Threads + Sync, O: Observer + Sync>(
     let Ok((history, shards)) = make_shards(alloc, history, slots, shards, ground) else {
         return Err(OpenFault::Memory);
     };
-    let kept = Kept {
+    let kept = IngesterParts {
         sizes: sizes_of(sizes, &shards),
         count: count as u32,
         list,
@@ -249,7 +249,7 @@ fn open_all<D: Disk + Drop + Send, R: Threads + Sync, O: Observer + Sync>(
 }
 
 // What an ingester keeps of its shards beside what is planned, and the seats of its passes with a list for them.
-struct Kept {
+struct IngesterParts {
     sizes: Vec<Size>,
     count: u32,
     list: Vec<Pass>,
@@ -261,7 +261,7 @@ fn opened_with<D: Disk + Drop>(
     plan: Plan<D>,
     history: History,
     shards: Vec<Option<Shard<D>>>,
-    kept: Kept,
+    kept: IngesterParts,
 ) -> Opened<D>
     requires parts { HasParts history plan.closing kept.count plan.origin }
     requires room { (vec_len kept.list ≡ 0) × (vec_len kept.seats ≤ vec_capacity kept.list) }
@@ -279,7 +279,7 @@ fn opened_with<D: Disk + Drop>(
         closing,
         ends,
     } = plan;
-    let Kept {
+    let IngesterParts {
         sizes,
         count,
         list,

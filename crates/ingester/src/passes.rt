@@ -5,22 +5,22 @@ ghost use Rattle.history.specs.Plays.{seen_at, HasStepsOf};
 ghost use Rattle.history.specs.Handles.{is_closed_pass};
 ghost use Rattle.owners.specs.Homes.{Homed};
 ghost use Rattle.owners.specs.Lists.{AreEach};
-ghost use Rattle.owners.specs.Seeds.{AreRows, IsSeatAt};
+ghost use Rattle.owners.specs.QueueEnds.{AreRows, IsSeatAt};
 
 use disk::Disk;
 use history::Pass as Seat;
-use owners::{Way, end_owners, next_full};
+use owners::{ShardRoute, end_owners, next_full};
 use shard::Shard;
 use std::collections::VecDeque;
 use std::marker::Model;
 use std::sync::Wait;
 
-/// A caller's place at the shards of an opening: its seat at their histories, and its ways to their owners. Contracts
+/// A caller's place at the shards of an opening: its seat at their histories, and its routes to their owners. Contracts
 /// see the seat.
 #[derive(Drop)]
 pub struct Pass {
     pub(crate) seat: Seat,
-    pub(crate) ways: Vec<Way>,
+    pub(crate) routes: Vec<ShardRoute>,
 }
 
 impl Model for Pass {
@@ -32,11 +32,11 @@ impl Model for Pass {
 
     ghost coded = { Prim.hlevel (codes, image.the_row.coded) };
 
-    ghost use Rattle.ingester.specs.Passes.{HasWays};
+    ghost use Rattle.ingester.specs.Passes.{HasRoutes};
 
     ghost view = { λ p. p.seat };
 
-    ghost invariant = { λ p. HasWays p.seat p.ways.items };
+    ghost invariant = { λ p. HasRoutes p.seat p.routes.items };
 }
 
 impl Pass {
@@ -69,14 +69,14 @@ impl Pass {
 
     /// A shard at which a call of this pass has found no room since that was asked last.
     pub fn next_full(&self) -> Option<usize> {
-        next_full(&self.ways)
+        next_full(&self.routes)
     }
 
     // Sends each owner the last order.
     pub(crate) fn end_owners<R: Wait>(&mut self, rt: &R)
         ensures { self.new ≡ self.old }
     {
-        end_owners(rt, &mut self.ways);
+        end_owners(rt, &mut self.routes);
     }
 
     // Compares a shard's history with what the pass has seen.
@@ -94,8 +94,12 @@ impl Pass {
     }
 }
 
-// The passes with these seats and these ways, into a list with room for them.
-pub(crate) fn seat_passes(mut passes: Vec<Pass>, seats: Vec<Seat>, rows: Vec<Vec<Way>>) -> Vec<Pass>
+// The passes with these seats and these routes, into a list with room for them.
+pub(crate) fn seat_passes(
+    mut passes: Vec<Pass>,
+    seats: Vec<Seat>,
+    rows: Vec<Vec<ShardRoute>>,
+) -> Vec<Pass>
     requires room { (vec_len passes ≡ 0) × (vec_len seats ≤ vec_capacity passes) }
     requires home { (home : Homed) × AreEach (IsSeatAt home) 0 seats.items
         × AreRows home home.about.shards rows.items }
@@ -105,10 +109,10 @@ pub(crate) fn seat_passes(mut passes: Vec<Pass>, seats: Vec<Seat>, rows: Vec<Vec
     let mut seats = VecDeque::from_vec(seats);
     let mut rows = VecDeque::from_vec(rows);
     while let Some(seat) = seats.pop_front() {
-        let Some(ways) = rows.pop_front() else {
+        let Some(routes) = rows.pop_front() else {
             unreachable!()
         };
-        passes.push_reserved(Pass { seat, ways });
+        passes.push_reserved(Pass { seat, routes });
     }
     passes
 }

@@ -15,7 +15,7 @@ use Rattle.std.proofs.lemmas.List.Elements.{recursion_from_All, All-from_recursi
 use Rattle.std.proofs.lemmas.List.Sorted.{All-permutation, IsPermutation-refl, IsPermutation-sym, IsPermutation-trans, IsPermutation-cons, IsPermutation-middle, length_permutation, sum_by-IsPermutation}
 use Rattle.labels.specs.Labels.{Label}
 use Rattle.labels.specs.declared.fault.LabelFault.{LabelFault}
-use Rattle.labels.specs.Faults.{label_fault, each_fault, times_named, repeats_name, first_fault}
+use Rattle.labels.specs.Faults.{max_labels, label_fault, each_fault, times_named, repeats_name, first_fault}
 use Rattle.labels.specs.Canonical.{AreTexts, IsLabel, NamesRise, IsTextOf, set_text}
 use Rattle.labels.proofs.Lawful.{AreSound, no_fault, no_option}
 use Rattle.labels.proofs.Order.{Above, AreOnce, rise_above, rise_tail, rise_once, repeats_permuted, named_tail, named_first}
@@ -81,18 +81,18 @@ skipped false x o h = (refl, h)
 not_none : (n : ℕ) → (n == 0) ≡ false → 1 ≤ n
 not_none n h = grind (arith, nat_tests)
 
-not_many : (n : ℕ) → nat_lt 15 n ≡ false → n ≤ 15
-not_many n h = grind (arith, nat_tests)
+not_many : (most n : ℕ) → nat_lt most n ≡ false → n ≤ most
+not_many most n h = grind (arith, nat_tests)
 
 -- what labels without a fault are
 faultless : (ps : List Label) → first_fault ps ≡ None → AreSound ps × (repeats_name ps ≡ false)
 unfolding first_fault
 faultless ps h =
     let some = skipped (length ps == 0) _ _ h in
-    let few = skipped (nat_lt 15 (length ps)) _ _ some.1 in
+    let few = skipped (nat_lt max_labels (length ps)) _ _ some.1 in
     let each = no_option (each_fault ps) _ few.1 in
     let once = skipped (repeats_name ps) _ _ each.1 in
-    (record { some = not_none _ some.0; few = not_many _ few.0; each = each.0 }, once.0)
+    (record { some = not_none _ some.0; few = not_many max_labels _ few.0; each = each.0 }, once.0)
 
 labels_from : (ps : List Label) → AreTexts ps → each_fault ps ≡ None → AllByRecursion IsLabel ps
 labels_from [] t h = tt

@@ -14,7 +14,7 @@ use Rattle.std.proofs.lemmas.Bool.Decides.{nat_tests}
 use Rattle.labels.specs.Labels.{Label, label_of}
 use Rattle.labels.specs.declared.fault.LabelFault.{LabelFault}
 use Rattle.labels.specs.declared.fault.LabelFault.TheVariants.{NameTwice}
-use Rattle.labels.specs.Faults.{label_fault, each_fault, repeats_name, first_fault}
+use Rattle.labels.specs.Faults.{max_labels, label_fault, each_fault, repeats_name, first_fault}
 use Rattle.labels.specs.Canonical.{IsLabel, NamesRise, IsTextOf, set_text}
 use Rattle.labels.proofs.Order.{pair_cmp, repeats_permuted, rise_once, rise_from_adjacent, stuck_repeats}
 
@@ -41,7 +41,7 @@ are_labels (x ∷ xs) h = (record { lawful = h.0; utf8 = IsUtf8-string_bytes x.1
 -- a number of labels that a stream may have, none with a fault
 pub record AreSound (ps : List Label) : Type 0 where
   pub some : 1 ≤ length ps
-  pub few : length ps ≤ 15
+  pub few : length ps ≤ max_labels
   pub each : each_fault ps ≡ None
 
 pub no_fault : (ps : List Label) → AreSound ps → repeats_name ps ≡ false → first_fault ps ≡ None
@@ -54,7 +54,7 @@ twice_fault ps s r = grind (arith, nat_tests, s.some, s.few, s.each, r)
 
 -- what the early tests leave
 abbrev pub PassesEarly : List (String Global × String Global) → Type 0
-PassesEarly xs = (1 ≤ length xs) × (length xs ≤ 15) × (each_fault (map label_of xs) ≡ None)
+PassesEarly xs = (1 ≤ length xs) × (length xs ≤ max_labels) × (each_fault (map label_of xs) ≡ None)
 
 sound_from : (xs ds : List (String Global × String Global)) → ds ≡ xs → PassesEarly ds → AreSound (map label_of xs)
 sound_from xs ds e h =

@@ -12,7 +12,7 @@ use Rattle.std.specs.Cmp.Lexicographic.{slice_cmp}
 use Rattle.std.proofs.lemmas.Bool.Decides.{nat_tests}
 use Rattle.labels.specs.Labels.{Label}
 use Rattle.labels.specs.declared.fault.LabelFault.{LabelFault}
-use Rattle.labels.specs.Faults.{label_fault, is_name}
+use Rattle.labels.specs.Faults.{max_labels, label_fault, is_name}
 use Rattle.labels.specs.declared.fault.LabelFault.TheVariants.{BadName, NameTooLong, EmptyValue, ValueTooLong}
 use Rattle.labels.specs.Canonical.{escape, label_text, tail_text, IsLabel, NamesRise, IsCanonical, IsCanonicalText, EndsSet}
 use Rattle.labels.proofs.Reading.{one_value}
@@ -129,22 +129,22 @@ not_end : (text : List ℕ) → false ≡ bytes_eq text (125 ∷ []) → text �
 not_end text h e = false≢true (h ∙ (bytes_eq-Decides text (125 ∷ [])).1 e)
 
 -- a name that is not above the last one
-pub stops_at : (last name value text next after : List ℕ) (count : ℕ) → count < 15 → false ≡ bytes_eq text (125 ∷ []) → text ≡ 44 ∷ 32 ∷ next → IsLabel (name, value) → next ≡ label_text (name, value) ++ after
-    → is_lt (slice_cmp nat_cmp last name) ≡ false → EndsSet last (15 - count) text → ⊥
+pub stops_at : (last name value text next after : List ℕ) (count : ℕ) → count < max_labels → false ≡ bytes_eq text (125 ∷ []) → text ≡ 44 ∷ 32 ∷ next → IsLabel (name, value) → next ≡ label_text (name, value) ++ after
+    → is_lt (slice_cmp nat_cmp last name) ≡ false → EndsSet last (max_labels - count) text → ⊥
 stops_at last name value text next after count m n c l t g h =
-    not_less (slice_cmp nat_cmp last name) g (ends_after last name value text next after (15 - count) (15 - (count + 1)) (omega arith) (not_end text n) c l t h).0
+    not_less (slice_cmp nat_cmp last name) g (ends_after last name value text next after (max_labels - count) (max_labels - (count + 1)) (omega arith) (not_end text n) c l t h).0
 
 -- one that is
-pub goes_on : (last name value text next after : List ℕ) (count : ℕ) → count < 15 → false ≡ bytes_eq text (125 ∷ []) → text ≡ 44 ∷ 32 ∷ next → IsLabel (name, value) → next ≡ label_text (name, value) ++ after
-    → is_lt (slice_cmp nat_cmp last name) ≡ true → (EndsSet name (15 - (count + 1)) after → EndsSet last (15 - count) text) × (EndsSet last (15 - count) text → EndsSet name (15 - (count + 1)) after)
+pub goes_on : (last name value text next after : List ℕ) (count : ℕ) → count < max_labels → false ≡ bytes_eq text (125 ∷ []) → text ≡ 44 ∷ 32 ∷ next → IsLabel (name, value) → next ≡ label_text (name, value) ++ after
+    → is_lt (slice_cmp nat_cmp last name) ≡ true → (EndsSet name (max_labels - (count + 1)) after → EndsSet last (max_labels - count) text) × (EndsSet last (max_labels - count) text → EndsSet name (max_labels - (count + 1)) after)
 goes_on last name value text next after count m n c l t g = (
-  ends_before last name value text next after (15 - count) (15 - (count + 1)) (omega arith) c l t (less (slice_cmp nat_cmp last name) g),
-  λ h. (ends_after last name value text next after (15 - count) (15 - (count + 1)) (omega arith) (not_end text n) c l t h).1,
+  ends_before last name value text next after (max_labels - count) (max_labels - (count + 1)) (omega arith) c l t (less (slice_cmp nat_cmp last name) g),
+  λ h. (ends_after last name value text next after (max_labels - count) (max_labels - (count + 1)) (omega arith) (not_end text n) c l t h).1,
 )
 
 -- the text after `{`, from its first label on
 pub canonical_by : (text next name value after : List ℕ) (r : Bool) → text ≡ 123 ∷ next → IsLabel (name, value) → next ≡ label_text (name, value) ++ after
-    → MatchBool r (EndsSet name 14 after) (¬ (EndsSet name 14 after)) → MatchBool r (IsCanonicalText text) ((ps : List Label) → ¬ (IsCanonical text ps))
+    → MatchBool r (EndsSet name (max_labels - 1) after) (¬ (EndsSet name (max_labels - 1) after)) → MatchBool r (IsCanonicalText text) ((ps : List Label) → ¬ (IsCanonical text ps))
 canonical_by text next name value after true b l t (qs, few, each, rise, e) =
     ∣ (
       (name, value) ∷ qs,

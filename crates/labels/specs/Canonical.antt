@@ -7,7 +7,7 @@ use Rattle.std.specs.Ordering.{nat_cmp}
 use Rattle.std.specs.Str.{IsUtf8}
 use Rattle.std.specs.declared.cmp.Ordering.TheVariants.{Less}
 use Rattle.labels.specs.Labels.{Label}
-use Rattle.labels.specs.Faults.{label_fault}
+use Rattle.labels.specs.Faults.{max_labels, label_fault}
 
 -- a byte of a value: `\`, `"` and a newline stand after a `\`
 abbrev pub escape : ℕ → List ℕ
@@ -46,7 +46,7 @@ NamesRise (p ∷ q ∷ qs) = (slice_cmp nat_cmp p.0 q.0 ≡ Less) × NamesRise (
 -- the text is that of these labels, as they stand
 pub record IsCanonical (text : List ℕ) (ps : List Label) : Type 0 where
   pub some : 1 ≤ length ps
-  pub few : length ps ≤ 15
+  pub few : length ps ≤ max_labels
   pub each : AllByRecursion IsLabel ps
   pub rise : NamesRise ps
   pub printed : text ≡ set_text ps

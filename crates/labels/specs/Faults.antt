@@ -1,12 +1,29 @@
 -- The fault that is answered for labels that are not lawful.
-use Rattle.std.specs.Prelude.{ℕ, Bool, false, ◌&&◌, ◌||◌, List, [], ◌∷◌, Option, Some, None, length, nat_lt, not, ◌==◌, if◌then◌else◌}
+use Rattle.std.specs.Prelude.{ℕ, Bool, false, ◌&&◌, ◌||◌, List, [], ◌∷◌, Option, Some, None, length, codes, nat_lt, not, ◌==◌, if◌then◌else◌}
 use Rattle.std.specs.List.{list_all, list_any, count_by}
 use Rattle.std.specs.Option.{option_or}
 use Rattle.std.specs.Char.{is_ascii_alphabetic, is_ascii_alphanumeric}
 use Rattle.std.specs.Str.{bytes_eq}
 use Rattle.labels.specs.Labels.{Label}
 use Rattle.labels.specs.declared.fault.LabelFault.{LabelFault}
-use Rattle.labels.specs.declared.fault.LabelFault.TheVariants.{NoLabels, TooManyLabels, BadName, NameTooLong, EmptyValue, ValueTooLong, NameTwice}
+use Rattle.labels.specs.declared.fault.LabelFault.TheVariants.{NoLabels, TooManyLabels, BadName, NameTooLong, EmptyValue, ValueTooLong, NameTwice, NotCanonical, BadTenant, Memory}
+
+-- the most labels of a stream
+abbrev pub max_labels : ℕ
+max_labels = 15
+
+-- what is said of a fault
+abbrev pub label_words : LabelFault → List ℕ
+label_words NoLabels = codes "no labels"
+label_words TooManyLabels = codes "more than 15 labels"
+label_words BadName = codes "bad label name"
+label_words NameTooLong = codes "label name too long"
+label_words EmptyValue = codes "empty label value"
+label_words ValueTooLong = codes "label value too long"
+label_words NameTwice = codes "label name twice"
+label_words NotCanonical = codes "labels are not in canonical form"
+label_words BadTenant = codes "bad tenant"
+label_words Memory = codes "out of memory"
 
 -- `[A-Za-z_]`
 abbrev pub begins_name : ℕ → Bool
@@ -47,5 +64,5 @@ repeats_name ps = list_any (λ p. nat_lt 1 (times_named p.0 ps)) ps
 unfoldable pub first_fault : List Label → Option LabelFault
 first_fault ps =
     if length ps == 0 then Some NoLabels
-    else (if nat_lt 15 (length ps) then Some TooManyLabels
+    else (if nat_lt max_labels (length ps) then Some TooManyLabels
     else option_or (each_fault ps) (if repeats_name ps then Some NameTwice else None))

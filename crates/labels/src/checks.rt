@@ -1,11 +1,11 @@
 ghost use Rattle.std.specs.Prelude.{◌≡◌, ℕ, List, map, Some, None, IfSome, IfNone, length, ◌≤◌};
 ghost use Rattle.std.specs.List.{list_all};
 ghost use Rattle.labels.specs.Labels.{label_of};
-ghost use Rattle.labels.specs.Faults.{begins_name, continues_name, is_name, label_fault, each_fault, first_fault};
+ghost use Rattle.labels.specs.Faults.{max_labels, begins_name, continues_name, is_name, label_fault, each_fault, first_fault};
 
 use crate::fault::LabelFault;
 
-/// The most labels of a stream.
+/// The most labels of a stream: this project's profile.
 pub const MAX_LABELS: usize = 15;
 /// The longest name, in bytes.
 const MAX_NAME: usize = 1_024;
@@ -74,7 +74,7 @@ pub fn each_fault(pairs: &[(String, String)]) -> Option<LabelFault>
 #[tactic(auto, unfolding(crate::specs::Faults::first_fault))]
 pub fn early_fault(pairs: &[(String, String)]) -> Option<LabelFault>
     ensures some { IfSome result (λ e. first_fault (map label_of pairs.now) ≡ Some e) }
-    ensures none { IfNone result ((1 ≤ length pairs.now) × (length pairs.now ≤ 15)
+    ensures none { IfNone result ((1 ≤ length pairs.now) × (length pairs.now ≤ max_labels)
         × (each_fault (map label_of pairs.now) ≡ None)) }
 {
     if pairs.is_empty() {

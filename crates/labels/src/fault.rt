@@ -12,7 +12,7 @@ use std::fmt;
 pub enum LabelFault {
     /// A stream needs at least one label.
     NoLabels,
-    /// More than 15 labels.
+    /// More than `MAX_LABELS` labels.
     TooManyLabels,
     /// A name that is not `[A-Za-z_][A-Za-z0-9_]*`.
     BadName,
@@ -32,9 +32,14 @@ pub enum LabelFault {
     Memory,
 }
 
-impl fmt::Display for LabelFault {
-    fn fmt<W: fmt::Write>(&self, f: &mut fmt::Formatter<W>) -> fmt::Result {
-        f.write_str(match self {
+impl LabelFault {
+    ghost use Rattle.labels.specs.Faults.{label_words};
+
+    /// What is said of it, also to clients.
+    pub fn words(self) -> &'static str
+        ensures { result.now ≡ label_words self }
+    {
+        match self {
             Self::NoLabels => "no labels",
             Self::TooManyLabels => "more than 15 labels",
             Self::BadName => "bad label name",
@@ -45,7 +50,13 @@ impl fmt::Display for LabelFault {
             Self::NotCanonical => "labels are not in canonical form",
             Self::BadTenant => "bad tenant",
             Self::Memory => "out of memory",
-        })
+        }
+    }
+}
+
+impl fmt::Display for LabelFault {
+    fn fmt<W: fmt::Write>(&self, f: &mut fmt::Formatter<W>) -> fmt::Result {
+        f.write_str(self.words())
     }
 }
 

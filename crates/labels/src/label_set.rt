@@ -35,8 +35,8 @@ impl Model for LabelSet {
 impl LabelSet {
     /// The set of these labels, given in any order.
     ///
-    /// A stream has 1 to 15 labels. A name is `[A-Za-z_][A-Za-z0-9_]*` of at most 1,024 bytes. A value is any text of 1
-    /// to 2,048 bytes. No name is given twice. `LabelFault` gives the order of the faults.
+    /// A stream has 1 to `MAX_LABELS` labels. A name is `[A-Za-z_][A-Za-z0-9_]*` of at most 1,024 bytes. A value is any
+    /// text of 1 to 2,048 bytes. No name is given twice. `LabelFault` gives the order of the faults.
     pub fn new(alloc: Global, pairs: LabelPairs) -> Result<LabelSet, LabelFault>
         ensures ok { IfOk result (λ set. (first_fault pairs ≡ None) × IsTextOf set pairs) }
         ensures cause { IfErr result (λ e. (e ≡ LabelFault.Memory) ⊎ (first_fault pairs ≡ Some e)) }

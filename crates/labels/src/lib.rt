@@ -17,6 +17,7 @@ mod shards;
 mod tenant;
 mod writing;
 
+pub use checks::MAX_LABELS;
 pub use fault::LabelFault;
 pub use key::StreamKey;
 pub use label_set::LabelSet;

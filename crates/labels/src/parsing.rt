@@ -1,10 +1,11 @@
-ghost use Rattle.std.specs.Prelude.{◌≡◌, ◌≢◌, ◌++◌, ℕ, List, [], ◌∷◌, length, ◌≤◌, MatchOption, MatchBool, IfSome, IfNone};
+ghost use Rattle.std.specs.Prelude.{◌≡◌, ◌≢◌, ◌++◌, ◌-◌, ℕ, List, [], ◌∷◌, length, ◌≤◌, MatchOption, MatchBool, IfSome, IfNone};
 ghost use Rattle.std.specs.List.{flat_map, AllByRecursion};
 ghost use Rattle.std.specs.Char.{len_utf8};
 ghost use Rattle.std.specs.Cmp.Lexicographic.{slice_cmp};
 ghost use Rattle.std.specs.Ordering.{nat_cmp, is_lt};
 ghost use Rattle.std.specs.Str.{chars, IsUtf8};
 ghost use Rattle.labels.specs.Labels.{Label};
+ghost use Rattle.labels.specs.Faults.{max_labels};
 ghost use Rattle.labels.specs.Canonical.{escape, label_text, IsLabel, IsCanonical, IsCanonicalText, EndsSet};
 
 use crate::checks::{MAX_LABELS, MAX_VALUE, label_fault};
@@ -109,7 +110,8 @@ fn is_below(name: &str, next: &str) -> bool
 
 /// Whether the text completes a label set's text, after a first label of this name.
 fn ends_set(first: &str, text: &str) -> bool
-    ensures { MatchBool result (EndsSet first.now 14 text.now) (¬ (EndsSet first.now 14 text.now)) }
+    ensures { MatchBool result (EndsSet first.now (max_labels - 1) text.now)
+        (¬ (EndsSet first.now (max_labels - 1) text.now)) }
 {
     let mut last = first;
     let mut rest = text;

@@ -2,7 +2,7 @@
 use crate::bytes::bytes_of;
 use crate::drive::read_all;
 use crate::numbers::number_of;
-use crate::slots::{EXAMPLE, Slots, open};
+use crate::slots::{EXAMPLE, SlotPair, open};
 use anyhow::Result;
 use memory_disk::MemDisk;
 use rows::{Said, word_of};
@@ -70,11 +70,11 @@ impl Sight<'_> {
         });
     }
 
-    fn slots_with(&self, content: &[u8]) -> Result<Slots> {
+    fn slots_with(&self, content: &[u8]) -> Result<SlotPair> {
         if self.is_first {
-            Slots::synced(self.alloc, content, self.other)
+            SlotPair::synced(self.alloc, content, self.other)
         } else {
-            Slots::synced(self.alloc, self.other, content)
+            SlotPair::synced(self.alloc, self.other, content)
         }
     }
 
@@ -97,7 +97,7 @@ impl Sight<'_> {
 /// For contents that come one after another and are alike it appends how many there are and how long they are, which
 /// byte is at the place, whether the others are as a read gives, and what an opening finds, with the other slot as a
 /// read gives it.
-pub fn say_crash(alloc: Global, slots: &mut Slots, words: &str, said: &mut Said) -> Result<()> {
+pub fn say_crash(alloc: Global, slots: &mut SlotPair, words: &str, said: &mut Said) -> Result<()> {
     let (slot, rest) = word_of(words);
     let (values, rest) = word_of(rest);
     let (max, place) = word_of(rest);
@@ -109,7 +109,7 @@ pub fn say_crash(alloc: Global, slots: &mut Slots, words: &str, said: &mut Said)
 /// Says these contents of a slot.
 fn say_found(
     alloc: Global,
-    slots: &mut Slots,
+    slots: &mut SlotPair,
     slot: &str,
     place: usize,
     found: &[Vec<u8>],

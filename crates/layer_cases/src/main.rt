@@ -6,9 +6,9 @@
 
 mod bytes;
 mod crash;
-mod desk;
 mod drive;
 mod entry_words;
+mod fixture;
 mod numbers;
 mod records;
 mod slots;
@@ -16,7 +16,7 @@ mod stream_rows;
 mod texts;
 
 use anyhow::{Context, Result};
-use desk::Desk;
+use fixture::Fixture;
 use rows::{Row, Said, Tally, rows_of};
 use std::env;
 use std::fs::{self, File};
@@ -102,18 +102,19 @@ fn take_row<R: Files<File = File> + AllocGlobal>(
     row: &Row<'_>,
     said: &mut Said,
 ) -> Result<()> {
-    let mut desk = Desk::new();
-    take_lines(rt, row, &mut desk, said)
+    let mut fixture = Fixture::new();
+    take_lines(rt, row, &mut fixture, said)
 }
 
 fn take_lines<R: Files<File = File> + AllocGlobal>(
     rt: &R,
     row: &Row<'_>,
-    desk: &mut Desk,
+    fixture: &mut Fixture,
     said: &mut Said,
 ) -> Result<()> {
     for line in &row.given {
-        desk.take_line(rt, line, said)
+        fixture
+            .take_line(rt, line, said)
             .context(format_args!("at {line}"))?;
     }
     Ok(())

@@ -16,27 +16,27 @@ pub const EXAMPLE: &str = "0 1 200";
 
 /// Slot 0 and slot 1 of a log that is not open.
 #[derive(Drop)]
-pub struct Slots {
+pub struct SlotPair {
     pub first: MemDisk,
     pub second: MemDisk,
 }
 
-impl Slots {
+impl SlotPair {
     /// Two disks on which nothing was ever written.
-    pub fn empty(alloc: Global) -> Result<Slots> {
-        Slots::synced(alloc, &[], &[])
+    pub fn empty(alloc: Global) -> Result<SlotPair> {
+        SlotPair::synced(alloc, &[], &[])
     }
 
     /// Two disks on which these bytes are synced.
-    pub fn synced(alloc: Global, first: &[u8], second: &[u8]) -> Result<Slots> {
+    pub fn synced(alloc: Global, first: &[u8], second: &[u8]) -> Result<SlotPair> {
         let first = synced(alloc, first)?;
         let second = synced(alloc, second)?;
-        Ok(Slots { first, second })
+        Ok(SlotPair { first, second })
     }
 
-    pub fn of(slots: [MemDisk; 2]) -> Slots {
+    pub fn of(slots: [MemDisk; 2]) -> SlotPair {
         let [first, second] = slots;
-        Slots { first, second }
+        SlotPair { first, second }
     }
 
     /// The slot of this number.
@@ -69,17 +69,17 @@ pub fn synced(alloc: Global, bytes: &[u8]) -> Result<MemDisk> {
 /// opened.
 pub fn open(
     alloc: Global,
-    slots: Slots,
+    slots: SlotPair,
     words: &str,
     said: &mut Said,
-) -> Result<Result<Wal<MemDisk>, Slots>> {
+) -> Result<Result<Wal<MemDisk>, SlotPair>> {
     let words = if words.is_empty() { EXAMPLE } else { words };
     let Some((owner, capacity)) = words.rsplit_once(' ') else {
         bail!("no capacity")
     };
     let (shard, count) = owner_of(owner)?;
     let capacity = number_of(capacity)?.min(MAX_CAPACITY);
-    let Slots { first, second } = slots;
+    let SlotPair { first, second } = slots;
     match Wal::open(alloc, [first, second], shard, count, capacity) {
         Ok((log, image)) => {
             said.tell(format_args!("generation {}\n", log.generation()));
@@ -89,7 +89,7 @@ pub fn open(
         Err(refusal) => {
             said.tell(format_args!("{}\n", refusal.0));
             let left = refusal.1;
-            Ok(Err(Slots::of(left)))
+            Ok(Err(SlotPair::of(left)))
         }
     }
 }

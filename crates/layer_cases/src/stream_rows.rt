@@ -14,7 +14,7 @@ const MOST: u64 = END_OF_TIME - 1;
 
 /// A stream, and the limits of its calls.
 #[derive(Drop)]
-struct Opened {
+struct StreamFixture {
     alloc: Global,
     limits: Limits,
     stream: StreamState,
@@ -40,7 +40,7 @@ struct Opened {
 /// An entry is `TIME:LINE`, or `TIME*COUNT:LINE` for the line COUNT times, with `{NAME=VALUE,..}` after it if it has
 /// metadata.
 pub fn take_row(alloc: Global, row: &Row<'_>, said: &mut Said) -> Result<()> {
-    let mut opened = Opened {
+    let mut opened = StreamFixture {
         alloc,
         limits: Limits::PROFILE,
         stream: StreamState::new(alloc),
@@ -48,7 +48,7 @@ pub fn take_row(alloc: Global, row: &Row<'_>, said: &mut Said) -> Result<()> {
     opened.take_lines(row, said)
 }
 
-impl Opened {
+impl StreamFixture {
     fn take_lines(&mut self, row: &Row<'_>, said: &mut Said) -> Result<()> {
         for line in &row.given {
             self.take_line(line, said)?;
@@ -213,21 +213,9 @@ fn are_times(entries: &[Entry]) -> bool
 fn say_outcomes(outcomes: &[Outcome], said: &mut Said) {
     for (place, outcome) in outcomes.iter().enumerate() {
         said.put(if place == 0 { "" } else { " " });
-        say_outcome(*outcome, said);
+        said.tell(format_args!("{outcome:?}"));
     }
     said.put("\n");
-}
-
-fn say_outcome(outcome: Outcome, said: &mut Said) {
-    match outcome {
-        Outcome::TooLong => said.put("TooLong"),
-        Outcome::BadMetadata => said.put("BadMetadata"),
-        Outcome::TooOld => said.put("TooOld"),
-        Outcome::TooNew => said.put("TooNew"),
-        Outcome::Repeat => said.put("Repeat"),
-        Outcome::TooFarBehind { oldest } => said.tell(format_args!("TooFarBehind({oldest})")),
-        Outcome::Stored => said.put("Stored"),
-    }
 }
 
 /// Ends a line with the kept entries.

@@ -2,15 +2,14 @@
 use Rattle.std.proofs.Common.{◌≡◌, ◌⊎◌, ◌<◌, ◌+◌, ℕ, suc, Bool, true, false, cond, eqb, List, [], ◌∷◌, ◌++◌, length, inl, inr, refl, sym, ap, ◌∙◌, subst, append_assoc, append-nil, eq-eqb, arith}
 use Rattle.atomic_table.specs.Seated.{TableId}
 use Rattle.accept.specs.declared.call.Call.{Call}
-use Rattle.accept.specs.declared.call.Reply.{Reply}
 use Rattle.accept.specs.Calls.{AreNumbers}
 use Rattle.accept.specs.declared.history.Ask.{Ask}
 use Rattle.accept.specs.declared.history.Item.{Item}
 use Rattle.disk.specs.Sight.{Sight}
 use Rattle.history.specs.declared.views.About.{About}
 use Rattle.history.specs.declared.views.Caller.{Caller}
-use Rattle.history.specs.Histories.{IsAmong, IsFirstNumber, asks_on, behind_first, of_pass, shard_in}
-use Rattle.history.specs.Plays.{IsRested, ask_of, before_of, announce_to, withdraw_to, collect_to}
+use Rattle.history.specs.Histories.{IsAmong, asks_on, of_pass, shard_in}
+use Rattle.history.specs.Plays.{IsRested, ask_of, before_of, announce_to}
 use Rattle.history.specs.Handles.{Announced, Booked, Passed, Received, AreOf, asks_of}
 use Rattle.history.proofs.Sharding.{shard_below}
 use Rattle.shard.specs.declared.fault.ApplyFault.{ApplyFault}
@@ -304,109 +303,3 @@ pub open_turn : {D : Type 0} (sight : D → Sight) (follows : D → Type 0) (tab
     → IsTurn sight follows t → AreReady t.new.book t.rest → IsOpenRound table t.new.book pass t.rest t.now
 open_turn sight follows table pass t h turn ready =
     gone_open table t.old.book t.new.book pass t.jobs t.rest t.was t.now h (turn_gone sight follows table pass.caller.pass t h.own turn) ready
-
--- One is taken in.
-
-first_number : (a : Ask) (asks more : List Ask) → asks ≡ a ∷ more → IsFirstNumber a.number asks
-first_number a asks more is = subst (IsFirstNumber a.number) (sym is) refl
-
-rested_open : (c : Caller) (a : Ask) (more : List Ask) → c.pending ≡ a ∷ more → (c.pending ≡ []) ⊎ IsRested c → IsRested c
-rested_open c a more is (inl idle) = absurd (suc_not_zero (ap length (sym is ∙ idle)))
-  where
-    suc_not_zero : length (a ∷ more) ≡ 0 → ⊥
-    suc_not_zero e = omega (arith, e)
-rested_open c a more is (inr r) = r
-
--- what a collect asks for
-pub record IsCollectable (table : TableId) (pass : Passed) (receipt : Received) : Type 0 where
-  pub table_is : receipt.table ≡ table
-  pub pass_is : receipt.step.ask.pass ≡ pass.caller.pass
-  pub number : IsFirstNumber receipt.step.ask.number pass.caller.pending
-  pub rested : IsRested pass.caller
-
-pub open_collectable : (table : TableId) (book : Booked) (pass : Passed) (jobs : List Job) (settled rest : List Settled) (reply : Reply) (receipt : Received) → IsOpenRound table book pass jobs settled → settled ≡ Answered reply receipt ∷ rest
-    → IsCollectable table pass receipt
-open_collectable table book pass jobs settled rest reply receipt h is =
-    let first = subst (λ (l : List Settled). AreSettled table pass.caller.pass l) is h.settled_own in
-    let pending = h.pending ∙ ap (λ (l : List Settled). asks_settled l ++ asks_of (tickets_of jobs)) is in
-    record {
-      table_is = first.0.0;
-      pass_is = first.0.1;
-      number = first_number receipt.step.ask pass.caller.pending _ pending;
-      rested = rested_open pass.caller receipt.step.ask _ pending h.rested;
-    }
-
-pub open_collected : (table : TableId) (book : Booked) (pass next : Passed) (jobs : List Job) (settled rest : List Settled) (reply : Reply) (receipt : Received) → IsOpenRound table book pass jobs settled → settled ≡ Answered reply receipt ∷ rest
-    → next ≡ record pass { caller = collect_to pass.caller receipt.step receipt.upto } → IsRested next.caller → IsOpenRound table book next jobs rest
-open_collected table book pass next jobs settled rest reply receipt h is next_is rested =
-    let first = subst (λ (l : List Settled). AreSettled table pass.caller.pass l) is h.settled_own in
-    let pending = h.pending ∙ ap (λ (l : List Settled). asks_settled l ++ asks_of (tickets_of jobs)) is in
-    let same_pass : pass.caller.pass ≡ next.caller.pass = ap (λ (q : Passed). q.caller.pass) (sym next_is) in
-    record {
-      book_table = h.book_table;
-      pass_table = ap (λ (q : Passed). q.table) next_is ∙ h.pass_table;
-      one = h.one;
-      only = h.only;
-      pass_one = ap (λ (q : Passed). q.caller.about.shards) next_is ∙ h.pass_one;
-      pending = ap (λ (q : Passed). q.caller.pending) next_is ∙ ap behind_first pending;
-      rested = inr rested;
-      own = subst (λ (n : ℕ). AreOwn table n (tickets_of jobs)) same_pass h.own;
-      settled_own = subst (λ (n : ℕ). AreSettled table n rest) same_pass first.1;
-      ready = h.ready;
-    }
-
--- what a withdraw asks for
-pub record IsWithdrawable (table : TableId) (pass : Passed) (t : Announced) : Type 0 where
-  pub table_is : t.table ≡ table
-  pub pass_is : (t.ask.pass ≡ pass.caller.pass) × (t.doubted ≡ false)
-  pub number : IsFirstNumber t.ask.number pass.caller.pending
-
-pub open_withdrawable : (table : TableId) (book : Booked) (pass : Passed) (jobs : List Job) (settled rest : List Settled) (fault : ApplyFault) (t : Announced) → IsOpenRound table book pass jobs settled → settled ≡ GivenBack fault t ∷ rest
-    → IsWithdrawable table pass t
-open_withdrawable table book pass jobs settled rest fault t h is =
-    let first = subst (λ (l : List Settled). AreSettled table pass.caller.pass l) is h.settled_own in
-    record {
-      table_is = first.0.0;
-      pass_is = (first.0.1, first.0.2);
-      number = first_number t.ask pass.caller.pending _ (h.pending ∙ ap (λ (l : List Settled). asks_settled l ++ asks_of (tickets_of jobs)) is);
-    }
-
-pub open_withdrawn : (table : TableId) (book : Booked) (pass next : Passed) (jobs : List Job) (settled rest : List Settled) (fault : ApplyFault) (t : Announced) → IsOpenRound table book pass jobs settled → settled ≡ GivenBack fault t ∷ rest
-    → next ≡ record pass { caller = withdraw_to pass.caller t.ask.number } → IsOpenRound table book next jobs rest
-open_withdrawn table book pass next jobs settled rest fault t h is next_is =
-    let first = subst (λ (l : List Settled). AreSettled table pass.caller.pass l) is h.settled_own in
-    let pending = h.pending ∙ ap (λ (l : List Settled). asks_settled l ++ asks_of (tickets_of jobs)) is in
-    let rested = rested_open pass.caller t.ask _ pending h.rested in
-    subst (λ (q : Passed). IsOpenRound table book q jobs rest) (sym next_is) (record {
-      book_table = h.book_table;
-      pass_table = h.pass_table;
-      one = h.one;
-      only = h.only;
-      pass_one = h.pass_one;
-      pending = ap behind_first pending;
-      rested = inr rested;
-      own = h.own;
-      settled_own = first.1;
-      ready = h.ready;
-    })
-
--- No call.
-
-pub open_idle : (table : TableId) (book : Booked) (pass : Passed) (jobs : List Job) (settled : List Settled) → book.table ≡ table → pass.table ≡ table → book.about.shards ≡ 1 → book.shard ≡ 0 → pass.caller.about.shards ≡ 1
-    → pass.caller.pending ≡ [] → jobs ≡ [] → settled ≡ [] → IsOpenRound table book pass jobs settled
-open_idle table book pass jobs settled book_table pass_table one only pass_one idle no_jobs none =
-    subst (λ (z : List Job × List Settled). IsOpenRound table book pass z.0 z.1) (λ i. (sym no_jobs i, sym none i)) (record {
-      book_table = book_table;
-      pass_table = pass_table;
-      one = one;
-      only = only;
-      pass_one = pass_one;
-      pending = idle;
-      rested = inl idle;
-      own = tt;
-      settled_own = tt;
-      ready = record { of_book = tt; lawful = tt; turn = tt };
-    })
-
-pub idle_open : (table : TableId) (book : Booked) (pass : Passed) (jobs : List Job) (settled : List Settled) → IsOpenRound table book pass jobs settled → jobs ≡ [] → settled ≡ [] → pass.caller.pending ≡ []
-idle_open table book pass jobs settled h no_jobs none = nothing_settled table book pass jobs settled h none ∙ ap (λ (l : List Job). asks_of (tickets_of l)) no_jobs

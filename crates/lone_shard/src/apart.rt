@@ -3,7 +3,7 @@ ghost use Rattle.std.specs.Prelude.{◌≡◌, ◌≤◌, IfOk, All};
 ghost use Rattle.lone_shard.specs.Passes.{IsIdlePass, IsSameBook};
 ghost use Rattle.shard.specs.Turns.{AreReady};
 
-use crate::grouped::{Grouped, Turn};
+use crate::grouped::{Grouped, TurnReport};
 use crate::lone::{LoneShard, opened};
 use accept::{Call, Limits};
 use anyhow::{Result, bail};
@@ -18,7 +18,7 @@ use wal::OpenFault;
 const MOST_APART: usize = 63;
 
 impl Grouped {
-    fn of_settled(alloc: Global, settled: Vec<Settled>, turns: Vec<Turn>) -> Result<Grouped> {
+    fn of_settled(alloc: Global, settled: Vec<Settled>, turns: Vec<TurnReport>) -> Result<Grouped> {
         let mut answers = Vec::with_capacity(alloc, settled.len())?;
         for it in settled {
             answers.push(match it {
@@ -46,7 +46,7 @@ fn take_turns<D: Disk>(alloc: Global, shard: &mut Shard<D>, jobs: VecDeque<Job>)
         let before = settled.len();
         let ended = shard.apply_group(alloc, &mut jobs, &mut settled);
         let calls = settled.len().saturating_sub(before);
-        turns.push(Turn { calls, ended })?;
+        turns.push(TurnReport { calls, ended })?;
     }
     Grouped::of_settled(alloc, settled, turns)
 }

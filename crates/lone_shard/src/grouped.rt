@@ -1,7 +1,7 @@
 //! Calls that are made as a group.
 
+use crate::busy_shard::{BusyShard, MOST};
 use crate::lone::LoneShard;
-use crate::round::{MOST, Round};
 use accept::{Call, Reply};
 use anyhow::Result;
 use disk::Disk;
@@ -11,7 +11,7 @@ use std::collections::VecDeque;
 
 /// A turn: how many calls it made, and why it ended.
 #[derive(Clone, Copy)]
-pub struct Turn {
+pub struct TurnReport {
     /// How many calls were made, or came back.
     pub calls: usize,
     /// Why the turn ended.
@@ -24,7 +24,7 @@ pub struct Grouped {
     /// The reply of each call in order, or why it has no step.
     pub answers: Vec<Result<Reply, ApplyFault>>,
     /// The turns in order.
-    pub turns: Vec<Turn>,
+    pub turns: Vec<TurnReport>,
 }
 
 impl Grouped {
@@ -35,32 +35,36 @@ impl Grouped {
         }
     }
 
-    fn take_turn<D: Disk + Drop>(&mut self, alloc: Global, round: &mut Round<D>) -> Result<()> {
+    fn take_turn<D: Disk + Drop>(
+        &mut self,
+        alloc: Global,
+        busy_shard: &mut BusyShard<D>,
+    ) -> Result<()> {
         let before = self.answers.len();
-        let ended = round.turn(alloc)?;
+        let ended = busy_shard.turn(alloc)?;
         for _ in 0..MOST {
-            let Some(answer) = round.take_in() else {
+            let Some(answer) = busy_shard.take_in() else {
                 break;
             };
             self.answers.push(answer)?;
         }
         let calls = self.answers.len().saturating_sub(before);
-        self.turns.push(Turn { calls, ended })?;
+        self.turns.push(TurnReport { calls, ended })?;
         Ok(())
     }
 
     fn take_turns<D: Disk + Drop>(
         &mut self,
         alloc: Global,
-        round: &mut Round<D>,
+        busy_shard: &mut BusyShard<D>,
         calls: &mut VecDeque<Call>,
     ) -> Result<()> {
         for _ in 0..calls.len() {
-            round.announce_all(calls, MOST)?;
-            if round.is_empty() {
+            busy_shard.announce_all(calls, MOST)?;
+            if busy_shard.is_empty() {
                 return Ok(());
             }
-            self.take_turn(alloc, round)?;
+            self.take_turn(alloc, busy_shard)?;
         }
         Ok(())
     }
@@ -78,8 +82,8 @@ impl<D: Disk + Drop> LoneShard<D> {
         calls: &mut VecDeque<Call>,
     ) -> Result<(LoneShard<D>, Grouped)> {
         let mut grouped = Grouped::new(alloc);
-        let mut round = Round::of(alloc, self)?;
-        grouped.take_turns(alloc, &mut round, calls)?;
-        Ok((round.end()?, grouped))
+        let mut busy_shard = BusyShard::of(alloc, self)?;
+        grouped.take_turns(alloc, &mut busy_shard, calls)?;
+        Ok((busy_shard.end()?, grouped))
     }
 }

@@ -2,10 +2,10 @@
 #![tactic(auto)]
 
 mod apart;
+mod busy_shard;
 mod grouped;
 mod lone;
-mod round;
 
-pub use grouped::{Grouped, Turn};
+pub use busy_shard::{BusyShard, MOST};
+pub use grouped::{Grouped, TurnReport};
 pub use lone::LoneShard;
-pub use round::{MOST, Round};

@@ -2,8 +2,8 @@
 use Rattle.std.proofs.Common.{◌≡◌, ◌≤◌, ◌<◌, ◌⊎◌, ℕ, zero, suc, ◌+◌, List, [], ◌∷◌, ◌++◌, length, get_or, take, drop, Bool, true, false, refl, ap, sym, inl, inr, ◌∙◌, arith, max, nat_le}
 use Rattle.std.proofs.lemmas.Bool.{leb-true}
 use Rattle.std.proofs.lemmas.List.{take_more}
-use Rattle.memory_disk.specs.declared.memory.Step.{Step}
-use Rattle.memory_disk.specs.declared.memory.Step.TheVariants.{Wrote, Synced}
+use Rattle.memory_disk.specs.declared.memory.RecordedCall.{RecordedCall}
+use Rattle.memory_disk.specs.declared.memory.RecordedCall.TheVariants.{Wrote, Synced}
 use Rattle.disk.specs.State.{State, Sync, act, over, wrote, state_after, furthest, IsOutside}
 use Rattle.disk.specs.Laws.{length-over}
 use Rattle.memory_disk.specs.Memory.{acts, ranges_after, AreWithin}
@@ -11,13 +11,13 @@ use Rattle.memory_disk.specs.Beginnings.{IsMarked}
 use Rattle.disk.proofs.Ranges.{within_or_not}
 use Rattle.memory_disk.proofs.Steps.{ranges_after-write}
 
-earlier-within : (ranges : List (ℕ × ℕ)) (steps : List Step) (len : ℕ) → AreWithin (ranges_after ranges steps) len → AreWithin ranges len
+earlier-within : (ranges : List (ℕ × ℕ)) (steps : List RecordedCall) (len : ℕ) → AreWithin (ranges_after ranges steps) len → AreWithin ranges len
 earlier-within ranges [] len all = all
 earlier-within ranges ((Wrote at n) ∷ steps) len all = (earlier-within ((at, n) ∷ ranges) steps len all).1
 earlier-within ranges (Synced ∷ steps) len all = earlier-within ranges steps len all
 
 -- a range that was written ends within the length
-pub range-within : (ranges : List (ℕ × ℕ)) (steps : List Step) (j at n len : ℕ) (d : Step) → AreWithin (ranges_after ranges steps) len → j < length steps
+pub range-within : (ranges : List (ℕ × ℕ)) (steps : List RecordedCall) (j at n len : ℕ) (d : RecordedCall) → AreWithin (ranges_after ranges steps) len → j < length steps
     → get_or steps j d ≡ Wrote at n → at + n ≤ len
 range-within ranges [] j at n len d all h is = absurd (omega arith)
 range-within ranges ((Wrote a m) ∷ steps) zero at n len d all h is =
@@ -29,7 +29,7 @@ range-within ranges (Synced ∷ steps) zero at n len d all h is = cc
 range-within ranges ((Wrote a m) ∷ steps) (suc j) at n len d all h is = range-within ((a, m) ∷ ranges) steps j at n len d all (omega arith) is
 range-within ranges (Synced ∷ steps) (suc j) at n len d all h is = range-within ranges steps j at n len d all (omega arith) is
 
-ranges_after-sync : (ranges : List (ℕ × ℕ)) (steps : List Step) → ranges_after ranges (steps ++ Synced ∷ []) ≡ ranges_after ranges steps
+ranges_after-sync : (ranges : List (ℕ × ℕ)) (steps : List RecordedCall) → ranges_after ranges (steps ++ Synced ∷ []) ≡ ranges_after ranges steps
 ranges_after-sync ranges [] = refl
 ranges_after-sync ranges ((Wrote at n) ∷ steps) = ranges_after-sync ((at, n) ∷ ranges) steps
 ranges_after-sync ranges (Synced ∷ steps) = ranges_after-sync ranges steps
@@ -50,19 +50,19 @@ marked-range low at n ranges old new was mark = record {
   ];
 }
 
-pub marked-write : (low at n j : ℕ) (since : List Step) (d : Step) (old new : List Bool) → IsMarked low (ranges_after [] (take j since)) old → Marks at n old new
+pub marked-write : (low at n j : ℕ) (since : List RecordedCall) (d : RecordedCall) (old new : List Bool) → IsMarked low (ranges_after [] (take j since)) old → Marks at n old new
     → j < length since → get_or since j d ≡ Wrote at n → IsMarked low (ranges_after [] (take (j + 1) since)) new
 marked-write low at n j since d old new was mark h is =
     let e : ranges_after [] (take (j + 1) since) ≡ (at, n) ∷ ranges_after [] (take j since)
-    = ap (λ (xs : List Step). ranges_after [] xs) (take_more since j d h ∙ ap (λ (s : Step). take j since ++ s ∷ []) is)
+    = ap (λ (xs : List RecordedCall). ranges_after [] xs) (take_more since j d h ∙ ap (λ (s : RecordedCall). take j since ++ s ∷ []) is)
     ∙ ranges_after-write [] (take j since) at n in
     rw e (marked-range low at n (ranges_after [] (take j since)) old new was mark)
 
-pub marked-sync : (low j : ℕ) (since : List Step) (d : Step) (mask : List Bool) → IsMarked low (ranges_after [] (take j since)) mask
+pub marked-sync : (low j : ℕ) (since : List RecordedCall) (d : RecordedCall) (mask : List Bool) → IsMarked low (ranges_after [] (take j since)) mask
     → j < length since → get_or since j d ≡ Synced → IsMarked low (ranges_after [] (take (j + 1) since)) mask
 marked-sync low j since d mask was h is =
     let e : ranges_after [] (take (j + 1) since) ≡ ranges_after [] (take j since)
-    = ap (λ (xs : List Step). ranges_after [] xs) (take_more since j d h ∙ ap (λ (s : Step). take j since ++ s ∷ []) is)
+    = ap (λ (xs : List RecordedCall). ranges_after [] xs) (take_more since j d h ∙ ap (λ (s : RecordedCall). take j since ++ s ∷ []) is)
     ∙ ranges_after-sync [] (take j since) in
     rw e was
 
@@ -78,7 +78,7 @@ within-wrote s at bytes true e all =
 within-wrote s at bytes false e all = rw e all
 
 -- each range that was written ends within the disk
-pub within-after : (s : State) (steps : List Step) (written : List ℕ) → AreWithin s.ranges (length s.now)
+pub within-after : (s : State) (steps : List RecordedCall) (written : List ℕ) → AreWithin s.ranges (length s.now)
     → AreWithin (state_after s (acts steps written)).ranges (length (state_after s (acts steps written)).now)
 within-after s [] written all = all
 within-after s ((Wrote at n) ∷ steps) written all =

@@ -1,8 +1,8 @@
 -- What a disk in memory keeps over a write and a sync.
 use Rattle.std.proofs.Common.{◌≡◌, ◌≤◌, ℕ, ◌+◌, List, [], ◌∷◌, ◌++◌, length, take, drop, Ok, Err, Result, OnOk, is_err, false, refl, inl, ap, sym, ◌∙◌, arith, length-append}
 use Rattle.std.proofs.lemmas.List.{drop-append-le, length_push, drop_all}
-use Rattle.memory_disk.specs.declared.memory.Step.{Step}
-use Rattle.memory_disk.specs.declared.memory.Step.TheVariants.{Wrote, Synced}
+use Rattle.memory_disk.specs.declared.memory.RecordedCall.{RecordedCall}
+use Rattle.memory_disk.specs.declared.memory.RecordedCall.TheVariants.{Wrote, Synced}
 use Rattle.disk.specs.State.{Act, Write, Sync, State, nothing, act, over, state_after, IsImage, sight_of}
 use Rattle.memory_disk.specs.Memory.{acts, bytes_written, replayed, ranges_after}
 use Rattle.disk.proofs.Acts.{state_after-push}
@@ -27,7 +27,7 @@ looks-same start acts f f' = record {
 }
 
 -- the ghost fields of a disk in memory
-pub record IsRecord (steps : List Step) (written bytes : List ℕ) (synced_steps synced_len : ℕ) : Type 0 where
+pub record IsRecord (steps : List RecordedCall) (written bytes : List ℕ) (synced_steps synced_len : ℕ) : Type 0 where
   pub whole : bytes_written steps ≡ length written
   pub same : (replayed steps written).now ≡ bytes
   pub synced : length (replayed steps written).base ≡ synced_len
@@ -35,17 +35,17 @@ pub record IsRecord (steps : List Step) (written bytes : List ℕ) (synced_steps
   pub since : (replayed steps written).ranges ≡ ranges_after [] (drop synced_steps steps)
 
 -- what one more write makes of the state
-pub replayed-write : (steps : List Step) (written b : List ℕ) (at : ℕ) → bytes_written steps ≡ length written → at ≤ length (replayed steps written).now
+pub replayed-write : (steps : List RecordedCall) (written b : List ℕ) (at : ℕ) → bytes_written steps ≡ length written → at ≤ length (replayed steps written).now
     → replayed (steps ++ Wrote at (length b) ∷ []) (written ++ b) ≡ over (replayed steps written) at (length b) b
 replayed-write steps written b at whole le =
     ap (λ (xs : List Act). state_after nothing xs) (acts-write steps written b at whole)
     ∙ state_after-push nothing (acts steps written) (Write at b) ∙ made (replayed steps written) at (length b) b le
 
-pub replayed-sync : (steps : List Step) (written : List ℕ) → replayed (steps ++ Synced ∷ []) written ≡ act (replayed steps written) Sync
+pub replayed-sync : (steps : List RecordedCall) (written : List ℕ) → replayed (steps ++ Synced ∷ []) written ≡ act (replayed steps written) Sync
 replayed-sync steps written =
     ap (λ (xs : List Act). state_after nothing xs) (acts-sync steps written) ∙ state_after-push nothing (acts steps written) Sync
 
-pub record-write : (steps steps' : List Step) (written written' bytes bytes' b : List ℕ) (k n at : ℕ) → IsRecord steps written bytes k n → at ≤ length bytes
+pub record-write : (steps steps' : List RecordedCall) (written written' bytes bytes' b : List ℕ) (k n at : ℕ) → IsRecord steps written bytes k n → at ≤ length bytes
     → steps' ≡ steps ++ Wrote at (length b) ∷ [] → written' ≡ written ++ b → bytes' ≡ take at bytes ++ b ++ drop (at + length b) bytes
     → IsRecord steps' written' bytes' k n
 record-write steps steps' written written' bytes bytes' b k n at old le es ew eb =
@@ -57,11 +57,11 @@ record-write steps steps' written written' bytes bytes' b k n at old le es ew eb
       synced = ap (λ (s : State). length s.base) there ∙ old.synced;
       within = omega (arith, length_push steps (Wrote at (length b)), old.within);
       since = ap (λ (s : State). s.ranges) there ∙ ap (λ (xs : List (ℕ × ℕ)). (at, length b) ∷ xs) old.since
-          ∙ sym (ap (λ (xs : List Step). ranges_after [] xs) (drop-append-le k steps (Wrote at (length b) ∷ []) old.within)
+          ∙ sym (ap (λ (xs : List RecordedCall). ranges_after [] xs) (drop-append-le k steps (Wrote at (length b) ∷ []) old.within)
           ∙ ranges_after-write [] (drop k steps) at (length b));
     })
 
-pub record-sync : (steps steps' : List Step) (written bytes : List ℕ) (k n k' n' : ℕ) → IsRecord steps written bytes k n
+pub record-sync : (steps steps' : List RecordedCall) (written bytes : List ℕ) (k n k' n' : ℕ) → IsRecord steps written bytes k n
     → steps' ≡ steps ++ Synced ∷ [] → k' ≡ length steps' → n' ≡ length bytes → IsRecord steps' written bytes k' n'
 record-sync steps steps' written bytes k n k' n' old es ek en =
     let there : replayed (steps ++ Synced ∷ []) written ≡ act (replayed steps written) Sync = replayed-sync steps written in
@@ -71,11 +71,11 @@ record-sync steps steps' written bytes k n k' n' old es ek en =
       synced = ap (λ (s : State). length s.base) there ∙ ap length old.same;
       within = omega arith;
       since = ap (λ (s : State). s.ranges) there
-          ∙ sym (ap (λ (xs : List Step). ranges_after [] xs) (drop_all (length (steps ++ Synced ∷ [])) (steps ++ Synced ∷ []) (omega arith)));
+          ∙ sym (ap (λ (xs : List RecordedCall). ranges_after [] xs) (drop_all (length (steps ++ Synced ∷ [])) (steps ++ Synced ∷ []) (omega arith)));
     })
 
 -- what a recorded write does to a disk
-pub memory-write : (steps steps' : List Step) (written written' b : List ℕ) (at : ℕ) → bytes_written steps ≡ length written
+pub memory-write : (steps steps' : List RecordedCall) (written written' b : List ℕ) (at : ℕ) → bytes_written steps ≡ length written
     → (steps' ≡ steps ++ Wrote at (length b) ∷ []) × (written' ≡ written ++ b)
     → acts steps' written' ≡ acts steps written ++ Write at b ∷ []
 memory-write steps steps' written written' b at whole es = rw (es.0, es.1) (acts-write steps written b at whole)
@@ -91,7 +91,7 @@ memory-idle old new at n f f' e = rw e (record {
   crash = λ c image. (c, image, record { before = refl; after = refl; no_shorter = omega arith; no_longer = omega arith });
 })
 
-pub memory-sync : (steps steps' : List Step) (written written' : List ℕ) → (steps' ≡ steps ++ Synced ∷ []) × (written' ≡ written)
+pub memory-sync : (steps steps' : List RecordedCall) (written written' : List ℕ) → (steps' ≡ steps ++ Synced ∷ []) × (written' ≡ written)
     → acts steps' written' ≡ acts steps written ++ Sync ∷ []
 memory-sync steps steps' written written' es = rw (es.0, es.1) (acts-sync steps written)
 

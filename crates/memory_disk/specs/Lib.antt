@@ -1,6 +1,6 @@
 pub mod Images
 pub mod Beginnings
 pub mod GateDisk
-pub mod Plan
+pub mod FaultPlan
 pub mod Memory
 pub mod MemDisk

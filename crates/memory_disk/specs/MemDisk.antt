@@ -6,7 +6,7 @@ use Rattle.disk.specs.Sight.{Sight}
 use Rattle.disk.specs.State.{Act, Write, State, nothing, state_after, sight_of}
 use Rattle.disk.specs.Laws.{now_counts, just_now, always_sound, sound_nothing}
 use Rattle.memory_disk.specs.Memory.{acts}
-use Rattle.memory_disk.specs.Plan.{IsAsked}
+use Rattle.memory_disk.specs.FaultPlan.{IsAsked}
 
 -- the writes and syncs that it recorded, the first one first
 abbrev pub recorded : MemDisk → List Act

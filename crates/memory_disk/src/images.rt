@@ -5,7 +5,7 @@ ghost use Rattle.memory_disk.specs.Images.{contents};
 ghost use Rattle.memory_disk.specs.Beginnings.{IsMarked, open_bytes, each_longer, of_lengths};
 ghost use Rattle.memory_disk.specs.declared.images.ImagesFault.TheVariants.{Memory};
 
-use crate::memory::Step;
+use crate::memory::RecordedCall;
 use std::alloc::{AllocError, Global};
 use thiserror::Error;
 
@@ -67,7 +67,7 @@ pub(crate) fn unsynced(
     alloc: Global,
     len: usize,
     synced_len: usize,
-    since: &[Step],
+    since: &[RecordedCall],
 ) -> Result<Vec<bool>, AllocError>
     requires synced { synced_len ≤ len }
     requires within { AreWithin (ranges_after [] since.now) len }
@@ -78,8 +78,8 @@ pub(crate) fn unsynced(
     mark(&mut mask, synced_len, len - synced_len);
     for step in since {
         match *step {
-            Step::Wrote { at, len } => mark(&mut mask, at, len),
-            Step::Synced => {}
+            RecordedCall::Wrote { at, len } => mark(&mut mask, at, len),
+            RecordedCall::Synced => {}
         }
     }
     Ok(mask)

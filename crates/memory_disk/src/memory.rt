@@ -3,17 +3,17 @@ ghost use Rattle.std.specs.Vec.{vec_capacity};
 ghost use Rattle.disk.specs.Sight.{Holds, Reads, Writes, Looks, IsSynced, Counts};
 ghost use Rattle.disk.specs.State.{Write, Sync};
 ghost use Rattle.memory_disk.specs.Memory.{acts, bytes_written, replayed, ranges_after};
-ghost use Rattle.memory_disk.specs.declared.memory.Step.TheVariants.{Wrote, Synced};
+ghost use Rattle.memory_disk.specs.declared.memory.RecordedCall.TheVariants.{Wrote, Synced};
 
 use crate::ImagesFault;
 use crate::images::{all_contents, number_of, unique, unsynced, within_cap};
-use crate::plan::Plan;
+use crate::plan::FaultPlan;
 use disk::{DeviceFault, Disk, failed};
 use std::alloc::{AllocError, Global};
 
 /// A call that a disk in memory recorded.
 #[derive(Clone, Copy)]
-pub(crate) enum Step {
+pub(crate) enum RecordedCall {
     Wrote { at: usize, len: usize },
     Synced,
 }
@@ -21,7 +21,7 @@ pub(crate) enum Step {
 /// A disk in memory that always follows the model. It records each write and sync, and can list what a crash may leave.
 #[derive(Drop)]
 pub struct MemDisk {
-    steps: Vec<Step>,
+    steps: Vec<RecordedCall>,
     written: Vec<u8>,
     bytes: Vec<u8>,
     // How many steps there were up to the last sync, and how long the disk was then.
@@ -29,7 +29,7 @@ pub struct MemDisk {
     synced_len: usize,
     calls: u64,
     failures: u64,
-    plan: Plan,
+    plan: FaultPlan,
     ghost whole: { bytes_written steps.items ≡ length written.items },
     ghost same: { (replayed steps.items written.items).now ≡ bytes.items },
     ghost synced: { length (replayed steps.items written.items).base ≡ synced_len },
@@ -79,7 +79,7 @@ impl MemDisk {
             synced_len: 0,
             calls: 0,
             failures: 0,
-            plan: Plan::Works,
+            plan: FaultPlan::Works,
         })
     }
 
@@ -96,7 +96,7 @@ impl MemDisk {
         ensures plan { (k : ℕ) → (WillFail self.new k) ↔ (k ≡ n) }
         ensures same { IsSameDisk self.old self.new }
     {
-        self.plan = Plan::FailsIn(n);
+        self.plan = FaultPlan::FailsIn(n);
     }
 
     /// Makes the `n`th trait call from now and all later ones fail, where the next is 1. An earlier request is
@@ -105,7 +105,7 @@ impl MemDisk {
         ensures plan { (k : ℕ) → (WillFail self.new k) ↔ (n ≤ k) }
         ensures same { IsSameDisk self.old self.new }
     {
-        self.plan = Plan::StopsIn(n);
+        self.plan = FaultPlan::StopsIn(n);
     }
 
     /// Lists each content that a crash may leave now, once, with unsynced bytes drawn from `values`. A byte is unsynced
@@ -158,7 +158,7 @@ impl MemDisk {
         self.written.reserve(len)?;
         overwrite(&mut self.bytes, at, bytes)?;
         self.written.extend_from_slice(bytes).unwrap();
-        self.steps.push(Step::Wrote { at, len }).unwrap();
+        self.steps.push(RecordedCall::Wrote { at, len }).unwrap();
         Ok(())
     }
 
@@ -172,7 +172,7 @@ impl MemDisk {
         ensures room { KeepsRoom 1 0 self.old self.new }
         ensures fits { HasRoom self.old 0 1 0 → IsOk result }
     {
-        self.steps.push(Step::Synced)?;
+        self.steps.push(RecordedCall::Synced)?;
         self.synced_steps = self.steps.len();
         self.synced_len = self.bytes.len();
         Ok(())

@@ -2,7 +2,7 @@ ghost use Rattle.std.specs.Prelude.{ℕ, ◌<◌, ◌+◌, ◌↔◌, IsTrue};
 
 /// Which of the next calls are to fail.
 #[derive(Clone, Copy)]
-pub(crate) enum Plan {
+pub(crate) enum FaultPlan {
     Works,
     /// The one with this number, where the next is 1.
     FailsIn(u64),
@@ -10,8 +10,8 @@ pub(crate) enum Plan {
     StopsIn(u64),
 }
 
-impl Plan {
-    ghost use Rattle.memory_disk.specs.Plan.{IsAsked};
+impl FaultPlan {
+    ghost use Rattle.memory_disk.specs.FaultPlan.{IsAsked};
 
     /// Goes on to the next call, and says whether it is to fail.
     pub(crate) fn next_fails(&mut self) -> bool
@@ -19,18 +19,18 @@ impl Plan {
         ensures later { (k : ℕ) → 0 < k → (IsAsked self.new k ↔ IsAsked self.old (k + 1)) }
     {
         match *self {
-            Plan::Works => false,
-            Plan::FailsIn(n) => {
+            FaultPlan::Works => false,
+            FaultPlan::FailsIn(n) => {
                 *self = if n > 1 {
-                    Plan::FailsIn(n - 1)
+                    FaultPlan::FailsIn(n - 1)
                 } else {
-                    Plan::Works
+                    FaultPlan::Works
                 };
                 n == 1
             }
-            Plan::StopsIn(n) => {
+            FaultPlan::StopsIn(n) => {
                 if n > 1 {
-                    *self = Plan::StopsIn(n - 1);
+                    *self = FaultPlan::StopsIn(n - 1);
                 }
                 n <= 1
             }

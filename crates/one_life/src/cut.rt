@@ -68,10 +68,10 @@ pub fn cut_turn<D: Disk>(
     )
 }
 
-/// Opens two shards with two passes. Each pass has a call answered, by a turn of a shard of its own, and they meet. Then
-/// the first pass announces a further call, and the first shard makes a turn at it, at any moment of which a crash may
-/// come. The first call and the last are of the first shard, and the other one is of the second. What is left then is a
-/// life of an opening.
+/// Opens two shards with two passes. Each pass has a call answered, by a turn of a shard of its own, and they meet.
+/// Then the first pass announces a further call, and the first shard makes a turn at it, at any moment of which a
+/// crash may come. The first call and the last are of the first shard, and the other one is of the second. What is
+/// left then is a life of an opening.
 ///
 /// `None` if a device failed or memory ran out, or if the slots are refused.
 pub fn cut_once<D: Disk + Drop>(

@@ -62,13 +62,6 @@ module _ {D : Type 0} (sight : D → Sight) (follows : D → Type 0) where
             subst (λ n. IsTried sight follows (owner_of n count) capacity (slots_in (slice_index_or old i d)) (slice_index_or new i d)) there (h (suc i) d (omega arith))),
       )
 
-  -- as many places as shards
-  pub tried_length : (count capacity k : ℕ) (all : List (List D)) (places : List (Place D)) → AreTried sight follows count capacity k all places → length places ≡ length all
-  tried_length count capacity k [] [] h = refl
-  tried_length count capacity k [] (place ∷ places) h = absurd h
-  tried_length count capacity k (given ∷ all) [] h = absurd h
-  tried_length count capacity k (given ∷ all) (place ∷ places) h = ap suc (tried_length count capacity (k + 1) all places h.1)
-
   -- the slots of a shard that was tried are there, and nothing was written
   tried_back : (whose : Owner) (capacity : ℕ) (given : List D) (place : Place D) → IsTried sight follows whose capacity given place
       → AreSlotsThere place × IsReturned sight follows given (slots_in place)

@@ -1,5 +1,5 @@
 //! What becomes of a shard's slots.
-ghost use Rattle.std.specs.Prelude.{◌≡◌, ◌<◌, ◌≤◌, ◌*◌, ◌^◌, ◌∷◌, []};
+ghost use Rattle.std.specs.Prelude.{◌≡◌, ◌<◌, ◌≤◌, ◌*◌, ◌^◌};
 ghost use Rattle.std.specs.Mem.{type_size};
 ghost use Rattle.labels.specs.Shards.{max_shards};
 ghost use Rattle.segment.specs.Segments.{owner_of};
@@ -11,7 +11,7 @@ use disk::Disk;
 use segment_reader::ReadBlocks;
 use std::alloc::Global;
 use std::mem;
-use wal::{OpenFault, Wal};
+use wal::{OpenFault, Wal, both};
 
 // The slots of a shard, and what became of them. While a thread opens them they are out.
 #[derive(Drop)]
@@ -20,14 +20,6 @@ pub(crate) enum Place<D: Disk + Drop> {
     Out,
     Opened(Wal<D>, Image),
     Refused(OpenFault, D, D),
-}
-
-// Slot 0 and slot 1.
-fn both<D>(slots: [D; 2]) -> (D, D)
-    ensures { slots ≡ result.0 ∷ result.1 ∷ [] }
-{
-    let [first, second] = slots;
-    (first, second)
 }
 
 // A place for the slots of a shard.

@@ -38,8 +38,8 @@ module _ {A : Type 0} (meets : ℕ → A → Type 0) where
       subst (AreEach meets 0) (sym e) (each_more 0 xs x h (subst (λ (m : ℕ). meets m x) z is))
 
   -- one value changed, of values by their numbers
-  pub ways_set : (xs : List A) (at : ℕ) (now : A) → at < length xs → ((k : ℕ) (x : A) → slice_get xs k ≡ Some x → meets k x) → meets at now → (k : ℕ) (x : A) → slice_get (slice_set xs at now) k ≡ Some x → meets k x
-  ways_set xs at now lt all is k x e = ⊎_elim
+  pub routes_set : (xs : List A) (at : ℕ) (now : A) → at < length xs → ((k : ℕ) (x : A) → slice_get xs k ≡ Some x → meets k x) → meets at now → (k : ℕ) (x : A) → slice_get (slice_set xs at now) k ≡ Some x → meets k x
+  routes_set xs at now lt all is k x e = ⊎_elim
       (λ (same : k ≡ at).
       let mine : x ≡ now = sym (get_or_from_slice_get (slice_set xs at now) k x now e) ∙ ap (λ (n : ℕ). get_or (slice_set xs at now) n now) same ∙ get_or-set_same xs at now now lt in
       subst (λ (z : ℕ × A). meets z.0 z.1) (λ i. (sym same i, sym mine i)) is)
@@ -51,8 +51,8 @@ module _ {A : Type 0} (meets : ℕ → A → Type 0) where
       (cases_eq k at)
 
   -- what was done to the first values, and what the others still meet
-  pub ways_done : (did : ℕ → A → Type 0) (xs : List A) (at : ℕ) (now : A) → at < length xs → ((k : ℕ) (x : A) → slice_get xs k ≡ Some x → (k < at → did k x) × (at ≤ k → meets k x)) → did at now → (k : ℕ) (x : A) → slice_get (slice_set xs at now) k ≡ Some x → (k < at + 1 → did k x) × (at + 1 ≤ k → meets k x)
-  ways_done did xs at now lt all is k x e = ⊎_elim
+  pub routes_done : (did : ℕ → A → Type 0) (xs : List A) (at : ℕ) (now : A) → at < length xs → ((k : ℕ) (x : A) → slice_get xs k ≡ Some x → (k < at → did k x) × (at ≤ k → meets k x)) → did at now → (k : ℕ) (x : A) → slice_get (slice_set xs at now) k ≡ Some x → (k < at + 1 → did k x) × (at + 1 ≤ k → meets k x)
+  routes_done did xs at now lt all is k x e = ⊎_elim
       (λ (same : k ≡ at).
       let mine : x ≡ now = sym (get_or_from_slice_get (slice_set xs at now) k x now e) ∙ ap (λ (n : ℕ). get_or (slice_set xs at now) n now) same ∙ get_or-set_same xs at now now lt in
       ((λ _. subst (λ (z : ℕ × A). did z.0 z.1) (λ i. (sym same i, sym mine i)) is), (λ (le : at + 1 ≤ k). absurd (omega arith))))
@@ -65,22 +65,22 @@ module _ {A : Type 0} (meets : ℕ → A → Type 0) where
       (cases_eq k at)
 
   -- so it is where nothing was to do
-  pub ways_kept : (did : ℕ → A → Type 0) (xs : List A) (at : ℕ) → ((k : ℕ) (x : A) → slice_get xs k ≡ Some x → (k < at → did k x) × (at ≤ k → meets k x)) → ((k : ℕ) (x : A) → meets k x → did k x) → (k : ℕ) (x : A) → slice_get xs k ≡ Some x → (k < at + 1 → did k x) × (at + 1 ≤ k → meets k x)
-  ways_kept did xs at all is k x e = let was = all k x e in ⊎_elim
+  pub routes_kept : (did : ℕ → A → Type 0) (xs : List A) (at : ℕ) → ((k : ℕ) (x : A) → slice_get xs k ≡ Some x → (k < at → did k x) × (at ≤ k → meets k x)) → ((k : ℕ) (x : A) → meets k x → did k x) → (k : ℕ) (x : A) → slice_get xs k ≡ Some x → (k < at + 1 → did k x) × (at + 1 ≤ k → meets k x)
+  routes_kept did xs at all is k x e = let was = all k x e in ⊎_elim
       (λ (same : k ≡ at). ((λ _. is k x (was.1 (omega arith))), (λ (le : at + 1 ≤ k). absurd (omega arith))))
       (λ (ne : k ≢ at). ((λ (under : k < at + 1). was.0 (omega arith)), (λ (le : at + 1 ≤ k). was.1 (omega arith))))
       (cases_eq k at)
 
   -- and in the end
-  pub ways_all : (did : ℕ → A → Type 0) (xs : List A) (at : ℕ) → length xs ≡ at → ((k : ℕ) (x : A) → slice_get xs k ≡ Some x → (k < at → did k x) × (at ≤ k → meets k x)) → (k : ℕ) (x : A) → slice_get xs k ≡ Some x → did k x
-  ways_all did xs at len all k x e = let within = slice_get_within xs k x e in (all k x e).0 (omega arith)
+  pub routes_all : (did : ℕ → A → Type 0) (xs : List A) (at : ℕ) → length xs ≡ at → ((k : ℕ) (x : A) → slice_get xs k ≡ Some x → (k < at → did k x) × (at ≤ k → meets k x)) → (k : ℕ) (x : A) → slice_get xs k ≡ Some x → did k x
+  routes_all did xs at len all k x e = let within = slice_get_within xs k x e in (all k x e).0 (omega arith)
 
-  pub ways_begin : (did : ℕ → A → Type 0) (xs : List A) → ((k : ℕ) (x : A) → slice_get xs k ≡ Some x → meets k x) → (k : ℕ) (x : A) → slice_get xs k ≡ Some x → (k < 0 → did k x) × (0 ≤ k → meets k x)
-  ways_begin did xs all k x e = ((λ (lt : k < 0). absurd (omega arith)), (λ _. all k x e))
+  pub routes_begin : (did : ℕ → A → Type 0) (xs : List A) → ((k : ℕ) (x : A) → slice_get xs k ≡ Some x → meets k x) → (k : ℕ) (x : A) → slice_get xs k ≡ Some x → (k < 0 → did k x) × (0 ≤ k → meets k x)
+  routes_begin did xs all k x e = ((λ (lt : k < 0). absurd (omega arith)), (λ _. all k x e))
 
   -- one value more, of values by their numbers
-  pub ways_next : (xs now : List A) (y : A) (n : ℕ) → length xs ≡ n → now ≡ xs ++ y ∷ [] → ((k : ℕ) (x : A) → slice_get xs k ≡ Some x → meets k x) → meets n y → (k : ℕ) (x : A) → slice_get now k ≡ Some x → meets k x
-  ways_next xs now y n len e all is k x found = ⊎_elim
+  pub routes_next : (xs now : List A) (y : A) (n : ℕ) → length xs ≡ n → now ≡ xs ++ y ∷ [] → ((k : ℕ) (x : A) → slice_get xs k ≡ Some x → meets k x) → meets n y → (k : ℕ) (x : A) → slice_get now k ≡ Some x → meets k x
+  routes_next xs now y n len e all is k x found = ⊎_elim
       (λ (same : k ≡ n).
       let there : slice_get (xs ++ y ∷ []) (length xs) ≡ Some x = ap (slice_get (xs ++ y ∷ [])) (len ∙ sym same) ∙ (ap (λ l. slice_get l k) (sym e) ∙ found) in
       let mine : Some y ≡ Some x = sym (get_last xs y) ∙ there in

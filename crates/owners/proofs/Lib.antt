@@ -1,7 +1,7 @@
 pub mod Turning
 pub mod Waiting
 pub mod Each
-pub mod Desking
-pub mod Seeding
+pub mod MailboxSteps
+pub mod QueueSteps
 pub mod Sent
 pub mod Loading

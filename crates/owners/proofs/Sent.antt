@@ -1,5 +1,5 @@
--- What an owner has may go to its thread, where its disks may; and threads share the ways of passes and the ends by which
--- shards come back.
+-- What an owner has may go to its thread, where its disks may; and threads share the routes of passes and the ends by
+-- which shards come back.
 use denote.RattleType.{RattleType}
 use denote.Param.Send.{IsSend, AllSend, recorded_send, struct_send, view_send, sendable}
 use denote.Struct.Declared as declared
@@ -13,12 +13,12 @@ use Rattle.disk.specs.declared.device.Disk as disk
 use Rattle.keyed.proofs.ends.QueueReceiver.TheSendSync as queue_receiver
 use Rattle.keyed.proofs.ends.QueueSender.TheSendSync as queue_sender
 use Rattle.shard.proofs.Sent.{shard_send}
-use Rattle.owners.proofs.desk.Desk.TheSendSync as desk
-use Rattle.owners.proofs.letters.Letter.TheSendSync as letter
-use Rattle.owners.proofs.letters.Order.TheSendSync as order
-use Rattle.owners.specs.contracts.owning.Ends as ends
-use Rattle.owners.specs.contracts.owning.Owner as owner
-use Rattle.owners.specs.contracts.owning.Owner.TheInside as inside
+use Rattle.owners.proofs.mailbox.Mailbox.TheSendSync as mailbox
+use Rattle.owners.proofs.messages.ShardMessage.TheSendSync as message
+use Rattle.owners.proofs.messages.Order.TheSendSync as order
+use Rattle.owners.specs.contracts.owning.OwnerEnds as ends
+use Rattle.owners.specs.contracts.owning.OwnerThread as owner
+use Rattle.owners.specs.contracts.owning.OwnerThread.TheInside as inside
 use Rattle.owners.specs.contracts.team.Start as start
 
 ends_fields : (D : RattleType) (g : disk.Ghosts D.Denot) → IsSend D → AllSend (declared.fields (ends.the_type D g))
@@ -27,10 +27,10 @@ ends_fields D g s = let one = shard_send D g s in (
   (
     search (sendable, crosses, order.the_send, queue_receiver.the_field_send) depth 40,
     (
-      search (sendable, crosses, letter.the_send, queue_sender.the_field_send) depth 40,
+      search (sendable, crosses, message.the_send, queue_sender.the_field_send) depth 40,
       (
         search (sendable, crosses, one, queue_sender.the_field_send) depth 40,
-        (desk.the_field_send, tt),
+        (mailbox.the_field_send, tt),
       ),
     ),
   ),

@@ -3,10 +3,10 @@ pub mod Openings
 pub mod Places
 pub mod Lists
 pub mod Calls
-pub mod Letters
-pub mod Desks
+pub mod Messages
+pub mod Mailboxes
 pub mod Bonds
 pub mod Owners
-pub mod Ways
-pub mod Seeds
+pub mod Routes
+pub mod QueueEnds
 pub mod Plans

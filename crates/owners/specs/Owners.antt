@@ -7,28 +7,29 @@ use Rattle.keyed.specs.declared.binding.Binding.TheVariants.{Bound}
 use Rattle.shard.specs.Shards.{Sharded}
 use Rattle.owners.specs.Openings.{Opening, home_of}
 use Rattle.owners.specs.Places.{IsOf}
-use Rattle.owners.specs.declared.owning.Ends.{Ends}
-use Rattle.owners.specs.Desks.{IsDesk}
+use Rattle.owners.specs.declared.owning.OwnerEnds.{OwnerEnds}
+use Rattle.owners.specs.Mailboxes.{IsMailbox}
 use Rattle.owners.specs.Lists.{AreEach}
 use Rattle.owners.specs.Bonds.{AreBoundFrom}
 
--- the ends of shard k of the opening, and its desk, on which no call is
-pub record HasEnds {D : Type 0} (k : ℕ) (ends : Ends D) : Type 0 where
+-- the ends of shard k of the opening, and its mailbox, in which no call is
+pub record HasEnds {D : Type 0} (k : ℕ) (ends : OwnerEnds D) : Type 0 where
   pub gets : receives_as ends.orders ≡ Bound (home_of ends.origin) k
   pub sends : AreBoundFrom (home_of ends.origin) ends.answers.items
   pub returns : sends_to ends.back ≡ Bound ends.origin k
-  pub at_desk : IsDesk (home_of ends.origin) k ends.desk
-  pub idle : deque_len ends.desk.jobs ≡ 0
+  pub at_mailbox : IsMailbox (home_of ends.origin) k ends.mailbox
+  pub idle : deque_len ends.mailbox.jobs ≡ 0
 
 -- the same, of this opening
-abbrev pub HasEndsOf : {D : Type 0} → Opening D → ℕ → Ends D → Type 0
+abbrev pub HasEndsOf : {D : Type 0} → Opening D → ℕ → OwnerEnds D → Type 0
 HasEndsOf opening k ends = HasEnds k ends × (ends.origin ≡ opening)
 
 -- so has each shard, by its number
-abbrev pub AreEnds : {D : Type 0} → Opening D → List (Ends D) → Type 0
+abbrev pub AreEnds : {D : Type 0} → Opening D → List (OwnerEnds D) → Type 0
 AreEnds opening = AreEach (HasEndsOf opening) 0
 
 -- the same, and the shard is that of the opening
-pub record IsOwner {D : Type 0} (sight : D → Sight) (follows : D → Type 0) (k : ℕ) (state : Sharded D) (ends : Ends D) : Type 0 where
+pub record IsOwner {D : Type 0} (sight : D → Sight) (follows : D → Type 0) (k : ℕ) (state : Sharded D)
+    (ends : OwnerEnds D) : Type 0 where
   pub has_ends : HasEnds k ends
   pub is_of : IsOf sight follows ends.origin k state

@@ -7,7 +7,7 @@ use Rattle.keyed.specs.declared.ends.QueueReceiver.{QueueReceiver}
 use Rattle.owners.specs.Openings.{Opening, home_of}
 use Rattle.owners.specs.Bonds.{ReceiveFrom}
 use Rattle.owners.specs.Owners.{AreEnds}
-use Rattle.owners.specs.Seeds.{AreRows}
+use Rattle.owners.specs.QueueEnds.{AreRows}
 use Rattle.owners.specs.declared.plan.Closer.{Closer}
 use Rattle.owners.specs.declared.plan.Plan.{Plan}
 

@@ -8,7 +8,7 @@ ghost use Rattle.owners.specs.Lists.{AreEach};
 ghost use Rattle.owners.specs.Owners.{AreEnds, HasEndsOf};
 ghost use Rattle.owners.specs.Places.{IsOf, IsShardAt, AreShardsOf};
 
-use crate::owning::{BackIn, Ends, Owner};
+use crate::owning::{OwnerEnds, OwnerThread, ShardReceiver};
 use crate::team::Team;
 use disk::Disk;
 use shard::Shard;
@@ -21,8 +21,8 @@ fn next_owner<D: Disk + Drop>(
     alloc: Global,
     number: usize,
     shards: &mut VecDeque<Option<Shard<D>>>,
-    all_ends: &mut VecDeque<Ends<D>>,
-) -> Owner<D>
+    all_ends: &mut VecDeque<OwnerEnds<D>>,
+) -> OwnerThread<D>
     requires opening { (opening : Opening D)
         × AreEach (IsShardAt D.sight D.follows opening) number shards.old.items
         × AreEach (HasEndsOf opening) number all_ends.old.items }
@@ -44,7 +44,7 @@ fn next_owner<D: Disk + Drop>(
         unreachable!()
     };
     let Some(state) = place else { unreachable!() };
-    Owner {
+    OwnerThread {
         alloc,
         number,
         state,
@@ -58,7 +58,7 @@ pub fn hand_all<D: Disk + Drop, R: Wait>(
     alloc: Global,
     mut team: Team<D>,
     shards: Vec<Option<Shard<D>>>,
-    mut all_ends: VecDeque<Ends<D>>,
+    mut all_ends: VecDeque<OwnerEnds<D>>,
 )
     requires opening { (opening : Opening D) × AreShardsOf D.sight D.follows opening shards.items
         × AreEnds opening all_ends.items }
@@ -72,7 +72,7 @@ pub fn hand_all<D: Disk + Drop, R: Wait>(
 }
 
 /// Waits until the shard comes back by this end.
-pub fn take_shard<D: Disk + Drop, R: Wait>(rt: &R, back: &mut BackIn<D>) -> Shard<D>
+pub fn take_shard<D: Disk + Drop, R: Wait>(rt: &R, back: &mut ShardReceiver<D>) -> Shard<D>
     ensures shard { (opening : Opening D) (k : ℕ) → receives_as back.old ≡ Bound opening k
         → IsOf D.sight D.follows opening k result }
     ensures same { receives_as back.new ≡ receives_as back.old }

@@ -1,14 +1,14 @@
-//! How all calls of a desk are made at their shard.
+//! How all calls of a mailbox are made at their shard.
 ghost use Rattle.std.specs.Prelude.{◌≡◌, ◌≤◌, [], vec_capacity};
 ghost use Rattle.std.specs.VecDeque.{deque_len};
 ghost use Rattle.owners.specs.Homes.{Homed};
 ghost use Rattle.owners.specs.Calls.{AreOfCalls, with_memory};
 ghost use Rattle.owners.specs.Places.{IsOf};
-ghost use Rattle.owners.specs.Desks.{max_desk, ArePlaces, IsDesk};
+ghost use Rattle.owners.specs.Mailboxes.{max_mailbox, ArePlaces, IsMailbox};
 ghost use Rattle.owners.specs.Openings.{Opening, home_of};
 
-use crate::desk::{Desk, put};
-use crate::letters::Letter;
+use crate::mailbox::{Mailbox, put};
+use crate::messages::ShardMessage;
 use disk::Disk;
 use shard::{ApplyFault, Settled, Shard};
 use std::alloc::Global;
@@ -26,8 +26,8 @@ fn after_another(settled: Settled) -> Settled
     }
 }
 
-// Puts what a turn made of calls into the letters of their passes, and gives the list back.
-fn hand_out(settled: Vec<Settled>, places: &mut Vec<Option<Letter>>) -> Vec<Settled>
+// Puts what a turn made of calls into the messages of their passes, and gives the list back.
+fn hand_out(settled: Vec<Settled>, places: &mut Vec<Option<ShardMessage>>) -> Vec<Settled>
     ensures places { (home : Homed) → AreOfCalls home.table settled.items → ArePlaces home places.old.items
         → ArePlaces home places.new.items }
     ensures none { result.items ≡ [] }
@@ -44,25 +44,25 @@ fn hand_out(settled: Vec<Settled>, places: &mut Vec<Option<Letter>>) -> Vec<Sett
     came.into_vec()
 }
 
-/// Makes all calls of the desk by turns, and puts what became of them into the letters of their passes.
-pub(crate) fn make_all<D: Disk + Drop>(alloc: Global, state: &mut Shard<D>, desk: &mut Desk)
+/// Makes all calls of the mailbox by turns, and puts what became of them into the messages of their passes.
+pub(crate) fn make_all<D: Disk + Drop>(alloc: Global, state: &mut Shard<D>, mailbox: &mut Mailbox)
     requires opening { (opening : Opening D)
         × IsOf D.sight D.follows opening state.old.book.shard state.old
-        × IsDesk (home_of opening) state.old.book.shard desk.old }
-    requires few { deque_len desk.old.jobs ≤ max_desk }
+        × IsMailbox (home_of opening) state.old.book.shard mailbox.old }
+    requires few { deque_len mailbox.old.jobs ≤ max_mailbox }
     ensures state { (opening : Opening D)
         → IsOf D.sight D.follows opening state.old.book.shard state.old
-        → IsDesk (home_of opening) state.old.book.shard desk.old
+        → IsMailbox (home_of opening) state.old.book.shard mailbox.old
         → IsOf D.sight D.follows opening state.old.book.shard state.new }
-    ensures desk { (opening : Opening D)
+    ensures mailbox { (opening : Opening D)
         → IsOf D.sight D.follows opening state.old.book.shard state.old
-        → IsDesk (home_of opening) state.old.book.shard desk.old
-        → IsDesk (home_of opening) state.old.book.shard desk.new }
-    ensures made { (desk.new.jobs.items ≡ []) × (deque_len desk.new.jobs ≡ 0) }
+        → IsMailbox (home_of opening) state.old.book.shard mailbox.old
+        → IsMailbox (home_of opening) state.old.book.shard mailbox.new }
+    ensures made { (mailbox.new.jobs.items ≡ []) × (deque_len mailbox.new.jobs ≡ 0) }
 {
-    while !desk.jobs.is_empty() {
-        state.apply_group(alloc, &mut desk.jobs, &mut desk.settled);
-        let settled = mem::replace(&mut desk.settled, Vec::new(alloc));
-        desk.settled = hand_out(settled, &mut desk.letters);
+    while !mailbox.jobs.is_empty() {
+        state.apply_group(alloc, &mut mailbox.jobs, &mut mailbox.settled);
+        let settled = mem::replace(&mut mailbox.settled, Vec::new(alloc));
+        mailbox.settled = hand_out(settled, &mut mailbox.messages);
     }
 }

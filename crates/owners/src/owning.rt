@@ -1,8 +1,8 @@
 //! A thread that owns a shard.
-use crate::desk::Desk;
-use crate::letters::{Answers, Ending, OrdersIn};
+use crate::mailbox::Mailbox;
 use crate::making::make_all;
-use crate::places::{OfOpening, Origin};
+use crate::messages::{AnswerSender, ExitReason, OrderReceiver};
+use crate::places::{OfOpening, OpeningSnapshot};
 use crate::sending::send_all;
 use crate::taking::take_group;
 use disk::Disk;
@@ -13,31 +13,31 @@ use std::marker::Model;
 use std::sync::Wait;
 
 /// How a shard comes back from its owner.
-pub type Back<D> = QueueSender<Shard<D>, Origin<D>, OfOpening>;
+pub type ShardSender<D> = QueueSender<Shard<D>, OpeningSnapshot<D>, OfOpening>;
 
 /// The end at which whoever closes receives the shard.
-pub type BackIn<D> = QueueReceiver<Shard<D>, Origin<D>, OfOpening>;
+pub type ShardReceiver<D> = QueueReceiver<Shard<D>, OpeningSnapshot<D>, OfOpening>;
 
-/// What an owner works by: the ends of its queues, and its desk.
+/// What an owner works by: the ends of its queues, and its mailbox.
 #[derive(Drop)]
-pub struct Ends<D: Disk + Drop> {
-    pub(crate) origin: Origin<D>,
-    pub(crate) orders: OrdersIn,
-    pub(crate) answers: Vec<Answers>,
-    pub(crate) back: Back<D>,
-    pub(crate) desk: Desk,
+pub struct OwnerEnds<D: Disk + Drop> {
+    pub(crate) origin: OpeningSnapshot<D>,
+    pub(crate) orders: OrderReceiver,
+    pub(crate) answers: Vec<AnswerSender>,
+    pub(crate) back: ShardSender<D>,
+    pub(crate) mailbox: Mailbox,
 }
 
 /// What the thread of a shard has: the shard, and what it works by. Contracts see the shard's number.
 #[derive(Drop)]
-pub struct Owner<D: Disk + Drop> {
+pub struct OwnerThread<D: Disk + Drop> {
     pub(crate) alloc: Global,
     pub(crate) number: usize,
     pub(crate) state: Shard<D>,
-    pub(crate) ends: Ends<D>,
+    pub(crate) ends: OwnerEnds<D>,
 }
 
-impl<D: Disk + Drop> Model for Owner<D> {
+impl<D: Disk + Drop> Model for OwnerThread<D> {
     ghost use Rattle.std.specs.Prelude.{ℕ};
     ghost use Rattle.owners.specs.Owners.{IsOwner};
 
@@ -48,19 +48,19 @@ impl<D: Disk + Drop> Model for Owner<D> {
     ghost invariant = { λ o. IsOwner D.sight D.follows o.number o.state o.ends };
 }
 
-/// Makes the calls that come, by groups, and sends the letters back, until the last order comes or nobody can send any
+/// Makes the calls that come, by groups, and sends the messages back, until the last order comes or nobody can send any
 /// more. Then it gives the shard back, and says which of both has come.
-pub fn own<D: Disk + Drop, R: Wait>(rt: &R, owner: Owner<D>) -> Ending {
-    let Owner {
+pub fn own<D: Disk + Drop, R: Wait>(rt: &R, owner: OwnerThread<D>) -> ExitReason {
+    let OwnerThread {
         alloc,
         number,
         mut state,
         mut ends,
     } = owner;
     for _ in rt.forever() {
-        let ending = take_group(rt, &mut ends.orders, &mut ends.desk);
-        make_all(alloc, &mut state, &mut ends.desk);
-        send_all(rt, &mut ends.desk.letters, &mut ends.answers);
+        let ending = take_group(rt, &mut ends.orders, &mut ends.mailbox);
+        make_all(alloc, &mut state, &mut ends.mailbox);
+        send_all(rt, &mut ends.mailbox.messages, &mut ends.answers);
         if let Some(ending) = ending {
             drop(ends.back.send(rt, state));
             return ending;

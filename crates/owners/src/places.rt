@@ -10,14 +10,14 @@ use wal::Wal;
 
 /// What was opened: the table of its histories, how many shards and passes, and the logs. It has no bytes.
 #[derive(Drop)]
-pub struct Origin<D: Disk> {
+pub struct OpeningSnapshot<D: Disk> {
     /// The first shard's book, before any step.
     pub first: Snapshot<Book>,
     /// The log of each shard, in the order of their numbers, as it was opened.
     pub logs: Snapshot<Vec<Wal<D>>>,
 }
 
-impl<D: Disk> Model for Origin<D> {
+impl<D: Disk> Model for OpeningSnapshot<D> {
     ghost use Rattle.std.specs.Coded.{codes};
     ghost use Rattle.accept.specs.contracts.image.Image as image;
     ghost use Rattle.owners.specs.Openings.{Opening, opening_of};
@@ -54,7 +54,7 @@ impl Model for Home {
 /// A shard that comes back is the one of its queue's number, of that opening.
 pub struct OfOpening;
 
-impl<D: Disk> Fits<Shard<D>, Origin<D>> for OfOpening {
+impl<D: Disk> Fits<Shard<D>, OpeningSnapshot<D>> for OfOpening {
     ghost use Rattle.owners.specs.Places.{IsOf};
 
     ghost fits = { λ opening k shard. IsOf D.sight D.follows opening k shard };

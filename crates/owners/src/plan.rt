@@ -6,17 +6,17 @@ ghost use Rattle.owners.specs.Homes.{Homed, home_with};
 ghost use Rattle.owners.specs.Openings.{opening_of, home_of};
 ghost use Rattle.owners.specs.Bonds.{ReceiveFrom};
 ghost use Rattle.owners.specs.Owners.{HasEndsOf, AreEnds};
-ghost use Rattle.owners.specs.Desks.{IsDesk};
+ghost use Rattle.owners.specs.Mailboxes.{IsMailbox};
 ghost use Rattle.owners.specs.Plans.{IsPlan};
-ghost use Rattle.owners.specs.Seeds.{IsSeed, AreSeeds};
+ghost use Rattle.owners.specs.QueueEnds.{IsShardQueues, AreShardQueues};
 ghost use Rattle.keyed.specs.Queues.{receives_as};
 ghost use Rattle.keyed.specs.declared.binding.Binding.TheVariants.{Bound};
 
-use crate::desk::Desk;
-use crate::owning::{Back, BackIn, Ends};
-use crate::places::{Home, Origin};
-use crate::rows::{Seed, make_rows};
-use crate::ways::Way;
+use crate::mailbox::Mailbox;
+use crate::owning::{OwnerEnds, ShardReceiver, ShardSender};
+use crate::places::{Home, OpeningSnapshot};
+use crate::routes::ShardRoute;
+use crate::rows::{ShardQueues, make_rows};
 use disk::Disk;
 use history::{Book, Pass};
 use keyed::{Aside, Fits, queue};
@@ -30,7 +30,7 @@ use wal::Wal;
 #[derive(Drop)]
 pub struct Closer<D: Disk + Drop> {
     /// The ends.
-    pub backs: Vec<BackIn<D>>,
+    pub backs: Vec<ShardReceiver<D>>,
     /// The room.
     pub room: Vec<Shard<D>>,
 }
@@ -38,37 +38,37 @@ pub struct Closer<D: Disk + Drop> {
 /// It is that of the opening.
 pub struct OfClosing;
 
-impl<D: Disk + Drop> Fits<Closer<D>, Origin<D>> for OfClosing {
+impl<D: Disk + Drop> Fits<Closer<D>, OpeningSnapshot<D>> for OfClosing {
     ghost use Rattle.owners.specs.Plans.{IsCloser};
 
     ghost fits = { λ opening _ closer. IsCloser opening closer };
 }
 
 /// What closing needs, set aside until then.
-pub type Closing<D> = Aside<Closer<D>, Origin<D>, OfClosing>;
+pub type Closing<D> = Aside<Closer<D>, OpeningSnapshot<D>, OfClosing>;
 
 /// What an opening's owners and passes need apart from threads and shards.
 #[derive(Drop)]
 pub struct Plan<D: Disk + Drop> {
     /// What was opened.
-    pub origin: Origin<D>,
-    /// The ways of each pass to all shards.
-    pub rows: Vec<Vec<Way>>,
+    pub origin: OpeningSnapshot<D>,
+    /// The routes of each pass to all shards.
+    pub rows: Vec<Vec<ShardRoute>>,
     /// What closing needs.
     pub closing: Closing<D>,
     /// What the owners work by, in the order of their shards.
-    pub ends: VecDeque<Ends<D>>,
+    pub ends: VecDeque<OwnerEnds<D>>,
 }
 
-/// How many calls a desk has at most: those of one letter, and of all that came before it.
-const MAX_DESK: usize = MAX_TURN + Pass::MAX_OPEN;
+/// How many calls a mailbox has at most: those of one message, and of all that came before it.
+const MAX_MAILBOX: usize = MAX_TURN + Pass::MAX_OPEN;
 
-impl<D: Disk + Drop> Origin<D> {
+impl<D: Disk + Drop> OpeningSnapshot<D> {
     // The opening with this first book and these logs.
-    fn of(first: &Book, logs: &Vec<Wal<D>>) -> Origin<D>
+    fn of(first: &Book, logs: &Vec<Wal<D>>) -> OpeningSnapshot<D>
         ensures { result ≡ opening_of first.now logs.now.items }
     {
-        Origin {
+        OpeningSnapshot {
             first: Snapshot::of(first),
             logs: Snapshot::of(logs),
         }
@@ -86,61 +86,66 @@ impl Home {
     }
 }
 
-// A desk with a place for each of `passes` passes, and nothing on it.
-fn make_desk(alloc: Global, passes: usize) -> Result<Desk, AllocError>
-    ensures desk { IfOk result (λ desk. (home : Homed) (k : ℕ) → IsDesk home k desk) }
-    ensures idle { IfOk result (λ desk. deque_len desk.jobs ≡ 0) }
+// A mailbox with a place for each of `passes` passes, and nothing in it.
+fn make_mailbox(alloc: Global, passes: usize) -> Result<Mailbox, AllocError>
+    ensures mailbox { IfOk result (λ mailbox. (home : Homed) (k : ℕ) → IsMailbox home k mailbox) }
+    ensures idle { IfOk result (λ mailbox. deque_len mailbox.jobs ≡ 0) }
 {
-    let mut letters = Vec::with_capacity(alloc, passes)?;
+    let mut messages = Vec::with_capacity(alloc, passes)?;
     for _ in 0..passes {
-        letters.push_reserved(None);
+        messages.push_reserved(None);
     }
-    Ok(Desk {
-        letters,
-        jobs: VecDeque::with_capacity(alloc, MAX_DESK)?,
-        settled: Vec::with_capacity(alloc, MAX_DESK)?,
+    Ok(Mailbox {
+        messages,
+        jobs: VecDeque::with_capacity(alloc, MAX_MAILBOX)?,
+        settled: Vec::with_capacity(alloc, MAX_MAILBOX)?,
     })
 }
 
 // What an owner works by, of these parts.
-fn ends_with<D: Disk + Drop>(origin: Origin<D>, seed: Seed, back: Back<D>, desk: Desk) -> Ends<D>
+fn ends_with<D: Disk + Drop>(
+    origin: OpeningSnapshot<D>,
+    queues: ShardQueues,
+    back: ShardSender<D>,
+    mailbox: Mailbox,
+) -> OwnerEnds<D>
     ensures { result ≡ record {
       origin = origin;
-      orders = seed.gets;
-      answers = seed.answers;
+      orders = queues.gets;
+      answers = queues.answers;
       back = back;
-      desk = desk;
+      mailbox = mailbox;
     } }
 {
-    let Seed {
+    let ShardQueues {
         orders: _,
         gets,
         answers,
-    } = seed;
-    Ends {
+    } = queues;
+    OwnerEnds {
         origin,
         orders: gets,
         answers,
         back,
-        desk,
+        mailbox,
     }
 }
 
 // What the owner of a shard works by, and the end by which the shard comes back.
 fn make_ends<D: Disk + Drop>(
     alloc: Global,
-    origin: Origin<D>,
-    seed: Seed,
+    origin: OpeningSnapshot<D>,
+    queues: ShardQueues,
     shard: usize,
     passes: usize,
-) -> Result<(Ends<D>, BackIn<D>), AllocError>
-    requires seed { IsSeed (home_of origin) passes shard seed }
+) -> Result<(OwnerEnds<D>, ShardReceiver<D>), AllocError>
+    requires queues { IsShardQueues (home_of origin) passes shard queues }
     ensures ends { IfOk result (λ made. HasEndsOf origin shard made.0) }
     ensures back { IfOk result (λ made. receives_as made.1 ≡ Bound origin shard) }
 {
-    let desk = make_desk(alloc, passes)?;
+    let mailbox = make_mailbox(alloc, passes)?;
     let (back, comes) = queue(alloc, 1, &origin, shard)?;
-    Ok((ends_with(origin, seed, back, desk), comes))
+    Ok((ends_with(origin, queues, back, mailbox), comes))
 }
 
 // What each owner works by, and the ends by which the shards come back, in the order of their numbers.
@@ -148,11 +153,11 @@ fn make_all_ends<D: Disk + Drop>(
     alloc: Global,
     first: &Book,
     logs: &Vec<Wal<D>>,
-    mut seeds: VecDeque<Seed>,
+    mut all_queues: VecDeque<ShardQueues>,
     passes: usize,
-) -> Result<(VecDeque<Ends<D>>, Vec<BackIn<D>>), AllocError>
-    requires seeds { AreSeeds (home_with first.now) passes seeds.items
-        × (deque_len seeds ≡ vec_len logs.now) }
+) -> Result<(VecDeque<OwnerEnds<D>>, Vec<ShardReceiver<D>>), AllocError>
+    requires all_queues { AreShardQueues (home_with first.now) passes all_queues.items
+        × (deque_len all_queues ≡ vec_len logs.now) }
     ensures ends { IfOk result (λ made. AreEnds (opening_of first.now logs.now.items) made.0.items
         × (deque_len made.0 ≡ vec_len logs.now)) }
     ensures backs { IfOk result
@@ -162,10 +167,16 @@ fn make_all_ends<D: Disk + Drop>(
     let mut backs = Vec::with_capacity(alloc, logs.len())?;
     let mut all_ends = VecDeque::with_capacity(alloc, logs.len())?;
     for shard in 0..logs.len() {
-        let Some(seed) = seeds.pop_front() else {
+        let Some(queues) = all_queues.pop_front() else {
             unreachable!()
         };
-        let (ends, back) = make_ends(alloc, Origin::of(first, logs), seed, shard, passes)?;
+        let (ends, back) = make_ends(
+            alloc,
+            OpeningSnapshot::of(first, logs),
+            queues,
+            shard,
+            passes,
+        )?;
         all_ends.push_back_reserved(ends);
         backs.push_reserved(back);
     }
@@ -188,10 +199,10 @@ pub fn make_plan<D: Disk + Drop>(
     ensures { IfOk result (IsPlan (opening_of first.now logs.now.items)) }
 {
     let home = Home::of(first);
-    let (rows, seeds) = make_rows(alloc, &home, logs.len(), passes)?;
-    let (ends, backs) = make_all_ends(alloc, first, logs, seeds, passes)?;
+    let (rows, all_queues) = make_rows(alloc, &home, logs.len(), passes)?;
+    let (ends, backs) = make_all_ends(alloc, first, logs, all_queues, passes)?;
     let room = Vec::with_capacity(alloc, logs.len())?;
-    let origin = Origin::of(first, logs);
+    let origin = OpeningSnapshot::of(first, logs);
     let closing = Aside::new(alloc, Closer { backs, room }, &origin)?;
     Ok(Plan {
         origin,

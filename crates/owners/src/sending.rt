@@ -1,17 +1,17 @@
-//! How letters go back to their passes.
+//! How messages go back to their passes.
 ghost use Rattle.owners.specs.Homes.{Homed};
-ghost use Rattle.owners.specs.Desks.{ArePlaces};
+ghost use Rattle.owners.specs.Mailboxes.{ArePlaces};
 ghost use Rattle.owners.specs.Bonds.{AreBoundFrom};
 
-use crate::desk::take_at;
-use crate::letters::{Answers, Letter};
+use crate::mailbox::take_at;
+use crate::messages::{AnswerSender, ShardMessage};
 use std::sync::Wait;
 
-/// Sends each letter back to its pass. Where that is gone, the letter is dropped.
+/// Sends each message back to its pass. Where that is gone, the message is dropped.
 pub(crate) fn send_all<R: Wait>(
     rt: &R,
-    places: &mut Vec<Option<Letter>>,
-    answers: &mut Vec<Answers>,
+    places: &mut Vec<Option<ShardMessage>>,
+    answers: &mut Vec<AnswerSender>,
 )
     requires { (home : Homed) × ArePlaces home places.old.items
         × AreBoundFrom home answers.old.items }
@@ -24,8 +24,8 @@ pub(crate) fn send_all<R: Wait>(
         if pass >= places.len() {
             return;
         }
-        if let Some(letter) = take_at(places, pass) {
-            drop(answers[pass].send(rt, letter));
+        if let Some(message) = take_at(places, pass) {
+            drop(answers[pass].send(rt, message));
         }
     }
 }

@@ -6,72 +6,76 @@ ghost use Rattle.keyed.specs.declared.binding.Binding.TheVariants.{Bound};
 ghost use Rattle.history.specs.Histories.{max_open};
 ghost use Rattle.shard.specs.Jobs.{max_turn};
 ghost use Rattle.owners.specs.Homes.{Homed};
-ghost use Rattle.owners.specs.Letters.{IsLetterTo, IsOrderFor};
-ghost use Rattle.owners.specs.Desks.{max_desk, IsDesk};
+ghost use Rattle.owners.specs.Messages.{IsMessageTo, IsOrderFor};
+ghost use Rattle.owners.specs.Mailboxes.{max_mailbox, IsMailbox};
 
-use crate::desk::{Desk, move_jobs, put_at};
-use crate::letters::{Ending, Letter, Order, OrdersIn};
+use crate::mailbox::{Mailbox, move_jobs, put_at};
+use crate::messages::{ExitReason, Order, OrderReceiver, ShardMessage};
 use shard::MAX_TURN;
 use std::sync::Wait;
 
-// Puts the calls of a letter after those of the desk, and the letter at the place of its pass.
-fn take_letter(desk: &mut Desk, mut letter: Letter)
-    requires room { max_desk ≤ deque_capacity desk.old.jobs }
-    requires few { deque_len desk.old.jobs ≤ max_turn }
-    requires letter { deque_len letter.jobs ≤ max_open }
-    ensures desk { (home : Homed) (k : ℕ) → IsDesk home k desk.old → IsLetterTo home k letter
-        → IsDesk home k desk.new }
-    ensures few { deque_len desk.new.jobs ≤ max_desk }
-    ensures jobs { desk.new.jobs.items ≡ desk.old.jobs.items ++ letter.jobs.items }
+// Puts the calls of a message after those of the mailbox, and the message at the place of its pass.
+fn take_message(mailbox: &mut Mailbox, mut message: ShardMessage)
+    requires room { max_mailbox ≤ deque_capacity mailbox.old.jobs }
+    requires few { deque_len mailbox.old.jobs ≤ max_turn }
+    requires message { deque_len message.jobs ≤ max_open }
+    ensures mailbox { (home : Homed) (k : ℕ) → IsMailbox home k mailbox.old → IsMessageTo home k message
+        → IsMailbox home k mailbox.new }
+    ensures few { deque_len mailbox.new.jobs ≤ max_mailbox }
+    ensures jobs { mailbox.new.jobs.items ≡ mailbox.old.jobs.items ++ message.jobs.items }
 {
-    move_jobs(&mut letter.jobs, &mut desk.jobs);
-    let pass = letter.pass;
-    if pass < desk.letters.len() {
-        put_at(&mut desk.letters, pass, letter);
+    move_jobs(&mut message.jobs, &mut mailbox.jobs);
+    let pass = message.pass;
+    if pass < mailbox.messages.len() {
+        put_at(&mut mailbox.messages, pass, message);
     }
 }
 
 // Takes in an order. The last one says why the owner ends.
-fn take_order(desk: &mut Desk, order: Order) -> Option<Ending>
-    requires order { (home : Homed) × (k : ℕ) × IsDesk home k desk.old × IsOrderFor home k order }
-    requires few { deque_len desk.old.jobs ≤ max_turn }
-    ensures desk { (home : Homed) (k : ℕ) → IsDesk home k desk.old → IsOrderFor home k order
-        → IsDesk home k desk.new }
-    ensures few { deque_len desk.new.jobs ≤ max_desk }
+fn take_order(mailbox: &mut Mailbox, order: Order) -> Option<ExitReason>
+    requires order { (home : Homed) × (k : ℕ) × IsMailbox home k mailbox.old × IsOrderFor home k order }
+    requires few { deque_len mailbox.old.jobs ≤ max_turn }
+    ensures mailbox { (home : Homed) (k : ℕ) → IsMailbox home k mailbox.old → IsOrderFor home k order
+        → IsMailbox home k mailbox.new }
+    ensures few { deque_len mailbox.new.jobs ≤ max_mailbox }
 {
     match order {
-        Order::Make(letter) => {
-            take_letter(desk, letter);
+        Order::Make(message) => {
+            take_message(mailbox, message);
             None
         }
-        Order::End(last) => Some(Ending::Ordered(last)),
+        Order::End(last) => Some(ExitReason::Ordered(last)),
     }
 }
 
 /// Waits for an order, and takes in those that are there, until the calls of a turn or more are to be made. After the
 /// last order, or where nobody can send any more, it says why the owner ends.
-pub(crate) fn take_group<R: Wait>(rt: &R, orders: &mut OrdersIn, desk: &mut Desk) -> Option<Ending>
-    requires desk { (home : Homed) × (k : ℕ) × (receives_as orders.old ≡ Bound home k)
-        × IsDesk home k desk.old }
-    requires idle { deque_len desk.old.jobs ≡ 0 }
+pub(crate) fn take_group<R: Wait>(
+    rt: &R,
+    orders: &mut OrderReceiver,
+    mailbox: &mut Mailbox,
+) -> Option<ExitReason>
+    requires mailbox { (home : Homed) × (k : ℕ) × (receives_as orders.old ≡ Bound home k)
+        × IsMailbox home k mailbox.old }
+    requires idle { deque_len mailbox.old.jobs ≡ 0 }
     ensures same { receives_as orders.new ≡ receives_as orders.old }
-    ensures desk { (home : Homed) (k : ℕ) → receives_as orders.old ≡ Bound home k
-        → IsDesk home k desk.old → IsDesk home k desk.new }
-    ensures few { deque_len desk.new.jobs ≤ max_desk }
+    ensures mailbox { (home : Homed) (k : ℕ) → receives_as orders.old ≡ Bound home k
+        → IsMailbox home k mailbox.old → IsMailbox home k mailbox.new }
+    ensures few { deque_len mailbox.new.jobs ≤ max_mailbox }
 {
     let first = match orders.receive(rt) {
         Ok(first) => first,
-        Err(gone) => return Some(Ending::Alone(gone)),
+        Err(gone) => return Some(ExitReason::Alone(gone)),
     };
-    let mut ending = take_order(desk, first);
+    let mut ending = take_order(mailbox, first);
     for _ in 0..MAX_TURN {
-        if ending.is_some() || desk.jobs.len() >= MAX_TURN {
+        if ending.is_some() || mailbox.jobs.len() >= MAX_TURN {
             break;
         }
         let Some(next) = orders.try_receive(rt) else {
             break;
         };
-        ending = take_order(desk, next);
+        ending = take_order(mailbox, next);
     }
     ending
 }

@@ -2,7 +2,7 @@
 ghost use Rattle.std.specs.Prelude.{◌≡◌, ◌≤◌, ◌<◌, vec_len, vec_capacity, IfOk};
 ghost use Rattle.std.specs.VecDeque.{deque_len, deque_capacity};
 
-use crate::owning::{Owner, own};
+use crate::owning::{OwnerThread, own};
 use crossbeam_channel::{Receiver, Sender, bounded};
 use disk::Disk;
 use std::alloc::{AllocError, Global};
@@ -29,13 +29,13 @@ impl From<AllocError> for StartFault {
 #[derive(Drop)]
 struct Start<D: Disk + Drop, R> {
     rt: R,
-    comes: Receiver<Owner<D>>,
+    comes: Receiver<OwnerThread<D>>,
 }
 
 /// The threads of an opening, each of which waits for what it is to own.
 #[derive(Drop)]
 pub struct Team<D: Disk + Drop> {
-    starts: VecDeque<Sender<Owner<D>>>,
+    starts: VecDeque<Sender<OwnerThread<D>>>,
     threads: Vec<JoinHandle<()>>,
 }
 
@@ -51,7 +51,7 @@ fn run<D: Disk + Drop, R: Wait + Drop>(start: Start<D, R>) {
 fn start_one<D, R, H>(
     rt: &R,
     handle: H,
-    comes: Receiver<Owner<D>>,
+    comes: Receiver<OwnerThread<D>>,
 ) -> Result<JoinHandle<()>, StartFault>
 where
     D: Disk + Drop + Send + 'static,
@@ -134,7 +134,7 @@ impl<D: Disk + Drop> Team<D> {
     }
 
     /// Gives the next thread what it is to own.
-    pub(crate) fn hand_over<R: Wait>(&mut self, rt: &R, owner: Owner<D>) {
+    pub(crate) fn hand_over<R: Wait>(&mut self, rt: &R, owner: OwnerThread<D>) {
         match self.starts.pop_front() {
             Some(start) => drop(start.send(rt, owner)),
             None => drop(owner),

@@ -6,7 +6,7 @@ ghost use Rattle.pushjson.specs.Times.{IsTime};
 use accept::END_OF_TIME;
 
 // The most digits that a time has.
-const MAX_DIGITS: usize = 19;
+const MAX_TIME_DIGITS: usize = 19;
 
 /// The time that a text writes, in nanoseconds: 1 to 19 decimal digits, leading zeros included, of a value below
 /// `END_OF_TIME`. `None` where it writes none.
@@ -16,7 +16,7 @@ pub fn time_of(text: &str) -> Option<u64>
         (¬ IsTime text.now) (λ time. IsTime text.now × (time ≡ digits_value 10 text.now)
         × (time < end_of_time)) }
 {
-    if text.len() > MAX_DIGITS {
+    if text.len() > MAX_TIME_DIGITS {
         return None;
     }
     if text.starts_with('+') {

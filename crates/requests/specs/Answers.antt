@@ -143,6 +143,7 @@ fixed_text answer closes =
     answer_text (status_of answer) Text (allow_of answer) (always_closes answer || closes)
     (body_of answer)
 
+-- what an answer of status 500 says
 abbrev pub failure_body : CallFault → List ℕ
 failure_body faults.Memory = codes "out of memory"
 failure_body faults.PassClosed = codes "pass closed"
@@ -154,17 +155,15 @@ unfoldable pub failure_text : CallFault → List ℕ
 failure_text failure = answer_text statuses.InternalServerError Text None true
     (failure_body failure)
 
--- the same text, written out
+-- such a text, written out, by its length in digits and its body
+abbrev pub written_failure : List ℕ → List ℕ → List ℕ
+written_failure digits body = codes "HTTP/1.1 500 Internal Server Error" ++ crlf
+    ++ codes "Content-Type: text/plain; charset=utf-8" ++ crlf ++ codes "Content-Length: " ++ digits ++ crlf
+    ++ codes "Connection: close" ++ crlf ++ crlf ++ body
+
+-- the text of a failure, written out
 abbrev pub failure_bytes : CallFault → List ℕ
-failure_bytes faults.Memory = codes "HTTP/1.1 500 Internal Server Error" ++ crlf
-    ++ codes "Content-Type: text/plain; charset=utf-8" ++ crlf ++ codes "Content-Length: 13" ++ crlf
-    ++ codes "Connection: close" ++ crlf ++ crlf ++ codes "out of memory"
-failure_bytes faults.PassClosed = codes "HTTP/1.1 500 Internal Server Error" ++ crlf
-    ++ codes "Content-Type: text/plain; charset=utf-8" ++ crlf ++ codes "Content-Length: 11" ++ crlf
-    ++ codes "Connection: close" ++ crlf ++ crlf ++ codes "pass closed"
-failure_bytes faults.InDoubt = codes "HTTP/1.1 500 Internal Server Error" ++ crlf
-    ++ codes "Content-Type: text/plain; charset=utf-8" ++ crlf ++ codes "Content-Length: 13" ++ crlf
-    ++ codes "Connection: close" ++ crlf ++ crlf ++ codes "call in doubt"
-failure_bytes faults.LogSpent = codes "HTTP/1.1 500 Internal Server Error" ++ crlf
-    ++ codes "Content-Type: text/plain; charset=utf-8" ++ crlf ++ codes "Content-Length: 9" ++ crlf
-    ++ codes "Connection: close" ++ crlf ++ crlf ++ codes "log spent"
+failure_bytes faults.Memory = written_failure (codes "13") (failure_body faults.Memory)
+failure_bytes faults.PassClosed = written_failure (codes "11") (failure_body faults.PassClosed)
+failure_bytes faults.InDoubt = written_failure (codes "13") (failure_body faults.InDoubt)
+failure_bytes faults.LogSpent = written_failure (codes "9") (failure_body faults.LogSpent)

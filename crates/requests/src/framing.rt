@@ -13,7 +13,7 @@ use httparse::spans::HeaderSpan;
 pub const MAX_BODY: usize = 4_194_304;
 
 /// The most digits of a Content-Length.
-const MAX_DIGITS: usize = 19;
+const MAX_LENGTH_DIGITS: usize = 19;
 
 /// How long a body is, or why the request is refused before its body.
 #[derive(Clone, Copy)]
@@ -32,7 +32,7 @@ fn are_digits(bytes: &[u8]) -> bool
 /// The number that at most 19 digits write.
 fn value_of(digits: &[u8]) -> u64
     requires digits { IsTrue (list_all is_ascii_digit digits.now) }
-    requires few { length digits.now ≤ MAX_DIGITS }
+    requires few { length digits.now ≤ MAX_LENGTH_DIGITS }
     ensures { result ≡ digits_value 10 digits.now }
 {
     let mut number: u64 = 0;
@@ -46,9 +46,9 @@ fn value_of(digits: &[u8]) -> u64
 fn is_length(value: &[u8]) -> bool
     ensures known { result ≡ is_length value.now }
     ensures digits { IsTrue result → IsTrue (list_all is_ascii_digit value.now)
-        × (length value.now ≤ MAX_DIGITS) }
+        × (length value.now ≤ MAX_LENGTH_DIGITS) }
 {
-    !value.is_empty() && value.len() <= MAX_DIGITS && are_digits(value)
+    !value.is_empty() && value.len() <= MAX_LENGTH_DIGITS && are_digits(value)
 }
 
 fn framing_of_value(value: &[u8]) -> Framing

@@ -23,13 +23,13 @@ mod writing;
 
 pub use answer::{Answer, Content};
 pub use answers::{Answers, Outbox, Sent};
-pub use failure::failure_text;
+pub use failure::{LONGEST_FAILURE, failure_body, failure_text};
 pub use fault::{ServeFault, Served};
 pub use fixed::{FixedAnswer, Method};
 pub use framing::MAX_BODY;
 pub use incoming::{Incoming, MAX_FIELDS, MAX_HEAD, Message, Next};
 pub use laws::{one_request, one_split};
-pub use outgoing::{Outgoing, ROOM_FOR_HEAD};
+pub use outgoing::{Outgoing, ROOM_FOR_HEAD, push_number};
 pub use route::Route;
 pub use status::Status;
 pub use verdict::Verdict;

@@ -1,6 +1,7 @@
 //! Answers as bytes.
 ghost use Rattle.std.specs.Prelude.{◌≡◌, ◌++◌, [], length, decimal, None, IfOk, OnOk, IfErr};
-ghost use Rattle.requests.specs.Answers.{status_line, type_line, length_line, allow_line, last_lines, answer_text, sent_body, fixed_text};
+ghost use Rattle.requests.specs.Answers.{status_line, type_line, length_line, allow_line, last_lines};
+ghost use Rattle.requests.specs.Answers.{answer_text, sent_body, fixed_text};
 
 use crate::answer::{Answer, Content};
 use crate::fault::ServeFault;
@@ -16,7 +17,12 @@ const LONG: usize = 1 << 16;
 /// So much room after a long body keeps it from being copied: the head of an answer is shorter.
 pub const ROOM_FOR_HEAD: usize = 256;
 
-fn push_number(text: &mut Vec<u8>, number: u64) -> Result<(), AllocError>
+/// Appends a number in decimal digits.
+///
+/// # Errors
+///
+/// Want of memory: nothing is then known of the text.
+pub fn push_number(text: &mut Vec<u8>, number: u64) -> Result<(), AllocError>
     ensures { OnOk result (text.new.items ≡ text.old.items ++ decimal number) }
 {
     write!(text, "{number}").map_err(|_| AllocError)
@@ -158,8 +164,8 @@ impl Outgoing {
         self.text.as_slice()
     }
 
-    /// Puts an answer together: its head and its body, or with status 204 its head alone. A long body is not copied where
-    /// it has room for `ROOM_FOR_HEAD` more bytes.
+    /// Puts an answer together: its head and its body, or with status 204 its head alone. A long body is not copied
+    /// where it has room for `ROOM_FOR_HEAD` more bytes.
     ///
     /// # Errors
     ///

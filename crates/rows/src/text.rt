@@ -5,7 +5,7 @@ use std::fmt::Write;
 
 /// Where in a text the reader is.
 #[derive(Clone, Copy, Drop)]
-enum Place {
+enum EscapeState {
     /// Among characters that stand for themselves.
     Plain,
     /// After a backslash.
@@ -21,30 +21,30 @@ enum Place {
 /// # Errors
 /// Another escape, or one that is cut short; want of memory.
 pub fn unescape(text: &str, into: &mut Vec<u8>) -> Result<()> {
-    let mut place = Place::Plain;
+    let mut place = EscapeState::Plain;
     for byte in text.bytes() {
         place = take_byte(place, byte, into)?;
     }
     match place {
-        Place::Plain => Ok(()),
+        EscapeState::Plain => Ok(()),
         _ => bail!("an escape is cut short"),
     }
 }
 
-fn take_byte(place: Place, byte: u8, into: &mut Vec<u8>) -> Result<Place> {
+fn take_byte(place: EscapeState, byte: u8, into: &mut Vec<u8>) -> Result<EscapeState> {
     let (byte, next) = match (place, byte) {
-        (Place::Plain, b'\\') => return Ok(Place::Escape),
-        (Place::Plain, byte) => (byte, Place::Plain),
-        (Place::Escape, b'r') => (b'\r', Place::Plain),
-        (Place::Escape, b'n') => (b'\n', Place::Plain),
-        (Place::Escape, b't') => (b'\t', Place::Plain),
-        (Place::Escape, b'\\') => (b'\\', Place::Plain),
-        (Place::Escape, b'x') => return Ok(Place::High),
-        (Place::Escape, _) => bail!("no such escape"),
-        (Place::High, digit) => return Ok(Place::Low(digit_of(digit)?)),
-        (Place::Low(high), digit) => (
+        (EscapeState::Plain, b'\\') => return Ok(EscapeState::Escape),
+        (EscapeState::Plain, byte) => (byte, EscapeState::Plain),
+        (EscapeState::Escape, b'r') => (b'\r', EscapeState::Plain),
+        (EscapeState::Escape, b'n') => (b'\n', EscapeState::Plain),
+        (EscapeState::Escape, b't') => (b'\t', EscapeState::Plain),
+        (EscapeState::Escape, b'\\') => (b'\\', EscapeState::Plain),
+        (EscapeState::Escape, b'x') => return Ok(EscapeState::High),
+        (EscapeState::Escape, _) => bail!("no such escape"),
+        (EscapeState::High, digit) => return Ok(EscapeState::Low(digit_of(digit)?)),
+        (EscapeState::Low(high), digit) => (
             high.wrapping_mul(16).wrapping_add(digit_of(digit)?),
-            Place::Plain,
+            EscapeState::Plain,
         ),
     };
     into.push(byte)?;

@@ -12,7 +12,7 @@ use Rattle.segment.specs.Versions.{latest}
 use Rattle.segment.specs.Spelling.{frame}
 use Rattle.wal.specs.declared.log.Wal.{Wal}
 use Rattle.wal.specs.Recovery.{Recovers}
-use Rattle.wal.specs.Moments.{Pair, HasFailed, HasNoFailure}
+use Rattle.wal.specs.Moments.{Pair, HasFailed}
 use Rattle.wal.specs.Logs.{FitsInUse}
 use Rattle.history.specs.declared.views.About.{About}
 use Rattle.history.specs.Histories.{HasStep, IsAmong, steps_by, doubt_of, reply_of, step_of}
@@ -83,13 +83,6 @@ pub record AreNext (book : Booked) (tickets : List Announced) : Type 0 where
 -- the book with the mark of a failure while the calls were written
 abbrev pub marked_by : Booked → List Ask → Booked
 marked_by book asks = longer book (Failed (changing_of book asks))
-
--- Each call has its step, and no device call failed.
-pub record AreCommitted (old new : Pair) (before : Booked) (asks : List Ask) (behind : Booked)
-    (replies : List Reply) : Type 0 where
-  pub no_failure : HasNoFailure old new
-  pub replied : replies ≡ dues before asks
-  pub book : behind ≡ with_steps before asks
 
 -- A device call failed: a mark with the calls that change something stands before the steps.
 pub record AreMarkedInDoubt (old new : Pair) (before : Booked) (asks : List Ask) (behind : Booked)

@@ -15,7 +15,7 @@ use Rattle.memory_disk.specs.contracts.memory.MemDiskDisk.TheImpl as memory_disk
 use Rattle.disk.specs.declared.device.Disk as disk
 use Rattle.ingester.proofs.Sent.{ingester_sync}
 use Rattle.ingester.specs.contracts.opened.Ingester as ingester
-use Rattle.shard_threads.specs.contracts.course.Course as course
+use Rattle.shard_threads.specs.contracts.context.ThreadContext as context
 
 abbrev slots : disk.Ghosts (slot.the_row memory.the_row).Denot
 slots = slot_disk.ghosts memory.the_row memory_disk.ghosts slot_disk.no_dict
@@ -24,8 +24,8 @@ slot_send : IsSend (slot.the_row memory.the_row)
 slot_send = search (gate.the_send, gate.the_field_send, memory_moves.the_send, crosses, sendable) depth 20
 
 -- (with the ghosts left to be found, `search` compares what an ingester unfolds to)
-course_fields : (κ : NamedLft) (R : RattleType) → IsSync R → AllSync (declared.fields (course.the_type κ R))
-course_fields κ R r = (
+context_fields : (κ : NamedLft) (R : RattleType) → IsSync R → AllSync (declared.fields (context.the_type κ R))
+context_fields κ R r = (
   search (r, sendable),
   (
     search sendable,
@@ -39,6 +39,6 @@ course_fields κ R r = (
   ),
 )
 
--- What the threads of a course share may be shared.
-pub course_sync : (κ : NamedLft) (R : RattleType) → IsSync R → IsSync (course.the_row κ R)
-course_sync κ R r = let T = course.the_type κ R in recorded_sync (Struct (declared.shape T)) T.D T.to T.to_one (struct_sync (declared.shape T) (course_fields κ R r))
+-- What the threads of a run share may be shared.
+pub context_sync : (κ : NamedLft) (R : RattleType) → IsSync R → IsSync (context.the_row κ R)
+context_sync κ R r = let T = context.the_type κ R in recorded_sync (Struct (declared.shape T)) T.D T.to T.to_one (struct_sync (declared.shape T) (context_fields κ R r))

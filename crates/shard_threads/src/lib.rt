@@ -1,7 +1,7 @@
 //! Tests over threads and gates: the shards of an ingester, called by several threads at once.
 #![tactic(auto)]
 
-mod course;
+mod context;
 #[cfg(test)]
 mod opening;
 #[cfg(test)]

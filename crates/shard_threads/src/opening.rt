@@ -3,7 +3,7 @@ ghost use Rattle.std.specs.Prelude.{◌≡◌, ℕ, Some, slice_get, IfOk};
 ghost use Rattle.history.specs.Handles.{Passed};
 ghost use Rattle.ingester.specs.Calls.{IsPassOf};
 
-use crate::course::Slot;
+use crate::context::GatedSlot;
 use accept::Limits;
 use disk::Disk;
 use ingester::{Ingester, Pass, Settings};
@@ -17,18 +17,18 @@ use std::thread::Threads;
 const CAPACITY: u64 = 4_096;
 
 /// An empty slot with this gate for its syncs.
-fn slot(alloc: Global, gate: &Gate) -> Result<Slot, Fail> {
+fn slot(alloc: Global, gate: &Gate) -> Result<GatedSlot, Fail> {
     let disk = MemDisk::new(alloc, 8_192, 1_000, 65_536)?;
     Ok(GateDisk::new(disk, gate.try_clone()?))
 }
 
 /// The empty slots of a shard, with this gate for their syncs.
-fn slots_of(alloc: Global, gate: &Gate) -> Result<[Slot; 2], Fail> {
+fn slots_of(alloc: Global, gate: &Gate) -> Result<[GatedSlot; 2], Fail> {
     Ok([slot(alloc, gate)?, slot(alloc, gate)?])
 }
 
 /// The empty slots of a shard for each of these. The gate is for the syncs of those that it holds.
-fn all_slots(alloc: Global, gate: &Gate, held: &[bool]) -> Result<Vec<[Slot; 2]>, Fail> {
+fn all_slots(alloc: Global, gate: &Gate, held: &[bool]) -> Result<Vec<[GatedSlot; 2]>, Fail> {
     let free = Gate::new(alloc)?;
     let mut slots = Vec::new(alloc);
     for is_held in held {
@@ -48,7 +48,7 @@ pub(crate) fn open<R>(
     gate: &Gate,
     held: &[bool],
     passes: u32,
-) -> Result<(Ingester<Slot>, Vec<Pass>), Fail>
+) -> Result<(Ingester<GatedSlot>, Vec<Pass>), Fail>
 where
     R: Threads + Wait + Copy + Send + Sync + 'static,
     ensures { IfOk result (λ it. (p : ℕ) (pass : Passed) → slice_get it.1.items p ≡ Some pass
@@ -70,7 +70,7 @@ where
 }
 
 /// The last of these passes.
-pub(crate) fn last_of(ingester: &Ingester<Slot>, passes: &mut Vec<Pass>) -> Result<Pass, Fail>
+pub(crate) fn last_of(ingester: &Ingester<GatedSlot>, passes: &mut Vec<Pass>) -> Result<Pass, Fail>
     requires { (p : ℕ) (pass : Passed) → slice_get passes.old.items p ≡ Some pass
         → IsPassOf ingester.now pass }
     ensures pass { IfOk result (IsPassOf ingester.now) }
@@ -84,13 +84,13 @@ pub(crate) fn last_of(ingester: &Ingester<Slot>, passes: &mut Vec<Pass>) -> Resu
 }
 
 /// How many bytes a slot has.
-fn length_of(slot: Slot) -> Result<u64, Fail> {
+fn length_of(slot: GatedSlot) -> Result<u64, Fail> {
     let mut slot = slot;
     Ok(slot.len()?)
 }
 
 /// How many bytes each of a shard's slots has.
-fn lengths_of(slots: [Slot; 2]) -> Result<[u64; 2], Fail> {
+fn lengths_of(slots: [GatedSlot; 2]) -> Result<[u64; 2], Fail> {
     let [first, second] = slots;
     Ok([length_of(first)?, length_of(second)?])
 }
@@ -99,7 +99,7 @@ fn lengths_of(slots: [Slot; 2]) -> Result<[u64; 2], Fail> {
 pub(crate) fn slot_lengths<R: Wait>(
     rt: &R,
     alloc: Global,
-    ingester: Ingester<Slot>,
+    ingester: Ingester<GatedSlot>,
     pass: Pass,
 ) -> Result<[u64; 2], Fail>
     requires { IsPassOf ingester pass }

@@ -3,7 +3,7 @@ ghost use Rattle.std.specs.Prelude.{◌≡◌, ℕ, Some, slice_get};
 ghost use Rattle.history.specs.Handles.{Passed};
 ghost use Rattle.ingester.specs.Calls.{IsPassOf};
 
-use crate::course::{Course, Pushes, Slot, Task};
+use crate::context::{GatedSlot, Pushes, Task, ThreadContext};
 use crate::opening::{last_of, open, slot_lengths};
 use crate::tasks::play;
 use ingester::{Ingester, Pass};
@@ -15,7 +15,7 @@ use std::thread::{self, Threads};
 use std::time::Clock;
 
 /// What threads do.
-struct Plan {
+struct ThreadPlan {
     name: &'static str,
     /// The shards: whether the gate holds their syncs. It is closed at the beginning.
     held: &'static [bool],
@@ -44,8 +44,8 @@ const HELD: Pushes = Pushes("1", 10, 1);
 /// A push to shard 1, where there are two.
 const FREE: Pushes = Pushes("2", 11, 1);
 
-const PLANS: [Plan; 8] = [
-    Plan {
+const PLANS: [ThreadPlan; 8] = [
+    ThreadPlan {
         name: "gate_two_shards",
         held: &[true, false],
         roles: &[
@@ -77,7 +77,7 @@ const PLANS: [Plan; 8] = [
         times: &[0],
         lengths: None,
     },
-    Plan {
+    ThreadPlan {
         name: "gate_look_while_held",
         held: &[true, false],
         roles: &[
@@ -93,21 +93,21 @@ const PLANS: [Plan; 8] = [
         times: &[50],
         lengths: None,
     },
-    Plan {
+    ThreadPlan {
         name: "gate_all_shards_before_the_first_answer, the first held",
         held: &[true, false],
         roles: &[&[Task::PushBoth(HELD, FREE)], &[Task::See(1), Task::Open]],
         times: &[0],
         lengths: None,
     },
-    Plan {
+    ThreadPlan {
         name: "gate_all_shards_before_the_first_answer, the second held",
         held: &[false, true],
         roles: &[&[Task::PushBoth(HELD, FREE)], &[Task::See(0), Task::Open]],
         times: &[0],
         lengths: None,
     },
-    Plan {
+    ThreadPlan {
         name: "gate_three_calls_in_one_group",
         held: &[true],
         roles: &[
@@ -120,7 +120,7 @@ const PLANS: [Plan; 8] = [
         times: &TIMES,
         lengths: Some(GROUPED),
     },
-    Plan {
+    ThreadPlan {
         name: "gate_calls_in_the_queue_of_an_owner_that_ends",
         held: &[true],
         roles: &[
@@ -133,7 +133,7 @@ const PLANS: [Plan; 8] = [
         times: &TIMES,
         lengths: Some(ALONE),
     },
-    Plan {
+    ThreadPlan {
         name: "two_threads_push_to_one_stream",
         held: &[false],
         roles: &[
@@ -148,7 +148,7 @@ const PLANS: [Plan; 8] = [
         times: &[0],
         lengths: None,
     },
-    Plan {
+    ThreadPlan {
         name: "four_threads_push_to_one_stream",
         held: &[false],
         roles: &[
@@ -168,18 +168,18 @@ const PLANS: [Plan; 8] = [
 
 /// Each pass does its tasks in a thread of its own: whether all is right.
 fn play_in_threads<R: Threads + Wait + Clock + Sync>(
-    course: &Course<R>,
+    context: &ThreadContext<R>,
     passes: Vec<Pass>,
 ) -> Result<bool, AllocError>
     requires { (p : ℕ) (pass : Passed) → slice_get passes.items p ≡ Some pass
-        → IsPassOf course.now.ingester.now pass }
+        → IsPassOf context.now.ingester.now pass }
 {
     let played = thread::map_vec(
-        course.rt,
+        context.rt,
         passes,
         &move |pass: Pass| -> bool
-            requires { IsPassOf course.now.ingester.now pass }
-        { play(course, pass) },
+            requires { IsPassOf context.now.ingester.now pass }
+        { play(context, pass) },
     )?;
     Ok(played.iter().all(|is_right| *is_right))
 }
@@ -189,16 +189,16 @@ fn play_over<R: Threads + Wait + Clock + Sync>(
     rt: &R,
     alloc: Global,
     gate: &Gate,
-    ingester: &Ingester<Slot>,
+    ingester: &Ingester<GatedSlot>,
     passes: Vec<Pass>,
-    plan: &Plan,
+    plan: &ThreadPlan,
     time: u64,
 ) -> Result<bool, AllocError>
     requires { (p : ℕ) (pass : Passed) → slice_get passes.items p ≡ Some pass
         → IsPassOf ingester.now pass }
 {
     gate.close();
-    let course = Course {
+    let context = ThreadContext {
         rt,
         alloc,
         ingester,
@@ -207,7 +207,7 @@ fn play_over<R: Threads + Wait + Clock + Sync>(
         roles: plan.roles,
         time,
     };
-    play_in_threads(&course, passes)
+    play_in_threads(&context, passes)
 }
 
 /// The same over an ingester that its last pass then closes: whether the slots are as the plan says, too.
@@ -215,8 +215,8 @@ fn play_and_close<R>(
     rt: &R,
     alloc: Global,
     gate: &Gate,
-    opened: (Ingester<Slot>, Vec<Pass>),
-    plan: &Plan,
+    opened: (Ingester<GatedSlot>, Vec<Pass>),
+    plan: &ThreadPlan,
     time: u64,
 ) -> Result<bool, Fail>
 where
@@ -232,7 +232,7 @@ where
 }
 
 /// Does what a plan says, with this time: whether all is right.
-fn is_right_with<R>(rt: &R, alloc: Global, plan: &Plan, time: u64) -> Result<bool, Fail>
+fn is_right_with<R>(rt: &R, alloc: Global, plan: &ThreadPlan, time: u64) -> Result<bool, Fail>
 where
     R: Threads + Wait + Clock + Copy + Send + Sync + 'static,
 {
@@ -243,7 +243,7 @@ where
 }
 
 /// Does what a plan says with each of its times, until all is right: whether it is once.
-fn is_right<R>(rt: &R, alloc: Global, plan: &Plan) -> Result<bool, Fail>
+fn is_right<R>(rt: &R, alloc: Global, plan: &ThreadPlan) -> Result<bool, Fail>
 where
     R: Threads + Wait + Clock + Copy + Send + Sync + 'static,
 {

@@ -3,7 +3,7 @@ ghost use Rattle.std.specs.Prelude.{◌<◌, All, IfSome};
 ghost use Rattle.accept.specs.Calls.{AreNumbers};
 ghost use Rattle.ingester.specs.Calls.{IsPassOf};
 
-use crate::course::{Course, Pushes, Task};
+use crate::context::{Pushes, Task, ThreadContext};
 use accept::{Call, CallFault, Entry, EntryList, Line, Meta, Outcome, Reply};
 use ingester::Pass;
 use labels::{LabelPairs, LabelSet, StreamKey, Tenant};
@@ -43,30 +43,30 @@ fn push_of(alloc: Global, value: &str, time: u64) -> Option<Call> {
 
 /// What comes of a call, if it has lawful numbers.
 fn outcome_of<R: Wait>(
-    course: &Course<R>,
+    context: &ThreadContext<R>,
     pass: &mut Pass,
     call: Call,
 ) -> Option<Result<Reply, CallFault>>
-    requires { IsPassOf course.now.ingester.now pass.old }
-    ensures { IsPassOf course.now.ingester.now pass.new }
+    requires { IsPassOf context.now.ingester.now pass.old }
+    ensures { IsPassOf context.now.ingester.now pass.new }
 {
     if !call.has_lawful_numbers() {
         return None;
     }
-    Some(course.ingester.call(course.rt, course.alloc, pass, call))
+    Some(context.ingester.call(context.rt, context.alloc, pass, call))
 }
 
 /// What comes of a push of one entry.
 fn push<R: Wait>(
-    course: &Course<R>,
+    context: &ThreadContext<R>,
     pass: &mut Pass,
     value: &str,
     time: u64,
 ) -> Option<Result<Reply, CallFault>>
-    requires { IsPassOf course.now.ingester.now pass.old }
-    ensures { IsPassOf course.now.ingester.now pass.new }
+    requires { IsPassOf context.now.ingester.now pass.old }
+    ensures { IsPassOf context.now.ingester.now pass.new }
 {
-    outcome_of(course, pass, push_of(course.alloc, value, time)?)
+    outcome_of(context, pass, push_of(context.alloc, value, time)?)
 }
 
 /// Whether a push of one entry was stored.
@@ -78,14 +78,14 @@ fn is_stored(came: &Result<Reply, CallFault>) -> bool {
 }
 
 /// Makes these pushes: whether each is stored.
-fn push_all<R: Wait>(course: &Course<R>, pass: &mut Pass, pushes: Pushes) -> bool
-    requires { IsPassOf course.now.ingester.now pass.old }
-    ensures { IsPassOf course.now.ingester.now pass.new }
+fn push_all<R: Wait>(context: &ThreadContext<R>, pass: &mut Pass, pushes: Pushes) -> bool
+    requires { IsPassOf context.now.ingester.now pass.old }
+    ensures { IsPassOf context.now.ingester.now pass.new }
 {
     let Pushes(value, first, count) = pushes;
     let mut stored = true;
     for k in 0..count {
-        let came = push(course, pass, value, first.wrapping_add(k));
+        let came = push(context, pass, value, first.wrapping_add(k));
         stored &= came.is_some_and(|came| is_stored(&came));
     }
     stored
@@ -107,31 +107,31 @@ fn two_pushes(alloc: Global, one: Pushes, two: Pushes) -> Option<VecDeque<Call>>
 }
 
 /// Makes two pushes together: whether both are stored.
-fn push_both<R: Wait>(course: &Course<R>, pass: &mut Pass, one: Pushes, two: Pushes) -> bool
-    requires { IsPassOf course.now.ingester.now pass.old }
-    ensures { IsPassOf course.now.ingester.now pass.new }
+fn push_both<R: Wait>(context: &ThreadContext<R>, pass: &mut Pass, one: Pushes, two: Pushes) -> bool
+    requires { IsPassOf context.now.ingester.now pass.old }
+    ensures { IsPassOf context.now.ingester.now pass.new }
 {
-    let Some(mut calls) = two_pushes(course.alloc, one, two) else {
+    let Some(mut calls) = two_pushes(context.alloc, one, two) else {
         return false;
     };
-    let Ok(mut outcomes) = VecDeque::with_capacity(course.alloc, calls.len()) else {
+    let Ok(mut outcomes) = VecDeque::with_capacity(context.alloc, calls.len()) else {
         return false;
     };
     if calls.len() != 2 {
         return false;
     }
-    course
+    context
         .ingester
-        .call_all(course.rt, course.alloc, pass, &mut calls, &mut outcomes);
+        .call_all(context.rt, context.alloc, pass, &mut calls, &mut outcomes);
     outcomes.len() == 2 && outcomes.iter().all(|came| is_stored(came))
 }
 
 /// Reads all times of the stream of these pushes: whether these are its entries.
-fn read<R: Wait>(course: &Course<R>, pass: &mut Pass, pushes: Pushes) -> bool
-    requires { IsPassOf course.now.ingester.now pass.old }
-    ensures { IsPassOf course.now.ingester.now pass.new }
+fn read<R: Wait>(context: &ThreadContext<R>, pass: &mut Pass, pushes: Pushes) -> bool
+    requires { IsPassOf context.now.ingester.now pass.old }
+    ensures { IsPassOf context.now.ingester.now pass.new }
 {
-    let Some(key) = key(course.alloc, pushes.0) else {
+    let Some(key) = key(context.alloc, pushes.0) else {
         return false;
     };
     let read = Call::Read {
@@ -139,7 +139,7 @@ fn read<R: Wait>(course: &Course<R>, pass: &mut Pass, pushes: Pushes) -> bool
         from: 0,
         to: 1 << 63,
     };
-    match outcome_of(course, pass, read) {
+    match outcome_of(context, pass, read) {
         Some(Ok(Reply::Entries(entries))) => are_of(entries.as_slice(), pushes),
         _ => false,
     }
@@ -155,98 +155,98 @@ fn are_of(entries: &[Entry], pushes: Pushes) -> bool {
 }
 
 /// How many steps a shard has, as the pass sees it now.
-fn look<R>(course: &Course<R>, pass: &mut Pass, shard: u32) -> Option<u64>
-    requires { IsPassOf course.now.ingester.now pass.old }
-    ensures { IsPassOf course.now.ingester.now pass.new }
+fn look<R>(context: &ThreadContext<R>, pass: &mut Pass, shard: u32) -> Option<u64>
+    requires { IsPassOf context.now.ingester.now pass.old }
+    ensures { IsPassOf context.now.ingester.now pass.new }
 {
-    if shard < course.ingester.shards() {
-        Some(course.ingester.look(pass, shard))
+    if shard < context.ingester.shards() {
+        Some(context.ingester.look(pass, shard))
     } else {
         None
     }
 }
 
 /// Looks at a shard until there is a step, for at most two seconds: whether there is one.
-fn see<R: Wait + Clock>(course: &Course<R>, pass: &mut Pass, shard: u32) -> bool
-    requires { IsPassOf course.now.ingester.now pass.old }
-    ensures { IsPassOf course.now.ingester.now pass.new }
+fn see<R: Wait + Clock>(context: &ThreadContext<R>, pass: &mut Pass, shard: u32) -> bool
+    requires { IsPassOf context.now.ingester.now pass.old }
+    ensures { IsPassOf context.now.ingester.now pass.new }
 {
     let mut steps = Some(0);
     for _ in 0..200 {
         if steps != Some(0) {
             break;
         }
-        thread::sleep(course.rt, Duration::from_millis(10));
-        steps = look(course, pass, shard);
+        thread::sleep(context.rt, Duration::from_millis(10));
+        steps = look(context, pass, shard);
     }
     matches!(steps, Some(1..))
 }
 
 /// Makes the first of these pushes twice: whether the first is in doubt, and the second finds the pass closed.
-fn doubt<R: Wait>(course: &Course<R>, pass: &mut Pass, pushes: Pushes) -> bool
-    requires { IsPassOf course.now.ingester.now pass.old }
-    ensures { IsPassOf course.now.ingester.now pass.new }
+fn doubt<R: Wait>(context: &ThreadContext<R>, pass: &mut Pass, pushes: Pushes) -> bool
+    requires { IsPassOf context.now.ingester.now pass.old }
+    ensures { IsPassOf context.now.ingester.now pass.new }
 {
-    let first = push(course, pass, pushes.0, pushes.1);
-    let second = push(course, pass, pushes.0, pushes.1);
+    let first = push(context, pass, pushes.0, pushes.1);
+    let second = push(context, pass, pushes.0, pushes.1);
     matches!(first, Some(Err(CallFault::InDoubt)))
         && matches!(second, Some(Err(CallFault::PassClosed)))
 }
 
 /// Does a task: whether all is right.
-fn do_task<R: Wait + Clock>(course: &Course<R>, pass: &mut Pass, task: Task) -> bool
-    requires { IsPassOf course.now.ingester.now pass.old }
-    ensures { IsPassOf course.now.ingester.now pass.new }
+fn do_task<R: Wait + Clock>(context: &ThreadContext<R>, pass: &mut Pass, task: Task) -> bool
+    requires { IsPassOf context.now.ingester.now pass.old }
+    ensures { IsPassOf context.now.ingester.now pass.new }
 {
     match task {
-        Task::Push(pushes) => push_all(course, pass, pushes),
-        Task::PushBoth(one, two) => push_both(course, pass, one, two),
-        Task::Read(pushes) => read(course, pass, pushes),
-        Task::Look(shard, steps) => look(course, pass, shard) == Some(steps),
-        Task::See(shard) => see(course, pass, shard),
-        Task::Doubt(pushes) => doubt(course, pass, pushes),
+        Task::Push(pushes) => push_all(context, pass, pushes),
+        Task::PushBoth(one, two) => push_both(context, pass, one, two),
+        Task::Read(pushes) => read(context, pass, pushes),
+        Task::Look(shard, steps) => look(context, pass, shard) == Some(steps),
+        Task::See(shard) => see(context, pass, shard),
+        Task::Doubt(pushes) => doubt(context, pass, pushes),
         Task::EndOwners => {
-            course.ingester.end_owners(course.rt, pass);
+            context.ingester.end_owners(context.rt, pass);
             true
         }
         other => {
-            wait_or_open(course, other);
+            wait_or_open(context, other);
             true
         }
     }
 }
 
 /// Does a task that needs no pass.
-fn wait_or_open<R: Wait + Clock>(course: &Course<R>, task: Task) {
+fn wait_or_open<R: Wait + Clock>(context: &ThreadContext<R>, task: Task) {
     match task {
-        Task::Open => course.gate.open(),
-        Task::Gather => drop(course.all.wait(course.rt)),
+        Task::Open => context.gate.open(),
+        Task::Gather => drop(context.all.wait(context.rt)),
         Task::Rest(times) => {
-            let time = course.time.saturating_mul(times);
-            thread::sleep(course.rt, Duration::from_millis(time));
+            let time = context.time.saturating_mul(times);
+            thread::sleep(context.rt, Duration::from_millis(time));
         }
         _ => {}
     }
 }
 
 /// Does tasks one after another: whether all is right.
-fn do_all<R: Wait + Clock>(course: &Course<R>, pass: &mut Pass, tasks: &[Task]) -> bool
-    requires { IsPassOf course.now.ingester.now pass.old }
-    ensures { IsPassOf course.now.ingester.now pass.new }
+fn do_all<R: Wait + Clock>(context: &ThreadContext<R>, pass: &mut Pass, tasks: &[Task]) -> bool
+    requires { IsPassOf context.now.ingester.now pass.old }
+    ensures { IsPassOf context.now.ingester.now pass.new }
 {
     let mut right = true;
     for task in tasks {
-        right &= do_task(course, pass, *task);
+        right &= do_task(context, pass, *task);
     }
     right
 }
 
 /// Does all tasks of a pass: whether all is right.
-pub(crate) fn play<R: Wait + Clock>(course: &Course<R>, mut pass: Pass) -> bool
-    requires { IsPassOf course.now.ingester.now pass }
+pub(crate) fn play<R: Wait + Clock>(context: &ThreadContext<R>, mut pass: Pass) -> bool
+    requires { IsPassOf context.now.ingester.now pass }
 {
-    match course.roles.get(pass.number()) {
-        Some(tasks) => do_all(course, &mut pass, tasks),
+    match context.roles.get(pass.number()) {
+        Some(tasks) => do_all(context, &mut pass, tasks),
         None => false,
     }
 }

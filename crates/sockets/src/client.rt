@@ -19,7 +19,7 @@ pub(crate) const NO_CONTENT: &str = "HTTP/1.1 204 No Content\r\n\r\n";
 
 /// What a client does.
 #[derive(Clone, Copy)]
-pub(crate) enum Step<'a> {
+pub(crate) enum Action<'a> {
     /// It sends these over a connection of its own, and waits for the answers.
     Ask(&'a [Request<'a>]),
     /// It waits for a while and asks, again and again until it is answered.
@@ -40,7 +40,7 @@ pub(crate) struct Client<'a, R> {
     pub(crate) alloc: Global,
     pub(crate) address: SocketAddr,
     pub(crate) gate: &'a Gate,
-    pub(crate) steps: &'a [Step<'a>],
+    pub(crate) steps: &'a [Action<'a>],
 }
 
 /// Requests with these bodies for the tenant `t`.
@@ -137,14 +137,14 @@ fn leave<R: Net<Listener = TcpListener, Stream = TcpStream>>(
 /// Does a step: what the client is told.
 fn told_at<R: Net<Listener = TcpListener, Stream = TcpStream> + Clock>(
     client: &Client<R>,
-    step: Step<'_>,
+    step: Action<'_>,
 ) -> io::Result<String> {
     match step {
-        Step::Ask(requests) => return ask(client, requests),
-        Step::Insist(request) => return insist(client, request),
-        Step::Hold(held, then) => return hold(client, held, then),
-        Step::MissOther => miss_other(client)?,
-        Step::Leave(cut) => leave(client, cut)?,
+        Action::Ask(requests) => return ask(client, requests),
+        Action::Insist(request) => return insist(client, request),
+        Action::Hold(held, then) => return hold(client, held, then),
+        Action::MissOther => miss_other(client)?,
+        Action::Leave(cut) => leave(client, cut)?,
     }
     Ok(String::new(client.alloc))
 }

@@ -1,6 +1,6 @@
 //! The server over a folder, and `ingestctl` over the same while there is no server.
 
-use crate::client::{Client, NO_CONTENT, PUSH, READ, Step, answers_of, listen};
+use crate::client::{Action, Client, NO_CONTENT, PUSH, READ, answers_of, listen};
 use front::{Environment, SystemClock, run_server};
 use memory_disk::Gate;
 use std::alloc::Global;
@@ -21,13 +21,13 @@ const YEAR_2023: u64 = 1_700_000_000_000_000_000;
 
 /// What a program writes and how it ends.
 #[derive(Drop)]
-struct Ended {
+struct ProgramOutput {
     status: u8,
     output: Vec<u8>,
     errors: Vec<u8>,
 }
 
-impl Ended {
+impl ProgramOutput {
     /// Whether the program ends with status 0 and writes exactly this.
     fn is(&self, output: &str) -> bool {
         self.status == 0 && self.output.as_slice() == output.as_bytes() && self.errors.is_empty()
@@ -49,7 +49,7 @@ fn run_and_ask<R>(
     alloc: Global,
     words: &[String],
     client: Client<R>,
-) -> (Option<String>, Ended)
+) -> (Option<String>, ProgramOutput)
 where
     R: Files<File = File> + Net<Listener = TcpListener, Stream = TcpStream>,
     R: Threads + Wait + Clock + Copy + Send + Sync + 'static,
@@ -61,7 +61,7 @@ where
         move || answers_of(&client).ok(),
         || run_server(rt, alloc, words, &unset, &mut output, &mut errors, None),
     );
-    let ended = Ended {
+    let ended = ProgramOutput {
         status,
         output,
         errors,
@@ -70,7 +70,7 @@ where
 }
 
 /// What `ingestctl` does with the words of this line, while there is no server.
-fn run_line<R>(rt: &R, alloc: Global, line: &str, body: &str) -> Result<Ended, Fail>
+fn run_line<R>(rt: &R, alloc: Global, line: &str, body: &str) -> Result<ProgramOutput, Fail>
 where
     R: Files<File = File> + Threads + Wait + Copy + Send + Sync + 'static,
 {
@@ -78,7 +78,7 @@ where
     Ok(run_words(rt, alloc, &words, body))
 }
 
-fn run_words<R>(rt: &R, alloc: Global, words: &[String], body: &str) -> Ended
+fn run_words<R>(rt: &R, alloc: Global, words: &[String], body: &str) -> ProgramOutput
 where
     R: Files<File = File> + Threads + Wait + Copy + Send + Sync + 'static,
 {
@@ -93,7 +93,7 @@ where
         &mut output,
         &mut errors,
     );
-    Ended {
+    ProgramOutput {
         status,
         output,
         errors,
@@ -121,9 +121,9 @@ where
         address: SocketAddr::new(IpAddr::V4(Ipv4Addr::LOCALHOST), port),
         gate: &gate,
         steps: &[
-            Step::Insist((PUSH, body.as_str())),
-            Step::MissOther,
-            Step::Ask(&[(READ, READ_ALL)]),
+            Action::Insist((PUSH, body.as_str())),
+            Action::MissOther,
+            Action::Ask(&[(READ, READ_ALL)]),
         ],
     };
     let (told, ended) = run_and_ask(rt, alloc, &words, client);
@@ -187,7 +187,7 @@ fn lines_of(alloc: Global, time: u64, lines: u64, length: usize) -> Result<Strin
 }
 
 /// What `ingestctl` does with a push of lines of 262,140 bytes and more to the one shard of the folder `sockets_full`.
-fn push_lines<R>(rt: &R, alloc: Global, time: u64, lines: u64) -> Result<Ended, Fail>
+fn push_lines<R>(rt: &R, alloc: Global, time: u64, lines: u64) -> Result<ProgramOutput, Fail>
 where
     R: Files<File = File> + Threads + Wait + Copy + Send + Sync + 'static,
 {

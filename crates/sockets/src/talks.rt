@@ -3,7 +3,7 @@ ghost use Rattle.std.specs.Prelude.{◌<◌, ◌≤◌, ◌≡◌, ℕ, Some, sl
 ghost use Rattle.history.specs.Handles.{Passed};
 ghost use Rattle.ingester.specs.Calls.{IsPassOf};
 
-use crate::client::{Client, NO_CONTENT, PUSH, READ, Request, Step, answers_of, listen};
+use crate::client::{Action, Client, NO_CONTENT, PUSH, READ, Request, answers_of, listen};
 use accept::Limits;
 use front::{Connections, Untold};
 use ingester::{Ingester, Pass, Settings};
@@ -45,7 +45,7 @@ const X_ALONE: &str =
     "HTTP/1.1 200 OK\r\nContent-Type: application/json\r\nContent-Length: 23\r\n\r\n{\"values\":[[\"10\",\"x\"]]}";
 
 /// A slot in memory. A gate can hold its syncs.
-type Slot = GateDisk<MemDisk>;
+type HeldSlot = GateDisk<MemDisk>;
 
 /// What a client asks, and what it must be told.
 struct Dialogue {
@@ -56,7 +56,7 @@ struct Dialogue {
     connections: u64,
     /// Whether each accept fails while no client waits.
     accepts_fail: bool,
-    steps: &'static [Step<'static>],
+    steps: &'static [Action<'static>],
     answers: &'static [&'static str],
 }
 
@@ -67,7 +67,7 @@ const DIALOGUES: [Dialogue; 4] = [
         workers: 2,
         connections: 2,
         accepts_fail: false,
-        steps: &[Step::Hold(SAMPLE, OTHER)],
+        steps: &[Action::Hold(SAMPLE, OTHER)],
         answers: &[NO_CONTENT, NO_CONTENT],
     },
     Dialogue {
@@ -77,9 +77,9 @@ const DIALOGUES: [Dialogue; 4] = [
         connections: 3,
         accepts_fail: false,
         steps: &[
-            Step::Ask(&[SAMPLE]),
-            Step::Ask(&[SAMPLE]),
-            Step::Ask(&[READ_X]),
+            Action::Ask(&[SAMPLE]),
+            Action::Ask(&[SAMPLE]),
+            Action::Ask(&[READ_X]),
         ],
         answers: &[NO_CONTENT, NO_CONTENT, X_ALONE],
     },
@@ -89,7 +89,7 @@ const DIALOGUES: [Dialogue; 4] = [
         workers: 1,
         connections: 2,
         accepts_fail: false,
-        steps: &[Step::Leave(LOST), Step::Ask(&[SAMPLE, READ_X])],
+        steps: &[Action::Leave(LOST), Action::Ask(&[SAMPLE, READ_X])],
         answers: &[NO_CONTENT, X_ALONE],
     },
     Dialogue {
@@ -98,16 +98,16 @@ const DIALOGUES: [Dialogue; 4] = [
         workers: 1,
         connections: 1,
         accepts_fail: true,
-        steps: &[Step::Insist(SAMPLE)],
+        steps: &[Action::Insist(SAMPLE)],
         answers: &[NO_CONTENT],
     },
 ];
 
 /// A clock that always tells the same time.
 #[derive(Drop)]
-struct Standing;
+struct StoppedClock;
 
-impl front::Clock for Standing {
+impl front::Clock for StoppedClock {
     ghost ticks = { λ old time new. time ≡ 20 };
 
     fn now(&mut self) -> u64 {
@@ -125,18 +125,18 @@ impl Watch for Quiet {
 }
 
 /// An empty slot with this gate for its syncs.
-fn slot(alloc: Global, gate: &Gate) -> Result<Slot, Fail> {
+fn slot(alloc: Global, gate: &Gate) -> Result<HeldSlot, Fail> {
     let disk = MemDisk::new(alloc, 8_192, 1_000, 65_536)?;
     Ok(GateDisk::new(disk, gate.try_clone()?))
 }
 
 /// The empty slots of a shard, with this gate for their syncs.
-fn slots_of(alloc: Global, gate: &Gate) -> Result<[Slot; 2], Fail> {
+fn slots_of(alloc: Global, gate: &Gate) -> Result<[HeldSlot; 2], Fail> {
     Ok([slot(alloc, gate)?, slot(alloc, gate)?])
 }
 
 /// The empty slots of a shard for each of these. The gate is for the syncs of those that it holds.
-fn all_slots(alloc: Global, gate: &Gate, held: &[bool]) -> Result<Vec<[Slot; 2]>, Fail> {
+fn all_slots(alloc: Global, gate: &Gate, held: &[bool]) -> Result<Vec<[HeldSlot; 2]>, Fail> {
     let free = Gate::new(alloc)?;
     let mut slots = Vec::new(alloc);
     for is_held in held {
@@ -156,7 +156,7 @@ fn open<R>(
     gate: &Gate,
     held: &[bool],
     workers: u32,
-) -> Result<(Ingester<Slot>, Vec<Pass>), Fail>
+) -> Result<(Ingester<HeldSlot>, Vec<Pass>), Fail>
 where
     R: Threads + Wait + Copy + Send + Sync + 'static,
     ensures { IfOk result (λ it. (p : ℕ) (pass : Passed) → slice_get it.1.items p ≡ Some pass
@@ -182,10 +182,10 @@ fn servers_of<'a>(
     alloc: Global,
     workers: u32,
     full: &'a Untold,
-) -> Result<Vec<Connections<'a, Standing, Untold>>, AllocError> {
+) -> Result<Vec<Connections<'a, StoppedClock, Untold>>, AllocError> {
     let mut servers = Vec::new(alloc);
     for _ in 0..workers {
-        servers.push(Connections::new(alloc, Standing, full))?;
+        servers.push(Connections::new(alloc, StoppedClock, full))?;
     }
     Ok(servers)
 }
@@ -193,9 +193,9 @@ fn servers_of<'a>(
 /// What a client is told while workers serve its connections: nothing, if it or they fail. The passes come back.
 fn talk_and_serve<R>(
     client: Client<R>,
-    ingester: &Ingester<Slot>,
+    ingester: &Ingester<HeldSlot>,
     passes: Vec<Pass>,
-    servers: Vec<Connections<'_, Standing, Untold>>,
+    servers: Vec<Connections<'_, StoppedClock, Untold>>,
     listener: &TcpListener,
     connections: u64,
 ) -> (Vec<Pass>, Option<String>)

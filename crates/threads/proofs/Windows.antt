@@ -10,12 +10,11 @@ use Rattle.accept.specs.declared.history.Step.{Step}
 use Rattle.accept.specs.declared.history.Item.TheVariants.{Answered}
 use Rattle.accept.specs.Histories.{key_of}
 use Rattle.history.specs.declared.views.About.{About}
-use Rattle.history.specs.declared.views.Caller.{Caller}
 use Rattle.history.specs.Shards.{shard_of}
 use Rattle.history.specs.Histories.{shard_in, step_of, HaveSteps, asks_on}
-use Rattle.history.specs.Plays.{ask_of, before_of, announce_to, IsRested}
-use Rattle.history.specs.Handles.{Announced, Booked, Passed, Received, longer}
-use Rattle.threads.specs.Windows.{asks_received, AreTo, IsWindow, MayFollowIn, with_step_of_shard}
+use Rattle.history.specs.Plays.{ask_of, announce_to, IsRested}
+use Rattle.history.specs.Handles.{Booked, Passed, Received, longer}
+use Rattle.threads.specs.Windows.{asks_received, AreTo, IsWindow, with_step_of_shard}
 use Rattle.history.proofs.Past.{have_more, have_last, made_now}
 
 cond_asks : (b : Bool) (a : Ask) (xs ys : List Ask) → cond b (a ∷ (xs ++ ys)) (xs ++ ys) ≡ cond b (a ∷ xs) xs ++ ys
@@ -36,12 +35,6 @@ with_step_here about k book s here = ap (λ (b : Bool). cond b (longer book (Ans
 
 pub with_step_there : (about : About) (k : ℕ) (book : Booked) (s : Step) → k ≢ shard_in about s.ask → with_step_of_shard about k book s ≡ book
 with_step_there about k book s there = ap (λ (b : Bool). cond b (longer book (Answered s)) book) (ne_eqb k (shard_in about s.ask) there)
-
--- a call that is announced may follow the open ones of its shard
-pub may_follow : (about : About) (k : ℕ) (c : Caller) (n : ℕ) (call : Call) (t : Announced) (book : Booked) → c.about ≡ about → t.ask ≡ ask_of c n call → t.before ≡ before_of c n call → HaveSteps (asks_on about k c.pending) book.items → MayFollowIn about k t book
-may_follow about k c n call t book at ask before had here =
-    let asks : t.before ≡ asks_on about k c.pending = before ∙ (λ i. asks_on (at i) (shard_in (at i) (sym ask i)) c.pending) ∙ ap (λ (j : ℕ). asks_on about j c.pending) (sym here) in
-    subst (λ (l : List Ask). HaveSteps l book.items) (sym asks) had
 
 had_one : (about : About) (k : ℕ) (pending : List Ask) (a : Ask) (r : Reply) (book : Booked) (b : Bool) → HaveSteps (asks_on about k pending) book.items → HaveSteps (asks_on about k pending ++ cond b (a ∷ []) []) (cond b (longer book (Answered (step_of a r))) book).items
 had_one about k pending a r book true had =

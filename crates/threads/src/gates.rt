@@ -8,7 +8,7 @@ use std::thread::{self, Threads};
 
 /// A call on a disk, and what it must give.
 #[derive(Clone, Copy)]
-enum Step {
+enum ExpectedCall {
     Len(u64),
     Write(u64, &'static [u8]),
     Sync,
@@ -19,22 +19,22 @@ enum Step {
 }
 
 /// What every disk does, from empty on.
-const STEPS: [Step; 15] = [
-    Step::Len(0),
-    Step::Read(0, 0, [9; 4]),
-    Step::Write(0, b"hello"),
-    Step::Write(5, b", disk"),
-    Step::Write(0, b"H"),
-    Step::Write(11, b""),
-    Step::Sync,
-    Step::Len(11),
-    Step::Read(0, 4, *b"Hell"),
-    Step::Read(9, 2, *b"skll"),
-    Step::Read(11, 0, *b"skll"),
-    Step::ReadNothing(u64::MAX - 8),
-    Step::Write(10, b"cs"),
-    Step::Len(12),
-    Step::Read(8, 4, *b"iscs"),
+const STEPS: [ExpectedCall; 15] = [
+    ExpectedCall::Len(0),
+    ExpectedCall::Read(0, 0, [9; 4]),
+    ExpectedCall::Write(0, b"hello"),
+    ExpectedCall::Write(5, b", disk"),
+    ExpectedCall::Write(0, b"H"),
+    ExpectedCall::Write(11, b""),
+    ExpectedCall::Sync,
+    ExpectedCall::Len(11),
+    ExpectedCall::Read(0, 4, *b"Hell"),
+    ExpectedCall::Read(9, 2, *b"skll"),
+    ExpectedCall::Read(11, 0, *b"skll"),
+    ExpectedCall::ReadNothing(u64::MAX - 8),
+    ExpectedCall::Write(10, b"cs"),
+    ExpectedCall::Len(12),
+    ExpectedCall::Read(8, 4, *b"iscs"),
 ];
 
 fn empty(alloc: Global, gate: &Gate) -> Result<GateDisk<MemDisk>, Fail> {
@@ -43,16 +43,20 @@ fn empty(alloc: Global, gate: &Gate) -> Result<GateDisk<MemDisk>, Fail> {
 }
 
 // Makes a call, and says whether it gives what it must.
-fn is_given<D: Disk>(disk: &mut D, buf: &mut [u8; 4], step: Step) -> Result<bool, DeviceFault> {
+fn is_given<D: Disk>(
+    disk: &mut D,
+    buf: &mut [u8; 4],
+    step: ExpectedCall,
+) -> Result<bool, DeviceFault> {
     match step {
-        Step::Len(wanted) => Ok(disk.len()? == wanted),
-        Step::Write(at, bytes) => disk.write_at(at, bytes).map(|()| true),
-        Step::Sync => disk.sync().map(|()| true),
-        Step::Read(at, count, wanted) => {
+        ExpectedCall::Len(wanted) => Ok(disk.len()? == wanted),
+        ExpectedCall::Write(at, bytes) => disk.write_at(at, bytes).map(|()| true),
+        ExpectedCall::Sync => disk.sync().map(|()| true),
+        ExpectedCall::Read(at, count, wanted) => {
             let found = disk.read(at, buf)?;
             Ok(found == count && *buf == wanted)
         }
-        Step::ReadNothing(at) => Ok(disk.read(at, buf).unwrap_or(0) == 0),
+        ExpectedCall::ReadNothing(at) => Ok(disk.read(at, buf).unwrap_or(0) == 0),
     }
 }
 

@@ -49,12 +49,12 @@ impl Room for Brand {
 
 /// The book of the one shard, whose log has not failed. Contracts see the length of its history.
 #[derive(Drop)]
-struct Desk<J: Room> {
+struct UnmarkedBook<J: Room> {
     book: Book,
     of: PhantomData<J>,
 }
 
-impl<J: Room> Model for Desk<J> {
+impl<J: Room> Model for UnmarkedBook<J> {
     ghost use Rattle.std.specs.Prelude.{◌≡◌, ℕ, length, false};
     ghost use Rattle.accept.specs.Histories.{is_marked};
 
@@ -67,7 +67,7 @@ impl<J: Room> Model for Desk<J> {
         × (is_marked d.book.items ≡ false) };
 }
 
-impl<J: Room> Desk<J> {
+impl<J: Room> UnmarkedBook<J> {
     fn answer(&mut self, ticket: Ticket, reply: Reply) -> Receipt
         requires ticket { (ticket.table ≡ J.table) × ReadsNothing ticket.ask.call }
         requires alone { ticket.before ≡ [] }
@@ -123,7 +123,7 @@ fn call<J: Room>(
     rt: &impl Wait,
     alloc: Global,
     history: &History,
-    desk: &Mutex<Desk<J>>,
+    unmarked_book: &Mutex<UnmarkedBook<J>>,
     pass: &mut Pass,
     read: &Call,
 ) -> Option<()>
@@ -139,7 +139,7 @@ fn call<J: Room>(
     match history.announce(pass, read) {
         Ok(ticket) => {
             let reply = Reply::Entries(EntryList::new(Vec::new(alloc)));
-            let receipt = desk.lock(rt).answer(ticket, reply);
+            let receipt = unmarked_book.lock(rt).answer(ticket, reply);
             history.collect(pass, receipt);
             Some(())
         }
@@ -152,7 +152,7 @@ fn calls<J: Room>(
     rt: &impl Wait,
     alloc: Global,
     history: &History,
-    desk: &Mutex<Desk<J>>,
+    unmarked_book: &Mutex<UnmarkedBook<J>>,
     mut pass: Pass,
 ) -> Option<Pass>
     requires history { history.now ≡ J.table }
@@ -166,7 +166,7 @@ fn calls<J: Room>(
     let read = read_call(alloc, "1")?;
     let read = &read;
     for made in 0..100u64 {
-        call(rt, alloc, history, desk, &mut pass, read)?;
+        call(rt, alloc, history, unmarked_book, &mut pass, read)?;
         let _ = made;
     }
     Some(pass)
@@ -188,11 +188,11 @@ fn both_call<J: Room + Send + Sync, R: Threads + Wait + Abort + Sync>(
     requires two { (two.table ≡ J.table) × (two.caller.about.shards ≡ 1) × (two.caller.pending ≡ [])
         × (two.caller.last ≡ 0) }
 {
-    let desk = Mutex::new(Desk::<J> {
+    let unmarked_book = Mutex::new(UnmarkedBook::<J> {
         book,
         of: PhantomData,
     });
-    let (history, desk) = (&history, &desk);
+    let (history, unmarked_book) = (&history, &unmarked_book);
     let (one, two) = join(
         rt,
         move || -> Option<Pass>
@@ -200,13 +200,13 @@ fn both_call<J: Room + Send + Sync, R: Threads + Wait + Abort + Sync>(
                 × (one.caller.about.shards ≡ 1)
                 × (one.caller.pending ≡ []) × (one.caller.last ≡ 0) }
             ensures { IfSome result (λ p. (p.table ≡ J.table) × (p.caller.about.shards ≡ 1)) }
-        { calls(rt, alloc, history, desk, one) },
+        { calls(rt, alloc, history, unmarked_book, one) },
         move || -> Option<Pass>
             requires { (history.now ≡ J.table) × (two.table ≡ J.table)
                 × (two.caller.about.shards ≡ 1)
                 × (two.caller.pending ≡ []) × (two.caller.last ≡ 0) }
             ensures { IfSome result (λ p. (p.table ≡ J.table) × (p.caller.about.shards ≡ 1)) }
-        { calls(rt, alloc, history, desk, two) },
+        { calls(rt, alloc, history, unmarked_book, two) },
     );
     let mut one = one.ok_or("the first pass calls")?;
     let mut two = two.ok_or("the second pass calls")?;

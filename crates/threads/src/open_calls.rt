@@ -22,7 +22,7 @@ use std::thread::{Threads, join};
 const ROUNDS: u64 = 5;
 
 /// Which opening a test has.
-trait Opening {
+trait TestOpening {
     ghost use Rattle.atomic_table.specs.Seated.{TableId};
     ghost use Rattle.history.specs.declared.views.About.{About};
 
@@ -31,7 +31,7 @@ trait Opening {
     ghost about: { About };
 }
 
-impl Opening for Brand {
+impl TestOpening for Brand {
     ghost use Rattle.history.specs.Handles.{no_about};
 
     ghost table = { record {
@@ -48,7 +48,7 @@ impl Opening for Brand {
 }
 
 // Refuses a call on the shard of this book.
-fn refuse_in<J: Opening>(book: &mut Book, ticket: Ticket) -> (Reply, Receipt)
+fn refuse_in<J: TestOpening>(book: &mut Book, ticket: Ticket) -> (Reply, Receipt)
     requires table { ticket.table ≡ J.table }
     requires book { IsMarkedBook J.table J.about book.old }
     requires shard { shard_in J.about ticket.ask ≡ book.old.shard }
@@ -62,7 +62,7 @@ fn refuse_in<J: Opening>(book: &mut Book, ticket: Ticket) -> (Reply, Receipt)
 }
 
 // Refuses a call in the book of its shard.
-fn refuse<J: Opening>(
+fn refuse<J: TestOpening>(
     zero: &mut Book,
     one: &mut Book,
     shard: u32,
@@ -87,7 +87,7 @@ fn refuse<J: Opening>(
 }
 
 // Opens one more call, which is refused in the book of its shard.
-fn open_call<J: Opening>(
+fn open_call<J: TestOpening>(
     history: &History,
     zero: &mut Book,
     one: &mut Book,
@@ -116,7 +116,7 @@ fn open_call<J: Opening>(
 }
 
 // Opens all these calls.
-fn open_all<J: Opening>(
+fn open_all<J: TestOpening>(
     history: &History,
     zero: &mut Book,
     one: &mut Book,
@@ -139,7 +139,11 @@ fn open_all<J: Opening>(
 }
 
 // Collects the answers in their order, and gives the number of the last one.
-fn take_in<J: Opening>(history: &History, pass: &mut Pass, answers: &mut VecDeque<Receipt>) -> u64
+fn take_in<J: TestOpening>(
+    history: &History,
+    pass: &mut Pass,
+    answers: &mut VecDeque<Receipt>,
+) -> u64
     requires history { history.now ≡ J.table }
     requires window { IsWindow J.table J.about pass.old answers.old.items }
     ensures window { IsWindow J.table J.about pass.new answers.new.items }
@@ -155,13 +159,13 @@ fn take_in<J: Opening>(history: &History, pass: &mut Pass, answers: &mut VecDequ
 
 /// The books of both shards, each with a failure mark.
 #[derive(Drop)]
-struct Books<J: Opening> {
+struct Books<J: TestOpening> {
     zero: Book,
     one: Book,
     of: PhantomData<J>,
 }
 
-impl<J: Opening> Model for Books<J> {
+impl<J: TestOpening> Model for Books<J> {
     ghost use Rattle.std.specs.Prelude.{⊤};
     ghost use Rattle.threads.specs.Windows.{AreBooks};
 
@@ -172,7 +176,7 @@ impl<J: Opening> Model for Books<J> {
     ghost invariant = { λ b. AreBooks J.table J.about b.zero b.one };
 }
 
-impl<J: Opening> Books<J> {
+impl<J: TestOpening> Books<J> {
     fn open_all(
         &mut self,
         history: &History,
@@ -191,7 +195,7 @@ impl<J: Opening> Books<J> {
 }
 
 // Opens all calls and collects their answers, again and again.
-fn rounds<J: Opening>(
+fn rounds<J: TestOpening>(
     rt: &impl Wait,
     alloc: Global,
     history: &History,
@@ -218,7 +222,7 @@ fn rounds<J: Opening>(
     Some(pass)
 }
 
-fn both_call<J: Opening + Send + Sync, R: Threads + Wait + Abort + Sync>(
+fn both_call<J: TestOpening + Send + Sync, R: Threads + Wait + Abort + Sync>(
     rt: &R,
     alloc: Global,
     history: &History,

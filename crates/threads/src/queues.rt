@@ -18,9 +18,9 @@ impl Fits<u64, u64> for FromKey {
     ghost fits = { λ key number message. key + number ≤ message };
 }
 
-type Sends = QueueSender<u64, u64, FromKey>;
+type NumberSender = QueueSender<u64, u64, FromKey>;
 
-type Receives = QueueReceiver<u64, u64, FromKey>;
+type NumberReceiver = QueueReceiver<u64, u64, FromKey>;
 
 /// The first message.
 const FIRST: u64 = 1_001;
@@ -63,7 +63,7 @@ const RUNS: [Run; 3] = [
 ];
 
 /// A queue with room for two messages.
-fn numbers(alloc: Global) -> Result<(Sends, Receives), Fail>
+fn numbers(alloc: Global) -> Result<(NumberSender, NumberReceiver), Fail>
     ensures { IfOk result (λ ends. (sends_to ends.0 ≡ Bound 1000 1)
         × (receives_as ends.1 ≡ Bound 1000 1)) }
 {
@@ -71,7 +71,7 @@ fn numbers(alloc: Global) -> Result<(Sends, Receives), Fail>
 }
 
 /// Sends `count` messages, from the first on. Gives how many were sent before one came back.
-fn send_all<R: Wait>(rt: &R, mut sender: Sends, count: u32) -> u32
+fn send_all<R: Wait>(rt: &R, mut sender: NumberSender, count: u32) -> u32
     requires { sends_to sender ≡ Bound 1000 1 }
 {
     for number in 0..count {
@@ -83,7 +83,7 @@ fn send_all<R: Wait>(rt: &R, mut sender: Sends, count: u32) -> u32
 }
 
 /// Receives `count` messages. Gives how many were the next one, before another came or none.
-fn receive_all<R: Wait>(rt: &R, mut receiver: Receives, count: u32) -> u32
+fn receive_all<R: Wait>(rt: &R, mut receiver: NumberReceiver, count: u32) -> u32
     requires { receives_as receiver ≡ Bound 1000 1 }
 {
     for number in 0..count {

@@ -16,12 +16,12 @@ use Rattle.requests.specs.declared.status.Status.TheVariants as statuses
 use Rattle.answering.specs.Responses.{RequestIsAnswered}
 use Rattle.owners.specs.Openings.{Opening}
 use Rattle.front.specs.Calls.{CallGives}
-use Rattle.words.specs.declared.said.CallWords.{CallWords}
-use Rattle.words.specs.declared.environment.Environment.{Environment}
-use Rattle.words.specs.Environments.{limits_of}
-use Rattle.words.specs.Words.{SaysCall, SaysClock, capacity_of}
-use Rattle.front.specs.declared.stopped.Stopped.{Stopped}
-use Rattle.front.specs.declared.stopped.Stopped.TheVariants.{Output}
+use Rattle.programs.specs.declared.said.CallWords.{CallWords}
+use Rattle.programs.specs.declared.environment.Environment.{Environment}
+use Rattle.programs.specs.Environments.{limits_of}
+use Rattle.programs.specs.Words.{SaysCall, SaysClock, capacity_of}
+use Rattle.front.specs.declared.program_fault.ProgramFault.{ProgramFault}
+use Rattle.front.specs.declared.program_fault.ProgramFault.TheVariants.{Output}
 use Rattle.front.specs.Stops.{stop_status}
 use Rattle.front.specs.Openings.{IsOpenedUnder}
 
@@ -79,7 +79,7 @@ pub data CallEnds (D : Type 0) (words : List (String Global)) (environment : Env
       → IsDueToCall D call limits (capacity_of (option_map string_bytes environment.capacity)) body answer
       → Appends before after (answer_lines answer) → status ≡ answer_status answer.status
       → CallEnds D words environment input before after status
-  stopped_call : (stop : Stopped) → (stop ≡ Output) ⊎ (after ≡ before) → status ≡ stop_status stop
+  stopped_call : (stop : ProgramFault) → (stop ≡ Output) ⊎ (after ≡ before) → status ≡ stop_status stop
       → CallEnds D words environment input before after status
 
 -- How `ingest1` ended: its word or a setting was wrong; or the answer that is due to a push of its input at the time of
@@ -93,6 +93,6 @@ pub data PushEnds (words : List (String Global)) (environment : Environment)
       → (answer : Answer) → IsDueToPush MemDisk limits now body answer → (back : List ℕ)
       → Appends before after (answer_lines answer ++ back) → status ≡ 0
       → PushEnds words environment input before after status
-  stopped_push : (stop : Stopped) → (stop_status stop ≡ 3 → after ≡ before)
+  stopped_push : (stop : ProgramFault) → (stop_status stop ≡ 3 → after ≡ before)
       → status ≡ stop_status stop
       → PushEnds words environment input before after status

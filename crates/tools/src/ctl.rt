@@ -3,24 +3,23 @@ ghost use Rattle.std.specs.Prelude.{◌≡◌, ◌⊎◌, ◌↔◌, ◌≤◌, 
 ghost use Rattle.std.specs.Io.KnownBytes.{Appends};
 ghost use Rattle.requests.specs.declared.answer.Answer.{Answer};
 ghost use Rattle.disk.specs.declared.file.FileDisk.{FileDisk};
-ghost use Rattle.slots.specs.declared.watched.Watched.{Watched};
+ghost use Rattle.programs.specs.declared.watched.Watched.{Watched};
 ghost use Rattle.accept.specs.OneStream.{AreLimits};
-ghost use Rattle.words.specs.Words.{GiveCall, GivesCapacity};
-ghost use Rattle.words.specs.Environments.{limits_of};
+ghost use Rattle.programs.specs.Words.{GiveCall, GivesCapacity};
+ghost use Rattle.programs.specs.Environments.{limits_of};
 ghost use Rattle.front.specs.Stops.{stop_status};
 ghost use Rattle.tools.specs.Endings.{CallEnds, IsBodyOf, IsDueToCall, answer_lines, answer_status};
 
 use crate::body::{read_body, write_answer};
 use crate::one_pass::{close_for_one, open_for_one};
 use accept::Limits;
-use front::{Answer, Status, Stopped, answer, capacity_by, limits_by};
-use slots::open_slots;
+use front::{Answer, ProgramFault, Status, answer, capacity_by, limits_by};
+use programs::{CallWords, Environment, call_in, open_slots};
 use std::alloc::Global;
 use std::fs::{File, Files};
 use std::io::{Read, Write};
 use std::sync::Wait;
 use std::thread::Threads;
-use words::{CallWords, Environment, call_in};
 
 /// Runs `ingestctl push|read|trim DIR SHARDS TENANT NOW` on the body that is read from `input`, and gives its exit
 /// status.
@@ -77,7 +76,7 @@ fn call_and_print<R, I: Read, W: Write>(
     capacity: u64,
     input: &mut I,
     output: &mut W,
-) -> Result<u8, Stopped>
+) -> Result<u8, ProgramFault>
 where
     R: Files<File = File> + Threads + Wait + Copy + Send + Sync + 'static,
     requires limits { AreLimits limits }
@@ -88,7 +87,7 @@ where
         × IsDueToCall (Watched FileDisk) words.entry limits capacity body answer
         × Appends (W.contents output.old) (W.contents output.new) (answer_lines answer)
         × (status ≡ answer_status answer.status)) }
-    ensures stopped { IfErr result (λ stop. (stop ≡ Stopped.Output)
+    ensures stopped { IfErr result (λ stop. (stop ≡ ProgramFault.Output)
         ⊎ (W.contents output.new ≡ W.contents output.old)) }
 {
     let answer = call_folder(rt, alloc, words, limits, capacity, input)?;
@@ -115,7 +114,7 @@ fn call_folder<R, I: Read>(
     limits: Limits,
     capacity: u64,
     input: &mut I,
-) -> Result<Answer, Stopped>
+) -> Result<Answer, ProgramFault>
 where
     R: Files<File = File> + Threads + Wait + Copy + Send + Sync + 'static,
     requires limits { AreLimits limits }
@@ -138,6 +137,6 @@ where
     close_for_one(rt, alloc, ingester, pass);
     match answered {
         Ok(answer) => Ok(answer),
-        Err(_) => Err(Stopped::Memory),
+        Err(_) => Err(ProgramFault::Memory),
     }
 }

@@ -7,8 +7,8 @@ ghost use Rattle.memory_disk.specs.declared.memory.MemDisk.{MemDisk};
 ghost use Rattle.requests.specs.declared.answer.Answer.{Answer};
 ghost use Rattle.answering.specs.Responses.{RequestIsAnswered};
 ghost use Rattle.ingester.specs.Calls.{IsPassOf};
-ghost use Rattle.words.specs.Words.{GiveClock, capacity_of};
-ghost use Rattle.words.specs.Environments.{limits_of};
+ghost use Rattle.programs.specs.Words.{GiveClock, capacity_of};
+ghost use Rattle.programs.specs.Environments.{limits_of};
 ghost use Rattle.front.specs.Calls.{CallGives};
 ghost use Rattle.front.specs.Openings.{IsOpenedUnder};
 ghost use Rattle.front.specs.Stops.{stop_status};
@@ -19,16 +19,16 @@ use crate::body::{read_body, write_answer, write_bytes};
 use crate::one_pass::{close_for_one, open_for_one};
 use accept::{Call, END_OF_TIME, Limits};
 use disk::Disk;
-use front::{Answer, Route, Status, Stopped, answer, answer_of_read, limits_by};
+use front::{Answer, ProgramFault, Route, Status, answer, answer_of_read, limits_by};
 use ingester::{Ingester, Pass};
 use labels::{LabelFault, LabelSet, StreamKey, Tenant};
 use memory_disk::MemDisk;
+use programs::{CAPACITY, Environment, clock_in};
 use pushjson::{PushFault, RawBatch, read_push};
 use std::alloc::Global;
 use std::io::{Read, Write};
 use std::sync::Wait;
 use std::thread::Threads;
-use words::{CAPACITY, Environment, clock_in};
 
 /// The tenant of the streams.
 const TENANT: &str = "t";
@@ -86,7 +86,7 @@ fn push_and_read<R, I: Read, W: Write>(
     now: u64,
     input: &mut I,
     output: &mut W,
-) -> Result<(), Stopped>
+) -> Result<(), ProgramFault>
 where
     R: Threads + Wait + Copy + Send + Sync + 'static,
     requires limits { AreLimits limits }
@@ -113,7 +113,7 @@ fn push_body<D: Disk + Drop, R: Wait, W: Write>(
     now: u64,
     body: &[u8],
     output: &mut W,
-) -> Result<(), Stopped>
+) -> Result<(), ProgramFault>
     requires opened { IsOpenedUnder ingester.now.about.limits 1 1 (capacity_of None)
         ingester.now (pass.old ∷ []) }
     requires pass { IsPassOf ingester.now pass.old }
@@ -141,29 +141,29 @@ fn answer_push<D: Disk + Drop, R: Wait>(
     pass: &mut Pass,
     now: u64,
     body: &[u8],
-) -> Result<Answer, Stopped>
+) -> Result<Answer, ProgramFault>
     requires pass { IsPassOf ingester.now pass.old }
     requires clock { now < end_of_time }
     ensures pass { IsPassOf ingester.now pass.new }
     ensures answers { IfOk result (λ pushed. RequestIsAnswered
         CallGives Route.Push now (codes "t") body.now pass.old (Ok pushed)
         pass.new) }
-    ensures stopped { IfErr result (λ stop. stop ≡ Stopped.Memory) }
+    ensures stopped { IfErr result (λ stop. stop ≡ ProgramFault.Memory) }
 {
     let Ok(tenant) = Tenant::new(alloc, TENANT) else {
-        return Err(Stopped::Memory);
+        return Err(ProgramFault::Memory);
     };
     match answer(rt, alloc, ingester, pass, now, Route::Push, &tenant, body) {
         Ok(pushed) => Ok(pushed),
-        Err(_) => Err(Stopped::Memory),
+        Err(_) => Err(ProgramFault::Memory),
     }
 }
 
 // The two empty slots of one shard.
-fn empty_slots(alloc: Global) -> Result<Vec<[MemDisk; 2]>, Stopped>
+fn empty_slots(alloc: Global) -> Result<Vec<[MemDisk; 2]>, ProgramFault>
     ensures one { IfOk result (λ slots. vec_len slots ≡ 1) }
     ensures empty { IfOk result (λ slots. AreEmptySlots memory_sight slots.items) }
-    ensures stopped { IfErr result (λ stop. stop ≡ Stopped.Memory) }
+    ensures stopped { IfErr result (λ stop. stop ≡ ProgramFault.Memory) }
 {
     let first = MemDisk::new(alloc, ROOM, CALLS, ROOM)?;
     let second = MemDisk::new(alloc, ROOM, CALLS, ROOM)?;
@@ -180,7 +180,7 @@ fn read_back<D: Disk + Drop, R: Wait, W: Write>(
     pass: &mut Pass,
     body: &[u8],
     output: &mut W,
-) -> Result<(), Stopped>
+) -> Result<(), ProgramFault>
     requires { IsPassOf ingester.now pass.old }
     ensures pass { IsPassOf ingester.now pass.new }
     ensures written { OnOk result ((back : List ℕ)
@@ -189,7 +189,7 @@ fn read_back<D: Disk + Drop, R: Wait, W: Write>(
 {
     let batches = match read_push(alloc, body) {
         Ok(batches) => batches,
-        Err(PushFault::Memory) => return Err(Stopped::Memory),
+        Err(PushFault::Memory) => return Err(ProgramFault::Memory),
         Err(_) => return Ok(()),
     };
     for batch in batches {
@@ -206,7 +206,7 @@ fn read_stream<D: Disk + Drop, R: Wait, W: Write>(
     pass: &mut Pass,
     batch: RawBatch,
     output: &mut W,
-) -> Result<(), Stopped>
+) -> Result<(), ProgramFault>
     requires { IsPassOf ingester.now pass.old }
     ensures pass { IsPassOf ingester.now pass.new }
     ensures written { OnOk result ((back : List ℕ)
@@ -215,11 +215,11 @@ fn read_stream<D: Disk + Drop, R: Wait, W: Write>(
 {
     let labels = match LabelSet::new(alloc, batch.pairs) {
         Ok(labels) => labels,
-        Err(LabelFault::Memory) => return Err(Stopped::Memory),
+        Err(LabelFault::Memory) => return Err(ProgramFault::Memory),
         Err(_) => return Ok(()),
     };
     let Ok(tenant) = Tenant::new(alloc, TENANT) else {
-        return Err(Stopped::Memory);
+        return Err(ProgramFault::Memory);
     };
     let call = Call::Read {
         key: StreamKey { tenant, labels },
@@ -228,10 +228,10 @@ fn read_stream<D: Disk + Drop, R: Wait, W: Write>(
     };
     let reply = match ingester.call(rt, alloc, pass, call) {
         Ok(reply) => reply,
-        Err(fault) => return Err(Stopped::Call(fault)),
+        Err(fault) => return Err(ProgramFault::Call(fault)),
     };
     let Ok(read) = answer_of_read(alloc, &reply) else {
-        return Err(Stopped::Memory);
+        return Err(ProgramFault::Memory);
     };
     write_bytes(output, read.body.as_slice())?;
     write_bytes(output, b"\n")

@@ -9,4 +9,4 @@ mod one_pass;
 
 pub use ctl::run_ctl;
 pub use ingest1::run_ingest1;
-pub use words::{Environment, environment_of, tell_about, words_of};
+pub use programs::{Environment, environment_of, tell_about, words_of};

@@ -10,7 +10,7 @@ ghost use Rattle.front.specs.Openings.{IsOpenedUnder};
 
 use accept::Limits;
 use disk::Disk;
-use front::{Stopped, close_shards, open_shards};
+use front::{ProgramFault, close_shards, open_shards};
 use ingester::{Ingester, Pass};
 use openings::Unobserved;
 use std::alloc::Global;
@@ -24,7 +24,7 @@ pub fn open_for_one<D, R>(
     slots: Vec<[D; 2]>,
     limits: Limits,
     capacity: u64,
-) -> Result<(Ingester<D>, Pass), Stopped>
+) -> Result<(Ingester<D>, Pass), ProgramFault>
 where
     D: Disk + Drop + Send + 'static,
     R: Threads + Wait + Copy + Send + Sync + 'static,
@@ -37,7 +37,7 @@ where
         AreOpenedFrom D.sight D.follows
         (vec_len slots) capacity 0 slots.items it.0.logs it.0.about.bases) }
     ensures refused { IfErr result (λ stop. (fault : OpenFault) × (backs : List (List D))
-        × (stop ≡ Stopped.Opening fault)
+        × (stop ≡ ProgramFault.Opening fault)
         × IsUnmade D.sight D.follows (vec_len slots) slots.items backs fault) }
     ensures pass { IfOk result (λ it. IsPassOf it.0 it.1) }
 {

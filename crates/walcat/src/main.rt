@@ -4,10 +4,10 @@
 mod listing;
 
 use crate::listing::{are_walcat_words, run_walcat};
+use programs::{tell_about, words_of};
 use std::fs::{File, Files};
 use std::io;
 use std::process::ExitCode;
-use words::{tell_about, words_of};
 
 /// What `--help` prints.
 const HELP: &str = "\

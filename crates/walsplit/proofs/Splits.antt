@@ -1,7 +1,7 @@
 -- The split that words say.
 use Rattle.std.proofs.Common.{◌≡◌, ℕ, ◌<◌, ◌≤◌, List, [], ◌∷◌, length, get_or, Option, Some, None, MatchOption, IfSome, String, Global, string_bytes, sym, subst, ap, ◌∙◌}
 use Rattle.labels.specs.Shards.{max_shards}
-use Rattle.words.specs.Words.{value, IsNumberIn}
+use Rattle.programs.specs.Words.{value, IsNumberIn}
 use Rattle.walsplit.specs.Words.{GiveSplit, SaysOfSplit, SaysSplit}
 use Rattle.walsplit.specs.declared.said.SplitWords.{SplitWords}
 use Rattle.walsplit.proofs.Listed.{listed_3}

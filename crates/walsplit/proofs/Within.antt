@@ -12,7 +12,7 @@ use Rattle.wal.specs.Opening.{slots_of, AllFollow}
 use Rattle.split.specs.declared.splitting.Slots.{Slots}
 use Rattle.split.specs.Maps.{AreApart, IsSplit}
 use Rattle.split.specs.Splits.{pair_at, KeepsStreams, IsFirstSegment, IsEmptyPair, HasNotFailed, IsOldShardRead, IsStarted, AreSplit}
-use Rattle.walsplit.specs.declared.stopped.Stopped.{Stopped}
+use Rattle.walsplit.specs.declared.walsplit_fault.WalsplitFault.{WalsplitFault}
 use Rattle.walsplit.specs.Endings.{IsDivided}
 
 -- the slots within others, pair by pair
@@ -76,7 +76,7 @@ module _ {A B : Type 0} (inner : A → B) (sight : B → Sight) (follows : B →
             (started_within (owner_of s (length new)) cap (pair_at new s) (pair_at new_back s) (was.news s) (are.started s (omega (arith, lt, same_count new))));
       }
 
-  pub split_of_these : (r : Result (Unit {0}) Stopped) (cap : ℕ) (old new : List (List A)) (olds news : List (List B)) → within inner old ≡ olds → within inner new ≡ news
+  pub split_of_these : (r : Result (Unit {0}) WalsplitFault) (cap : ℕ) (old new : List (List A)) (olds news : List (List B)) → within inner old ≡ olds → within inner new ≡ news
       → OnOk r ((backs : Slots A) × AreSplit (λ a. sight (inner a)) (λ a. follows (inner a)) cap old backs.old.items new backs.new.items)
       → OnOk r ((old_back : List (List B)) × (new_back : List (List B)) × AreSplit sight follows cap olds old_back news new_back)
   split_of_these (Ok x) cap old new olds news is_old is_new are =

@@ -6,14 +6,14 @@ use Rattle.labels.specs.Shards.{max_shards}
 use Rattle.disk.specs.Sight.{Sight}
 use Rattle.split.specs.Splits.{AreSplit}
 use Rattle.split.specs.declared.fault.SplitFault.TheVariants as faults
-use Rattle.words.specs.Words.{capacity_of}
+use Rattle.programs.specs.Words.{capacity_of}
 use Rattle.walsplit.specs.Words.{SaysSplit}
 use Rattle.walsplit.specs.declared.said.SplitWords.{SplitWords}
-use Rattle.walsplit.specs.declared.stopped.Stopped.{Stopped}
-use Rattle.walsplit.specs.declared.stopped.Stopped.TheVariants.{NoShards, Missing, HasSlots, Slots, Split, Output}
+use Rattle.walsplit.specs.declared.walsplit_fault.WalsplitFault.{WalsplitFault}
+use Rattle.walsplit.specs.declared.walsplit_fault.WalsplitFault.TheVariants.{NoShards, Missing, HasSlots, Slots, Split, Output}
 
 -- what stops it: 3 for old slots that are refused, else 1
-abbrev pub split_status : Stopped → ℕ
+abbrev pub split_status : WalsplitFault → ℕ
 split_status NoShards = 1
 split_status (Missing name) = 1
 split_status (HasSlots folder) = 1
@@ -50,5 +50,5 @@ pub data SplitEnds {D : Type 0} (sight : D → Sight) (follows : D → Type 0)
       → shards ≤ max_shards → IsDivided sight follows (capacity_of setting) shards said.shards
       → Appends before after (split_line shards said.shards) → status ≡ 0
       → SplitEnds sight follows words setting before after status
-  stopped_split : (stop : Stopped) → (stop ≡ Output) ⊎ (after ≡ before) → status ≡ split_status stop
+  stopped_split : (stop : WalsplitFault) → (stop ≡ Output) ⊎ (after ≡ before) → status ≡ split_status stop
       → SplitEnds sight follows words setting before after status

@@ -2,7 +2,7 @@
 use Rattle.std.specs.Prelude.{ℕ, ◌≡◌, List, [], ◌∷◌, String, string_bytes}
 use Rattle.std.specs.declared.alloc.Global.{Global}
 use Rattle.labels.specs.Shards.{max_shards}
-use Rattle.words.specs.Words.{value, IsNumberIn}
+use Rattle.programs.specs.Words.{value, IsNumberIn}
 use Rattle.walsplit.specs.declared.said.SplitWords.{SplitWords}
 
 -- three words: the folder of the old slots, that of the new ones, and how many shards are wanted

@@ -1,12 +1,12 @@
 //! The words of `walsplit`.
 ghost use Rattle.std.specs.Prelude.{IfSome, MatchOption};
 ghost use Rattle.labels.specs.Shards.{max_shards};
-ghost use Rattle.words.specs.Words.{IsNumberIn};
+ghost use Rattle.programs.specs.Words.{IsNumberIn};
 ghost use Rattle.walsplit.specs.Words.{GiveSplit, SaysSplit, SaysOfSplit};
 
 use crate::said::SplitWords;
+use programs::MAX_SHARDS;
 use pushjson::time_of;
-use words::MAX_SHARDS;
 
 /// What the words of `walsplit` say: `None` where they are not such words.
 pub fn split_in(words: &[String]) -> Option<SplitWords<'_>>

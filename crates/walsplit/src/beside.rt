@@ -1,7 +1,7 @@
 //! A folder that gets its name once it is whole.
 
-use crate::stopped::Stopped;
-use slots::SlotsFault;
+use crate::walsplit_fault::WalsplitFault;
+use programs::SlotsFault;
 use std::alloc::Global;
 use std::fs::{self, File, Files};
 use std::path::Path;
@@ -19,7 +19,7 @@ pub fn unfinished<R: Files>(
     rt: &R,
     alloc: Global,
     folder: &str,
-) -> Result<Option<String>, Stopped> {
+) -> Result<Option<String>, WalsplitFault> {
     if is_there(rt, alloc, folder)? || !has_name(folder) {
         return Ok(None);
     }
@@ -43,7 +43,7 @@ pub fn give_name<R: Files<File = File>>(
     alloc: Global,
     unfinished: &str,
     folder: &str,
-) -> Result<(), Stopped> {
+) -> Result<(), WalsplitFault> {
     let name = folder.trim_end_matches('/');
     let above = match Path::new(name).parent() {
         Some(path) if !path.as_str().is_empty() => path,
@@ -69,7 +69,7 @@ pub fn unopened(
     fault: SlotsFault,
     unfinished: &str,
     folder: &str,
-) -> Result<Stopped, Stopped> {
+) -> Result<WalsplitFault, WalsplitFault> {
     let is_folder = match &fault {
         SlotsFault::Path(path) => path.as_str() == unfinished,
         SlotsFault::Memory => false,
@@ -77,7 +77,7 @@ pub fn unopened(
     if is_folder {
         refused(alloc, folder)
     } else {
-        Ok(Stopped::Slots(fault))
+        Ok(WalsplitFault::Slots(fault))
     }
 }
 
@@ -87,14 +87,14 @@ fn has_name(folder: &str) -> bool {
     !name.is_empty() && !name.ends_with("/.") && !name.ends_with("/..")
 }
 
-fn is_there<R: Files>(rt: &R, alloc: Global, path: &str) -> Result<bool, Stopped> {
+fn is_there<R: Files>(rt: &R, alloc: Global, path: &str) -> Result<bool, WalsplitFault> {
     match fs::exists(rt, path) {
         Ok(is_there) => Ok(is_there),
         Err(_) => Err(refused(alloc, path)?),
     }
 }
 
-fn refused(alloc: Global, path: &str) -> Result<Stopped, Stopped> {
+fn refused(alloc: Global, path: &str) -> Result<WalsplitFault, WalsplitFault> {
     let path = path.to_string(alloc)?;
-    Ok(Stopped::Slots(SlotsFault::Path(path)))
+    Ok(WalsplitFault::Slots(SlotsFault::Path(path)))
 }

@@ -2,13 +2,13 @@
 ghost use Rattle.std.specs.Prelude.{◌≤◌, IfOk};
 ghost use Rattle.labels.specs.Shards.{max_shards};
 
-use crate::stopped::Stopped;
-use slots::{SlotName, SlotsFault};
+use crate::walsplit_fault::WalsplitFault;
+use programs::{SlotName, SlotsFault};
 use std::alloc::Global;
 use std::fs::{self, Files};
 
 /// The greatest number of shards.
-const MAX_SHARDS: u32 = words::MAX_SHARDS as u32;
+const MAX_SHARDS: u32 = programs::MAX_SHARDS as u32;
 
 /// The number of shards of which a folder has slots: those of shard 0, shard 1 and so on without a gap.
 ///
@@ -17,23 +17,23 @@ const MAX_SHARDS: u32 = words::MAX_SHARDS as u32;
 /// `NoShards`: there are none, or more than `MAX_SHARDS`. `Missing`: a shard has no slot 1, or a shard after the last
 /// has a slot; it names the first missing slot. `Slots`: it cannot be found out whether a file exists, or memory is
 /// wanting.
-pub fn shards_in<R: Files>(rt: &R, alloc: Global, folder: &str) -> Result<u32, Stopped>
+pub fn shards_in<R: Files>(rt: &R, alloc: Global, folder: &str) -> Result<u32, WalsplitFault>
     ensures { IfOk result (λ shards. (1 ≤ shards) × (shards ≤ max_shards)) }
 {
     if folder.is_empty() {
-        return Err(Stopped::Slots(SlotsFault::Path(String::new(alloc))));
+        return Err(WalsplitFault::Slots(SlotsFault::Path(String::new(alloc))));
     }
     let shards = first_slots(rt, alloc, folder)?;
     if shards < 1 || shards > MAX_SHARDS {
-        return Err(Stopped::NoShards);
+        return Err(WalsplitFault::NoShards);
     }
     for shard in 0..shards {
         if !has_slot(rt, alloc, folder, shard, 1)? {
-            return Err(Stopped::Missing(SlotName { shard, slot: 1 }));
+            return Err(WalsplitFault::Missing(SlotName { shard, slot: 1 }));
         }
     }
     if has_slots(rt, alloc, folder, shards)? {
-        return Err(Stopped::Missing(SlotName {
+        return Err(WalsplitFault::Missing(SlotName {
             shard: shards,
             slot: 0,
         }));
@@ -47,7 +47,7 @@ pub fn has_slots<R: Files>(
     alloc: Global,
     folder: &str,
     from: u32,
-) -> Result<bool, Stopped> {
+) -> Result<bool, WalsplitFault> {
     for shard in from..=MAX_SHARDS {
         if has_slot(rt, alloc, folder, shard, 0)? || has_slot(rt, alloc, folder, shard, 1)? {
             return Ok(true);
@@ -57,7 +57,7 @@ pub fn has_slots<R: Files>(
 }
 
 // How many slots 0 there are without a gap: `MAX_SHARDS` + 1 where there are more.
-fn first_slots<R: Files>(rt: &R, alloc: Global, folder: &str) -> Result<u32, Stopped> {
+fn first_slots<R: Files>(rt: &R, alloc: Global, folder: &str) -> Result<u32, WalsplitFault> {
     for shard in 0..=MAX_SHARDS {
         if !has_slot(rt, alloc, folder, shard, 0)? {
             return Ok(shard);
@@ -72,11 +72,11 @@ fn has_slot<R: Files>(
     folder: &str,
     shard: u32,
     slot: u32,
-) -> Result<bool, Stopped> {
+) -> Result<bool, WalsplitFault> {
     let name = SlotName { shard, slot };
     let path = format!(in alloc; "{folder}/{name}")?;
     match fs::exists(rt, path.as_str()) {
         Ok(is_there) => Ok(is_there),
-        Err(_) => Err(Stopped::Slots(SlotsFault::Path(path))),
+        Err(_) => Err(WalsplitFault::Slots(SlotsFault::Path(path))),
     }
 }

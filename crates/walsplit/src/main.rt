@@ -7,11 +7,11 @@ mod beside;
 mod found;
 mod program;
 mod said;
-mod stopped;
+mod walsplit_fault;
 
 use crate::program::run_walsplit;
+use programs::{setting_of, tell_about, words_of};
 use std::process::ExitCode;
-use words::{setting_of, tell_about, words_of};
 
 /// What `--help` prints.
 const HELP: &str = "\

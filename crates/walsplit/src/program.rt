@@ -3,8 +3,8 @@ ghost use Rattle.std.specs.Prelude.{◌≡◌, ◌⊎◌, ◌↔◌, ◌<◌, �
 ghost use Rattle.std.specs.Io.KnownBytes.{Appends};
 ghost use Rattle.labels.specs.Shards.{max_shards};
 ghost use Rattle.disk.specs.declared.file.FileDisk.{FileDisk};
-ghost use Rattle.slots.specs.declared.watched.Watched.{Watched};
-ghost use Rattle.words.specs.Words.{GivesCapacity};
+ghost use Rattle.programs.specs.declared.watched.Watched.{Watched};
+ghost use Rattle.programs.specs.Words.{GivesCapacity};
 ghost use Rattle.split.specs.declared.fault.SplitFault.{SplitFault};
 ghost use Rattle.split.specs.declared.splitting.Slots.{Slots};
 ghost use Rattle.split.specs.Splits.{AreSplit, IsCause};
@@ -16,14 +16,13 @@ use crate::asked::split_in;
 use crate::beside::{give_name, unfinished, unopened};
 use crate::found::{has_slots, shards_in};
 use crate::said::SplitWords;
-use crate::stopped::Stopped;
+use crate::walsplit_fault::WalsplitFault;
 use disk::{Disk, FileDisk};
-use slots::{Watched, open_slots, terminal_in};
+use programs::{Watched, capacity_in, open_slots, terminal_in};
 use split::split;
 use std::alloc::Global;
 use std::fs::{File, Files};
 use std::io::{Stderr, Write};
-use words::capacity_in;
 
 /// A slot of a folder.
 type Slot = Watched<FileDisk>;
@@ -84,23 +83,23 @@ fn split_and_print<R: Files<File = File>, W: Write>(
     capacity: u64,
     output: &mut W,
     marks: Option<Stderr>,
-) -> Result<(), Stopped>
+) -> Result<(), WalsplitFault>
     requires { capacity ≤ 2 ^ 30 }
     ensures said { OnOk result ((shards : ℕ) × (1 ≤ shards) × (shards ≤ max_shards)
         × IsDivided ⟦<Slot as Disk>⟧.sight ⟦<Slot as Disk>⟧.follows capacity shards
         words.entry.shards
         × Appends (W.contents output.old) (W.contents output.new)
         (split_line shards words.entry.shards)) }
-    ensures stopped { IfErr result (λ stop. (stop ≡ Stopped.Output)
+    ensures stopped { IfErr result (λ stop. (stop ≡ WalsplitFault.Output)
         ⊎ (W.contents output.new ≡ W.contents output.old)) }
 {
     let old_shards = split_folder(rt, alloc, words, capacity, marks)?;
     let new_shards = words.shards;
     let Ok(()) = writeln!(output, "split {old_shards} to {new_shards}") else {
-        return Err(Stopped::Output);
+        return Err(WalsplitFault::Output);
     };
     let Ok(()) = output.flush() else {
-        return Err(Stopped::Output);
+        return Err(WalsplitFault::Output);
     };
     Ok(())
 }
@@ -112,7 +111,7 @@ fn split_folder<R: Files<File = File>>(
     words: SplitWords<'_>,
     capacity: u64,
     marks: Option<Stderr>,
-) -> Result<u32, Stopped>
+) -> Result<u32, WalsplitFault>
     requires { capacity ≤ 2 ^ 30 }
     ensures some { IfOk result (λ shards. (1 ≤ shards) × (shards ≤ max_shards)) }
     ensures divided { IfOk result (λ shards. IsDivided ⟦<Slot as Disk>⟧.sight
@@ -125,7 +124,7 @@ fn split_folder<R: Files<File = File>>(
     } = words;
     let old_shards = shards_in(rt, alloc, old_folder)?;
     if has_slots(rt, alloc, new_folder, 0)? {
-        return Err(Stopped::HasSlots(new_folder.to_string(alloc)?));
+        return Err(WalsplitFault::HasSlots(new_folder.to_string(alloc)?));
     }
     let terminal = terminal_in(marks);
     let unfinished = unfinished(rt, alloc, new_folder)?;
@@ -155,7 +154,7 @@ fn split_opened(
     new: Vec<[Slot; 2]>,
     capacity: u64,
     terminal: Option<Stderr>,
-) -> Result<(), Stopped>
+) -> Result<(), WalsplitFault>
     requires old { (0 < vec_len old) × (vec_len old ≤ max_shards) }
     requires new { (0 < vec_len new) × (vec_len new ≤ max_shards) }
     requires capacity { capacity ≤ 2 ^ 30 }
@@ -175,20 +174,20 @@ fn split_slots<D: Disk + Drop>(
     old: Vec<[D; 2]>,
     new: Vec<[D; 2]>,
     capacity: u64,
-) -> Result<(), Stopped>
+) -> Result<(), WalsplitFault>
     requires old { (0 < vec_len old) × (vec_len old ≤ max_shards) }
     requires new { (0 < vec_len new) × (vec_len new ≤ max_shards) }
     requires capacity { capacity ≤ 2 ^ 30 }
     ensures done { OnOk result ((backs : Slots D)
         × AreSplit D.sight D.follows capacity old.items backs.old.items new.items backs.new.items) }
     ensures cause { IfErr result (λ stop. (fault : SplitFault) × (backs : Slots D)
-        × (stop ≡ Stopped.Split fault)
+        × (stop ≡ WalsplitFault.Split fault)
         × IsCause D.sight D.follows fault capacity old.items backs.old.items new.items
         backs.new.items) }
 {
     match split(alloc, old, new, capacity) {
         Ok(_slots) => Ok(()),
-        Err((fault, _slots)) => Err(Stopped::Split(fault)),
+        Err((fault, _slots)) => Err(WalsplitFault::Split(fault)),
     }
 }
 

@@ -11,7 +11,7 @@ use Rattle.accept.specs.declared.call.Call.TheVariants.{Push, Read, Trim}
 use Rattle.accept.specs.declared.call.Reply.{Reply}
 use Rattle.accept.specs.declared.call.Reply.TheVariants.{Verdict, Entries, Trimmed, TrimTooNew, NoStream, NoRoom, Unavailable}
 use Rattle.accept.specs.declared.outcome.Outcome.{Outcome}
-use Rattle.accept.specs.declared.outcome.Outcome.TheVariants.{TooLong, BadMetadata, TooOld, TooNew, Repeat, TooFarBehind, Stored}
+use Rattle.accept.specs.declared.outcome.Outcome.TheVariants.{Repeat, Stored}
 use Rattle.accept.specs.declared.history.Ask.{Ask}
 use Rattle.accept.specs.declared.history.Step.{Step}
 use Rattle.accept.specs.declared.history.Item.{Item}
@@ -24,6 +24,7 @@ use Rattle.accept.specs.Histories.{stored_by, bound_by, stored_in, bound_in, sto
 use Rattle.accept.proofs.Growing.{stored-append}
 use Rattle.accept.proofs.KeyOrder.{same_key_itself, same_key-is}
 use Rattle.accept.proofs.Legal.{legal-last}
+use Rattle.accept.proofs.Outcomes.{outcome_at-Repeat}
 use Rattle.history.specs.declared.views.About.{About}
 use Rattle.history.specs.Histories.{IsBeginning, IsLegalAt, base_at, terms_of, history_of}
 use Rattle.history.proofs.Past.{legal_front}
@@ -82,15 +83,6 @@ abbrev pub AreTaken : List Outcome → Type 0
 AreTaken [] = Unit {0}
 AreTaken (o ∷ os) = IsTaken o × AreTaken os
 
-repeat_by : (long bad old new same behind : Bool) (n : ℕ) → cond long TooLong (cond bad BadMetadata (cond old TooOld (cond new TooNew (cond same Repeat (cond behind (TooFarBehind n) Stored))))) ≡ Repeat → same ≡ true
-repeat_by true bad old new same behind n e = absurd (cc)
-repeat_by false true old new same behind n e = absurd (cc)
-repeat_by false false true new same behind n e = absurd (cc)
-repeat_by false false false true same behind n e = absurd (cc)
-repeat_by false false false false true behind n e = refl
-repeat_by false false false false false true n e = absurd (cc)
-repeat_by false false false false false false n e = absurd (cc)
-
 module _ (limits : Limits) (base : Option StreamImage) (now : ℕ) where
   -- the line is there, or it repeats the last one of the base
   abbrev IsThere : List Entry → Entry → Type 0
@@ -104,7 +96,7 @@ module _ (limits : Limits) (base : Option StreamImage) (now : ℕ) where
   repeats all x (Some y) e holds = (y, inr holds, last_within (base_last base) all y e)
 
   was_repeat : (all : List Entry) (x : Entry) → outcome limits base all now x ≡ Repeat → IsThere all x
-  was_repeat all x e = repeats all x (last_of base all) refl (repeat_by _ _ _ _ _ _ _ e)
+  was_repeat all x e = repeats all x (last_of base all) refl (outcome_at-Repeat limits (highest_of base all) (last_of base all) now x e)
 
   one_taken : (all : List Entry) (e : Entry) (es : List Entry) (o : Outcome) → outcome limits base all now e ≡ o → IsTaken o
       → ((more : List Entry) → AreTaken (outcomes limits base more now es) → (x : Entry) → IsOneOf x es → IsThere (more ++ stored_of es (outcomes limits base more now es)) x)
@@ -117,16 +109,8 @@ module _ (limits : Limits) (base : Option StreamImage) (now : ℕ) where
       there_more all (stored_of es (outcomes limits base (all ++ []) now es)) x (subst (IsThere all) (sym same) (was_repeat all e is))
   one_taken all e es Repeat is t ih taken x (inr one) =
       subst (λ l. IsThere l x) (ap (λ l. l ++ stored_of es (outcomes limits base (all ++ []) now es)) (append-nil all)) (ih (all ++ []) taken x one)
-  one_taken all e es TooLong is (inl t) ih taken x one = absurd (cc)
-  one_taken all e es TooLong is (inr t) ih taken x one = absurd (cc)
-  one_taken all e es BadMetadata is (inl t) ih taken x one = absurd (cc)
-  one_taken all e es BadMetadata is (inr t) ih taken x one = absurd (cc)
-  one_taken all e es TooOld is (inl t) ih taken x one = absurd (cc)
-  one_taken all e es TooOld is (inr t) ih taken x one = absurd (cc)
-  one_taken all e es TooNew is (inl t) ih taken x one = absurd (cc)
-  one_taken all e es TooNew is (inr t) ih taken x one = absurd (cc)
-  one_taken all e es (TooFarBehind n) is (inl t) ih taken x one = absurd (cc)
-  one_taken all e es (TooFarBehind n) is (inr t) ih taken x one = absurd (cc)
+  one_taken all e es o is (inl t) ih taken x one = absurd (cc)
+  one_taken all e es o is (inr t) ih taken x one = absurd (cc)
 
   all_taken : (all entries : List Entry) → AreTaken (outcomes limits base all now entries) → (x : Entry) → IsOneOf x entries → IsThere (all ++ stored_of entries (outcomes limits base all now entries)) x
   all_taken all [] taken x one = absurd one

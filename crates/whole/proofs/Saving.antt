@@ -12,7 +12,7 @@ use Rattle.accept.specs.declared.call.Call.TheVariants as calls
 use Rattle.accept.specs.declared.call.Reply.{Reply}
 use Rattle.accept.specs.declared.call.Reply.TheVariants.{Verdict, Entries, Trimmed, TrimTooNew, NoStream, NoRoom, Unavailable}
 use Rattle.accept.specs.declared.outcome.Outcome.{Outcome}
-use Rattle.accept.specs.declared.outcome.Outcome.TheVariants.{TooLong, BadMetadata, TooOld, TooNew, Repeat, TooFarBehind, Stored}
+use Rattle.accept.specs.declared.outcome.Outcome.TheVariants.{Repeat, Stored}
 use Rattle.accept.specs.declared.history.Ask.{Ask}
 use Rattle.accept.specs.declared.history.Step.{Step}
 use Rattle.accept.specs.declared.history.Item.{Item}
@@ -43,7 +43,7 @@ use Rattle.headline.proofs.Among.{among_left, among_right, among_split}
 use Rattle.answering.specs.Asking.{Asked, AsksFor, IsCallOf, asked_push, pushes_of}
 use Rattle.answering.specs.Calls.{Came, Refused, Replied, Failed}
 use Rattle.answering.specs.Courses.{Course, Whole, first_failure}
-use Rattle.answering.specs.Lines.{stream_line, entry_front, outcome_line, outcome_lines, reply_lines, came_lines, lines_from, has_no_room, is_unavailable, push_status}
+use Rattle.answering.specs.Lines.{newline, stream_line, outcome_line, outcome_lines, reply_lines, came_lines, lines_from, has_no_room, is_unavailable, push_status}
 use Rattle.answering.specs.Serving.{Exchange}
 use Rattle.answering.specs.Steps.{AreSteps, AreStepsBy}
 use Rattle.whole.specs.Visits.{its_step, answered_among, steps_among}
@@ -62,22 +62,14 @@ stream_said : (i : ℕ) (words : List ℕ) → stream_line i words ≡ [] → �
 unfolding stream_line
 stream_said i words e = absurd (cc)
 
-front_said : (i j : ℕ) → entry_front i j ≡ [] → ⊥
-unfolding entry_front
-front_said i j e = absurd (cc)
-
--- a line begins so
-entry_said : (i j : ℕ) (words more : List ℕ) → (entry_front i j ++ words) ++ more ≡ [] → ⊥
-entry_said i j words more e = front_said i j (both_none (entry_front i j) words (both_none (entry_front i j ++ words) more e).0).0
+-- each line ends so
+end_said : newline ≡ [] → ⊥
+end_said e = absurd (cc)
 
 one_quiet : (i j : ℕ) (o : Outcome) → outcome_line i j o ≡ [] → IsTaken o
-one_quiet i j TooLong e = absurd (entry_said i j _ _ e)
-one_quiet i j BadMetadata e = absurd (entry_said i j _ _ e)
-one_quiet i j TooOld e = absurd (entry_said i j _ _ e)
-one_quiet i j TooNew e = absurd (entry_said i j _ _ e)
-one_quiet i j Repeat e = inr refl
-one_quiet i j (TooFarBehind n) e = absurd (entry_said i j _ _ (both_none _ _ e).0)
 one_quiet i j Stored e = inl refl
+one_quiet i j Repeat e = inr refl
+one_quiet i j o e = absurd (end_said (both_none _ _ e).1)
 
 all_quiet : (i j : ℕ) (os : List Outcome) → outcome_lines i j os ≡ [] → AreTaken os
 all_quiet i j [] e = tt

@@ -1,6 +1,6 @@
 -- The passes in their order, while threads take them and give them back.
 use Rattle.std.proofs.Common.{◌≡◌, ◌⊎◌, inl, List, [], ◌∷◌, ◌++◌, map, reverse, Result, Ok, Err, OnOk, refl, sym, ap, ◌∙◌, subst}
-use Rattle.std.proofs.lemmas.List.{append-nil, append_assoc, map-append, reverse-append}
+use Rattle.std.proofs.lemmas.List.{append_assoc, map-append, reverse-append}
 use Rattle.workers.specs.Talks.{ArePassesLeft, IsPassLeft, with_starts}
 
 module _ {P T : Type 0} (start : T → P) where
@@ -41,15 +41,7 @@ module _ {I S P T : Type 0} (visits : I → S → P → List (T × T) → S → 
       sym (taken start (ps ++ start t ∷ []) ps threads' threads t refl was) ∙ is,
     )
 
-    pub all_joined : (all passes : List P) (threads : List H) → threads ≡ [] → IsJoined all passes threads → ArePassesLeft visits service all passes
-    all_joined all passes threads none (ps, left, is) =
-        subst (λ qs. ArePassesLeft visits service qs passes) (sym (append-nil ps) ∙ sym (ap (λ ts. ps ++ reverse (map start ts)) none) ∙ is) left
-
     pub still_joined : {E : Type 0} (r : Result (Unit {0}) E) (all passes passes' : List P) (threads threads' : List H) (t : H) (pass : P) → threads ≡ threads' ++ t ∷ [] → passes' ≡ passes ++ pass ∷ []
         → IsPassLeft visits service (start t) pass → OnOk r (IsJoined all passes threads) → OnOk r (IsJoined all passes' threads')
     still_joined (Ok told) all passes passes' threads threads' t pass was more this so_far = one_joined all passes passes' threads threads' t pass was more this so_far
     still_joined (Err fault) all passes passes' threads threads' t pass was more this so_far = tt
-
-    pub joined_on : {E : Type 0} (r : Result (Unit {0}) E) (all passes : List P) (threads : List H) → threads ≡ [] → OnOk r (IsJoined all passes threads) → OnOk r (ArePassesLeft visits service all passes)
-    joined_on (Ok told) all passes threads none so_far = all_joined all passes threads none so_far
-    joined_on (Err fault) all passes threads none so_far = tt

@@ -2,7 +2,7 @@ use Rattle.std.proofs.Common.{◌<◌, ◌+◌, ◌∙◌, drop, length, sym, ap
 use Rattle.std.proofs.lemmas.Result.{err_from_is_err_and}
 use Rattle.answering.specs.Calls.{Refused}
 use Rattle.answering.specs.Windows.{AreNotedTo, came_of, merged}
-use Rattle.answering.proofs.Pushing.{next_refused, next_came, noted_more, noted_halt, outcome_at}
+use Rattle.answering.proofs.Pushing.{next_refused, next_came, noted_more, noted_no_answer, outcome_at}
 use Rattle.answering.proofs.windows.note_places.Goals.{in-Some+in_ok-note_refusal-in-Some, in-None+in-Some-get+in_ok-note_outcome-in-None}
 use Rattle.answering.proofs.windows.note_places.Goals as goal
 
@@ -20,7 +20,7 @@ returns-in_err-note_outcome-in-None-clause-noted c before tells whole =
     let at = outcome_at outcomes.items n outcome within c.in-Some-get.ensures.lookup in
     let next = ap (λ l. merged (drop k places) l) at ∙ came.0 in
     let noted = subst (λ l. AreNotedTo before all l c.loop-place.lines) next (c.loop-place.invariant.noted before tells whole) in
-    rw (p.1, p.2) (noted_halt before all (came_of outcome) (merged (drop (k + 1) places) (drop (n + 1) outcomes.items)) c.loop-place.lines c.note_outcome.new.lines noted c.in_err-note_outcome-in-None.field-0.0 c.in_err-note_outcome-in-None.ensures.noted)
+    rw (p.1, p.2) (noted_no_answer before all (came_of outcome) (merged (drop (k + 1) places) (drop (n + 1) outcomes.items)) c.loop-place.lines c.note_outcome.new.lines noted c.in_err-note_outcome-in-None.field-0.0 c.in_err-note_outcome-in-None.ensures.noted)
 
 pub loop-place-preserved : goal.loop-place-preserved
 loop-place-preserved c =

@@ -1,6 +1,6 @@
 use denote.Param.Send.{sendable}
 use Rattle.disk.proofs.file.FileDisk.TheSendSync as file_disk
-use Rattle.slots.proofs.watched.Watched.TheSendSync as watched
+use Rattle.programs.proofs.watched.Watched.TheSendSync as watched
 use Rattle.front.proofs.server.serve_folder.Goals as goal
 
 pub open_shards-requires-send-D : goal.open_shards-requires-send-D

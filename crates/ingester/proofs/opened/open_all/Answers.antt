@@ -7,7 +7,7 @@ use Rattle.owners.specs.Lists.{AreEach}
 use Rattle.owners.specs.Openings.{Opening, home_of, opening_of}
 use Rattle.owners.specs.Owners.{AreEnds}
 use Rattle.owners.specs.Places.{AreShardsOf}
-use Rattle.owners.specs.Seeds.{AreRows, IsSeatAt}
+use Rattle.owners.specs.QueueEnds.{AreRows, IsSeatAt}
 use Rattle.ingester.specs.Openings.{IsOpenedAs}
 use Rattle.ingester.proofs.Grounding.{length-fresh_books, all_fit, grounded, returned_all, are_fresh, made_fit}
 use Rattle.ingester.proofs.Making.{books_in}

@@ -2,7 +2,7 @@ use Rattle.std.proofs.Common.{◌≡◌, ◌+◌, List, [], ◌∷◌, ◌++◌,
 use Rattle.std.proofs.lemmas.List.{nil_from_length}
 use Rattle.history.specs.Handles.{Passed}
 use Rattle.owners.specs.Lists.{AreEach}
-use Rattle.owners.specs.Seeds.{IsRow, IsSeatAt}
+use Rattle.owners.specs.QueueEnds.{IsRow, IsSeatAt}
 use Rattle.owners.proofs.Each.{each_first}
 use Rattle.ingester.proofs.passes.seat_passes.Goals as goal
 
@@ -32,7 +32,7 @@ loop-seat-preserved c =
           let seats = each_first (IsSeatAt home) (length was) c.loop-seat.seats.items c.pop_front.new.self.items seat c.in-Some.ensures.items (inv.seats home are) in
           subst (λ n. AreEach (IsSeatAt home) n c.pop_front.new.self.items) (sym long) seats.1;
       rows = λ home are.
-          let rows = each_first (λ p row. IsRow home home.about.shards p row.items) (length was) c.loop-seat.rows.items c.pop_front-in-Some.new.self.items c.in-Some-pop_front.ways c.in-Some-pop_front.ensures.items (inv.rows home are) in
+          let rows = each_first (λ p row. IsRow home home.about.shards p row.items) (length was) c.loop-seat.rows.items c.pop_front-in-Some.new.self.items c.in-Some-pop_front.routes c.in-Some-pop_front.ensures.items (inv.rows home are) in
           subst (λ n. AreEach (λ p row. IsRow home home.about.shards p row.items) n c.pop_front-in-Some.new.self.items) (sym long) rows.1;
       same = let one = c.in-Some.ensures.cases in let two = c.in-Some-pop_front.ensures.cases in let had = inv.same in omega arith;
       room = let one = c.in-Some.ensures.cases in let more = pushed.len in let cap = pushed.capacity in let had = inv.room in omega arith;

@@ -3,7 +3,7 @@ use Rattle.std.specs.Prelude.{vec_len, vec_capacity}
 use Rattle.std.specs.VecDeque.{deque_len}
 use Rattle.owners.specs.Homes.{Homed}
 use Rattle.owners.specs.Lists.{AreEach}
-use Rattle.owners.specs.Seeds.{AreRows, IsRow, IsSeatAt}
+use Rattle.owners.specs.QueueEnds.{AreRows, IsRow, IsSeatAt}
 use Rattle.ingester.proofs.passes.seat_passes.Given as goal
 
 abbrev pub invariant-loop-seat : goal.invariant-loop-seat

@@ -3,7 +3,7 @@ use Rattle.std.specs.Vec.{vec_capacity}
 use Rattle.std.specs.VecDeque.{deque_len, deque_capacity}
 use Rattle.owners.specs.Homes.{Homed}
 use Rattle.owners.specs.Calls.{AreOfCalls}
-use Rattle.owners.specs.Desks.{ArePlaces}
+use Rattle.owners.specs.Mailboxes.{ArePlaces}
 use Rattle.owners.proofs.making.hand_out.Given as goal
 
 abbrev pub invariant-loop-next : goal.invariant-loop-next

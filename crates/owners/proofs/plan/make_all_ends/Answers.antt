@@ -4,7 +4,7 @@ use Rattle.keyed.specs.declared.binding.Binding.TheVariants.{Bound}
 use Rattle.owners.specs.Homes.{home_with}
 use Rattle.owners.specs.Openings.{Opening, opening_of, home_of}
 use Rattle.owners.specs.Owners.{HasEndsOf}
-use Rattle.owners.specs.Seeds.{IsSeed}
+use Rattle.owners.specs.QueueEnds.{IsShardQueues}
 use Rattle.owners.proofs.Each.{each_first, each_next}
 use Rattle.owners.proofs.plan.make_all_ends.Goals as goal
 
@@ -28,8 +28,8 @@ pub make_ends-requires : goal.make_ends-requires
 make_ends-requires g c =
     let home = home_with c.args.first.now in
     let k = c.loop-shard.shard in
-    let seed = (each_first (IsSeed home c.args.passes) k c.loop-shard.seeds.items c.pop_front.new.self.items c.in-Some.seed c.in-Some.ensures.items c.loop-shard.invariant.seeds).0 in
-    record { seed = subst (λ (o : Opening g.row.D.Denot). IsSeed (home_of o) c.args.passes k c.in-Some.seed) (sym c.of.ensures) seed }
+    let queues = (each_first (IsShardQueues home c.args.passes) k c.loop-shard.all_queues.items c.pop_front.new.self.items c.in-Some.queues c.in-Some.ensures.items c.loop-shard.invariant.all_queues).0 in
+    record { queues = subst (λ (o : Opening g.row.D.Denot). IsShardQueues (home_of o) c.args.passes k c.in-Some.queues) (sym c.of.ensures) queues }
 
 pub push_back_reserved-requires : goal.push_back_reserved-requires
 push_back_reserved-requires g c =
@@ -47,12 +47,12 @@ loop-shard-preserved g c =
     let k = c.loop-shard.shard in
     let home = home_with c.args.first.now in
     let opening = opening_of c.args.first.now c.args.logs.now.items in
-    let first = each_first (IsSeed home c.args.passes) k c.loop-shard.seeds.items c.pop_front.new.self.items c.in-Some.seed c.in-Some.ensures.items inv.seeds in
+    let first = each_first (IsShardQueues home c.args.passes) k c.loop-shard.all_queues.items c.pop_front.new.self.items c.in-Some.queues c.in-Some.ensures.items inv.all_queues in
     let made = c.in_ok-ends.ensures in
     let ends = subst (λ (o : Opening g.row.D.Denot). HasEndsOf o k c.in_ok-ends.ends) c.of.ensures made.ends in
     let back = subst (λ (o : Opening g.row.D.Denot). receives_as c.in_ok-ends.back ≡ Bound o k) c.of.ensures made.back in
     record {
-      seeds = first.1;
+      all_queues = first.1;
       left = one_less _ _ _ _ c.in-Some.ensures.cases inv.left;
       ends = each_next (HasEndsOf opening) c.loop-shard.all_ends.items c.push_back_reserved.new.self.items c.in_ok-ends.ends k inv.ends_len c.push_back_reserved.ensures.items inv.ends ends;
       ends_len = ap length c.push_back_reserved.ensures.items ∙ (length-append c.loop-shard.all_ends.items (c.in_ok-ends.ends ∷ []) ∙ ap (λ n. n + 1) inv.ends_len);

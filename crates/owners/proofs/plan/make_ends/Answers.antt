@@ -7,11 +7,11 @@ pub returns-clause-ends : goal.returns-clause-ends
 returns-clause-ends g c =
     subst (HasEndsOf c.args.origin c.args.shard) (sym c.ends_with.ensures) (
       record {
-        gets = c.requires.seed.gets;
-        sends = c.requires.seed.answers;
+        gets = c.requires.queues.gets;
+        sends = c.requires.queues.answers;
         returns = c.in_ok-back.ensures.0;
-        at_desk = c.in_ok-desk.ensures.desk (home_of c.args.origin) c.args.shard;
-        idle = c.in_ok-desk.ensures.idle;
+        at_mailbox = c.in_ok-mailbox.ensures.mailbox (home_of c.args.origin) c.args.shard;
+        idle = c.in_ok-mailbox.ensures.idle;
       },
       refl,
     )

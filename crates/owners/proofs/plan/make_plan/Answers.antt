@@ -1,6 +1,6 @@
 use Rattle.std.proofs.Common.{ℕ, sym, ◌∙◌, subst}
 use Rattle.owners.specs.Homes.{Homed}
-use Rattle.owners.specs.Seeds.{AreRows}
+use Rattle.owners.specs.QueueEnds.{AreRows}
 use Rattle.owners.proofs.plan.make_plan.Goals as goal
 
 pub returns : goal.returns

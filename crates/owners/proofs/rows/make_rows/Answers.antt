@@ -1,6 +1,6 @@
 use Rattle.std.proofs.Common.{◌≡◌, ℕ, ◌+◌, ◌<◌, ◌≤◌, ◌∷◌, [], length, length-append, sym, ap, ◌∙◌, subst, arith}
 use Rattle.std.specs.VecDeque.{deque_len}
-use Rattle.owners.specs.Seeds.{IsSeed, IsRow}
+use Rattle.owners.specs.QueueEnds.{IsShardQueues, IsRow}
 use Rattle.owners.proofs.Each.{each_next}
 use Rattle.owners.proofs.rows.make_rows.Goals as goal
 
@@ -10,7 +10,7 @@ has_room len k end room same under much = omega arith
 pub push_back_reserved-requires : goal.push_back_reserved-requires
 push_back_reserved-requires c =
     let inv = c.loop-shard.invariant in
-    has_room _ _ _ _ (c.loop-shard.seeds.ok.0 ∙ inv.len) c.loop-shard-test.true inv.room
+    has_room _ _ _ _ (c.loop-shard.all_queues.ok.0 ∙ inv.len) c.loop-shard-test.true inv.room
 
 pub push_reserved-requires : goal.push_reserved-requires
 push_reserved-requires c =
@@ -21,8 +21,8 @@ pub loop-shard-preserved : goal.loop-shard-preserved
 loop-shard-preserved c =
     let inv = c.loop-shard.invariant in
     record {
-      seeds = each_next (IsSeed c.args.home.now 0) c.loop-shard.seeds.items c.push_back_reserved.new.self.items c.in_ok-make_seed.field-0 c.loop-shard.shard inv.len c.push_back_reserved.ensures.items inv.seeds c.in_ok-make_seed.ensures.seed;
-      len = ap length c.push_back_reserved.ensures.items ∙ (length-append c.loop-shard.seeds.items (c.in_ok-make_seed.field-0 ∷ []) ∙ ap (λ n. n + 1) inv.len);
+      all_queues = each_next (IsShardQueues c.args.home.now 0) c.loop-shard.all_queues.items c.push_back_reserved.new.self.items c.in_ok-make_queues.field-0 c.loop-shard.shard inv.len c.push_back_reserved.ensures.items inv.all_queues c.in_ok-make_queues.ensures.queues;
+      len = ap length c.push_back_reserved.ensures.items ∙ (length-append c.loop-shard.all_queues.items (c.in_ok-make_queues.field-0 ∷ []) ∙ ap (λ n. n + 1) inv.len);
       room = subst (λ n. c.args.shards ≤ n) (sym c.push_back_reserved.ensures.capacity) inv.room;
     }
 
@@ -32,10 +32,10 @@ loop-pass-preserved c =
     let made = c.in_ok-make_row.ensures in
     let home = c.args.home.now in
     let old = inv.len in
-    let long-old : deque_len c.loop-pass.seeds ≡ c.args.shards = c.loop-pass.seeds.ok.0 ∙ old in
-    let long : length c.make_row.new.seeds.items ≡ length c.loop-pass.seeds.items = sym c.make_row.new.seeds.ok.0 ∙ (made.len ∙ c.loop-pass.seeds.ok.0) in
+    let long-old : deque_len c.loop-pass.all_queues ≡ c.args.shards = c.loop-pass.all_queues.ok.0 ∙ old in
+    let long : length c.make_row.new.all_queues.items ≡ length c.loop-pass.all_queues.items = sym c.make_row.new.all_queues.ok.0 ∙ (made.len ∙ c.loop-pass.all_queues.ok.0) in
     record {
-      seeds = made.seeds;
+      all_queues = made.all_queues;
       len = long ∙ inv.len;
       rows = each_next (λ p row. IsRow home c.args.shards p row.items) c.loop-pass.rows.items c.push_reserved.new.self.items c.in_ok-make_row.field-0 c.loop-pass.pass inv.count c.push_reserved.ensures.items inv.rows
           (subst (λ n. IsRow home n c.loop-pass.pass c.in_ok-make_row.field-0.items) long-old made.row);

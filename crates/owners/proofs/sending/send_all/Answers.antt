@@ -4,10 +4,10 @@ use Rattle.keyed.specs.Bindings.{FitsBinding}
 use Rattle.keyed.specs.Queues.{sends_to}
 use Rattle.keyed.specs.declared.binding.Binding.TheVariants.{Bound}
 use Rattle.owners.specs.Homes.{Homed}
-use Rattle.owners.specs.Desks.{ArePlaces}
+use Rattle.owners.specs.Mailboxes.{ArePlaces}
 use Rattle.owners.specs.Bonds.{AreBoundFrom}
-use Rattle.owners.specs.Letters.{IsAnswerTo}
-use Rattle.owners.proofs.Desking.{end_at, end_set, place_at, place_gone}
+use Rattle.owners.specs.Messages.{IsAnswerTo}
+use Rattle.owners.proofs.MailboxSteps.{end_at, end_set, place_at, place_gone}
 use Rattle.owners.proofs.sending.send_all.Goals as goal
 use Rattle.owners.proofs.sending.send_all.Goals.{in-Some, in_default}
 
@@ -20,8 +20,8 @@ send-requires g c =
     let lt : c.loop-pass.pass < length c.loop-pass.answers.items = search rules in
     let bound = subst (λ e. sends_to e ≡ Bound home c.loop-pass.pass) (sym c.index_mut.ensures.value)
     (end_at home c.loop-pass.answers.items c.loop-pass.pass c.index_mut.result.now answers lt) in
-    subst (λ b. FitsBinding IsAnswerTo b c.in-Some.letter) (sym bound)
-    (place_at home c.loop-pass.places.items c.loop-pass.pass c.in-Some.letter places at (sym c.in-Some.is ∙ c.take_at.ensures.value))
+    subst (λ b. FitsBinding IsAnswerTo b c.in-Some.message) (sym bound)
+    (place_at home c.loop-pass.places.items c.loop-pass.pass c.in-Some.message places at (sym c.in-Some.is ∙ c.take_at.ensures.value))
 
 pub loop-pass-preserved : goal.loop-pass-preserved
 loop-pass-preserved g c =

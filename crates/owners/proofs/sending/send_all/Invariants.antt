@@ -1,6 +1,6 @@
 use Rattle.std.proofs.Common.{◌≡◌, vec_len}
 use Rattle.owners.specs.Homes.{Homed}
-use Rattle.owners.specs.Desks.{ArePlaces}
+use Rattle.owners.specs.Mailboxes.{ArePlaces}
 use Rattle.owners.specs.Bonds.{AreBoundFrom}
 use Rattle.owners.proofs.sending.send_all.Given as goal
 

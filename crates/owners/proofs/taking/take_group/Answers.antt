@@ -1,22 +1,22 @@
 use Rattle.std.proofs.Common.{◌∙◌, subst}
 use Rattle.keyed.specs.Bindings.{FitsBinding}
-use Rattle.owners.specs.Letters.{IsOrderFor}
+use Rattle.owners.specs.Messages.{IsOrderFor}
 use Rattle.owners.proofs.taking.take_group.Goals as goal
 
 pub loop-init : goal.loop-init
 loop-init g c = record {
   same = c.receive.ensures.same;
-  desk = λ home k bound desk. c.take_order-ending.ensures.desk home k desk (subst (λ b. FitsBinding IsOrderFor b c.in-Ok.first) bound c.in-Ok.ensures.fits);
+  mailbox = λ home k bound mailbox. c.take_order-ending.ensures.mailbox home k mailbox (subst (λ b. FitsBinding IsOrderFor b c.in-Ok.first) bound c.in-Ok.ensures.fits);
   few = c.take_order-ending.ensures.few;
 }
 
 pub take_order-ending-requires-in-loop-clause-order : goal.take_order-ending-requires-in-loop-clause-order
 take_order-ending-requires-in-loop-clause-order g c =
     let inv = c.loop.invariant in
-    let opened = c.requires.desk in (
+    let opened = c.requires.mailbox in (
       opened.0,
       opened.1,
-      inv.desk opened.0 opened.1 opened.2 opened.3,
+      inv.mailbox opened.0 opened.1 opened.2 opened.3,
       subst (λ b. FitsBinding IsOrderFor b c.in-Some.next) (inv.same ∙ opened.2) c.in-Some.ensures.fits,
     )
 
@@ -25,6 +25,6 @@ loop-preserved g c =
     let inv = c.loop.invariant in
     record {
       same = c.try_receive.ensures.same ∙ inv.same;
-      desk = λ home k bound desk. c.take_order-ending-in-loop.ensures.desk home k (inv.desk home k bound desk) (subst (λ b. FitsBinding IsOrderFor b c.in-Some.next) (inv.same ∙ bound) c.in-Some.ensures.fits);
+      mailbox = λ home k bound mailbox. c.take_order-ending-in-loop.ensures.mailbox home k (inv.mailbox home k bound mailbox) (subst (λ b. FitsBinding IsOrderFor b c.in-Some.next) (inv.same ∙ bound) c.in-Some.ensures.fits);
       few = c.take_order-ending-in-loop.ensures.few;
     }

@@ -2,4 +2,4 @@ use Rattle.ingester.specs.Calls.{IsPassOf}
 use Rattle.shard_threads.proofs.tasks.see.Given as goal
 
 abbrev pub invariant-loop : goal.invariant-loop
-invariant-loop g l = IsPassOf l.course.ingester.now l.pass
+invariant-loop g l = IsPassOf l.context.ingester.now l.pass

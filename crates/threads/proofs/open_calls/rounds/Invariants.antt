@@ -3,4 +3,4 @@ use Rattle.threads.specs.Windows.{IsWindow}
 use Rattle.threads.proofs.open_calls.rounds.Given as goal
 
 abbrev pub invariant-loop-round : goal.invariant-loop-round
-invariant-loop-round g l = IsWindow g.J.Opening.table g.J.Opening.about l.pass l.answers.items × (l.pass.caller.pending ≡ [])
+invariant-loop-round g l = IsWindow g.J.TestOpening.table g.J.TestOpening.about l.pass l.answers.items × (l.pass.caller.pending ≡ [])

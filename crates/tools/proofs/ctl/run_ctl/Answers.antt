@@ -1,6 +1,6 @@
 use Rattle.std.proofs.Common.{ℕ, sym, subst}
 use Rattle.disk.specs.declared.file.FileDisk.{FileDisk}
-use Rattle.slots.specs.declared.watched.Watched.{Watched}
+use Rattle.programs.specs.declared.watched.Watched.{Watched}
 use Rattle.tools.specs.Endings.{IsDueToCall, answered_call, stopped_call}
 use Rattle.tools.proofs.ctl.run_ctl.Goals as goal
 

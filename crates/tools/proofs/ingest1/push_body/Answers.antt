@@ -1,6 +1,6 @@
 use Rattle.std.specs.Prelude.{codes, None}
 use Rattle.requests.specs.declared.route.Route.TheVariants.{Push}
-use Rattle.words.specs.Words.{capacity_of}
+use Rattle.programs.specs.Words.{capacity_of}
 use Rattle.tools.specs.Endings.{IsAnswerDue}
 use Rattle.tools.proofs.Outputs.{then_back, answer_alone}
 use Rattle.tools.proofs.ingest1.push_body.Goals as goal

@@ -1,6 +1,6 @@
 use Rattle.disk.specs.declared.file.FileDisk.{FileDisk}
 use Rattle.disk.specs.FileDisk.{file_sight, FileFollows}
-use Rattle.slots.specs.declared.watched.Watched.{Watched}
+use Rattle.programs.specs.declared.watched.Watched.{Watched}
 use Rattle.walsplit.specs.declared.announced.Announced.{Announced}
 use Rattle.walsplit.proofs.Within.{split_of_these}
 use Rattle.walsplit.proofs.program.split_opened.Goals as goal

@@ -6,7 +6,7 @@ use Rattle.answering.specs.Due.{NextIsDue}
 use Rattle.answering.specs.Ends.{IsReadOn}
 use Rattle.answering.specs.Turns.{MayComeAfter, ConnectionTurnIsServed, due_of, taken_of, world_of}
 use Rattle.answering.specs.Visits.{KeepsOn}
-use Rattle.answering.specs.declared.visiting.Turn.TheVariants.{Answered, Closed, Unfinished}
+use Rattle.answering.specs.declared.visiting.TurnOutcome.TheVariants.{Answered, Closed, Unfinished}
 use Rattle.answering.proofs.Turning.{same_trans, starts, next_due, goes_on, stays, reads_more, read_over, read_ended, read_failed, closed, failed, is_served}
 use Rattle.answering.proofs.visiting.Visit.serve_all.Goals as goal
 

@@ -2,7 +2,7 @@ use Rattle.std.proofs.Common.{rules, subst, take, length, ◌≡◌, ℕ}
 use Rattle.std.proofs.lemmas.List.{length-take-le}
 use Rattle.disk.specs.Calls.{Wrote, Broke}
 use Rattle.disk.specs.State.{Write, Break}
-use Rattle.disk.specs.Record.{Goes, sight_by}
+use Rattle.disk.specs.CallRecord.{Goes, sight_by}
 use Rattle.disk.proofs.Crash.{is_write, is_break}
 use Rattle.disk.proofs.FileLemmas.{acts-more, record-goes, record-holds}
 use Rattle.disk.proofs.calls.NotedFile.write_some.Goals as goal

@@ -1,6 +1,6 @@
 use Rattle.std.proofs.Common.{◌≤◌, ◌+◌, ℕ, take, Err, ap, sym, subst, ◌∙◌, arith}
 use Rattle.disk.specs.Calls.{IsRead, Interrupted}
-use Rattle.disk.specs.Record.{sight_by}
+use Rattle.disk.specs.CallRecord.{sight_by}
 use Rattle.disk.proofs.FileLemmas.{length-rest, read-loop-on, read-loop-again, call-loop-on, served-ok, served-failed}
 use Rattle.disk.proofs.file.FileDiskDisk.read.Goals as goal
 use Rattle.disk.proofs.file.FileDiskDisk.read.Goals.{in-Ok, in-Err-Interrupted}

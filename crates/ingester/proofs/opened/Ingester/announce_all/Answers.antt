@@ -2,8 +2,8 @@ use Rattle.std.proofs.Common.{◌≡◌, ◌+◌, ◌<◌, ℕ, List, length, le
 use Rattle.std.specs.VecDeque.{deque_len}
 use Rattle.accept.specs.declared.call.Call.{Call}
 use Rattle.history.specs.Handles.{Passed}
-use Rattle.owners.proofs.Each.{ways_set}
-use Rattle.ingester.specs.Batches.{HasLetters, HasBegunRound, AreCountedFrom}
+use Rattle.owners.proofs.Each.{routes_set}
+use Rattle.ingester.specs.Batches.{HasMessages, HasBegunRound, AreCountedFrom}
 use Rattle.ingester.proofs.Batching.{below_same}
 use Rattle.ingester.proofs.Receiving.{announced_ahead}
 use Rattle.ingester.proofs.Gathering.{some_first, some_more, first_waits, more_wait, left_numbers}
@@ -16,7 +16,7 @@ loop-shard-init g c =
     let was = c.args.pass.now in
     record {
       some = some_first was c.announce_next.new.pass c.args.calls.now.items c.announce_next.new.calls.items c.in_ok-first.first c.requires.idle next;
-      letters = c.in_ok-first.ensures.letters;
+      messages = c.in_ok-first.ensures.messages;
       positive = omega arith;
       waiting = first_waits was c.announce_next.new.pass next.call c.requires.idle next.pass;
       calls = c.in_ok-first.ensures.not;
@@ -46,7 +46,7 @@ loop-shard-preserved g c =
     let within : c.loop-shard.count < length c.loop-shard.shards = omega arith in
     record {
       some = some_more c.args.pass.now was now c.args.calls.now.items c.loop-shard.calls.items left.items c.in_ok-first.first c.loop-shard.count c.in-Some.field-0-0 inv.some inv.waiting inv.next next;
-      letters = subst (λ p. HasLetters c.args.self.now p now.caller c.announce_next-in-loop-shard.new.ways.items) inv.pass c.in-Some.ensures.letters;
+      messages = subst (λ p. HasMessages c.args.self.now p now.caller c.announce_next-in-loop-shard.new.routes.items) inv.pass c.in-Some.ensures.messages;
       positive = omega arith;
       waiting = more_wait was now next.call c.loop-shard.count inv.waiting next.pass;
       calls = let had = inv.calls in let fewer : deque_len left + 1 ≡ deque_len c.loop-shard.calls = c.in-Some.ensures.not in omega arith;
@@ -57,7 +57,7 @@ loop-shard-preserved g c =
       about = ap (λ (p : Passed). p.caller.about) next.pass ∙ inv.about;
       pass = ap (λ (p : Passed). p.caller.pass) next.pass ∙ inv.pass;
       numbers = left_numbers c.loop-shard.calls.items next.call left.items next.calls_are inv.numbers;
-      below = ways_set (λ _ shard. shard < c.args.self.now.about.shards) c.loop-shard.shards c.loop-shard.count c.in-Some.shard within inv.below came.2;
+      below = routes_set (λ _ shard. shard < c.args.self.now.about.shards) c.loop-shard.shards c.loop-shard.count c.in-Some.shard within inv.below came.2;
       places = length-set c.loop-shard.shards c.loop-shard.count c.in-Some.shard ∙ inv.places;
     }
 

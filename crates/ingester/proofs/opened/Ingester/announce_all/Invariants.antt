@@ -2,13 +2,13 @@ use Rattle.std.proofs.Common.{◌≡◌, ◌+◌, ◌^◌, ◌<◌, ◌≤◌, l
 use Rattle.std.specs.Prelude.{All}
 use Rattle.std.specs.VecDeque.{deque_len, deque_capacity}
 use Rattle.accept.specs.Calls.{AreNumbers}
-use Rattle.ingester.specs.Batches.{HasLetters, AreBelow, AreSomeOpen}
+use Rattle.ingester.specs.Batches.{HasMessages, AreBelow, AreSomeOpen}
 use Rattle.ingester.proofs.opened.Ingester.announce_all.Given as goal
 
 abbrev pub invariant-loop-shard : goal.invariant-loop-shard
 invariant-loop-shard g l = record {
   some : AreSomeOpen l.fn.pass l.pass l.fn.calls.items l.calls.items l.first l.count;
-  letters : HasLetters l.self l.fn.pass.caller.pass l.pass.caller l.ways.items;
+  messages : HasMessages l.self l.fn.pass.caller.pass l.pass.caller l.routes.items;
   positive : 0 < l.count;
   waiting : length l.pass.caller.pending ≡ l.count;
   calls : deque_len l.calls + l.count ≡ deque_len l.fn.calls;

@@ -6,41 +6,41 @@ use Rattle.ingester.specs.Batches.{AreBatchesOf}
 use Rattle.ingester.proofs.Batching.{batches_joined, batches_alike, ready_still}
 use Rattle.ingester.proofs.opened.Ingester.announce_next.Goals as goal
 
-pub returns-in_err-number-clause-letters : goal.returns-in_err-number-clause-letters
-returns-in_err-number-clause-letters g c =
+pub returns-in_err-number-clause-messages : goal.returns-in_err-number-clause-messages
+returns-in_err-number-clause-messages g c =
     let now = c.args.self.now in
     let k = c.shard_number-shard.result in
-    let items = c.args.ways.now.items in
+    let items = c.args.routes.now.items in
     let was = c.index_mut.result.now in
-    let letters = c.requires.letters in
+    let messages = c.requires.messages in
     let shards : now.about.shards ≡ c.self.inside.count = ap (λ o. o.about.shards) (sym c.self.view_is) ∙ c.self.invariant.is_opening.shards in
     let some = c.self.invariant.is_opening.some_shard in
-    let long = letters.count in
-    let routes = c.shard_number-shard.ensures in
+    let long = messages.count in
+    let routed_to = c.shard_number-shard.ensures in
     let within : k < length items = omega arith in
     let none = c.in_err-number.ensures.not in
     record {
-      batches = subst (λ (p : Passed). AreBatchesOf now.table now.about p.caller (slice_set items k c.join.new.way)) (sym none.0)
-          (batches_alike now.table now.about c.args.pass.now.caller items k was c.join.new.way within c.index_mut.ensures.value none.2 letters.batches);
-      ready = ready_still (home_of now) c.args.pass.now.caller.pass items k was c.join.new.way within c.index_mut.ensures.value c.in_err-number.ensures.rest letters.ready;
-      count = length-set items k c.join.new.way ∙ long;
+      batches = subst (λ (p : Passed). AreBatchesOf now.table now.about p.caller (slice_set items k c.join.new.route)) (sym none.0)
+          (batches_alike now.table now.about c.args.pass.now.caller items k was c.join.new.route within c.index_mut.ensures.value none.2 messages.batches);
+      ready = ready_still (home_of now) c.args.pass.now.caller.pass items k was c.join.new.route within c.index_mut.ensures.value c.in_err-number.ensures.rest messages.ready;
+      count = length-set items k c.join.new.route ∙ long;
     }
 
-pub returns-clause-letters : goal.returns-clause-letters
-returns-clause-letters g c =
+pub returns-clause-messages : goal.returns-clause-messages
+returns-clause-messages g c =
     let now = c.args.self.now in
     let k = c.shard_number-shard.result in
-    let items = c.args.ways.now.items in
+    let items = c.args.routes.now.items in
     let was = c.index_mut.result.now in
-    let letters = c.requires.letters in
+    let messages = c.requires.messages in
     let shards : now.about.shards ≡ c.self.inside.count = ap (λ o. o.about.shards) (sym c.self.view_is) ∙ c.self.invariant.is_opening.shards in
     let some = c.self.invariant.is_opening.some_shard in
-    let long = letters.count in
-    let routes = c.shard_number-shard.ensures in
+    let long = messages.count in
+    let routed_to = c.shard_number-shard.ensures in
     let within : k < length items = omega arith in
     record {
-      batches = batches_joined now.table now.about c.args.pass.now c.join.new.pass c.args.calls.now.items c.join.new.calls.items items k c.self.inside.count c.in_ok-number.number was c.join.new.way c.in_ok-front.field-0.now
-          c.requires.pass.1 shards c.in_ok-front.ensures.lookup routes within c.index_mut.ensures.value letters.batches c.in_ok-number.ensures.joined;
-      ready = ready_still (home_of now) c.args.pass.now.caller.pass items k was c.join.new.way within c.index_mut.ensures.value c.in_ok-number.ensures.rest letters.ready;
-      count = length-set items k c.join.new.way ∙ long;
+      batches = batches_joined now.table now.about c.args.pass.now c.join.new.pass c.args.calls.now.items c.join.new.calls.items items k c.self.inside.count c.in_ok-number.number was c.join.new.route c.in_ok-front.field-0.now
+          c.requires.pass.1 shards c.in_ok-front.ensures.lookup routed_to within c.index_mut.ensures.value messages.batches c.in_ok-number.ensures.joined;
+      ready = ready_still (home_of now) c.args.pass.now.caller.pass items k was c.join.new.route within c.index_mut.ensures.value c.in_ok-number.ensures.rest messages.ready;
+      count = length-set items k c.join.new.route ∙ long;
     }

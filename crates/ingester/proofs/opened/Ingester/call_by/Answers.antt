@@ -4,15 +4,15 @@ use Rattle.std.specs.declared.alloc.Global.{Global}
 use Rattle.std.specs.declared.collections.VecDeque.{VecDeque}
 use Rattle.accept.specs.declared.call.Call.{Call}
 use Rattle.history.specs.Handles.{Passed}
-use Rattle.ingester.specs.Batches.{HasLetters, HasIdleWays, IsNextRefused}
+use Rattle.ingester.specs.Batches.{HasMessages, HasIdleRoutes, IsNextRefused}
 use Rattle.ingester.proofs.Receiving.{announced_ahead, round_more, refused_more, refused_pass, ended_pass, rest_numbers}
 use Rattle.ingester.proofs.opened.Ingester.call_by.Goals as goal
 
-pub make_round-requires-clause-letters : goal.make_round-requires-clause-letters
-make_round-requires-clause-letters g c =
+pub make_round-requires-clause-messages : goal.make_round-requires-clause-messages
+make_round-requires-clause-messages g c =
     let begun = c.in-Some.ensures.round in
     let ahead = announced_ahead c.loop-alloc.pass c.announce_some.new.pass begun.some.front begun.some.announced in
-    subst (λ p. HasLetters c.args.self.now p c.announce_some.new.pass.caller c.announce_some.new.ways.items) (sym (begun.under_way.own ∙ ahead.pass)) c.in-Some.ensures.ways
+    subst (λ p. HasMessages c.args.self.now p c.announce_some.new.pass.caller c.announce_some.new.routes.items) (sym (begun.under_way.own ∙ ahead.pass)) c.in-Some.ensures.routes
 
 pub loop-alloc-preserved-in-Some : goal.loop-alloc-preserved-in-Some
 loop-alloc-preserved-in-Some g c =
@@ -29,7 +29,7 @@ loop-alloc-preserved-in-Some g c =
       given = more.so_far;
       pass = more.pass;
       own = ended_pass c.args.self.now c.announce_some.new.pass new c.loop-alloc.outcomes.items c.make_round.new.outcomes.items round.count came.ended ∙ (ahead.pass ∙ inv.own);
-      ways = subst (λ p. HasIdleWays c.args.self.now p c.make_round.new.ways.items) (begun.under_way.own ∙ (ahead.pass ∙ inv.own)) came.ways;
+      routes = subst (λ p. HasIdleRoutes c.args.self.now p c.make_round.new.routes.items) (begun.under_way.own ∙ (ahead.pass ∙ inv.own)) came.routes;
       lens = let had = inv.lens in let fewer_are : deque_len left + round.count ≡ deque_len c.loop-alloc.calls = c.in-Some.ensures.count in let long = came.len in omega arith;
       calls = c.in-Some.ensures.capacity ∙ inv.calls;
       outcomes = came.capacity ∙ inv.outcomes;
@@ -50,7 +50,7 @@ loop-alloc-preserved g c =
       given = more.so_far;
       pass = more.pass;
       own = refused_pass c.loop-alloc.pass new refused.call fault refused.given.refused ∙ inv.own;
-      ways = subst (λ p. HasIdleWays now p c.announce_some.new.ways.items) inv.own c.in-None.ensures.ways;
+      routes = subst (λ p. HasIdleRoutes now p c.announce_some.new.routes.items) inv.own c.in-None.ensures.routes;
       lens =
           let had = inv.lens in
           let same : deque_len c.announce_some.new.calls ≡ deque_len c.loop-alloc.calls = ap (λ d. deque_len d) none.1 in

@@ -5,7 +5,7 @@ use Rattle.std.proofs.lemmas.Option.{slice_get_within}
 use Rattle.owners.specs.Bonds.{ReceiveFrom}
 use Rattle.history.specs.Handles.{Passed}
 use Rattle.owners.specs.Openings.{Opening}
-use Rattle.owners.proofs.Desking.{bound_at, bound_set}
+use Rattle.owners.proofs.MailboxSteps.{bound_at, bound_set}
 use Rattle.owners.specs.Places.{IsOf}
 use Rattle.ingester.specs.Closings.{IsLast, AreLast}
 use Rattle.ingester.proofs.Comparing.{set_alike}

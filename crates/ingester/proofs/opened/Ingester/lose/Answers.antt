@@ -2,22 +2,22 @@ use Rattle.std.proofs.Common.{rules, ◌≡◌, ◌+◌, ◌-◌, ◌<◌, ◌++
 use Rattle.std.specs.Prelude.{Some, Err, slice_index_or}
 use Rattle.std.proofs.lemmas.Option.{slice_get-get_or}
 use Rattle.owners.specs.Openings.{home_of}
-use Rattle.owners.specs.Ways.{IsWay}
-use Rattle.owners.proofs.Each.{ways_set}
+use Rattle.owners.specs.Routes.{IsRoute}
+use Rattle.owners.proofs.Each.{routes_set}
 use Rattle.accept.specs.declared.fault.CallFault.TheVariants.{InDoubt}
 use Rattle.ingester.specs.Batches.{doubts}
 use Rattle.ingester.proofs.Batching.{below_at}
 use Rattle.ingester.proofs.Receiving.{doubts_more}
 use Rattle.ingester.proofs.opened.Ingester.lose.Goals as goal
 
-pub take_back-requires-clause-way : goal.take_back-requires-clause-way
-take_back-requires-clause-way g c =
-    let items = c.args.ways.now.items in
+pub take_back-requires-clause-route : goal.take_back-requires-clause-route
+take_back-requires-clause-route g c =
+    let items = c.args.routes.now.items in
     let k = slice_index_or c.args.round.now.shards c.args.from 0 in
     let within : c.args.from < length c.args.round.now.shards = search rules in
     let low = below_at c.args.self.now.about.shards c.args.round.now.shards c.args.from c.requires.round.below within in
-    let lt : k < length items = subst (λ n. k < n) (sym c.requires.ways.1) low in
-    (k, subst (λ p. IsWay (home_of c.args.self.now) p k c.index_mut.result.now) c.requires.round.own (c.requires.ways.0 k c.index_mut.result.now (slice_get-get_or items k c.index_mut.result.now lt ∙ ap Some (sym c.index_mut.ensures.value))))
+    let lt : k < length items = subst (λ n. k < n) (sym c.requires.routes.1) low in
+    (k, subst (λ p. IsRoute (home_of c.args.self.now) p k c.index_mut.result.now) c.requires.round.own (c.requires.routes.0 k c.index_mut.result.now (slice_get-get_or items k c.index_mut.result.now lt ∙ ap Some (sym c.index_mut.ensures.value))))
 
 pub loop-preserved : goal.loop-preserved
 loop-preserved g c =
@@ -32,13 +32,13 @@ loop-preserved g c =
       capacity = c.push_back_reserved.ensures.capacity ∙ inv.capacity;
     }
 
-pub returns-clause-ways : goal.returns-clause-ways
-returns-clause-ways g c =
-    let items = c.args.ways.now.items in
+pub returns-clause-routes : goal.returns-clause-routes
+returns-clause-routes g c =
+    let items = c.args.routes.now.items in
     let k = slice_index_or c.args.round.now.shards c.args.from 0 in
     let within : c.args.from < length c.args.round.now.shards = search rules in
     let low = below_at c.args.self.now.about.shards c.args.round.now.shards c.args.from c.requires.round.below within in
-    let lt : k < length items = subst (λ n. k < n) (sym c.requires.ways.1) low in (
-      ways_set (IsWay (home_of c.args.self.now) c.args.round.now.pass) items k c.take_back.new.way lt c.requires.ways.0 (subst (λ p. IsWay (home_of c.args.self.now) p k c.take_back.new.way) (sym c.requires.round.own) (c.take_back.ensures.way k (subst (λ p. IsWay (home_of c.args.self.now) p k c.index_mut.result.now) c.requires.round.own (c.requires.ways.0 k c.index_mut.result.now (slice_get-get_or items k c.index_mut.result.now lt ∙ ap Some (sym c.index_mut.ensures.value)))))),
-      length-set items k c.take_back.new.way ∙ c.requires.ways.1,
+    let lt : k < length items = subst (λ n. k < n) (sym c.requires.routes.1) low in (
+      routes_set (IsRoute (home_of c.args.self.now) c.args.round.now.pass) items k c.take_back.new.route lt c.requires.routes.0 (subst (λ p. IsRoute (home_of c.args.self.now) p k c.take_back.new.route) (sym c.requires.round.own) (c.take_back.ensures.route k (subst (λ p. IsRoute (home_of c.args.self.now) p k c.index_mut.result.now) c.requires.round.own (c.requires.routes.0 k c.index_mut.result.now (slice_get-get_or items k c.index_mut.result.now lt ∙ ap Some (sym c.index_mut.ensures.value)))))),
+      length-set items k c.take_back.new.route ∙ c.requires.routes.1,
     )

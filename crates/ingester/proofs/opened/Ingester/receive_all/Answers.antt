@@ -2,34 +2,34 @@ use Rattle.std.proofs.Common.{rules, ◌<◌, length, length-set, sym, ap, ◌�
 use Rattle.std.specs.Prelude.{Some, slice_index_or}
 use Rattle.std.proofs.lemmas.Option.{slice_get-get_or}
 use Rattle.owners.specs.Openings.{home_of}
-use Rattle.owners.specs.Ways.{IsWay}
-use Rattle.owners.proofs.Each.{ways_set}
+use Rattle.owners.specs.Routes.{IsRoute}
+use Rattle.owners.proofs.Each.{routes_set}
 use Rattle.ingester.proofs.Batching.{below_at}
 use Rattle.ingester.proofs.Receiving.{taken_behind, receiving_more, received_more}
 use Rattle.ingester.proofs.opened.Ingester.receive_all.Goals as goal
 
-pub receive_next-requires-clause-way : goal.receive_next-requires-clause-way
-receive_next-requires-clause-way g c =
+pub receive_next-requires-clause-route : goal.receive_next-requires-clause-route
+receive_next-requires-clause-route g c =
     let inv = c.loop-i.invariant in
     let home = home_of c.args.self.now in
-    let items = c.loop-i.ways.items in
+    let items = c.loop-i.routes.items in
     let k = slice_index_or c.args.round.now.shards c.loop-i.i 0 in
     let within : c.loop-i.i < length c.args.round.now.shards = search rules in
     let low = below_at c.args.self.now.about.shards c.args.round.now.shards c.loop-i.i inv.round.below within in
     let lt : k < length items = subst (λ n. k < n) (sym inv.long) low in
-    (k, subst (λ p. IsWay home p k c.index_mut.result.now) inv.round.own (inv.ways k c.index_mut.result.now (slice_get-get_or items k c.index_mut.result.now lt ∙ ap Some (sym c.index_mut.ensures.value))))
+    (k, subst (λ p. IsRoute home p k c.index_mut.result.now) inv.round.own (inv.routes k c.index_mut.result.now (slice_get-get_or items k c.index_mut.result.now lt ∙ ap Some (sym c.index_mut.ensures.value))))
 
-pub returns-in-None-clause-ways : goal.returns-in-None-clause-ways
-returns-in-None-clause-ways g c =
+pub returns-in-None-clause-routes : goal.returns-in-None-clause-routes
+returns-in-None-clause-routes g c =
     let inv = c.loop-i.invariant in
     let home = home_of c.args.self.now in
-    let items = c.loop-i.ways.items in
+    let items = c.loop-i.routes.items in
     let k = slice_index_or c.args.round.now.shards c.loop-i.i 0 in
     let within : c.loop-i.i < length c.args.round.now.shards = search rules in
     let low = below_at c.args.self.now.about.shards c.args.round.now.shards c.loop-i.i inv.round.below within in
     let lt : k < length items = subst (λ n. k < n) (sym inv.long) low in (
-      ways_set (IsWay home c.args.round.now.pass) items k c.receive_next.new.way lt inv.ways (subst (λ p. IsWay home p k c.receive_next.new.way) (sym inv.round.own) (c.in-None.ensures.way k (subst (λ p. IsWay home p k c.index_mut.result.now) inv.round.own (inv.ways k c.index_mut.result.now (slice_get-get_or items k c.index_mut.result.now lt ∙ ap Some (sym c.index_mut.ensures.value)))))),
-      length-set items k c.receive_next.new.way ∙ inv.long,
+      routes_set (IsRoute home c.args.round.now.pass) items k c.receive_next.new.route lt inv.routes (subst (λ p. IsRoute home p k c.receive_next.new.route) (sym inv.round.own) (c.in-None.ensures.route k (subst (λ p. IsRoute home p k c.index_mut.result.now) inv.round.own (inv.routes k c.index_mut.result.now (slice_get-get_or items k c.index_mut.result.now lt ∙ ap Some (sym c.index_mut.ensures.value)))))),
+      length-set items k c.receive_next.new.route ∙ inv.long,
     )
 
 pub loop-i-preserved : goal.loop-i-preserved
@@ -39,7 +39,7 @@ loop-i-preserved g c =
     let was = c.loop-i.pass in
     let new = c.receive_next.new.pass in
     let home = home_of now in
-    let items = c.loop-i.ways.items in
+    let items = c.loop-i.routes.items in
     let k = slice_index_or c.args.round.now.shards c.loop-i.i 0 in
     let within : c.loop-i.i < length c.args.round.now.shards = search rules in
     let low = below_at c.args.self.now.about.shards c.args.round.now.shards c.loop-i.i inv.round.below within in
@@ -60,8 +60,8 @@ loop-i-preserved g c =
         fits = inv.round.fits;
         below = inv.round.below;
       };
-      ways = ways_set (IsWay home c.args.round.now.pass) items k c.receive_next.new.way lt inv.ways (subst (λ p. IsWay home p k c.receive_next.new.way) (sym inv.round.own) (c.in-Some.ensures.way k (subst (λ p. IsWay home p k c.index_mut.result.now) inv.round.own (inv.ways k c.index_mut.result.now (slice_get-get_or items k c.index_mut.result.now lt ∙ ap Some (sym c.index_mut.ensures.value))))));
-      long = length-set items k c.receive_next.new.way ∙ inv.long;
+      routes = routes_set (IsRoute home c.args.round.now.pass) items k c.receive_next.new.route lt inv.routes (subst (λ p. IsRoute home p k c.receive_next.new.route) (sym inv.round.own) (c.in-Some.ensures.route k (subst (λ p. IsRoute home p k c.index_mut.result.now) inv.round.own (inv.routes k c.index_mut.result.now (slice_get-get_or items k c.index_mut.result.now lt ∙ ap Some (sym c.index_mut.ensures.value))))));
+      long = length-set items k c.receive_next.new.route ∙ inv.long;
       len = let had = inv.len in let long = c.push_back_reserved.ensures.len in omega arith;
       capacity = c.push_back_reserved.ensures.capacity ∙ inv.capacity;
     }

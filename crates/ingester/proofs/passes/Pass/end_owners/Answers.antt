@@ -7,6 +7,6 @@ invariant_of-self g c =
     let seat = c.self.inside.seat in
     let was = c.self.invariant in
     record {
-      idle = c.end_owners.ensures.ways (home_at seat) seat.caller.pass was.idle;
-      count = sym c.end_owners.new.ways.ok.0 ∙ (c.end_owners.ensures.len ∙ (c.self.inside.ways.ok.0 ∙ was.count));
+      idle = c.end_owners.ensures.routes (home_at seat) seat.caller.pass was.idle;
+      count = sym c.end_owners.new.routes.ok.0 ∙ (c.end_owners.ensures.len ∙ (c.self.inside.routes.ok.0 ∙ was.count));
     }

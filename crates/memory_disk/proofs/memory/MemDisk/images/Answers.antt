@@ -1,6 +1,6 @@
 use Rattle.std.proofs.Common.{arith, refl, Option, Some, None, IfSome, IsNone, sym, ap, subst, ◌∙◌, ◌≡◌, ◌≤◌, ◌<◌, ◌+◌, ◌-◌, [], ℕ, List, length, take, drop, Bool, Contains, AllPairs, ◌≢◌, ◌↔◌, ◌^◌}
 use Rattle.std.proofs.lemmas.List.{take_rest}
-use Rattle.memory_disk.specs.declared.memory.Step.{Step}
+use Rattle.memory_disk.specs.declared.memory.RecordedCall.{RecordedCall}
 use Rattle.memory_disk.specs.declared.memory.MemDisk.{MemDisk}
 use Rattle.disk.specs.State.{IsImage, nothing, furthest}
 use Rattle.disk.specs.Laws.{always_sound, sound_nothing}
@@ -25,19 +25,19 @@ far_of : (m : MemDisk) → furthest (state_of m).ranges ≤ length (state_of m).
 far_of m = furthest-within _ _ (within-after nothing m.steps.items m.written.items tt)
 
 -- the steps since the last sync, as the slice of them has it
-since_of : (m : MemDisk) (steps : List Step) → steps ≡ m.steps.items
+since_of : (m : MemDisk) (steps : List RecordedCall) → steps ≡ m.steps.items
     → take (length steps - m.synced_steps) (drop m.synced_steps steps) ≡ drop m.synced_steps m.steps.items
-since_of m steps e = take_rest steps m.synced_steps ∙ ap (λ (xs : List Step). drop m.synced_steps xs) e
+since_of m steps e = take_rest steps m.synced_steps ∙ ap (λ (xs : List RecordedCall). drop m.synced_steps xs) e
 
 -- what the mask and the values list
-listed_by : (m : MemDisk) (values unique : List ℕ) (mask : List Bool) (steps : List Step) (len : ℕ) → steps ≡ m.steps.items → len ≡ length m.bytes.items
+listed_by : (m : MemDisk) (values unique : List ℕ) (mask : List Bool) (steps : List RecordedCall) (len : ℕ) → steps ≡ m.steps.items → len ≡ length m.bytes.items
     → (length mask ≡ len) × IsMarked m.synced_len (ranges_after [] (take (length steps - m.synced_steps) (drop m.synced_steps steps))) mask
     → ((v : ℕ) → (Contains unique v) ↔ (Contains values v)) → AllPairs (λ x y. x ≢ y) unique
     → Lists (IsImageOf (state_of m) values) (of_lengths (open_bytes mask m.bytes.items unique) m.synced_len (length m.bytes.items - m.synced_len + 1))
 listed_by m values unique mask steps len es el mark same once =
     all-listed (state_of m) mask values unique m.bytes.items (ranges_after [] (drop m.synced_steps m.steps.items)) m.synced_len (sound_of m) (far_of m)
     m.same m.synced m.since (mark.0 ∙ el)
-    (subst (λ (xs : List Step). IsMarked m.synced_len (ranges_after [] xs) mask) (since_of m steps es) mark.1)
+    (subst (λ (xs : List RecordedCall). IsMarked m.synced_len (ranges_after [] xs) mask) (since_of m steps es) mark.1)
     (record { none_new = λ v. (same v).0; none_lost = λ v. (same v).1; once = once })
 
 -- where there are more than the cap

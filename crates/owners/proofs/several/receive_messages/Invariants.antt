@@ -1,0 +1,10 @@
+use Rattle.std.proofs.Common.{◌≡◌, ℕ, vec_len}
+use Rattle.owners.specs.Homes.{Homed}
+use Rattle.owners.specs.Routes.{AreRoutes}
+use Rattle.owners.proofs.several.receive_messages.Given as goal
+
+abbrev pub invariant-loop-shard : goal.invariant-loop-shard
+invariant-loop-shard g l = record {
+  len : vec_len l.routes ≡ vec_len l.fn.routes;
+  routes : (home : Homed) (p : ℕ) → AreRoutes home p l.fn.routes.items → AreRoutes home p l.routes.items;
+}

@@ -1,5 +1,0 @@
-use Rattle.words.proofs.PartsRead.{written_read}
-use Rattle.words.proofs.laws.written_durations_are_read.Goals as goal
-
-pub returns : goal.returns
-returns c part parts = written_read part parts
