@@ -1,26 +1,26 @@
 -- A turn in two parts, as one; and a visit of one turn.
-use Rattle.std.proofs.Common.{◌≡◌, ◌≢◌, ℕ, Bool, true, false, List, [], ◌∷◌, ◌++◌, drop, slice_range, take, Option, None, Some, Result, Ok, Err, refl, sym, ap, ◌∙◌, subst, inl}
+use Rattle.std.proofs.Common.{◌≡◌, ◌≢◌, ℕ, Bool, true, false, ◌||◌, List, [], ◌∷◌, ◌++◌, drop, slice_range, Option, None, Some, Result, Ok, Err, IfErr, refl, sym, ap, ◌∙◌, subst, inl}
 use Rattle.std.proofs.lemmas.Option.{none-some, same_Some}
-use Rattle.std.proofs.Math.Seq.{take-length}
 use Rattle.requests.specs.Answers.{failure_text}
 use Rattle.requests.specs.Streams.{Request, ReadsMessage, IsMessage}
 use Rattle.requests.specs.Writing.{WritesBeginning, Dues, Follows}
 use Rattle.requests.specs.declared.answer.Answer.{Answer}
 use Rattle.requests.specs.declared.fault.ServeFault.{ServeFault}
-use Rattle.requests.specs.declared.fault.ServeFault.TheVariants.{Read, Write, Memory, CutShort}
+use Rattle.requests.specs.declared.fault.ServeFault.TheVariants.{Write, Memory}
 use Rattle.requests.specs.declared.incoming.Message.{Message}
 use Rattle.requests.specs.declared.route.Route.{Route}
+use Rattle.requests.specs.declared.verdict.Verdict.{Verdict}
 use Rattle.requests.specs.declared.verdict.Verdict.TheVariants.{Call}
 use Rattle.answering.specs.Beginning.{NoCalls, WaitsForCalls, IsTurnWithoutCalls, IsLeftByTurn, IsRoomAfter, turn_after, turn_by}
 use Rattle.answering.specs.Calls.{Giving}
 use Rattle.answering.specs.Connections.{Unended, IsLeftSo}
 use Rattle.answering.specs.Due.{NextIsDue}
 use Rattle.answering.specs.Gathering.{any_text}
-use Rattle.answering.specs.Replying.{ReplyIsDue, IsReplied, text_of_answer}
-use Rattle.answering.specs.Responses.{RequestEnds, content_for}
+use Rattle.answering.specs.Replying.{ReplyIsDue, IsPut, IsReplied, text_of_answer}
+use Rattle.answering.specs.Responses.{RequestEnds}
 use Rattle.answering.specs.Courses.{Course, RequestGives}
-use Rattle.answering.specs.Serving.{World, world, VerdictGives, failure_at, ends_behind, response_text, IsUnbegun}
-use Rattle.answering.specs.Turns.{ResponseIsWritten, ConnectionTurnIsAnswered, ConnectionTurnIsServed}
+use Rattle.answering.specs.Serving.{World, world, VerdictGives, failure_at, is_failed, ends_behind, response_text, IsUnbegun}
+use Rattle.answering.specs.Turns.{ResponseIsWritten, ConnectionTurnIsServed}
 use Rattle.answering.specs.Visits.{KeepsOn, IsVisit}
 use Rattle.answering.specs.declared.demands.Demand.{Demand}
 use Rattle.answering.specs.declared.responding.NoAnswer.{NoAnswer}
@@ -30,24 +30,17 @@ use Rattle.answering.specs.declared.visiting.TurnOutcome.TheVariants.{Answered, 
 use Rattle.answering.specs.declared.visiting.Visited.{Visited}
 use Rattle.answering.specs.declared.visiting.Visited.TheVariants as visited
 use Rattle.answering.proofs.Seeing.{next_seen, turn_seen}
-use Rattle.answering.proofs.Turning.{answered, said_failed, ends_kept, ends_failed, out, not_out, not_memory, left_out, goes, stops, fails, response_due, starts, goes_on, goes_on_by_some, stays, closed, stopped}
+use Rattle.answering.proofs.Turning.{answered, said_failed, out, not_out, put_out, not_memory, left_out, turn_by_response, response_due, starts, goes_on, goes_on_by_some, stays, closed, stopped}
 
 -- what was put there is the response, by how the calls went
 module _ {H : Type 0} (gives : Giving H) (now : ℕ) (route : Route) (tenant body : List ℕ) (close : Bool) (h h' : H) (due due' : Dues H) (before : Option (List ℕ)) where
   pub replied : (after : Option (List ℕ)) (told : Result Answer NoAnswer) (result : Result Bool ServeFault) → RequestEnds gives route now tenant body h told h' → IsReplied due due' before after told close result
       → ResponseIsWritten gives now body due due' before after (Call route tenant) close h h' result
-  replied after (Ok answer) (Ok ends) (course, went, none, shows) put =
-      let same = answered route close course answer (content_for answer.status) none shows refl in
-      out gives now body (Call route tenant) close course h h' due due' before after went ends tt (subst (λ t. WritesBeginning before after t (Ok tt)) same put.writes) (put.told.0 ∙ ends_kept route close course none) (subst (λ t. Follows due t due') same put.told.1)
-  replied after (Ok answer) (Err fault) (course, went, none, shows) put =
-      let same = answered route close course answer (content_for answer.status) none shows refl in
-      not_out gives now body (Call route tenant) close course h h' due due' before after went fault (subst (λ t. WritesBeginning before after t (Err fault)) same put.writes) (λ is. none)
-  replied after (Err (Failed failure)) (Ok ends) (course, went, failed) (put, cause) =
-      let same = said_failed route close course failure failed in
-      out gives now body (Call route tenant) close course h h' due due' before after went ends tt (subst (λ t. WritesBeginning before after t (Ok tt)) same put.writes) (put.told.0 ∙ ends_failed route close course failure failed) (subst (λ t. Follows due t due') same put.told.1)
-  replied after (Err (Failed failure)) (Err fault) (course, went, failed) (put, cause) =
-      let same = said_failed route close course failure failed in
-      not_out gives now body (Call route tenant) close course h h' due due' before after went fault (subst (λ t. WritesBeginning before after t (Err fault)) same put.writes) (λ none. absurd (not_memory fault cause none))
+  replied after (Ok answer) result (course, went, none, shows) put =
+      put_out gives now body (Call route tenant) close course h h' due due' before after went (text_of_answer answer close) close result (answered route close course answer none shows) (ap (λ f. is_failed f || close) (sym none)) (λ fault is lacks. none) put
+  replied after (Err (Failed failure)) result (course, went, failed) (put, cause) =
+      put_out gives now body (Call route tenant) close course h h' due due' before after went (failure_text failure) true result (said_failed route close course failure failed) (ap (λ f. is_failed f || close) (sym failed))
+      (λ fault is lacks. absurd (not_memory fault (subst (λ r. IfErr r (λ f. f ≡ Write)) is cause) lacks)) put
   replied after (Err GivenUp) result left (same, is) =
       subst (λ a. ResponseIsWritten gives now body due due' before a (Call route tenant) close h h' result) (sym same)
       (subst (ResponseIsWritten gives now body due due' before before (Call route tenant) close h h') (sym is) (left_out gives now body (Call route tenant) close h h' due due' before left))
@@ -78,7 +71,7 @@ module _ {H C : Type 0} (gives : Giving H) (ticks : C → ℕ → C → Type 0) 
 
   -- the answer is due once the calls have come back
   pub reply_due : (due : Dues H) (told : Result Answer NoAnswer) → NextIsDue gives ticks bytes (world h clock) due → RequestEnds gives w.route w.now w.tenant body h told h' → ReplyIsDue due h' told m.closes
-  reply_due due (Ok answer) next (course, went, none, shows) = subst (due h') (sym (answered w.route m.closes course answer (content_for answer.status) none shows refl)) (said due course next went)
+  reply_due due (Ok answer) next (course, went, none, shows) = subst (due h') (sym (answered w.route m.closes course answer none shows)) (said due course next went)
   reply_due due (Err (Failed failure)) next (course, went, failed) = subst (due h') (sym (said_failed w.route m.closes course failure failed)) (said due course next went)
   reply_due due (Err GivenUp) next left = tt
 
@@ -90,25 +83,13 @@ module _ {H C : Type 0} (gives : Giving H) (ticks : C → ℕ → C → Type 0) 
   -- a request that waited was answered
   pub turn_told : (due due' : Dues H) (before after : Option (List ℕ)) (told : Result Answer NoAnswer) (rest : List ℕ) (result : Result Bool ServeFault) → RequestEnds gives w.route w.now w.tenant body h told h' → IsReplied due due' before after told m.closes result
       → (result ≡ Ok false → rest ≡ drop m.end bytes) → ConnectionTurnIsServed gives ticks due due' before after bytes (world h clock) rest (world h' clock') (turn_by result)
-  turn_told due due' before after told rest (Ok false) ends put dropped =
-      let r = response due due' before after told (Ok false) ends put in
-      record {
-        text = r.text;
-        appends = r.appends;
-        gives_next = subst (λ l. ConnectionTurnIsAnswered gives ticks bytes (world h clock) r.text l (world h' clock') (Ok Answered)) (sym (dropped refl)) (goes gives ticks bytes w.request m w.now body (world h clock) (world h' clock') w.is w.reads w.tick refl r.text false r.replies refl);
-        follows = r.follows;
-      }
-  turn_told due due' before after told rest (Ok true) ends put dropped =
-      let r = response due due' before after told (Ok true) ends put in
-      record { text = r.text; appends = r.appends; gives_next = stops gives ticks bytes w.request m w.now body (world h clock) (world h' clock') w.is w.reads w.tick refl r.text rest true r.replies refl; follows = tt }
-  turn_told due due' before after told rest (Err fault) ends put dropped =
-      let r = response due due' before after told (Err fault) ends put in
-      record { text = r.text; appends = r.appends; gives_next = fails gives ticks bytes w.request m w.now body (world h clock) (world h' clock') w.is w.reads w.tick refl r.text rest fault r.replies; follows = tt }
+  turn_told due due' before after told rest result ends put dropped =
+      turn_by_response gives ticks bytes w.request m w.now body (world h clock) (world h' clock') w.is w.reads w.tick refl due due' before after rest result (response due due' before after told result ends put) dropped
 
 -- a visit of one turn
 module _ {H C : Type 0} (gives : Giving H) (ticks : C → ℕ → C → Type 0) (old new : Unended) (w w' : World H C) where
   abbrev Served : List ℕ → Result TurnOutcome ServeFault → Type 0
-  Served rest turn = ConnectionTurnIsServed gives ticks any_text any_text (Some old.text) (Some new.text) old.came w rest w' turn
+  Served rest turn = ConnectionTurnIsServed gives ticks (any_text {H = H}) any_text (Some old.text) (Some new.text) old.came w rest w' turn
 
   abbrev Left : Type 0
   Left = (result : Result Visited ServeFault) × IsLeftSo result old new × IsVisit gives ticks any_text any_text (Some old.text) (Some new.text) old.came w new.came w' result
@@ -139,17 +120,10 @@ module _ {H C : Type 0} (gives : Giving H) (ticks : C → ℕ → C → Type 0) 
     (room, closes),
     closed gives ticks any_text any_text any_text (Some old.text) (Some old.text) (Some new.text) old.came old.came rest w w w' (starts gives ticks any_text (Some old.text) old.came w) None t,
   )
-  visit_of_turn rest (Err Read) t left = absurd t.gives_next
-  visit_of_turn rest (Err CutShort) t left = absurd t.gives_next
-  visit_of_turn rest (Err Write) t (came, room, closes) = (
-    Err Write,
+  visit_of_turn rest (Err fault) t (came, room, closes) = (
+    Err fault,
     (room, closes),
-    stopped gives ticks any_text any_text any_text (Some old.text) (Some old.text) (Some new.text) old.came old.came rest w w w' (starts gives ticks any_text (Some old.text) old.came w) Write t,
-  )
-  visit_of_turn rest (Err Memory) t (came, room, closes) = (
-    Err Memory,
-    (room, closes),
-    stopped gives ticks any_text any_text any_text (Some old.text) (Some old.text) (Some new.text) old.came old.came rest w w w' (starts gives ticks any_text (Some old.text) old.came w) Memory t,
+    stopped gives ticks any_text any_text any_text (Some old.text) (Some old.text) (Some new.text) old.came old.came rest w w w' (starts gives ticks any_text (Some old.text) old.came w) fault t,
   )
 
 -- what was due before is, too
@@ -158,80 +132,56 @@ still_due due due' knows (Ok answer) close more is = more knows (text_of_answer 
 still_due due due' knows (Err (Failed failure)) close more is = more knows (failure_text failure) is
 still_due due due' knows (Err GivenUp) close more is = tt
 
+-- where the same may follow, and the same was there before
+put_so : {H K : Type 0} (d d' : Dues H) (e e' : Dues K) (before mid after : Option (List ℕ)) (text : List ℕ) (ends : Bool) (result : Result Bool ServeFault) → mid ≡ before → (Follows d text d' → Follows e text e') → IsPut d d' mid after text ends result → IsPut e e' before after text ends result
+put_so d d' e e' before mid after text ends (Ok told) same follows put = record { writes = subst (λ b. WritesBeginning b after text (Ok tt)) same put.writes; told = (put.told.0, follows put.told.1) }
+put_so d d' e e' before mid after text ends (Err fault) same follows put = record { writes = subst (λ b. WritesBeginning b after text (Err fault)) same put.writes; told = tt }
+
+replied_so : {H K : Type 0} (d d' : Dues H) (e e' : Dues K) (before mid after : Option (List ℕ)) (told : Result Answer NoAnswer) (close : Bool) (result : Result Bool ServeFault) → mid ≡ before → ((text : List ℕ) → Follows d text d' → Follows e text e')
+    → IsReplied d d' mid after told close result → IsReplied e e' before after told close result
+replied_so d d' e e' before mid after (Ok answer) close result same follows put = put_so d d' e e' before mid after (text_of_answer answer close) close result same (follows (text_of_answer answer close)) put
+replied_so d d' e e' before mid after (Err (Failed failure)) close result same follows (put, cause) = (put_so d d' e e' before mid after (failure_text failure) true result same (follows (failure_text failure)) put, cause)
+replied_so d d' e e' before mid after (Err GivenUp) close result same follows (nothing, is) = (nothing ∙ same, is)
+
 -- where nothing was put there before
 pub replied_after : {H : Type 0} (due due1 due2 : Dues H) (before mid after : Option (List ℕ)) (told : Result Answer NoAnswer) (close : Bool) (result : Result Bool ServeFault) → mid ≡ before → ((k : H) (text : List ℕ) → due k text → due1 k text)
     → IsReplied due1 due2 mid after told close result → IsReplied due due2 before after told close result
-replied_after due due1 due2 before mid after (Ok answer) close (Ok ends) same more put = record {
-  writes = subst (λ b. WritesBeginning b after (text_of_answer answer close) (Ok tt)) same put.writes;
-  told = (put.told.0, λ knows others is. put.told.1 knows others (more knows (text_of_answer answer close ++ others) is));
-}
-replied_after due due1 due2 before mid after (Ok answer) close (Err fault) same more put = record { writes = subst (λ b. WritesBeginning b after (text_of_answer answer close) (Err fault)) same put.writes; told = tt }
-replied_after due due1 due2 before mid after (Err (Failed failure)) close (Ok ends) same more (put, cause) = (
-  record {
-    writes = subst (λ b. WritesBeginning b after (failure_text failure) (Ok tt)) same put.writes;
-    told = (put.told.0, λ knows others is. put.told.1 knows others (more knows (failure_text failure ++ others) is));
-  },
-  cause,
-)
-replied_after due due1 due2 before mid after (Err (Failed failure)) close (Err fault) same more (put, cause) = (record { writes = subst (λ b. WritesBeginning b after (failure_text failure) (Err fault)) same put.writes; told = tt }, cause)
-replied_after due due1 due2 before mid after (Err GivenUp) close result same more (nothing, is) = (nothing ∙ same, is)
+replied_after due due1 due2 before mid after told close result same more put = replied_so due1 due2 due due2 before mid after told close result same (λ text follows knows others is. follows knows others (more knows (text ++ others) is)) put
 
 -- where anything may be sent
 pub replied_any : {H : Type 0} (K : Type 0) (due due' : Dues H) (before after : Option (List ℕ)) (told : Result Answer NoAnswer) (close : Bool) (result : Result Bool ServeFault) → IsReplied due due' before after told close result
     → IsReplied (any_text {H = K}) any_text before after told close result
-replied_any K due due' before after (Ok answer) close (Ok ends) put = record { writes = put.writes; told = (put.told.0, λ knows more is. tt) }
-replied_any K due due' before after (Ok answer) close (Err fault) put = record { writes = put.writes; told = tt }
-replied_any K due due' before after (Err (Failed failure)) close (Ok ends) (put, cause) = (record { writes = put.writes; told = (put.told.0, λ knows more is. tt) }, cause)
-replied_any K due due' before after (Err (Failed failure)) close (Err fault) (put, cause) = (record { writes = put.writes; told = tt }, cause)
-replied_any K due due' before after (Err GivenUp) close result is = is
+replied_any K due due' before after told close result put = replied_so due due' (any_text {H = K}) any_text before before after told close result refl (λ text follows knows more is. tt) put
 
 -- a request that is answered without a call
 module _ {H C : Type 0} (ticks : C → ℕ → C → Type 0) (bytes : List ℕ) (r : Request) (m : Message) (now : ℕ) (clock clock' : C) (is : IsMessage bytes r m) (reads : ReadsMessage bytes r (drop m.end bytes)) (tick : ticks clock now clock')
-    (due due' : Dues H) (before after : Option (List ℕ)) (course : Course) (handles : VerdictGives NoCalls now (slice_range bytes m.start m.end) m.verdict tt course tt) where
-  pub at_once : (ends : Bool) (rest : List ℕ) → WritesBeginning before after (response_text m.verdict m.closes course) (Ok tt) → ends ≡ ends_behind m.verdict m.closes course → Follows due (response_text m.verdict m.closes course) due' → rest ≡ drop m.end bytes
-      → IsTurnWithoutCalls ticks due due' before after bytes clock rest clock' (Ok (turn_after ends))
-  at_once false rest (n, appends, all) closes follows dropped =
-      let said = response_text m.verdict m.closes course in
-      let whole = ap (λ k. take k said) all ∙ take-length said in
-      record {
-        text = take n said;
-        appends = appends;
-        gives_next = subst (λ l. ConnectionTurnIsAnswered NoCalls ticks bytes (world tt clock) (take n said) l (world tt clock') (Ok Answered)) (sym dropped)
-            (goes NoCalls ticks bytes r m now (slice_range bytes m.start m.end) (world tt clock) (world tt clock') is reads tick refl (take n said) false (course, handles, whole, closes) refl);
-        follows = subst (λ t. Follows due t due') (sym whole) follows;
-      }
-  at_once true rest (n, appends, all) closes follows dropped =
-      let said = response_text m.verdict m.closes course in
-      let whole = ap (λ k. take k said) all ∙ take-length said in
-      record {
-        text = take n said;
-        appends = appends;
-        gives_next = stops NoCalls ticks bytes r m now (slice_range bytes m.start m.end) (world tt clock) (world tt clock') is reads tick refl (take n said) rest true (course, handles, whole, closes) refl;
-        follows = tt;
-      }
+    (due due' : Dues H) (before after : Option (List ℕ)) (course : Course) (verdict : Verdict) (same : m.verdict ≡ verdict) (handles : VerdictGives NoCalls now (slice_range bytes m.start m.end) verdict tt course tt) where
+  done : (rest : List ℕ) (result : Result Bool ServeFault) → ResponseIsWritten NoCalls now (slice_range bytes m.start m.end) due due' before after verdict m.closes tt tt result → (result ≡ Ok false → rest ≡ drop m.end bytes) → IsTurnWithoutCalls ticks due due' before after bytes clock rest clock' (turn_by result)
+  done rest result written dropped =
+      let body = slice_range bytes m.start m.end in
+      turn_by_response NoCalls ticks bytes r m now body (world tt clock) (world tt clock') is reads tick refl due due' before after rest result (subst (λ v. ResponseIsWritten NoCalls now body due due' before after v m.closes tt tt result) (sym same) written) dropped
 
-  pub not_at_once : (fault : ServeFault) (rest : List ℕ) → WritesBeginning before after (response_text m.verdict m.closes course) (Err fault) → (fault ≡ Memory → failure_at m.verdict course ≡ None) → IsTurnWithoutCalls ticks due due' before after bytes clock rest clock' (Err fault)
-  not_at_once fault rest writes told =
-      let w = not_out NoCalls now (slice_range bytes m.start m.end) m.verdict m.closes course tt tt any_text any_text before after handles fault writes told in
-      record { text = w.text; appends = w.appends; gives_next = fails NoCalls ticks bytes r m now (slice_range bytes m.start m.end) (world tt clock) (world tt clock') is reads tick refl w.text rest fault w.replies; follows = tt }
+  pub at_once : (ends : Bool) (rest : List ℕ) → WritesBeginning before after (response_text verdict m.closes course) (Ok tt) → ends ≡ ends_behind verdict m.closes course → Follows due (response_text verdict m.closes course) due' → rest ≡ drop m.end bytes
+      → IsTurnWithoutCalls ticks due due' before after bytes clock rest clock' (Ok (turn_after ends))
+  at_once ends rest writes closes follows dropped = done rest (Ok ends) (out NoCalls now (slice_range bytes m.start m.end) verdict m.closes course tt tt due due' before after handles ends tt writes closes follows) (λ e. dropped)
+
+  pub not_at_once : (fault : ServeFault) (rest : List ℕ) → WritesBeginning before after (response_text verdict m.closes course) (Err fault) → (fault ≡ Memory → failure_at verdict course ≡ None) → IsTurnWithoutCalls ticks due due' before after bytes clock rest clock' (Err fault)
+  not_at_once fault rest writes said = done rest (Err fault) (not_out NoCalls now (slice_range bytes m.start m.end) verdict m.closes course tt tt due due' before after handles fault writes said) (λ e. absurd (cc))
 
 -- whatever may be sent
 pub without_dues : {H C : Type 0} (K : Type 0) (ticks : C → ℕ → C → Type 0) (due due' : Dues H) (before after : Option (List ℕ)) (bytes : List ℕ) (clock : C) (rest : List ℕ) (clock' : C) (turn : Result TurnOutcome ServeFault)
     → IsTurnWithoutCalls ticks due due' before after bytes clock rest clock' turn → IsTurnWithoutCalls ticks (any_text {H = K}) any_text before after bytes clock rest clock' turn
-without_dues K ticks due due' before after bytes clock rest clock' (Ok (Unfinished n)) t = record { text = t.text; appends = t.appends; gives_next = t.gives_next; follows = λ knows more is. tt }
-without_dues K ticks due due' before after bytes clock rest clock' (Ok Answered) t = record { text = t.text; appends = t.appends; gives_next = t.gives_next; follows = λ knows more is. tt }
 without_dues K ticks due due' before after bytes clock rest clock' (Ok Closed) t = record { text = t.text; appends = t.appends; gives_next = t.gives_next; follows = tt }
+without_dues K ticks due due' before after bytes clock rest clock' (Ok turn) t = record { text = t.text; appends = t.appends; gives_next = t.gives_next; follows = λ knows more is. tt }
 without_dues K ticks due due' before after bytes clock rest clock' (Err fault) t = record { text = t.text; appends = t.appends; gives_next = t.gives_next; follows = tt }
 
 -- what is left of a connection that goes on, and of one that ends
 pub goes_on_so : (turn : Result TurnOutcome ServeFault) (rest came : List ℕ) (room : Option ℕ) (n : ℕ) (old new : Unended) → IsRoomAfter turn rest came room → room ≡ Some n → new.came ≡ came → new.room ≡ n → new.closes ≡ old.closes → IsLeftByTurn turn rest old new
 goes_on_so (Ok (Unfinished k)) rest came room n old new (same, is) some left may closes = (left ∙ same, may ∙ same_Some n _ (sym some ∙ is), closes)
 goes_on_so (Ok Answered) rest came room n old new (same, is) some left may closes = (left ∙ same, may ∙ same_Some n _ (sym some ∙ is), closes)
-goes_on_so (Ok Closed) rest came room n old new (same, is) some left may closes = absurd (none-some n (sym is ∙ some))
-goes_on_so (Err fault) rest came room n old new (same, is) some left may closes = absurd (none-some n (sym is ∙ some))
+goes_on_so turn rest came room n old new (same, is) some left may closes = absurd (none-some n (sym is ∙ some))
 
 pub ends_so : (turn : Result TurnOutcome ServeFault) (rest came : List ℕ) (room : Option ℕ) (old new : Unended) → IsRoomAfter turn rest came room → room ≡ None → new.came ≡ came → new.room ≡ 0 → new.closes ≡ true → IsLeftByTurn turn rest old new
 ends_so (Ok (Unfinished k)) rest came room old new (same, is) none left may closes = absurd (none-some _ (sym none ∙ is))
 ends_so (Ok Answered) rest came room old new (same, is) none left may closes = absurd (none-some _ (sym none ∙ is))
-ends_so (Ok Closed) rest came room old new (same, is) none left may closes = (left ∙ same, may, closes)
-ends_so (Err fault) rest came room old new (same, is) none left may closes = (left ∙ same, may, closes)
+ends_so turn rest came room old new (same, is) none left may closes = (left ∙ same, may, closes)

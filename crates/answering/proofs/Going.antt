@@ -1,5 +1,5 @@
 -- From how the calls of a request went to its answer.
-use Rattle.std.proofs.Common.{◌≡◌, ◌≢◌, ℕ, ◌+◌, ◌<◌, ◌≤◌, ◌^◌, false, All, sum_by, List, [], ◌∷◌, map, length, None, Result, Ok, Err, refl, sym, ap, ap₂, ◌∙◌, subst, arith, Some}
+use Rattle.std.proofs.Common.{◌≡◌, ◌≢◌, ℕ, ◌+◌, ◌<◌, ◌≤◌, ◌^◌, false, All, sum_by, List, [], ◌∷◌, map, length, Result, Ok, Err, refl, sym, ap, ap₂, ◌∙◌, subst, arith, Some}
 use Rattle.accept.specs.declared.call.Call.{Call}
 use Rattle.pushjson.specs.declared.fault.PushFault.{PushFault}
 use Rattle.pushjson.specs.declared.fault.PushFault.TheVariants.{Memory}
@@ -7,39 +7,38 @@ use Rattle.pushjson.specs.declared.push.RawBatch.{RawBatch}
 use Rattle.requests.specs.declared.answer.Answer.{Answer}
 use Rattle.accept.specs.declared.fault.CallFault.{CallFault}
 use Rattle.requests.specs.declared.route.Route.{Route}
-use Rattle.requests.specs.declared.route.Route.TheVariants.{Push, Read, Trim}
+use Rattle.requests.specs.declared.route.Route.TheVariants.{Push}
 use Rattle.answering.specs.declared.responding.NoAnswer.{NoAnswer}
 use Rattle.answering.specs.declared.responding.NoAnswer.TheVariants.{Failed, GivenUp}
-use Rattle.answering.specs.Asking.{Asked, AsksFor, IsCallOf, HasNumbers, asked_push}
+use Rattle.answering.specs.Asking.{Asked, AsksFor, HasNumbers, asked_push}
 use Rattle.pushjson.specs.Bodies.{Stream, batch_of, entry_of_line, entry_count}
 use Rattle.std.proofs.lemmas.List.{length-map}
 use Rattle.std.proofs.lemmas.List.Sums.{sum_by-cons, get_or-le-sum_by}
 use Rattle.answering.specs.Calls.{Giving, Came}
 use Rattle.answering.specs.Calls as cames
-use Rattle.answering.specs.Courses.{Unread, Whole, Broken, first_failure, said_of, StreamGives}
+use Rattle.answering.specs.Courses.{Unread, Whole, Broken, said_of, StreamGives}
 use Rattle.answering.specs.declared.calling.Uncalled.{Uncalled}
 use Rattle.answering.specs.declared.calling.Uncalled.TheVariants.{Body, Labels}
-use Rattle.answering.specs.Demands.{IsDemand, OneIsTold}
+use Rattle.answering.specs.Demands.{IsDemand}
 use Rattle.answering.specs.declared.demands.Demand.TheVariants as demands
 use Rattle.answering.specs.declared.windows.Streams.{Streams}
-use Rattle.answering.specs.Windows.{AsksForStreams}
+use Rattle.answering.specs.Windows.{AsksForStreams, came_of}
 use Rattle.accept.specs.declared.call.Reply.{Reply}
 use Rattle.accept.specs.declared.fault.CallFault.TheVariants as call_faults
-use Rattle.answering.specs.Parts.{BodyIsRefused, UncalledIsAnswered, BodyIsAnswered, AsksForCall, IsUncalled, IsOfOne}
+use Rattle.answering.specs.Parts.{BodyIsRefused, CameIsTold, UncalledIsAnswered, BodyIsAnswered, AsksForCall, IsUncalled, IsOfOne}
 use Rattle.answering.specs.Replies.{one_status, one_text}
 use Rattle.answering.specs.Showing.{IsShown}
 use Rattle.answering.specs.Responses.{RequestEnds, RequestIsUnsaid, cames_status, cames_text}
+use Rattle.answering.proofs.Pushing.{came_given}
 
 shows_one : (route : Route) → IsOfOne route → (came : Came) (answer : Answer) → IsShown (one_status came) (one_text came) answer → IsShown (cames_status route (came ∷ [])) (cames_text route (came ∷ [])) answer
 shows_one Push never came answer shows = absurd never
-shows_one Read single came answer shows = shows
-shows_one Trim single came answer shows = shows
+shows_one route single came answer shows = shows
 
 -- there was no memory, which the body does not forbid
 unread : (route : Route) (now : ℕ) (body : List ℕ) → AsksFor route now body (Err Memory)
 unread Push now body = (Err Memory, tt, refl)
-unread Read now body = (Err Memory, tt, refl)
-unread Trim now body = (Err Memory, tt, refl)
+unread route now body = (Err Memory, tt, refl)
 
 -- the labels of the one stream are no key, or there was no memory for one
 pub uncalled : (route : Route) (tenant body : List ℕ) (asked : Asked) (why : Uncalled) → ((now : ℕ) → AsksFor route now body (Ok (asked ∷ []))) → IsUncalled asked.pairs why → AsksForCall route tenant body (Err why)
@@ -48,8 +47,7 @@ uncalled route tenant body asked (Labels fault) asks is = (asked, asks, is)
 
 says_one : (route : Route) → IsOfOne route → (came : Came) → one_text came ≢ [] → said_of route 0 came ≢ []
 says_one Push never came said = absurd never
-says_one Read single came said = said
-says_one Trim single came said = said
+says_one route single came said = said
 
 module _ {H : Type 0} (gives : Giving H) (now : ℕ) (tenant body : List ℕ) where
   pub refused : (route : Route) (h : H) (fault : PushFault) (result : Result Answer NoAnswer) → AsksFor route now body (Err fault) → BodyIsRefused fault result → RequestEnds gives route now tenant body h result h
@@ -62,44 +60,24 @@ module _ {H : Type 0} (gives : Giving H) (now : ℕ) (tenant body : List ℕ) wh
 
   -- a read or a trim: its one stream came to an answer, or there was no memory for one, or its call failed
   module _ (route : Route) (single : IsOfOne route) (h h' : H) (asked : Asked) (asks : AsksFor route now body (Ok (asked ∷ []))) where
-    pub one : (came : Came) (answer : Answer) → StreamGives gives tenant false h asked came h' → first_failure (came ∷ []) ≡ None → IsShown (one_status came) (one_text came) answer
-        → RequestEnds gives route now tenant body h (Ok answer) h'
-    one came answer comes whole shows =
-        (Whole (came ∷ []), record { asked = Ok (asked ∷ []); asks = asks; goes = (asked ∷ [], refl, (h', comes, refl), whole) }, refl, shows_one route single came answer shows)
-
-    pub one_left : (came : Came) → StreamGives gives tenant false h asked came h' → first_failure (came ∷ []) ≡ None → one_text came ≢ [] → RequestEnds gives route now tenant body h (Err GivenUp) h'
-    one_left came comes whole said = record {
-      asked = Ok (asked ∷ []);
-      asks = asks;
-      left = record { done = asked ∷ []; more = []; cames = []; last = came; behind = []; split = refl; each = (h', comes, refl); whole = whole; said = says_one route single came said; few = omega arith };
-    }
-
-    -- and so by what came of its call
-    told : (call : Call) (outcome : Result Reply CallFault) (result : Result Answer NoAnswer) → IsCallOf tenant asked call → gives false h call outcome h' → OneIsTold outcome result → RequestEnds gives route now tenant body h result h'
-    told call (Ok reply) (Ok answer) is given shows = one (cames.Replied reply) answer (call, is, given) refl shows
-    told call (Ok reply) (Err (Failed failure)) is given never = absurd never
-    told call (Ok reply) (Err GivenUp) is given said = one_left (cames.Replied reply) (call, is, given) refl said
-    told call (Err failure) (Ok answer) is given never = absurd never
-    told call (Err failure) (Err (Failed same)) is given e = (
+    told : (came : Came) (result : Result Answer NoAnswer) → StreamGives gives tenant false h asked came h' → CameIsTold came result → RequestEnds gives route now tenant body h result h'
+    told (cames.Failed failure) (Err (Failed same)) given e = (
       Broken (cames.Failed failure ∷ []) failure,
       record {
         asked = Ok (asked ∷ []);
         asks = asks;
-        goes = (asked ∷ [], refl, record { done = asked ∷ []; more = []; split = refl; each = (h', (call, is, given), refl); fails = refl; few = omega arith });
+        goes = (asked ∷ [], refl, record { done = asked ∷ []; more = []; split = refl; each = (h', given, refl); fails = refl; few = omega arith });
       },
       ap Some (sym e),
     )
-    told call (Err failure) (Err GivenUp) is given never = absurd never
-
-  pub one_told : (route : Route) → IsOfOne route → (h h' : H) (call : Call) (outcome : Result Reply CallFault) (result : Result Answer NoAnswer) → AsksForCall route tenant body (Ok call) → gives false h call outcome h' → OneIsTold outcome result
-      → RequestEnds gives route now tenant body h result h'
-  one_told route single h h' call outcome result (asked, asks, is) given shows = told route single h h' asked (asks now) call outcome result is given shows
-
-  pub none_called : (route : Route) → IsOfOne route → (h : H) (why : Uncalled) (result : Result Answer NoAnswer) → AsksForCall route tenant body (Err why) → UncalledIsAnswered why result → RequestEnds gives route now tenant body h result h
-  none_called route single h (Body fault) result asks is = refused route h fault result (asks now) is
-  none_called route single h (Labels fault) (Ok answer) (asked, asks, why) shows = one route single h h asked (asks now) (cames.Refused fault) answer (why, refl) refl shows
-  none_called route single h (Labels fault) (Err (Failed failure)) asks never = absurd never
-  none_called route single h (Labels fault) (Err GivenUp) (asked, asks, why) said = one_left route single h h asked (asks now) (cames.Refused fault) (why, refl) refl said
+    told (cames.Failed failure) result given never = absurd never
+    told came (Ok answer) given shows = (Whole (came ∷ []), record { asked = Ok (asked ∷ []); asks = asks; goes = (asked ∷ [], refl, (h', given, refl), refl) }, refl, shows_one route single came answer shows)
+    told came (Err GivenUp) given said = record {
+      asked = Ok (asked ∷ []);
+      asks = asks;
+      left = record { done = asked ∷ []; more = []; cames = []; last = came; behind = []; split = refl; each = (h', given, refl); whole = refl; said = says_one route single came said; few = omega arith };
+    }
+    told came (Err (Failed failure)) given never = absurd never
 
   pub push : (h h' : H) (all : List Asked) (result : Result Answer NoAnswer) → AsksFor Push now body (Ok all) → BodyIsAnswered gives tenant h all result h' → RequestEnds gives Push now tenant body h result h'
   push h h' all (Ok answer) asks (cames, each, whole, shows) = (Whole cames, record { asked = Ok all; asks = asks; goes = (all, refl, each, whole) }, refl, shows)
@@ -114,21 +92,19 @@ module _ {H : Type 0} (gives : Giving H) (now : ℕ) (tenant body : List ℕ) wh
   pub nothing : (route : Route) (h : H) (why : Uncalled) (result : Result Answer NoAnswer) → IsDemand route now tenant body (demands.Nothing why) → UncalledIsAnswered why result → RequestEnds gives route now tenant body h result h
   nothing Push h (Body fault) result asks is = refused Push h fault result asks is
   nothing Push h (Labels fault) result never is = absurd never
-  nothing Read h why result asks is = none_called Read tt h why result asks is
-  nothing Trim h why result asks is = none_called Trim tt h why result asks is
+  nothing route h (Body fault) result asks is = refused route h fault result (asks now) is
+  nothing route h (Labels fault) result (asked, asks, why) is = told route tt h h asked (asks now) (cames.Refused fault) result (why, refl) is
 
   -- a read or a trim was made
-  pub one_made : (route : Route) (h h' : H) (call : Call) (outcome : Result Reply CallFault) (result : Result Answer NoAnswer) → IsDemand route now tenant body (demands.One call) → gives false h call outcome h' → OneIsTold outcome result → RequestEnds gives route now tenant body h result h'
-  one_made Push h h' call outcome result never given told = absurd never
-  one_made Read h h' call outcome result asks given told = one_told Read tt h h' call outcome result asks given told
-  one_made Trim h h' call outcome result asks given told = one_told Trim tt h h' call outcome result asks given told
+  pub one_made : (route : Route) (h h' : H) (call : Call) (outcome : Result Reply CallFault) (result : Result Answer NoAnswer) → IsDemand route now tenant body (demands.One call) → gives false h call outcome h' → CameIsTold (came_of outcome) result → RequestEnds gives route now tenant body h result h'
+  one_made Push h h' call outcome result never given shows = absurd never
+  one_made route h h' call outcome result (asked, asks, is) given shows = told route tt h h' asked (asks now) (came_of outcome) result (came_given gives tenant false h h' asked call outcome is given) shows
 
   -- a push was, or there was no memory for it
   pub push_made : (route : Route) (h h' : H) (streams : Streams) (result : Result Answer NoAnswer) → IsDemand route now tenant body (demands.Streams streams)
       → (AsksForStreams now tenant body streams.places.items streams.calls.items → RequestEnds gives Push now tenant body h result h') → RequestEnds gives route now tenant body h result h'
   push_made Push h h' streams result asks ends = ends asks
-  push_made Read h h' streams result never ends = absurd never
-  push_made Trim h h' streams result never ends = absurd never
+  push_made route h h' streams result never ends = absurd never
 
   pub no_memory : (h : H) → RequestEnds gives Push now tenant body h (Err (Failed call_faults.Memory)) h
   no_memory h = refused Push h Memory (Err (Failed call_faults.Memory)) (unread Push now body) refl

@@ -42,9 +42,8 @@ module _ {H C : Type 0} (gives : Giving H) (ticks : C → ℕ → C → Type 0) 
 
   pub same_requests : (bytes : List ℕ) (es ds : List Exchange) (x y : List ℕ) → HaveSameRequests gives ticks bytes es ds x y
   same_requests bytes [] [] x y first second long = (refl, first ∙ sym second)
-  same_requests bytes [] (d ∷ ds) x y first second long = absurd (omega (arith, long))
-  same_requests bytes (e ∷ es) [] x y first second long = absurd (omega (arith, long))
   same_requests bytes (e ∷ es) (d ∷ ds) x y (mid, w, w', one, kept, others) (next, v, v', other, stays, more) long =
       let (same, rest) = one_request bytes e.request d.request mid next one.message other.message in
       let (tails, ends) = same_requests mid es ds x y others (subst (λ b. AnswersApart gives ticks b ds y) (sym rest) more) (omega (arith, long)) in
       (ap₂ (λ r rs. r ∷ rs) same tails, ends)
+  same_requests bytes es ds x y first second long = absurd (omega (arith, long))

@@ -5,6 +5,7 @@ pub mod Joining
 pub mod Noting
 pub mod Pushing
 pub mod Seeing
+pub mod Statuses
 pub mod Stepping
 pub mod Turning
 pub mod Writing

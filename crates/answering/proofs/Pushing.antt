@@ -21,7 +21,7 @@ use Rattle.answering.specs.Parts.{BodyIsAnswered}
 use Rattle.answering.specs.Showing.{IsShown}
 use Rattle.answering.specs.Telling.{Tells, CameIsNoted}
 use Rattle.answering.specs.Demands.{StreamsAreTold}
-use Rattle.answering.specs.Windows.{AreStreams, called, came_of, no_answer_by, merged, StopsAmong, AreNoted, AreNotedUpTo, AreNotedTo, StreamsAreTaken, WindowIsTaken}
+use Rattle.answering.specs.Windows.{AreStreams, called, came_of, no_answer_by, merged, EndsSo, StopsAmong, AreNoted, AreNotedUpTo, AreNotedTo, StreamsAreTaken, WindowIsTaken}
 
 -- the next stream of a push: its labels are refused, or it has a call
 module _ (tenant : List ℕ) (all : List Asked) (places : List (Option LabelFault)) (calls : List Call) where
@@ -52,12 +52,9 @@ parted P old calls left split all = both P calls left (subst (All P) split all)
 -- there is a call for each place that has one
 pub counted : (tenant : List ℕ) (all : List Asked) (places : List (Option LabelFault)) (calls : List Call) → AreStreams tenant all places calls → length calls ≡ called places
 counted tenant [] [] [] are = refl
-counted tenant [] [] (c ∷ cs) are = absurd are
-counted tenant [] (p ∷ ps) cs are = absurd are
-counted tenant (a ∷ more) [] cs are = absurd are
 counted tenant (a ∷ more) (Some fault ∷ ps) cs are = counted tenant more ps cs are.1
-counted tenant (a ∷ more) (None ∷ ps) [] are = absurd are
 counted tenant (a ∷ more) (None ∷ ps) (c ∷ cs) are = let same = counted tenant more ps cs are.1 in omega (arith, same)
+counted tenant all places calls never = absurd never
 
 pub called_append : (ps qs : List (Option LabelFault)) → called (ps ++ qs) ≡ called ps + called qs
 called_append [] qs = omega arith
@@ -120,21 +117,18 @@ outcome_at outcomes n outcome within is = rw add-one (drop-cons outcomes n outco
 
 few_behind : (cs : List Came) (failure : CallFault) → first_failure cs ≡ Some failure → behind_failure cs < length cs
 few_behind [] failure is = absurd (cc)
-few_behind (cames.Refused f ∷ cs) failure is = let below = few_behind cs failure is in omega arith
-few_behind (cames.Replied r ∷ cs) failure is = let below = few_behind cs failure is in omega arith
 few_behind (cames.Failed f ∷ cs) failure is = omega arith
+few_behind (c ∷ cs) failure is = let below = few_behind cs failure is in omega arith
 
 failure_behind : (cs ds : List Came) → first_failure cs ≡ None → first_failure (cs ++ ds) ≡ first_failure ds
 failure_behind [] ds none = refl
-failure_behind (cames.Refused f ∷ cs) ds none = failure_behind cs ds none
-failure_behind (cames.Replied r ∷ cs) ds none = failure_behind cs ds none
 failure_behind (cames.Failed f ∷ cs) ds none = absurd (cc)
+failure_behind (c ∷ cs) ds none = failure_behind cs ds none
 
 same_behind : (cs ds : List Came) → first_failure cs ≡ None → behind_failure (cs ++ ds) ≡ behind_failure ds
 same_behind [] ds none = refl
-same_behind (cames.Refused f ∷ cs) ds none = same_behind cs ds none
-same_behind (cames.Replied r ∷ cs) ds none = same_behind cs ds none
 same_behind (cames.Failed f ∷ cs) ds none = absurd (cc)
+same_behind (c ∷ cs) ds none = same_behind cs ds none
 
 -- streams fail as their calls do
 pub same_failure : (places : List (Option LabelFault)) (outcomes : List (Result Reply CallFault)) → called places ≡ length outcomes → first_failure (merged places outcomes) ≡ first_failure (map came_of outcomes)
@@ -174,12 +168,8 @@ pub noted_up_to : (before : List Came) (places : List (Option LabelFault)) (outc
 noted_up_to before places outcomes new due whole (Some failure) is stops = failure_behind before (merged places outcomes) whole ∙ same_failure places outcomes due ∙ is
 noted_up_to before places outcomes new due whole None is stops = (failure_behind before (merged places outcomes) whole ∙ same_failure places outcomes due ∙ is, stops)
 
-pub told_no_answer : (places : List (Option LabelFault)) (outcomes : List (Result Reply CallFault)) (new : PushLines) (no_answer : NoAnswer) → AreNoted [] (merged places outcomes) (Err no_answer) new → StreamsAreTold places outcomes (Err no_answer)
-told_no_answer places outcomes new (Failed failure) is = is
-told_no_answer places outcomes new GivenUp is = is
-
 module _ {H : Type 0} (gives : Giving H) (tenant : List ℕ) where
-  came_given : (doubt : Bool) (h h' : H) (asked : Asked) (call : Call) (outcome : Result Reply CallFault) → IsCallOf tenant asked call → gives doubt h call outcome h' → StreamGives gives tenant doubt h asked (came_of outcome) h'
+  pub came_given : (doubt : Bool) (h h' : H) (asked : Asked) (call : Call) (outcome : Result Reply CallFault) → IsCallOf tenant asked call → gives doubt h call outcome h' → StreamGives gives tenant doubt h asked (came_of outcome) h'
   came_given doubt h h' asked call (Ok reply) is given = (call, is, given)
   came_given doubt h h' asked call (Err failure) is given = (call, is, given)
 
@@ -192,11 +182,7 @@ module _ {H : Type 0} (gives : Giving H) (tenant : List ℕ) where
       → CallsGiveAfter gives doubt h calls outcomes h' → StreamsGiveAfter gives tenant doubt h asked (merged places outcomes) h'
   given_streams doubt h h' [] [] [] [] are given = given
   given_streams doubt h h' [] [] [] (r ∷ rs) are given = absurd given
-  given_streams doubt h h' [] [] (c ∷ cs) outcomes are given = absurd are
-  given_streams doubt h h' [] (p ∷ ps) cs outcomes are given = absurd are
-  given_streams doubt h h' (a ∷ asked) [] cs outcomes are given = absurd are
   given_streams doubt h h' (a ∷ asked) (Some fault ∷ ps) cs outcomes are given = (h, (are.0, refl), given_streams doubt h h' asked ps cs outcomes are.1 given)
-  given_streams doubt h h' (a ∷ asked) (None ∷ ps) [] outcomes are given = absurd are
   given_streams doubt h h' (a ∷ asked) (None ∷ ps) (c ∷ cs) [] are given = absurd given
   given_streams doubt h h' (a ∷ asked) (None ∷ ps) (c ∷ cs) (r ∷ rs) are (mid, is, given) =
       let others = given_streams (is_doubt r) mid h' asked ps cs rs are.1 given in (
@@ -204,20 +190,40 @@ module _ {H : Type 0} (gives : Giving H) (tenant : List ℕ) where
         came_given doubt h mid a c r are.0 is,
         subst (λ (b : Bool). StreamsGiveAfter gives tenant b mid asked (merged ps rs) h') (same_doubt doubt r) others,
       )
+  given_streams doubt h h' asked places calls outcomes never given = absurd never
 
   -- where none of the first failed
   streams_append : (h m h' : H) (done : List Asked) (cs : List Came) (more : List Asked) (ds : List Came) → first_failure cs ≡ None → StreamsGive gives tenant h done cs m → StreamsGive gives tenant m more ds h'
       → StreamsGive gives tenant h (done ++ more) (cs ++ ds) h'
   streams_append h m h' [] [] more ds none same others = subst (λ k. StreamsGive gives tenant k more ds h') same others
-  streams_append h m h' [] (c ∷ cs) more ds none never others = absurd never
-  streams_append h m h' (a ∷ done) [] more ds none never others = absurd never
-  streams_append h m h' (a ∷ done) (cames.Refused fault ∷ cs) more ds none (mid, first, each) others = (mid, first, streams_append mid m h' done cs more ds none each others)
-  streams_append h m h' (a ∷ done) (cames.Replied reply ∷ cs) more ds none (mid, first, each) others = (mid, first, streams_append mid m h' done cs more ds none each others)
   streams_append h m h' (a ∷ done) (cames.Failed failure ∷ cs) more ds none given others = absurd (cc)
+  streams_append h m h' (a ∷ done) (c ∷ cs) more ds none (mid, first, each) others = (mid, first, streams_append mid m h' done cs more ds none each others)
+  streams_append h m h' done cs more ds none never others = absurd never
 
   module _ (h : H) (all : List Asked) where
     pub starts : (places : List (Option LabelFault)) (calls : List Call) (lines : PushLines) → AreStreams tenant all places calls → Tells [] lines → StreamsAreTaken gives tenant h all h places calls lines
     starts places calls lines are tells = record { done = []; more = all; cames = []; split = refl; left = are; each = refl; whole = refl; tells = tells }
+
+    -- a call of a window failed, or there was no memory for its lines
+    ended : (m' : H) (done rest : List Asked) (before window : List Came) (no_answer : NoAnswer) → all ≡ done ++ rest → StreamsGive gives tenant h done (before ++ window) m' → first_failure before ≡ None → length window ≤ 64 → EndsSo no_answer before window
+        → BodyIsAnswered gives tenant h all (Err no_answer) m'
+    ended m' done rest before window (Failed failure) split each whole few fails =
+        let below = few_behind window failure (sym (failure_behind before window whole) ∙ fails) in (
+          before ++ window,
+          record { done = done; more = rest; split = split; each = each; fails = fails; few = subst (λ (n : ℕ). n < 64) (sym (same_behind before window whole)) (omega (arith, below, few)) },
+        )
+    ended m' done rest before window GivenUp split each whole few (none, s) = record {
+      done = done;
+      more = rest;
+      cames = s.first;
+      last = s.last;
+      behind = s.behind;
+      split = split;
+      each = subst (λ l. StreamsGive gives tenant h done l m') s.split each;
+      whole = sym (ap first_failure s.split) ∙ none;
+      said = s.said;
+      few = omega (arith, s.few, few);
+    }
 
     -- what became of a window, in which these calls were made
     module _ (m m' : H) (window more : List (Option LabelFault)) (old calls left : List Call) (outcomes : List (Result Reply CallFault)) (lines new : PushLines)
@@ -241,36 +247,9 @@ module _ {H : Type 0} (gives : Giving H) (tenant : List ℕ) where
           let (done, rest, is, each, others) = parts in
           let (whole, tells) = noted taken.cames taken.tells taken.whole in
           record { done = done; more = rest; cames = taken.cames ++ merged window outcomes; split = is; left = others; each = each; whole = whole; tells = tells }
-      window_taken (Err (Failed failure)) noted =
+      window_taken (Err no_answer) noted =
           let (done, rest, is, each, others) = parts in
-          let cs = merged window outcomes in
-          let fails = noted taken.cames taken.tells taken.whole in
-          let below = few_behind cs failure (sym (failure_behind taken.cames cs taken.whole) ∙ fails) in (
-            taken.cames ++ cs,
-            record {
-              done = done;
-              more = rest;
-              split = is;
-              each = each;
-              fails = fails;
-              few = subst (λ (n : ℕ). n < 64) (sym (same_behind taken.cames cs taken.whole)) (omega (arith, below, merged_length window outcomes due, few));
-            },
-          )
-      window_taken (Err GivenUp) noted =
-          let (done, rest, is, each, others) = parts in
-          let (none, s) = noted taken.cames taken.tells taken.whole in
-          record {
-            done = done;
-            more = rest;
-            cames = s.first;
-            last = s.last;
-            behind = s.behind;
-            split = is;
-            each = subst (λ l. StreamsGive gives tenant h done l m') s.split each;
-            whole = sym (ap first_failure s.split) ∙ none;
-            said = s.said;
-            few = omega (arith, s.few, merged_length window outcomes due, few);
-          }
+          ended m' done rest taken.cames (merged window outcomes) no_answer is each taken.whole (omega (arith, merged_length window outcomes due, few)) (noted taken.cames taken.tells taken.whole)
 
     none_more : (more : List Asked) (calls : List Call) → AreStreams tenant more [] calls → more ≡ []
     none_more [] calls are = refl
@@ -286,28 +265,5 @@ module _ {H : Type 0} (gives : Giving H) (tenant : List ℕ) where
     pub streams_told : (h' : H) (places : List (Option LabelFault)) (calls : List Call) (outcomes : List (Result Reply CallFault)) → AreStreams tenant all places calls → called places ≡ length outcomes → length places ≤ 64
         → CallsGive gives h calls outcomes h' → (result : Result Answer NoAnswer) → StreamsAreTold places outcomes result → BodyIsAnswered gives tenant h all result h'
     streams_told h' places calls outcomes are due few given (Ok answer) (none, shows) = (merged places outcomes, given_streams false h h' all places calls outcomes are given, none, shows)
-    streams_told h' places calls outcomes are due few given (Err (Failed failure)) fails =
-        let cs = merged places outcomes in
-        let below = few_behind cs failure fails in (
-          cs,
-          record {
-            done = all;
-            more = [];
-            split = sym (append-nil all);
-            each = given_streams false h h' all places calls outcomes are given;
-            fails = fails;
-            few = omega (arith, below, merged_length places outcomes due, few);
-          },
-        )
-    streams_told h' places calls outcomes are due few given (Err GivenUp) (none, s) = record {
-      done = all;
-      more = [];
-      cames = s.first;
-      last = s.last;
-      behind = s.behind;
-      split = sym (append-nil all);
-      each = subst (λ l. StreamsGive gives tenant h all l h') s.split (given_streams false h h' all places calls outcomes are given);
-      whole = sym (ap first_failure s.split) ∙ none;
-      said = s.said;
-      few = omega (arith, s.few, merged_length places outcomes due, few);
-    }
+    streams_told h' places calls outcomes are due few given (Err no_answer) ends =
+        ended h' all [] [] (merged places outcomes) no_answer (sym (append-nil all)) (given_streams false h h' all places calls outcomes are given) refl (omega (arith, merged_length places outcomes due, few)) ends

@@ -26,13 +26,12 @@ use Rattle.answering.specs.declared.visiting.Visited.TheVariants.{More, Unfinish
 module _ {H K : Type 0} (f : H → K) (gives : Giving H) (shows : Giving K) (into : (doubt : Bool) (h h' : H) (call : Asking) (outcome : Result Reply CallFault) → gives doubt h call outcome h' → shows doubt (f h) call outcome (f h')) where
   streams : (tenant : List ℕ) (doubt : Bool) (h h' : H) (all : List Asked) (cames : List Came) → StreamsGiveAfter gives tenant doubt h all cames h' → StreamsGiveAfter shows tenant doubt (f h) all cames (f h')
   streams tenant doubt h h' [] [] same = ap f same
-  streams tenant doubt h h' [] (c ∷ cs) never = absurd never
-  streams tenant doubt h h' (a ∷ more) [] never = absurd never
   streams tenant doubt h h' (a ∷ more) (Refused fault ∷ cs) (mid, (why, same), others) = (f mid, (why, ap f same), streams tenant doubt mid h' more cs others)
   streams tenant doubt h h' (a ∷ more) (Failed failure ∷ cs) (mid, (call, is, given), others) =
       (f mid, (call, is, into doubt h mid call (Err failure) given), streams tenant (doubt_behind doubt (Failed failure)) mid h' more cs others)
   streams tenant doubt h h' (a ∷ more) (Replied reply ∷ cs) (mid, (call, is, given), others) =
       (f mid, (call, is, into doubt h mid call (Ok reply) given), streams tenant false mid h' more cs others)
+  streams tenant doubt h h' all cames never = absurd never
 
   goes : (tenant : List ℕ) (h h' : H) (asked : Result (List Asked) PushFault) (course : Course) → BodyGives gives tenant h asked course h' → BodyGives shows tenant (f h) asked course (f h')
   goes tenant h h' asked (Unread fault) (why, same) = (why, ap f same)
@@ -44,8 +43,8 @@ module _ {H K : Type 0} (f : H → K) (gives : Giving H) (shows : Giving K) (int
   )
 
   handled : (now : ℕ) (body : List ℕ) (h h' : H) (verdict : Verdict) (course : Course) → VerdictGives gives now body verdict h course h' → VerdictGives shows now body verdict (f h) course (f h')
-  handled now body h h' (Fixed answer) course (what, same) = (what, ap f same)
   handled now body h h' (Call route tenant) course takes = record { asked = takes.asked; asks = takes.asks; goes = goes tenant h h' takes.asked course takes.goes }
+  handled now body h h' (Fixed answer) course (what, same) = (what, ap f same)
   handled now body h h' NoMemory course (what, same) = (what, ap f same)
 
   gives_up : (tenant : List ℕ) (h h' : H) (says : ℕ → Came → List ℕ) (asked : Result (List Asked) PushFault) → BodyIsLeft gives tenant says h asked h' → BodyIsLeft shows tenant says (f h) asked (f h')
@@ -64,9 +63,8 @@ module _ {H K : Type 0} (f : H → K) (gives : Giving H) (shows : Giving K) (int
   }
 
   left : (now : ℕ) (body : List ℕ) (h h' : H) (verdict : Verdict) → VerdictIsLeft gives now body verdict h h' → VerdictIsLeft shows now body verdict (f h) (f h')
-  left now body h h' (Fixed answer) never = absurd never
   left now body h h' (Call route tenant) it = record { asked = it.asked; asks = it.asks; left = gives_up tenant h h' (said_of route) it.asked it.left }
-  left now body h h' NoMemory never = absurd never
+  left now body h h' verdict never = absurd never
 
   module _ {C : Type 0} (ticks : C → ℕ → C → Type 0) where
     abbrev pub seen : World H C → World K C
@@ -94,9 +92,9 @@ module _ {H K : Type 0} (f : H → K) (gives : Giving H) (shows : Giving K) (int
     turned : (bytes : List ℕ) (w : World H C) (text : List ℕ) (w' : World H C) → IsTurnedAway gives ticks bytes w text w' → IsTurnedAway shows ticks bytes (seen w) text (seen w')
     turned bytes w text w' (why, refused, said, still) = (why, refused, said, ap seen still)
 
-    next : (bytes : List ℕ) (w : World H C) (text : List ℕ) (w' : World H C) → IsNextResponse gives ticks bytes w text w' → IsNextResponse shows ticks bytes (seen w) text (seen w')
-    next bytes w text w' (inl (e, rest, x, said)) = inl (e, rest, exchange bytes w e rest w' x, said)
-    next bytes w text w' (inr away) = inr (turned bytes w text w' away)
+    pub next_seen : (bytes : List ℕ) (w : World H C) (text : List ℕ) (w' : World H C) → IsNextResponse gives ticks bytes w text w' → IsNextResponse shows ticks bytes (seen w) text (seen w')
+    next_seen bytes w text w' (inl (e, rest, x, said)) = inl (e, rest, exchange bytes w e rest w' x, said)
+    next_seen bytes w text w' (inr away) = inr (turned bytes w text w' away)
 
     unanswered : (bytes : List ℕ) (w w' : World H C) → IsUnanswered gives ticks bytes w w' → IsUnanswered shows ticks bytes (seen w) (seen w')
     unanswered bytes w w' (inl (e, rest, x, told)) = inl (e, rest, exchange bytes w e rest w' x, told)
@@ -111,23 +109,19 @@ module _ {H K : Type 0} (f : H → K) (gives : Giving H) (shows : Giving K) (int
     ends mid left w text w' (Ok served.Closed) (inr away) = inr (turned mid w text w' away)
     ends mid left w text w' (Err CutShort) (cut, end, silent) = (cut, end, quiet w text w' silent)
     ends mid left w text w' (Err Read) (unbegun, silent) = (unbegun, quiet w text w' silent)
-    ends mid left w text w' (Err Write) (n, all, is, said) = (n, all, next mid w all w' is, said)
+    ends mid left w text w' (Err Write) (n, all, is, said) = (n, all, next_seen mid w all w' is, said)
     ends mid left w text w' (Err Memory) (none, inl (unbegun, silent)) = (none, inl (unbegun, quiet w text w' silent))
     ends mid left w text w' (Err Memory) (none, inr (inl un)) = (none, inr (inl (unanswered mid w w' un)))
     ends mid left w text w' (Err Memory) (none, inr (inr gave_up)) = (none, inr (inr (abandoned mid w w' gave_up)))
-
-    pub next_seen : (bytes : List ℕ) (w : World H C) (text : List ℕ) (w' : World H C) → IsNextResponse gives ticks bytes w text w' → IsNextResponse shows ticks bytes (seen w) text (seen w')
-    next_seen bytes w text w' is = next bytes w text w' is
 
     pub turn_seen : (bytes : List ℕ) (w : World H C) (text rest : List ℕ) (w' : World H C) (result : Result TurnOutcome ServeFault) → ConnectionTurnIsAnswered gives ticks bytes w text rest w' result
         → ConnectionTurnIsAnswered shows ticks bytes (seen w) text rest (seen w') result
     turn_seen bytes w text rest w' (Ok turns.Answered) (e, x, stays, out) = (e, exchange bytes w e rest w' x, stays, out)
     turn_seen bytes w text rest w' (Ok turns.Closed) is = ends bytes None w text w' (Ok served.Closed) is
     turn_seen bytes w text rest w' (Ok (turns.Unfinished n)) (unbegun, same, silent) = (unbegun, same, quiet w text w' silent)
-    turn_seen bytes w text rest w' (Err Write) is = ends bytes None w text w' (Err Write) is
-    turn_seen bytes w text rest w' (Err Memory) is = ends bytes None w text w' (Err Memory) is
     turn_seen bytes w text rest w' (Err Read) never = absurd never
     turn_seen bytes w text rest w' (Err CutShort) never = absurd never
+    turn_seen bytes w text rest w' (Err fault) is = ends bytes None w text w' (Err fault) is
 
     -- whatever may be sent
     module _ (due due' : Dues H) (any : Dues K) (all : (knows : K) (text : List ℕ) → any knows text) (before after : Option (List ℕ)) (bytes : List ℕ) (w : World H C) (rest : List ℕ) (w' : World H C) where
@@ -156,7 +150,6 @@ module _ {H K : Type 0} (f : H → K) (gives : Giving H) (shows : Giving K) (int
       visit_seen (Ok More) (is, some) = (kept is, some)
       visit_seen (Ok (Unfinished n)) is = (kept is.0, is.1)
       visit_seen (Ok Closed) is = over (Ok served.Closed) None is
-      visit_seen (Err Write) is = over (Err Write) None is
-      visit_seen (Err Memory) is = over (Err Memory) None is
       visit_seen (Err Read) never = absurd never
       visit_seen (Err CutShort) never = absurd never
+      visit_seen (Err fault) is = over (Err fault) None is

@@ -6,7 +6,7 @@ use Rattle.accept.specs.declared.history.Step.{Step}
 use Rattle.pushjson.specs.declared.fault.PushFault.{PushFault}
 use Rattle.accept.specs.declared.fault.CallFault.{CallFault}
 use Rattle.requests.specs.declared.verdict.Verdict.{Verdict}
-use Rattle.requests.specs.declared.verdict.Verdict.TheVariants.{Fixed, Call, NoMemory}
+use Rattle.requests.specs.declared.verdict.Verdict.TheVariants.{Call}
 use Rattle.answering.specs.Asking.{Asked, IsCallOf}
 use Rattle.answering.specs.Calls.{Giving, Came, Refused, Replied, Failed}
 use Rattle.answering.specs.Courses.{Course, Unread, Whole, Broken, doubt_behind, said_of, StreamsGiveAfter, BodyGives, BodyIsLeft}
@@ -21,8 +21,6 @@ module _ {H : Type 0} (gives : Giving H) (Gains : H → List Step → H → Type
     (both : (h m h' : H) (first others : List Step) → Gains h first m → Gains m others h' → Gains h (first ++ others) h') where
   each : (tenant : List ℕ) (doubt : Bool) (h h' : H) (all : List Asked) (cames : List Came) → StreamsGiveAfter gives tenant doubt h all cames h' → (steps : List Step) × Gains h steps h' × AreSteps tenant all cames steps
   each tenant doubt h h' [] [] same = ([], none h h' same, refl)
-  each tenant doubt h h' [] (c ∷ cs) never = absurd never
-  each tenant doubt h h' (a ∷ more) [] never = absurd never
   each tenant doubt h h' (a ∷ more) (Refused fault ∷ cs) (mid, (why, same), others) =
       let (steps, gains, are) = each tenant doubt mid h' more cs others in
       (steps, both h mid h' [] steps (none h mid same) gains, are)
@@ -33,6 +31,7 @@ module _ {H : Type 0} (gives : Giving H) (Gains : H → List Step → H → Type
       let (step, called, replied, first) = one doubt h mid call reply given in
       let (steps, gains, are) = each tenant false mid h' more cs others in
       (step ∷ steps, both h mid h' (step ∷ []) steps first gains, (subst (IsCallOf tenant a) (sym called) is, replied, are))
+  each tenant doubt h h' all cames never = absurd never
 
   goes : (tenant : List ℕ) (h h' : H) (asked : Result (List Asked) PushFault) (course : Course) → BodyGives gives tenant h asked course h' → (steps : List Step) × Gains h steps h' × AreStepsOf tenant asked course steps
   goes tenant h h' asked (Unread fault) (why, same) = ([], none h h' same, refl)
@@ -42,10 +41,9 @@ module _ {H : Type 0} (gives : Giving H) (Gains : H → List Step → H → Type
       (steps, gains, (ends.done, ends.more, is ∙ ap (λ l. Ok l) ends.split, are))
 
   handled : (now : ℕ) (body : List ℕ) (h h' : H) (verdict : Verdict) (course : Course) → VerdictGives gives now body verdict h course h' → (steps : List Step) × Gains h steps h' × AreStepsBy now body verdict course steps
-  handled now body h h' (Fixed answer) course (what, same) = ([], none h h' same, refl)
   handled now body h h' (Call route tenant) course takes =
       let (steps, gains, are) = goes tenant h h' takes.asked course takes.goes in (steps, gains, (takes.asked, takes.asks, are))
-  handled now body h h' NoMemory course (what, same) = ([], none h h' same, refl)
+  handled now body h h' verdict course (what, same) = ([], none h h' same, refl)
 
   gives_up : (tenant : List ℕ) (h h' : H) (says : ℕ → Came → List ℕ) (asked : Result (List Asked) PushFault) → BodyIsLeft gives tenant says h asked h' → (steps : List Step) × Gains h steps h' × AreFirstStepsOf tenant asked steps
   gives_up tenant h h' says (Err fault) (told, same) = ([], none h h' same, refl)
@@ -54,10 +52,9 @@ module _ {H : Type 0} (gives : Giving H) (Gains : H → List Step → H → Type
       (steps, gains, (stops.done, stops.more, stops.cames ++ stops.last ∷ stops.behind, stops.split, are))
 
   abandoned : (now : ℕ) (body : List ℕ) (h h' : H) (verdict : Verdict) → VerdictIsLeft gives now body verdict h h' → (steps : List Step) × Gains h steps h' × AreFirstStepsBy now body verdict steps
-  abandoned now body h h' (Fixed answer) never = absurd never
   abandoned now body h h' (Call route tenant) left =
       let (steps, gains, are) = gives_up tenant h h' (said_of route) left.asked left.left in (steps, gains, (left.asked, left.asks, are))
-  abandoned now body h h' NoMemory never = absurd never
+  abandoned now body h h' verdict never = absurd never
 
   module _ {C : Type 0} (ticks : C → ℕ → C → Type 0) where
     pub its_calls : (bytes : List ℕ) (w : World H C) (e : Exchange) (rest : List ℕ) (w' : World H C) → IsExchange gives ticks bytes w e rest w'

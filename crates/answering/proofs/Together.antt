@@ -12,7 +12,7 @@ use Rattle.pushjson.specs.declared.fault.PushFault.{PushFault}
 use Rattle.requests.specs.declared.answer.Answer.{Answer}
 use Rattle.requests.specs.declared.incoming.Message.{Message}
 use Rattle.requests.specs.declared.route.Route.{Route}
-use Rattle.requests.specs.declared.route.Route.TheVariants.{Push, Read, Trim}
+use Rattle.requests.specs.declared.route.Route.TheVariants.{Push}
 use Rattle.answering.specs.Asking.{Asked}
 use Rattle.answering.specs.Beginning.{IsAnsweredSo, IsVisitedWithoutCalls, WaitsForCalls, turn_by}
 use Rattle.answering.specs.Calls.{Giving, Came, CallsGive, CallsGiveAfter}
@@ -55,22 +55,18 @@ module _ {H : Type 0} (gives : Giving H) where
 
   pub as_many : (doubt : Bool) (h : H) (calls : List Call) (outcomes : List (Result Reply CallFault)) (h' : H) → CallsGiveAfter gives doubt h calls outcomes h' → length outcomes ≡ length calls
   as_many doubt h [] [] h' given = refl
-  as_many doubt h [] (r ∷ rs) h' given = absurd given
-  as_many doubt h (c ∷ calls) [] h' given = absurd given
   as_many doubt h (c ∷ calls) (r ∷ rs) h' (mid, is, given) = let same = as_many (is_doubt r) mid calls rs h' given in omega (arith, same)
+  as_many doubt h calls outcomes h' never = absurd never
 
   -- the same, where it is known whether the call before is in doubt
   pub told_among : (other doubt : Bool) (h : H) (calls : List Call) (outcomes : List (Result Reply CallFault)) (h' : H) → CallsGiveAfter gives doubt h calls outcomes h'
       → CallsGiveAfter (among gives) other (known h doubt) calls outcomes (known h' (doubt_after doubt outcomes))
   told_among other doubt h [] [] h' given = ap (λ k. known k doubt) given
-  told_among other doubt h [] (r ∷ rs) h' given = absurd given
-  told_among other doubt h (c ∷ calls) [] h' given = absurd given
   told_among other doubt h (c ∷ calls) (r ∷ rs) h' (mid, is, given) = (known mid (is_doubt r), (is, refl), told_among (is_doubt r) (is_doubt r) mid calls rs h' given)
+  told_among other doubt h calls outcomes h' never = absurd never
 
   streams_among : (tenant : List ℕ) (other doubt : Bool) (h h' : H) (all : List Asked) (cs : List Came) → StreamsGiveAfter gives tenant doubt h all cs h' → (after : Bool) × StreamsGiveAfter (among gives) tenant other (known h doubt) all cs (known h' after)
   streams_among tenant other doubt h h' [] [] same = (doubt, ap (λ k. known k doubt) same)
-  streams_among tenant other doubt h h' [] (c ∷ cs) never = absurd never
-  streams_among tenant other doubt h h' (a ∷ more) [] never = absurd never
   streams_among tenant other doubt h h' (a ∷ more) (cames.Refused fault ∷ cs) (mid, (why, same), others) =
       let (after, are) = streams_among tenant other doubt mid h' more cs others in
       (after, (known mid doubt, (why, ap (λ k. known k doubt) same), are))
@@ -80,6 +76,7 @@ module _ {H : Type 0} (gives : Giving H) where
   streams_among tenant other doubt h h' (a ∷ more) (cames.Failed failure ∷ cs) (mid, (call, is, given), others) =
       let (after, are) = streams_among tenant (is_doubt (Err failure)) (is_doubt (Err failure)) mid h' more cs others in
       (after, (known mid (is_doubt (Err failure)), (call, is, (given, refl)), are))
+  streams_among tenant other doubt h h' all cs never = absurd never
 
   body_among : (tenant : List ℕ) (h h' : H) (asked : Result (List Asked) PushFault) (course : Course) → BodyGives gives tenant h asked course h' → (after : Bool) × BodyGives (among gives) tenant (known h false) asked course (known h' after)
   body_among tenant h h' asked (Unread fault) (why, same) = (false, (why, ap (λ k. known k false) same))
@@ -118,33 +115,23 @@ module _ {H : Type 0} (gives : Giving H) where
   told route now tenant body (Nothing why) (waits.Nothing same) h h' [] answered asks is given shows =
       subst (RequestEnds gives route now tenant body h answered) (sym given) (nothing gives now tenant body route h why answered asks (subst (λ w. UncalledIsAnswered w answered) is shows))
   told route now tenant body (Nothing why) (waits.Nothing same) h h' (r ∷ rs) answered asks is given shows = absurd given
-  told route now tenant body (Nothing why) waits.One h h' outcomes answered asks never given shows = absurd never
-  told route now tenant body (Nothing why) (waits.Streams taken) h h' outcomes answered asks never given shows = absurd never
-  told route now tenant body (One call) (waits.Nothing same) h h' outcomes answered asks never given shows = absurd never
   told route now tenant body (One call) waits.One h h' [] answered asks is given shows = absurd given
   told route now tenant body (One call) waits.One h h' (r ∷ []) answered asks is (mid, gave, last) shows =
       subst (RequestEnds gives route now tenant body h answered) (sym last) (one_made gives now tenant body route h mid call r answered asks gave shows)
   told route now tenant body (One call) waits.One h h' (r ∷ q ∷ rs) answered asks is (mid, gave, never) shows = absurd never
-  told route now tenant body (One call) (waits.Streams taken) h h' outcomes answered asks never given shows = absurd never
-  told route now tenant body (Streams streams) (waits.Nothing same) h h' outcomes answered asks never given shows = absurd never
-  told route now tenant body (Streams streams) waits.One h h' outcomes answered asks never given shows = absurd never
   told route now tenant body (Streams streams) (waits.Streams taken) h h' outcomes answered asks (same, count, few) given shows =
       push_made gives now tenant body route h h' streams answered asks (λ (all, are_asked, are).
       let due = sym (counted tenant all streams.places.items streams.calls.items are) ∙ sym (as_many false h streams.calls.items outcomes h' given) in
       push gives now tenant body h h' all answered are_asked
       (streams_told gives tenant h all h' streams.places.items streams.calls.items outcomes are due few given answered (subst (λ p. StreamsAreTold p.items outcomes answered) same shows)))
+  told route now tenant body demand waiting h h' outcomes answered asks never given shows = absurd never
 
 -- it waits for as many calls as it asks for
 awaits : (demand : Demand) (waiting : Waiting) → WaitsFor demand waiting → awaited waiting ≡ length (calls_asked demand)
 awaits (Nothing why) (waits.Nothing same) is = refl
-awaits (Nothing why) waits.One never = absurd never
-awaits (Nothing why) (waits.Streams taken) never = absurd never
-awaits (One call) (waits.Nothing same) never = absurd never
 awaits (One call) waits.One is = refl
-awaits (One call) (waits.Streams taken) never = absurd never
-awaits (Streams streams) (waits.Nothing same) never = absurd never
-awaits (Streams streams) waits.One never = absurd never
 awaits (Streams streams) (waits.Streams taken) (same, count, few) = count
+awaits demand waiting never = absurd never
 
 -- the last of them, and those before
 last_of : {X : Type 0} (xs ys all : List X) (m n : ℕ) → all ≡ xs ++ ys → m ≡ length all → length ys ≡ n → (drop (m - n) all ≡ ys) × (take (m - n) all ≡ xs)
@@ -201,10 +188,9 @@ module _ {H C : Type 0} (gives : Giving H) (ticks : C → ℕ → C → Type 0) 
   forget : (h : H) (after : Bool) (c : C) (olds : List Unended) (p' : H) (d : Bool) (c' : C) (news : List Unended) → AreVisitedSo gives ticks (world (known h false) c) olds (world (known p' d) c') news
       → (d' : Bool) × AreVisitedSo gives ticks (world (known h after) c) olds (world (known p' d') c') news
   forget h after c [] p' d c' [] same = (after, ap (λ (w : World (Known H) C). world (known w.knows.knows after) w.clock) same)
-  forget h after c [] p' d c' (n ∷ news) never = absurd never
-  forget h after c (o ∷ olds) p' d c' [] never = absurd never
   forget h after c (o ∷ olds) p' d c' (n ∷ news) (start, mid, inl e, visit, others) = (d, (start, mid, inr e, visit, others))
   forget h after c (o ∷ olds) p' d c' (n ∷ news) (start, mid, inr e, visit, others) = (d, (start, mid, inr e, visit, others))
+  forget h after c olds p' d c' news never = absurd never
 
   -- no calls were made before the others
   none_before : (h : H) (after : Bool) (c : C) (olds : List Unended) (outcomes : List (Result Reply CallFault)) (p' : H) (c' : C) (news : List Unended) → AreGathered gives ticks (world h c) [] olds outcomes (world p' c') news
@@ -228,14 +214,11 @@ module _ {H C : Type 0} (gives : Giving H) (ticks : C → ℕ → C → Type 0) 
 
 -- a request that came back asks for the same
 pub same_demand : (route : Route) (now : ℕ) (tenant body : List ℕ) (demand back : Demand) → SameCalls demand back → IsDemand route now tenant body demand → IsDemand route now tenant body back
-same_demand route now tenant body (Nothing why) back same asks = subst (IsDemand route now tenant body) (sym same) asks
-same_demand route now tenant body (One call) back same asks = subst (IsDemand route now tenant body) (sym same) asks
-same_demand route now tenant body (Streams streams) (Nothing why) never asks = absurd never
-same_demand route now tenant body (Streams streams) (One call) never asks = absurd never
 same_demand Push now tenant body (Streams streams) (Streams others) (places, calls) asks =
     subst (λ l. AsksForStreams now tenant body l others.calls.items) (sym places) (subst (AsksForStreams now tenant body streams.places.items) (sym calls) asks)
-same_demand Read now tenant body (Streams streams) (Streams others) same never = absurd never
-same_demand Trim now tenant body (Streams streams) (Streams others) same never = absurd never
+same_demand route now tenant body (Streams streams) (Streams others) same never = absurd never
+same_demand route now tenant body (Streams streams) back never asks = absurd never
+same_demand route now tenant body demand back same asks = subst (IsDemand route now tenant body) (sym same) asks
 
 -- no more than there is room for
 pub grown : (told : Bool) (len n m most : ℕ) → len ≡ (if told then n + m else n) → n + m ≤ most → len ≤ most
@@ -251,11 +234,9 @@ all_there gives ticks w w' calls demand waiting n olds news outcomes all is g =
 
 -- its calls may be made
 pub same_numbers : (demand back : Demand) → SameCalls demand back → All AreNumbers (calls_asked demand) → All AreNumbers (calls_asked back)
-same_numbers (Nothing why) back same all = subst (λ d. All AreNumbers (calls_asked d)) (sym same) all
-same_numbers (One call) back same all = subst (λ d. All AreNumbers (calls_asked d)) (sym same) all
-same_numbers (Streams streams) (Nothing why) never all = absurd never
-same_numbers (Streams streams) (One call) never all = absurd never
 same_numbers (Streams streams) (Streams others) (places, calls) all = subst (All AreNumbers) (sym calls) all
+same_numbers (Streams streams) back never all = absurd never
+same_numbers demand back same all = subst (λ d. All AreNumbers (calls_asked d)) (sym same) all
 
 pub more_numbers : (old new more : List Call) → new ≡ old ++ more → All AreNumbers old → All AreNumbers more → All AreNumbers new
 more_numbers old new more is all others = subst (All AreNumbers) (sym is) (All-append AreNumbers old more all others)

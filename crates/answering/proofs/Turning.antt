@@ -1,16 +1,15 @@
 -- From one turn of a connection to all of them.
-use Rattle.std.proofs.Common.{◌≡◌, ◌≢◌, ℕ, Bool, true, false, List, [], ◌∷◌, ◌++◌, ◌||◌, take, drop, slice_range, Option, None, Some, Result, Ok, Err, refl, sym, ap, ap₂, ◌∙◌, subst, inl, inr, append_assoc}
+use Rattle.std.proofs.Common.{◌≡◌, ◌≢◌, ℕ, Bool, true, false, List, [], ◌∷◌, ◌++◌, take, drop, slice_range, Option, None, Some, Result, Ok, Err, refl, sym, ap, ap₂, ◌∙◌, subst, inl, inr, append_assoc}
 use Rattle.std.proofs.lemmas.List.{append-nil}
 use Rattle.std.proofs.lemmas.List.Concat.{flat_map-append}
 use Rattle.std.proofs.Math.Seq.{take-length}
-use Rattle.std.proofs.KnownBytes.{Appends-nil, Appends-trans}
+use Rattle.std.proofs.KnownBytes.{Appends-nil, Appends-trans, Consumes-trans}
 use Rattle.std.specs.List.{flat_map}
 use Rattle.std.specs.Io.KnownBytes.{Appends, Consumes}
 use Rattle.requests.specs.Answers.{answer_text, fixed_text, failure_text}
-use Rattle.requests.specs.Streams.{Request, ReadsMessage, IsMessage, BeginsRefused}
+use Rattle.requests.specs.Streams.{Request, ReadsMessage, IsMessage, BeginsRefused, Grows}
 use Rattle.requests.specs.Writing.{WritesBeginning, Dues, Follows}
 use Rattle.requests.specs.declared.answer.Answer.{Answer}
-use Rattle.requests.specs.declared.answer.Content.{Content}
 use Rattle.accept.specs.declared.fault.CallFault.{CallFault}
 use Rattle.requests.specs.declared.fault.ServeFault.{ServeFault}
 use Rattle.requests.specs.declared.fault.ServeFault.TheVariants.{Read, Write, Memory, CutShort}
@@ -23,14 +22,17 @@ use Rattle.requests.specs.declared.verdict.Verdict.{Verdict}
 use Rattle.requests.proofs.Unique.{keeps_request}
 use Rattle.answering.specs.Calls.{Giving}
 use Rattle.answering.specs.Courses.{Course}
-use Rattle.answering.specs.Due.{AreDueTo, NextIsDue, MessageIsDue}
+use Rattle.answering.specs.Beginning.{turn_by}
+use Rattle.answering.specs.Due.{AreDueTo, AreDueTexts, NextIsDue, MessageIsDue}
 use Rattle.answering.specs.Ends.{IsReadOn}
+use Rattle.answering.specs.Replying.{IsPut}
 use Rattle.answering.specs.Responses.{status_for, text_for, content_for, failure_in}
 use Rattle.answering.specs.Showing.{IsShown}
-use Rattle.answering.specs.Serving.{Exchange, World, world, response, closes, called_text, is_failed, response_text, failure_at, ends_behind, VerdictGives, VerdictIsLeft, IsExchange, ConnectionGives, ConnectionEnds, ConnectionIsServed, IsUnbegun, io}
-use Rattle.answering.specs.Turns.{IsSameVisit, ResponseGives, ResponseIsWritten, ConnectionTurnIsAnswered, ConnectionTurnIsServed}
+use Rattle.answering.specs.Serving.{Exchange, World, world, response, closes, called_text, response_text, failure_at, ends_behind, VerdictGives, VerdictIsLeft, IsExchange, ConnectionGives, ConnectionEnds, ConnectionIsServed, IsUnbegun, io}
+use Rattle.answering.specs.Turns.{IsSameVisit, ResponseGives, ResponseIsWritten, ConnectionTurnIsAnswered, ConnectionTurnIsServed, ConnectionProgress, world_of, due_of, taken_of}
 use Rattle.answering.specs.Visits.{KeepsOn, IsOver, IsVisit}
 use Rattle.answering.specs.declared.visiting.Visit.{Visit}
+use Rattle.answering.specs.declared.visiting.TurnOutcome.{TurnOutcome}
 use Rattle.answering.specs.declared.visiting.TurnOutcome.TheVariants.{Answered, Closed, Unfinished}
 
 not_none : {X : Type 0} (xs : List X) (x : X) → xs ++ x ∷ [] ≢ []
@@ -54,23 +56,15 @@ not_memory fault written none = cc
 
 -- what the response to a request with calls says
 module _ (route : Route) (close : Bool) (course : Course) where
-  pub answered : (answer : Answer) (content : Content) → failure_in course ≡ None → IsShown (status_for route course) (text_for route course) answer → content ≡ content_for answer.status
-      → answer_text answer.status content None close answer.body.items ≡ called_text route close course (failure_in course)
-  answered answer content none shows is =
-      ap (λ c. answer_text answer.status c None close answer.body.items) is
-      ∙ ap₂ (λ s b. answer_text s (content_for s) None close b) shows.status_is shows.text_is
+  pub answered : (answer : Answer) → failure_in course ≡ None → IsShown (status_for route course) (text_for route course) answer → answer_text answer.status (content_for answer.status) None close answer.body.items ≡ called_text route close course (failure_in course)
+  answered answer none shows =
+      ap₂ (λ s b. answer_text s (content_for s) None close b) shows.status_is shows.text_is
       ∙ ap (called_text route close course) (sym none)
 
   pub said_failed : (failure : CallFault) → failure_in course ≡ Some failure → failure_text failure ≡ called_text route close course (failure_in course)
   said_failed failure fails = ap (called_text route close course) (sym fails)
 
-  pub ends_kept : failure_in course ≡ None → close ≡ (is_failed (failure_in course) || close)
-  ends_kept none = ap (λ f. is_failed f || close) (sym none)
-
-  pub ends_failed : (failure : CallFault) → failure_in course ≡ Some failure → true ≡ (is_failed (failure_in course) || close)
-  ends_failed failure fails = ap (λ f. is_failed f || close) (sym fails)
-
-module _ {H : Type 0} (gives : Giving H) (now : ℕ) (body : List ℕ) (verdict : Verdict) (close : Bool) (course : Course) (h h' : H) (due due' : Dues H) (before after : Option (List ℕ))
+module _ {H K : Type 0} (gives : Giving H) (now : ℕ) (body : List ℕ) (verdict : Verdict) (close : Bool) (course : Course) (h h' : H) (due due' : Dues K) (before after : Option (List ℕ))
     (handles : VerdictGives gives now body verdict h course h') where
   -- the response is out
   pub out : (ends : Bool) (u : Unit {0}) → WritesBeginning before after (response_text verdict close course) (Ok u) → ends ≡ ends_behind verdict close course → Follows due (response_text verdict close course) due' → ResponseIsWritten gives now body due due' before after verdict close h h' (Ok ends)
@@ -85,13 +79,18 @@ module _ {H : Type 0} (gives : Giving H) (now : ℕ) (body : List ℕ) (verdict 
 
   -- a beginning of it is, or nothing, which is not for want of memory where a failure is told
   pub not_out : (fault : ServeFault) → WritesBeginning before after (response_text verdict close course) (Err fault) → (fault ≡ Memory → failure_at verdict course ≡ None) → ResponseIsWritten gives now body due due' before after verdict close h h' (Err fault)
-  not_out Read (n, appends, some) said = absurd some
-  not_out CutShort (n, appends, some) said = absurd some
   not_out Write (n, appends, some) said = record { text = take n (response_text verdict close course); appends = appends; replies = (course, handles, (n, refl)); follows = tt }
   not_out Memory (n, appends, none) said = record { text = take n (response_text verdict close course); appends = appends; replies = (ap (λ k. take k (response_text verdict close course)) none, inl (course, handles, said refl)); follows = tt }
+  not_out fault (n, appends, some) said = absurd some
+
+  -- either, by what was put there
+  pub put_out : (text : List ℕ) (ends : Bool) (result : Result Bool ServeFault) → text ≡ response_text verdict close course → ends ≡ ends_behind verdict close course → ((fault : ServeFault) → result ≡ Err fault → fault ≡ Memory → failure_at verdict course ≡ None)
+      → IsPut due due' before after text ends result → ResponseIsWritten gives now body due due' before after verdict close h h' result
+  put_out text ends (Ok told) same end said put = out told tt (subst (λ t. WritesBeginning before after t (Ok tt)) same put.writes) (put.told.0 ∙ end) (subst (λ t. Follows due t due') same put.told.1)
+  put_out text ends (Err fault) same end said put = not_out fault (subst (λ t. WritesBeginning before after t (Err fault)) same put.writes) (said fault refl)
 
 -- the calls were given up, and nothing is written
-pub left_out : {H : Type 0} (gives : Giving H) (now : ℕ) (body : List ℕ) (verdict : Verdict) (close : Bool) (h h' : H) (due due' : Dues H) (before : Option (List ℕ)) → VerdictIsLeft gives now body verdict h h' → ResponseIsWritten gives now body due due' before before verdict close h h' (Err Memory)
+pub left_out : {H K : Type 0} (gives : Giving H) (now : ℕ) (body : List ℕ) (verdict : Verdict) (close : Bool) (h h' : H) (due due' : Dues K) (before : Option (List ℕ)) → VerdictIsLeft gives now body verdict h h' → ResponseIsWritten gives now body due due' before before verdict close h h' (Err Memory)
 left_out gives now body verdict close h h' due due' before left = record { text = []; appends = Appends-nil before; replies = (refl, inr left); follows = tt }
 
 module _ {H C : Type 0} (gives : Giving H) (ticks : C → ℕ → C → Type 0) where
@@ -124,17 +123,13 @@ module _ {H C : Type 0} (gives : Giving H) (ticks : C → ℕ → C → Type 0) 
     response_due due course next handles =
         subst (due w'.knows) (sym (same_text course)) (next (response (exchange r m now course)) w' (inl (exchange r m now course, drop m.end bytes, is_exchange course handles, refl)))
 
-    -- it was answered, and the connection goes on
-    pub goes : (text : List ℕ) (ends : Bool) → ResponseGives gives now body m.verdict m.closes w.knows text w'.knows (Ok ends) → ends ≡ false → ConnectionTurnIsAnswered gives ticks bytes w text (drop m.end bytes) w' (Ok Answered)
-    goes text ends (course, handles, out, end) kept = (exchange r m now course, is_exchange course handles, sym (same_end course) ∙ sym end ∙ kept, out ∙ same_text course)
+    goes : (text : List ℕ) → ResponseGives gives now body m.verdict m.closes w.knows text w'.knows (Ok false) → ConnectionTurnIsAnswered gives ticks bytes w text (drop m.end bytes) w' (Ok Answered)
+    goes text (course, handles, out, end) = (exchange r m now course, is_exchange course handles, sym (same_end course) ∙ sym end, out ∙ same_text course)
 
-    -- it was answered, and the connection ends
-    pub stops : (text rest : List ℕ) (ends : Bool) → ResponseGives gives now body m.verdict m.closes w.knows text w'.knows (Ok ends) → ends ≡ true → ConnectionTurnIsAnswered gives ticks bytes w text rest w' (Ok Closed)
-    stops text rest ends (course, handles, out, end) closed = inl (exchange r m now course, drop m.end bytes, is_exchange course handles, sym (same_end course) ∙ sym end ∙ closed, out ∙ same_text course)
+    stops : (text rest : List ℕ) → ResponseGives gives now body m.verdict m.closes w.knows text w'.knows (Ok true) → ConnectionTurnIsAnswered gives ticks bytes w text rest w' (Ok Closed)
+    stops text rest (course, handles, out, end) = inl (exchange r m now course, drop m.end bytes, is_exchange course handles, sym (same_end course) ∙ sym end, out ∙ same_text course)
 
-    pub fails : (text rest : List ℕ) (fault : ServeFault) → ResponseGives gives now body m.verdict m.closes w.knows text w'.knows (Err fault) → ConnectionTurnIsAnswered gives ticks bytes w text rest w' (Err fault)
-    fails text rest Read replies = absurd replies
-    fails text rest CutShort replies = absurd replies
+    fails : (text rest : List ℕ) (fault : ServeFault) → ResponseGives gives now body m.verdict m.closes w.knows text w'.knows (Err fault) → ConnectionTurnIsAnswered gives ticks bytes w text rest w' (Err fault)
     fails text rest Write (course, handles, (n, out)) = (n, response (exchange r m now course), inl (exchange r m now course, drop m.end bytes, is_exchange course handles, refl), out ∙ ap (take n) (same_text course))
     fails text rest Memory (none, inl (course, handles, said)) = (none, inr (inl (inl (exchange r m now course, drop m.end bytes, is_exchange course handles, said))))
     fails text rest Memory (none, inr abandons) = (
@@ -150,13 +145,21 @@ module _ {H C : Type 0} (gives : Giving H) (ticks : C → ℕ → C → Type 0) 
         calls = subst (λ b. VerdictIsLeft gives now b m.verdict w.knows w'.knows) (same ∙ is.body) abandons;
       })),
     )
+    fails text rest fault never = absurd never
+
+    -- its response is out, or was not
+    pub turn_by_response : {K : Type 0} (due due' : Dues K) (before after : Option (List ℕ)) (rest : List ℕ) (result : Result Bool ServeFault) → ResponseIsWritten gives now body due due' before after m.verdict m.closes w.knows w'.knows result → (result ≡ Ok false → rest ≡ drop m.end bytes)
+        → ConnectionTurnIsServed gives ticks due due' before after bytes w rest w' (turn_by result)
+    turn_by_response due due' before after rest (Ok false) t dropped = record { text = t.text; appends = t.appends; gives_next = subst (λ l. ConnectionTurnIsAnswered gives ticks bytes w t.text l w' (Ok Answered)) (sym (dropped refl)) (goes t.text t.replies); follows = t.follows }
+    turn_by_response due due' before after rest (Ok true) t dropped = record { text = t.text; appends = t.appends; gives_next = stops t.text rest t.replies; follows = tt }
+    turn_by_response due due' before after rest (Err fault) t dropped = record { text = t.text; appends = t.appends; gives_next = fails t.text rest fault t.replies; follows = tt }
 
   pub message_due : (due : Dues H) (bytes : List ℕ) (w : World H C) (r : Request) (m : Message) → NextIsDue gives ticks bytes w due → IsMessage bytes r m → ReadsMessage bytes r (drop m.end bytes) → MessageIsDue gives ticks bytes m w due
   message_due due bytes w r m next is reads now clock tick course knows handles =
       response_due bytes r m now (slice_range bytes m.start m.end) w (world knows clock) is reads tick refl due course next handles
 
   -- what came was refused
-  pub turned_away : (due due' : Dues H) (bytes rest : List ℕ) (before after : Option (List ℕ)) (w : World H C) (why : FixedAnswer) (u : Unit {0}) → BeginsRefused bytes why → WritesBeginning before after (fixed_text why true) (Ok u)
+  pub turned_away : {K : Type 0} (due due' : Dues K) (bytes rest : List ℕ) (before after : Option (List ℕ)) (w : World H C) (why : FixedAnswer) (u : Unit {0}) → BeginsRefused bytes why → WritesBeginning before after (fixed_text why true) (Ok u)
       → ConnectionTurnIsServed gives ticks due due' before after bytes w rest w (Ok Closed)
   turned_away due due' bytes rest before after w why u refused (n, appends, all) = record {
     text = take n (fixed_text why true);
@@ -165,22 +168,11 @@ module _ {H C : Type 0} (gives : Giving H) (ticks : C → ℕ → C → Type 0) 
     follows = tt;
   }
 
-  pub turned_away_err : (due due' : Dues H) (bytes rest : List ℕ) (before after : Option (List ℕ)) (w : World H C) (why : FixedAnswer) (fault : ServeFault) → BeginsRefused bytes why → WritesBeginning before after (fixed_text why true) (Err fault)
+  pub turned_away_err : {K : Type 0} (due due' : Dues K) (bytes rest : List ℕ) (before after : Option (List ℕ)) (w : World H C) (why : FixedAnswer) (fault : ServeFault) → BeginsRefused bytes why → WritesBeginning before after (fixed_text why true) (Err fault)
       → ConnectionTurnIsServed gives ticks due due' before after bytes w rest w (Err fault)
-  turned_away_err due due' bytes rest before after w why Read refused (n, appends, out) = absurd out
-  turned_away_err due due' bytes rest before after w why CutShort refused (n, appends, out) = absurd out
-  turned_away_err due due' bytes rest before after w why Write refused (n, appends, out) = record {
-    text = take n (fixed_text why true);
-    appends = appends;
-    gives_next = (n, fixed_text why true, inr (why, refused, refl, refl), refl);
-    follows = tt;
-  }
-  turned_away_err due due' bytes rest before after w why Memory refused (n, appends, out) = record {
-    text = take n (fixed_text why true);
-    appends = appends;
-    gives_next = (ap (λ k. take k (fixed_text why true)) out, inr (inl (inr (fixed_text why true, (why, refused, refl, refl)))));
-    follows = tt;
-  }
+  turned_away_err due due' bytes rest before after w why Write refused (n, appends, out) = record { text = take n (fixed_text why true); appends = appends; gives_next = (n, fixed_text why true, inr (why, refused, refl, refl), refl); follows = tt }
+  turned_away_err due due' bytes rest before after w why Memory refused (n, appends, out) = record { text = take n (fixed_text why true); appends = appends; gives_next = (ap (λ k. take k (fixed_text why true)) out, inr (inl (inr (fixed_text why true, (why, refused, refl, refl))))); follows = tt }
+  turned_away_err due due' bytes rest before after w why fault refused (n, appends, out) = absurd out
 
   -- more bytes change nothing of the requests before them
   serves_more : (bytes more : List ℕ) (w : World H C) (es : List Exchange) (rest : List ℕ) (w' : World H C) → ConnectionGives gives ticks bytes w es rest w' → ConnectionGives gives ticks (bytes ++ more) w es (rest ++ more) w'
@@ -275,23 +267,14 @@ module _ {H C : Type 0} (gives : Giving H) (ticks : C → ℕ → C → Type 0) 
 
     pub failed : (left : Option (List ℕ)) (fault : ServeFault) → ConnectionTurnIsServed gives ticks due1 due2 between after old mid rest w' (Err fault) → IsOver gives ticks before after bytes left w w' (Err fault)
     failed left Read t = absurd t.gives_next
-    failed left Write t = over left t.text (Err Write) t.appends t.gives_next
-    failed left Memory t = over left t.text (Err Memory) t.appends t.gives_next
     failed left CutShort t = absurd t.gives_next
+    failed left fault t = over left t.text (Err fault) t.appends t.gives_next
 
     -- and the visit with it
     pub stopped : (fault : ServeFault) → ConnectionTurnIsServed gives ticks due1 due2 between after old mid rest w' (Err fault) → IsVisit gives ticks due due2 before after bytes w rest w' (Err fault)
     stopped Read t = absurd t.gives_next
-    stopped Write t = failed None Write t
-    stopped Memory t = failed None Memory t
     stopped CutShort t = absurd t.gives_next
-
-  -- where more was read, and after it the connection is over
-  pub read_over : (due due1 : Dues H) (before after : Option (List ℕ)) (bytes old more new : List ℕ) (w mid : World H C) (left : Option (List ℕ)) (result : Result Served ServeFault) → KeepsOn gives ticks due due1 before after bytes w old mid
-      → new ≡ old ++ more → ConnectionEnds gives ticks new left mid [] mid result → IsOver gives ticks before after (bytes ++ more) left w mid result
-  read_over due due1 before after bytes old more new w mid left result p grown finishes =
-      over due due1 due1 before after after (bytes ++ more) (old ++ more) (old ++ more) w mid mid (reads_more due due1 due1 before after after bytes old old w mid mid p more) left [] result (Appends-nil after)
-      (subst (λ b. ConnectionEnds gives ticks b left mid [] mid result) grown finishes)
+    stopped fault t = failed None fault t
 
   -- reading ended the connection
   pub read_ended : (bytes : List ℕ) (left : Option (List ℕ)) (w : World H C) (how : Served) → IsReadOn bytes left (Ok (Some how)) → ConnectionEnds gives ticks bytes left w [] w (Ok how)
@@ -305,6 +288,73 @@ module _ {H C : Type 0} (gives : Giving H) (ticks : C → ℕ → C → Type 0) 
   read_failed bytes left w CutShort is = (is.0, is.1, (refl, refl))
 
   -- what was read and answered so far is the connection, where that is over
-  pub is_served : (unread left before after : Option (List ℕ)) (bytes : List ℕ) (w w' : World H C) (result : Result Served ServeFault) → Consumes unread left bytes → IsOver gives ticks before after bytes left w w' result
+  is_served : (unread left before after : Option (List ℕ)) (bytes : List ℕ) (w w' : World H C) (result : Result Served ServeFault) → Consumes unread left bytes → IsOver gives ticks before after bytes left w w' result
       → ConnectionIsServed gives ticks (io unread before) w (io left after) w' result
   is_served unread left before after bytes w w' result consumes o = record { bytes = bytes; text = o.text; consumes = consumes; appends = o.appends; served = o.served }
+
+-- a connection that is served turn by turn: where it was at first, and before and after a turn
+module _ {S P C O : Type 0} (gives : S → Giving P) (ticks : C → ℕ → C → Type 0) (due : O → Dues P) (contents : O → Option (List ℕ)) (old mid new : Visit S P C O) (same : mid.service ≡ old.service) (unread left : Option (List ℕ)) where
+  abbrev pub Went : Visit S P C O → Option (List ℕ) → List ℕ → Type 0
+  Went visit end rest = ConnectionProgress (gives old.service.now) ticks (due_of due old) (due_of due visit) (io unread (taken_of contents old)) (world_of old) (io end (taken_of contents visit)) rest (world_of visit)
+
+  abbrev pub Turned : Result TurnOutcome ServeFault → Type 0
+  Turned result = ConnectionTurnIsServed (gives mid.service.now) ticks (due_of due mid) (due_of due new) (taken_of contents mid) (taken_of contents new) mid.incoming.now (world_of mid) new.incoming.now (world_of new) result
+
+  abbrev pub ServedSo : Option (List ℕ) → Result Served ServeFault → Type 0
+  ServedSo end result = ConnectionIsServed (gives old.service.now) ticks (io unread (taken_of contents old)) (world_of old) (io end (taken_of contents new)) (world_of new) result
+
+  -- no whole request came
+  pub turn_unbegun : (turn : TurnOutcome) (n : ℕ) → turn ≡ Unfinished n → Turned (Ok turn) → IsUnbegun new.incoming.now
+  turn_unbegun turn n is t =
+      let s = subst (λ r. Turned (Ok r)) is t in
+      let (unbegun, kept, silent) = s.gives_next in
+      subst IsUnbegun (sym kept) unbegun
+
+  module _ (p : Went mid left mid.incoming.now) where
+    own : (result : Result TurnOutcome ServeFault) → Turned result → ConnectionTurnIsServed (gives old.service.now) ticks (due_of due mid) (due_of due new) (taken_of contents mid) (taken_of contents new) mid.incoming.now (world_of mid) new.incoming.now (world_of new) result
+    own result t = subst (λ s. ConnectionTurnIsServed (gives s.now) ticks (due_of due mid) (due_of due new) (taken_of contents mid) (taken_of contents new) mid.incoming.now (world_of mid) new.incoming.now (world_of new) result) same t
+
+    pub turn_due : AreDueTexts (gives old.service.now) ticks unread (world_of old) (due_of due old) → NextIsDue (gives mid.service.now) ticks mid.incoming.now (world_of mid) (due_of due mid)
+    turn_due are =
+        subst (λ s. NextIsDue (gives s.now) ticks mid.incoming.now (world_of mid) (due_of due mid)) (sym same)
+        (next_due (gives old.service.now) ticks (due_of due old) (due_of due mid) (due_of due mid) (taken_of contents old) (taken_of contents mid) (taken_of contents mid) p.bytes mid.incoming.now mid.incoming.now (world_of old) (world_of mid) (world_of mid) p.goes (are p.bytes left p.consumes))
+
+    pub turn_answered : (turn : TurnOutcome) → turn ≡ Answered → Turned (Ok turn) → Went new left new.incoming.now
+    turn_answered turn is t = record {
+      bytes = p.bytes;
+      consumes = p.consumes;
+      goes = goes_on (gives old.service.now) ticks (due_of due old) (due_of due mid) (due_of due new) (taken_of contents old) (taken_of contents mid) (taken_of contents new) p.bytes mid.incoming.now new.incoming.now (world_of old) (world_of mid) (world_of new) p.goes (own (Ok Answered) (subst (λ r. Turned (Ok r)) is t));
+    }
+
+    pub turn_closed : (turn : TurnOutcome) → turn ≡ Closed → Turned (Ok turn) → ServedSo left (Ok served.Closed)
+    turn_closed turn is t =
+        let g = gives old.service.now in
+        is_served g ticks unread left (taken_of contents old) (taken_of contents new) p.bytes (world_of old) (world_of new) (Ok served.Closed) p.consumes
+        (closed g ticks (due_of due old) (due_of due mid) (due_of due new) (taken_of contents old) (taken_of contents mid) (taken_of contents new) p.bytes mid.incoming.now new.incoming.now (world_of old) (world_of mid) (world_of new) p.goes left (own (Ok Closed) (subst (λ r. Turned (Ok r)) is t)))
+
+    pub turn_failed : (fault : ServeFault) → Turned (Err fault) → ServedSo left (Err fault)
+    turn_failed fault t =
+        let g = gives old.service.now in
+        is_served g ticks unread left (taken_of contents old) (taken_of contents new) p.bytes (world_of old) (world_of new) (Err fault) p.consumes
+        (failed g ticks (due_of due old) (due_of due mid) (due_of due new) (taken_of contents old) (taken_of contents mid) (taken_of contents new) p.bytes mid.incoming.now new.incoming.now (world_of old) (world_of mid) (world_of new) p.goes left fault (own (Err fault) t))
+
+    -- no whole request came, and more was read
+    pub turn_read : (turn : TurnOutcome) (n : ℕ) → turn ≡ Unfinished n → Turned (Ok turn) → (end : Option (List ℕ)) (came : List ℕ) → Grows left end new.incoming.now came → Went new end came
+    turn_read turn n is t end came (more, consumes, grown) =
+        let g = gives old.service.now in
+        let (goes, unbegun) = stays g ticks (due_of due old) (due_of due mid) (due_of due new) (taken_of contents old) (taken_of contents mid) (taken_of contents new) p.bytes mid.incoming.now new.incoming.now (world_of old) (world_of mid) (world_of new) p.goes n (own (Ok (Unfinished n)) (subst (λ r. Turned (Ok r)) is t)) in
+        record {
+          bytes = p.bytes ++ more;
+          consumes = Consumes-trans unread left end p.bytes more p.consumes consumes;
+          goes = subst (λ l. KeepsOn g ticks (due_of due old) (due_of due new) (taken_of contents old) (taken_of contents new) (p.bytes ++ more) (world_of old) l (world_of new)) (sym grown)
+              (reads_more g ticks (due_of due old) (due_of due new) (due_of due new) (taken_of contents old) (taken_of contents new) (taken_of contents new) p.bytes new.incoming.now new.incoming.now (world_of old) (world_of new) (world_of new) goes more);
+        }
+
+    -- and the connection is over
+    pub read_over : (turn : TurnOutcome) (n : ℕ) → turn ≡ Unfinished n → Turned (Ok turn) → (end : Option (List ℕ)) (came : List ℕ) → Grows left end new.incoming.now came → (result : Result Served ServeFault) → ConnectionEnds (gives old.service.now) ticks came end (world_of new) [] (world_of new) result → ServedSo end result
+    read_over turn n is t end came grows result finishes =
+        let g = gives old.service.now in
+        let taken = taken_of contents new in
+        let q = turn_read turn n is t end came grows in
+        is_served g ticks unread end (taken_of contents old) taken q.bytes (world_of old) (world_of new) result q.consumes
+        (over g ticks (due_of due old) (due_of due new) (due_of due new) (taken_of contents old) taken taken q.bytes came came (world_of old) (world_of new) (world_of new) q.goes end [] result (Appends-nil taken) finishes)

@@ -1,9 +1,8 @@
 -- A turn in two parts: until its request waits for its calls, and after they have come back; for private clauses.
 use Rattle.std.specs.Prelude.{◌≡◌, ℕ, ◌≤◌, Bool, true, false, All, List, [], ◌∷◌, length, drop, slice_range, Option, None, Some, Result, Ok, Err}
-use Rattle.std.specs.Io.KnownBytes.{Appends}
 use Rattle.accept.specs.Calls.{AreNumbers}
 use Rattle.requests.specs.Streams.{Request, ReadsMessage, IsMessage, max_head}
-use Rattle.requests.specs.Writing.{Dues, Follows}
+use Rattle.requests.specs.Writing.{Dues}
 use Rattle.requests.specs.declared.answer.Answer.{Answer}
 use Rattle.requests.specs.declared.fault.ServeFault.{ServeFault}
 use Rattle.requests.specs.declared.incoming.Message.{Message}
@@ -15,7 +14,7 @@ use Rattle.answering.specs.Demands.{IsDemand, calls_asked}
 use Rattle.answering.specs.Gathering.{any_text}
 use Rattle.answering.specs.Replying.{IsReplied}
 use Rattle.answering.specs.Serving.{world}
-use Rattle.answering.specs.Turns.{OnKept, MayComeAfter, ConnectionTurnIsAnswered}
+use Rattle.answering.specs.Turns.{MayComeAfter, ConnectionTurnIsServed}
 use Rattle.answering.specs.declared.demands.Demand.{Demand}
 use Rattle.answering.specs.declared.responding.NoAnswer.{NoAnswer}
 use Rattle.answering.specs.declared.visiting.TurnBegun.{TurnBegun}
@@ -29,9 +28,8 @@ NoCalls doubt old call outcome new = ⊥
 
 -- the calls that it waits for may be made
 abbrev pub HasNumbersBegun : Result TurnBegun ServeFault → Type 0
-HasNumbersBegun (Ok (Over turn)) = Unit {0}
 HasNumbersBegun (Ok (Waits m demand)) = All AreNumbers (calls_asked demand)
-HasNumbersBegun (Err fault) = Unit {0}
+HasNumbersBegun result = Unit {0}
 
 -- what may stand there next; a request that waits lies there whole
 abbrev pub MayComeAfterBegun : TurnBegun → List ℕ → Type 0
@@ -63,13 +61,9 @@ module _ {C : Type 0} (ticks : C → ℕ → C → Type 0) where
 
   module _ {H : Type 0} (due due' : Dues H) (before after : Option (List ℕ)) where
     -- a turn in which no call was made, whatever is known of calls
-    pub record IsTurnWithoutCalls (bytes : List ℕ) (clock : C) (rest : List ℕ) (clock' : C)
-        (result : Result TurnOutcome ServeFault) : Type 0 where
-      pub text : List ℕ
-      pub appends : Appends before after text
-      pub gives_next : ConnectionTurnIsAnswered NoCalls ticks bytes (world tt clock) text rest
-          (world tt clock') result
-      pub follows : OnKept result (Follows due text due')
+    abbrev pub IsTurnWithoutCalls : List ℕ → C → List ℕ → C → Result TurnOutcome ServeFault → Type 0
+    IsTurnWithoutCalls bytes clock rest clock' result = ConnectionTurnIsServed NoCalls ticks due due'
+        before after bytes (world tt clock) rest (world tt clock') result
 
     -- the turn is over without a call, or its request waits, and nothing was put where answers go
     abbrev pub IsTurnBegun : List ℕ → C → List ℕ → C → Result TurnBegun ServeFault → Type 0
@@ -91,15 +85,13 @@ abbrev pub IsLeftByTurn : Result TurnOutcome ServeFault → List ℕ → Unended
 IsLeftByTurn (Ok (Unfinished n)) rest old new = (new.came ≡ rest) × (new.room ≡ n) × (new.closes ≡ old.closes)
 IsLeftByTurn (Ok Answered) rest old new = (new.came ≡ rest) × (new.room ≡ room_behind rest)
     × (new.closes ≡ old.closes)
-IsLeftByTurn (Ok Closed) rest old new = (new.came ≡ []) × (new.room ≡ 0) × (new.closes ≡ true)
-IsLeftByTurn (Err fault) rest old new = (new.came ≡ []) × (new.room ≡ 0) × (new.closes ≡ true)
+IsLeftByTurn turn rest old new = (new.came ≡ []) × (new.room ≡ 0) × (new.closes ≡ true)
 
 -- the same of what has come, and how much more may; none where the connection ends
 abbrev pub IsRoomAfter : Result TurnOutcome ServeFault → List ℕ → List ℕ → Option ℕ → Type 0
 IsRoomAfter (Ok (Unfinished n)) old new room = (new ≡ old) × (room ≡ Some n)
 IsRoomAfter (Ok Answered) old new room = (new ≡ old) × (room ≡ Some (room_behind old))
-IsRoomAfter (Ok Closed) old new room = (new ≡ []) × (room ≡ None)
-IsRoomAfter (Err fault) old new room = (new ≡ []) × (room ≡ None)
+IsRoomAfter turn old new room = (new ≡ []) × (room ≡ None)
 
 -- a visit in which no call was made, by its turn and what that left of what came
 pub record IsVisitedWithoutCalls {C : Type 0} (ticks : C → ℕ → C → Type 0) (old : Unended)

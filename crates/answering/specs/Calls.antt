@@ -25,10 +25,9 @@ module _ {H : Type 0} (gives : Giving H) where
   -- this came of each, from what was known to what is known then; the call before the first is in doubt or not
   abbrev pub CallsGiveAfter : Bool → H → List Call → List (Result Reply CallFault) → H → Type 0
   CallsGiveAfter doubt h [] [] h' = h' ≡ h
-  CallsGiveAfter doubt h [] (r ∷ rs) h' = ⊥
-  CallsGiveAfter doubt h (call ∷ calls) [] h' = ⊥
   CallsGiveAfter doubt h (call ∷ calls) (r ∷ rs) h' = (mid : H) × gives doubt h call r mid
       × CallsGiveAfter (is_doubt r) mid calls rs h'
+  CallsGiveAfter doubt h calls outcomes h' = ⊥
 
   -- and no call before the first is
   abbrev pub CallsGive : H → List Call → List (Result Reply CallFault) → H → Type 0

@@ -1,8 +1,8 @@
 -- A connection without its ends.
-use Rattle.std.specs.Prelude.{◌≡◌, ℕ, ◌-◌, Bool, true, List, ◌++◌, length, drop, Result, Ok, Err}
+use Rattle.std.specs.Prelude.{◌≡◌, ℕ, ◌-◌, Bool, true, List, ◌++◌, length, drop, Result, Ok}
 use Rattle.requests.specs.declared.fault.ServeFault.{ServeFault}
 use Rattle.answering.specs.declared.visiting.Visited.{Visited}
-use Rattle.answering.specs.declared.visiting.Visited.TheVariants.{More, Unfinished, Closed}
+use Rattle.answering.specs.declared.visiting.Visited.TheVariants.{More, Unfinished}
 
 -- what has come and is not yet answered, how much more may come, what is to be sent, and whether the connection ends
 -- then
@@ -24,5 +24,4 @@ without_bytes n c = record { came = c.came; room = c.room; text = drop n c.text;
 abbrev pub IsLeftSo : Result Visited ServeFault → Unended → Unended → Type 0
 IsLeftSo (Ok More) old new = (new.room ≡ 0) × (new.closes ≡ old.closes)
 IsLeftSo (Ok (Unfinished n)) old new = (new.room ≡ n) × (new.closes ≡ old.closes)
-IsLeftSo (Ok Closed) old new = (new.room ≡ 0) × (new.closes ≡ true)
-IsLeftSo (Err fault) old new = (new.room ≡ 0) × (new.closes ≡ true)
+IsLeftSo result old new = (new.room ≡ 0) × (new.closes ≡ true)

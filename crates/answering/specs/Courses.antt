@@ -3,12 +3,12 @@ use Rattle.std.specs.Prelude.{◌≡◌, ◌≢◌, ◌<◌, ℕ, Bool, false, L
 use Rattle.labels.specs.Faults.{first_fault}
 use Rattle.accept.specs.declared.call.Call.{Call}
 use Rattle.pushjson.specs.declared.fault.PushFault.{PushFault}
-use Rattle.pushjson.specs.declared.fault.PushFault.TheVariants.{NotJson, WrongShape, BadTime, TooManyEntries, Memory}
+use Rattle.pushjson.specs.declared.fault.PushFault.TheVariants.{Memory}
 use Rattle.accept.specs.Doubts.{is_doubt}
 use Rattle.accept.specs.declared.fault.CallFault.{CallFault}
 use Rattle.accept.specs.declared.fault.CallFault.TheVariants as faults
 use Rattle.requests.specs.declared.route.Route.{Route}
-use Rattle.requests.specs.declared.route.Route.TheVariants.{Push, Read, Trim}
+use Rattle.requests.specs.declared.route.Route.TheVariants.{Push}
 use Rattle.answering.specs.Asking.{Asked, AsksFor, IsCallOf}
 use Rattle.answering.specs.Calls.{Giving, Came, Refused, Replied, Failed, max_window}
 use Rattle.answering.specs.Lines.{came_lines}
@@ -16,25 +16,20 @@ use Rattle.answering.specs.Replies.{one_text}
 
 -- the failure at a body's form, which is answered by a 500
 abbrev pub fault_failure : PushFault → Option CallFault
-fault_failure NotJson = None
-fault_failure WrongShape = None
-fault_failure (BadTime i j) = None
-fault_failure TooManyEntries = None
 fault_failure Memory = Some faults.Memory
+fault_failure fault = None
 
 -- the first failure of a call
 abbrev pub first_failure : List Came → Option CallFault
 first_failure [] = None
-first_failure (Refused fault ∷ cs) = first_failure cs
-first_failure (Replied reply ∷ cs) = first_failure cs
 first_failure (Failed failure ∷ cs) = Some failure
+first_failure (c ∷ cs) = first_failure cs
 
 -- how many stand after it
 abbrev pub behind_failure : List Came → ℕ
 behind_failure [] = 0
-behind_failure (Refused fault ∷ cs) = behind_failure cs
-behind_failure (Replied reply ∷ cs) = behind_failure cs
 behind_failure (Failed failure ∷ cs) = length cs
+behind_failure (c ∷ cs) = behind_failure cs
 
 -- how the calls of a request went: its body was refused at its form, or there was no memory for what calls are made of;
 -- or this came of each stream; or the calls ended at a failure, and this came of a beginning of the streams
@@ -52,8 +47,7 @@ doubt_behind doubt (Failed failure) = is_doubt (Err failure)
 -- what the answer to a request of this route says of the stream at this place, of which this came
 abbrev pub said_of : Route → ℕ → Came → List ℕ
 said_of Push i came = came_lines i came
-said_of Read i came = one_text came
-said_of Trim i came = one_text came
+said_of route i came = one_text came
 
 module _ {H : Type 0} (gives : Giving H) (tenant : List ℕ) where
   -- this came of a stream: a refusal of its labels without a call, the reply to its one call, or how that call failed;
@@ -68,10 +62,9 @@ module _ {H : Type 0} (gives : Giving H) (tenant : List ℕ) where
   -- this came of each stream, in order
   abbrev pub StreamsGiveAfter : Bool → H → List Asked → List Came → H → Type 0
   StreamsGiveAfter doubt h [] [] h' = h' ≡ h
-  StreamsGiveAfter doubt h [] (c ∷ cs) h' = ⊥
-  StreamsGiveAfter doubt h (a ∷ more) [] h' = ⊥
   StreamsGiveAfter doubt h (a ∷ more) (c ∷ cs) h' = (mid : H) × StreamGives doubt h a c mid
       × StreamsGiveAfter (doubt_behind doubt c) mid more cs h'
+  StreamsGiveAfter doubt h all cames h' = ⊥
 
   -- this came of the streams of a request
   abbrev pub StreamsGive : H → List Asked → List Came → H → Type 0

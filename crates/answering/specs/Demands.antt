@@ -1,27 +1,25 @@
 -- What a request asks for, and what it is told of its calls; for private clauses.
-use Rattle.std.specs.Prelude.{◌≡◌, ◌≢◌, ℕ, ◌≤◌, List, [], ◌∷◌, length, Option, None, Some, Result, Ok, Err}
+use Rattle.std.specs.Prelude.{◌≡◌, ℕ, ◌≤◌, List, [], ◌∷◌, length, Option, None, Result, Ok, Err}
 use Rattle.labels.specs.declared.fault.LabelFault.{LabelFault}
 use Rattle.accept.specs.declared.call.Call.{Call}
 use Rattle.accept.specs.declared.call.Reply.{Reply}
 use Rattle.accept.specs.declared.fault.CallFault.{CallFault}
 use Rattle.requests.specs.declared.answer.Answer.{Answer}
 use Rattle.requests.specs.declared.route.Route.{Route}
-use Rattle.requests.specs.declared.route.Route.TheVariants.{Push, Read, Trim}
+use Rattle.requests.specs.declared.route.Route.TheVariants.{Push}
 use Rattle.answering.specs.Asking.{AsksFor}
 use Rattle.answering.specs.Calls.{max_window}
 use Rattle.answering.specs.Courses.{first_failure}
 use Rattle.answering.specs.Lines.{push_status, lines_from}
-use Rattle.answering.specs.Parts.{AsksForCall, UncalledIsAnswered}
-use Rattle.answering.specs.Replies.{reply_status, reply_text}
+use Rattle.answering.specs.Parts.{AsksForCall, CameIsTold, UncalledIsAnswered}
 use Rattle.answering.specs.Showing.{IsShown}
-use Rattle.answering.specs.Windows.{AsksForStreams, StopsAmong, merged}
-use Rattle.answering.specs.declared.calling.Uncalled.TheVariants.{Body, Labels}
+use Rattle.answering.specs.Windows.{AsksForStreams, EndsSo, came_of, merged}
+use Rattle.answering.specs.declared.calling.Uncalled.TheVariants.{Body}
 use Rattle.answering.specs.declared.demands.Demand.{Demand}
 use Rattle.answering.specs.declared.demands.Demand.TheVariants.{Nothing, One, Streams}
 use Rattle.answering.specs.declared.demands.Waiting.{Waiting}
 use Rattle.answering.specs.declared.demands.Waiting.TheVariants as waits
 use Rattle.answering.specs.declared.responding.NoAnswer.{NoAnswer}
-use Rattle.answering.specs.declared.responding.NoAnswer.TheVariants.{Failed, GivenUp}
 
 -- its calls
 abbrev pub calls_asked : Demand → List Call
@@ -38,35 +36,21 @@ IsDemandOfOne route tenant body (Streams streams) = ⊥
 -- the body of a push does
 abbrev pub IsDemandOfPush : ℕ → List ℕ → List ℕ → Demand → Type 0
 IsDemandOfPush now tenant body (Nothing (Body fault)) = AsksFor Push now body (Err fault)
-IsDemandOfPush now tenant body (Nothing (Labels fault)) = ⊥
-IsDemandOfPush now tenant body (One call) = ⊥
 IsDemandOfPush now tenant body (Streams streams) =
     AsksForStreams now tenant body streams.places.items streams.calls.items
+IsDemandOfPush now tenant body demand = ⊥
 
 -- the body asks for it at this route
 abbrev pub IsDemand : Route → ℕ → List ℕ → List ℕ → Demand → Type 0
 IsDemand Push now tenant body demand = IsDemandOfPush now tenant body demand
-IsDemand Read now tenant body demand = IsDemandOfOne Read tenant body demand
-IsDemand Trim now tenant body demand = IsDemandOfOne Trim tenant body demand
-
--- the answer to a read or a trim, by what came of its call
-abbrev pub OneIsTold : Result Reply CallFault → Result Answer NoAnswer → Type 0
-OneIsTold (Ok reply) (Ok answer) = IsShown (reply_status reply) (reply_text reply) answer
-OneIsTold (Ok reply) (Err (Failed failure)) = ⊥
-OneIsTold (Ok reply) (Err GivenUp) = reply_text reply ≢ []
-OneIsTold (Err failure) (Ok answer) = ⊥
-OneIsTold (Err failure) (Err (Failed told)) = told ≡ failure
-OneIsTold (Err failure) (Err GivenUp) = ⊥
+IsDemand route now tenant body demand = IsDemandOfOne route tenant body demand
 
 -- the answer to a push, by what came of the calls of its streams
 abbrev pub StreamsAreTold : List (Option LabelFault) → List (Result Reply CallFault)
     → Result Answer NoAnswer → Type 0
 StreamsAreTold places outcomes (Ok answer) = (first_failure (merged places outcomes) ≡ None)
     × IsShown (push_status (merged places outcomes)) (lines_from 0 (merged places outcomes)) answer
-StreamsAreTold places outcomes (Err (Failed failure)) =
-    first_failure (merged places outcomes) ≡ Some failure
-StreamsAreTold places outcomes (Err GivenUp) = (first_failure (merged places outcomes) ≡ None)
-    × StopsAmong [] (merged places outcomes)
+StreamsAreTold places outcomes (Err no_answer) = EndsSo no_answer [] (merged places outcomes)
 
 -- how many calls it waits for
 abbrev pub awaited : Waiting → ℕ
@@ -86,13 +70,12 @@ WaitsFor demand waiting = ⊥
 abbrev pub IsAnsweredBy : Waiting → List (Result Reply CallFault) → Result Answer NoAnswer → Type 0
 IsAnsweredBy (waits.Nothing why) outcomes result = UncalledIsAnswered why result
 IsAnsweredBy waits.One [] result = ⊥
-IsAnsweredBy waits.One (outcome ∷ outcomes) result = OneIsTold outcome result
+IsAnsweredBy waits.One (outcome ∷ outcomes) result = CameIsTold (came_of outcome) result
 IsAnsweredBy (waits.Streams taken) outcomes result = StreamsAreTold taken.places.items outcomes result
 
 -- they ask for the same
 abbrev pub SameCalls : Demand → Demand → Type 0
-SameCalls (Nothing why) other = other ≡ Nothing why
-SameCalls (One call) other = other ≡ One call
 SameCalls (Streams streams) (Streams others) = (others.places.items ≡ streams.places.items)
     × (others.calls.items ≡ streams.calls.items)
 SameCalls (Streams streams) other = ⊥
+SameCalls demand other = other ≡ demand

@@ -15,19 +15,11 @@ module _ {I O : Type 0} where
     pub reader : new.reader.ghost_name ≡ old.reader.ghost_name
     pub writer : new.writer.ghost_name ≡ old.writer.ghost_name
 
-  -- the fault is of an end that failed when it was asked last, or of none of them
-  abbrev pub IsOfItsEnd : Ends I O → ServeFault → Type 0
-  IsOfItsEnd ends Read = ends.reader_failed ≡ true
-  IsOfItsEnd ends Write = ends.writer_failed ≡ true
-  IsOfItsEnd ends Memory = Unit {0}
-  IsOfItsEnd ends CutShort = Unit {0}
-
--- for private clauses: the same, by whether the reader failed, and the writer
+-- the fault is of an end that failed when it was asked last, the reader or the writer, or of none of them
 abbrev pub IsOfOneEnd : Bool → Bool → ServeFault → Type 0
 IsOfOneEnd reads writes Read = reads ≡ true
 IsOfOneEnd reads writes Write = writes ≡ true
-IsOfOneEnd reads writes Memory = Unit {0}
-IsOfOneEnd reads writes CutShort = Unit {0}
+IsOfOneEnd reads writes fault = Unit {0}
 
 module _ {O : Type 0} where
   -- for private clauses: it is of the same writer, which goes through the same reference
@@ -37,10 +29,9 @@ module _ {O : Type 0} where
 
   -- for private clauses: the fault is of the writer, or of memory
   abbrev pub IsOfAnswer : WriteEnd O → ServeFault → Type 0
-  IsOfAnswer end Read = ⊥
   IsOfAnswer end Write = end.failed ≡ true
   IsOfAnswer end Memory = Unit {0}
-  IsOfAnswer end CutShort = ⊥
+  IsOfAnswer end fault = ⊥
 
 -- for private clauses: more was read, or the stream ended, or reading failed; these bytes have come, and are no whole
 -- request unless more was read
@@ -49,6 +40,5 @@ IsReadOn bytes left (Ok None) = Unit {0}
 IsReadOn bytes left (Ok (Some Ended)) = (bytes ≡ []) × IsAtEnd left
 IsReadOn bytes left (Ok (Some Closed)) = ⊥
 IsReadOn bytes left (Err CutShort) = IsCut bytes × IsAtEnd left
-IsReadOn bytes left (Err Read) = (bytes ≡ []) ⊎ IsCut bytes
-IsReadOn bytes left (Err Memory) = (bytes ≡ []) ⊎ IsCut bytes
 IsReadOn bytes left (Err Write) = ⊥
+IsReadOn bytes left (Err fault) = (bytes ≡ []) ⊎ IsCut bytes

@@ -50,11 +50,10 @@ module _ {H C : Type 0} (gives : Giving H) (ticks : C → ℕ → C → Type 0) 
   -- each connection was visited, one after another
   abbrev pub AreVisitedSo : World (Known H) C → List Unended → World (Known H) C → List Unended → Type 0
   AreVisitedSo w [] w' [] = w' ≡ w
-  AreVisitedSo w [] w' (new ∷ news) = ⊥
-  AreVisitedSo w (old ∷ olds) w' [] = ⊥
   AreVisitedSo w (old ∷ olds) w' (new ∷ news) = (start : Known H) × (mid : World (Known H) C)
       × MayGoOn w.knows start × IsVisitedSo (world start w.clock) old mid new
       × AreVisitedSo mid olds w' news
+  AreVisitedSo w olds w' news = ⊥
 
   -- for private clauses: these calls gave these outcomes, and then the connections were visited
   pub record AreGathered (w : World H C) (calls : List Call) (olds : List Unended)

@@ -7,13 +7,14 @@ use Rattle.pushjson.specs.declared.fault.PushFault.{PushFault}
 use Rattle.pushjson.specs.declared.fault.PushFault.TheVariants.{Memory}
 use Rattle.requests.specs.declared.answer.Answer.{Answer}
 use Rattle.requests.specs.declared.route.Route.{Route}
-use Rattle.requests.specs.declared.route.Route.TheVariants.{Push, Read, Trim}
+use Rattle.requests.specs.declared.route.Route.TheVariants.{Push}
 use Rattle.answering.specs.declared.calling.Uncalled.{Uncalled}
 use Rattle.answering.specs.declared.calling.Uncalled.TheVariants.{Body, Labels}
 use Rattle.answering.specs.declared.responding.NoAnswer.{NoAnswer}
 use Rattle.answering.specs.declared.responding.NoAnswer.TheVariants.{Failed, GivenUp}
 use Rattle.answering.specs.Asking.{Asked, AsksFor, IsCallOf}
-use Rattle.answering.specs.Calls.{Giving, Came, Refused}
+use Rattle.answering.specs.Calls.{Giving, Came}
+use Rattle.answering.specs.Calls as cames
 use Rattle.answering.specs.Lines.{push_status, lines_from, came_lines}
 use Rattle.answering.specs.Courses.{fault_failure, first_failure, StreamsGive, BodyFails, BodyStops}
 use Rattle.answering.specs.Replies.{one_status, one_text}
@@ -27,19 +28,23 @@ BodyIsRefused fault (Ok answer) = (fault_failure fault ≡ None)
 BodyIsRefused fault (Err (Failed failure)) = fault_failure fault ≡ Some failure
 BodyIsRefused fault (Err GivenUp) = fault_failure fault ≡ None
 
+-- the answer to a read or a trim, by what came of its stream
+abbrev pub CameIsTold : Came → Result Answer NoAnswer → Type 0
+CameIsTold (cames.Failed failure) (Err (Failed told)) = told ≡ failure
+CameIsTold (cames.Failed failure) result = ⊥
+CameIsTold came (Ok answer) = IsShown (one_status came) (one_text came) answer
+CameIsTold came (Err GivenUp) = one_text came ≢ []
+CameIsTold came (Err (Failed failure)) = ⊥
+
 -- no call is made of a body that asks for one
 abbrev pub UncalledIsAnswered : Uncalled → Result Answer NoAnswer → Type 0
 UncalledIsAnswered (Body fault) result = BodyIsRefused fault result
-UncalledIsAnswered (Labels fault) (Ok answer) =
-    IsShown (one_status (Refused fault)) (one_text (Refused fault)) answer
-UncalledIsAnswered (Labels fault) (Err (Failed failure)) = ⊥
-UncalledIsAnswered (Labels fault) (Err GivenUp) = one_text (Refused fault) ≢ []
+UncalledIsAnswered (Labels fault) result = CameIsTold (cames.Refused fault) result
 
 -- it asks for one stream
 abbrev pub IsOfOne : Route → Type 0
 IsOfOne Push = ⊥
-IsOfOne Read = Unit {0}
-IsOfOne Trim = Unit {0}
+IsOfOne route = Unit {0}
 
 -- why there is no call of a stream with these labels
 abbrev pub IsUncalled : List Label → Uncalled → Type 0

@@ -5,12 +5,11 @@ use Rattle.serde_json.specs.View.{items_of}
 use Rattle.serde_json.specs.Written.{compact_text}
 use Rattle.labels.specs.Labels.{Label}
 use Rattle.entries.specs.declared.entry.Entry.{Entry}
-use Rattle.accept.specs.declared.call.Reply.{Reply}
 use Rattle.accept.specs.declared.call.Reply.TheVariants as replies
 use Rattle.pushjson.specs.Bodies.{labels_tree}
 use Rattle.requests.specs.declared.status.Status.{Status}
 use Rattle.requests.specs.declared.status.Status.TheVariants as statuses
-use Rattle.answering.specs.Calls.{Came, Refused, Replied, Failed}
+use Rattle.answering.specs.Calls.{Came, Replied}
 use Rattle.answering.specs.Lines.{push_status, lines_from}
 
 -- the object of the metadata, and nothing where there is none
@@ -30,32 +29,18 @@ read_tree es = object (member (codes "values") (array (items_of (map entry_tree 
 unfoldable pub trimmed_text : ℕ → List ℕ
 trimmed_text n = codes "{\"trimmed\":" ++ decimal n ++ codes "}"
 
-abbrev pub reply_status : Reply → Status
-reply_status (replies.Verdict os) = push_status (Replied (replies.Verdict os) ∷ [])
-reply_status (replies.Entries es) = statuses.Ok
-reply_status (replies.Trimmed n) = statuses.Ok
-reply_status replies.TrimTooNew = statuses.BadRequest
-reply_status replies.NoStream = statuses.NotFound
-reply_status replies.NoRoom = statuses.InsufficientStorage
-reply_status replies.Unavailable = statuses.ServiceUnavailable
-
-abbrev pub reply_text : Reply → List ℕ
-reply_text (replies.Verdict os) = lines_from 0 (Replied (replies.Verdict os) ∷ [])
-reply_text (replies.Entries es) = compact_text (read_tree es)
-reply_text (replies.Trimmed n) = trimmed_text n
-reply_text replies.TrimTooNew = codes "trim bound is above the oldest accepted time"
-reply_text replies.NoStream = codes "no such stream"
-reply_text replies.NoRoom = lines_from 0 (Replied replies.NoRoom ∷ [])
-reply_text replies.Unavailable = lines_from 0 (Replied replies.Unavailable ∷ [])
-
 -- the status of a read or a trim of whose stream this came: where it is no reply of their own, that of a push of this
 -- one stream
 abbrev pub one_status : Came → Status
-one_status (Refused fault) = push_status (Refused fault ∷ [])
-one_status (Replied reply) = reply_status reply
-one_status (Failed fault) = push_status (Failed fault ∷ [])
+one_status (Replied (replies.Entries es)) = statuses.Ok
+one_status (Replied (replies.Trimmed n)) = statuses.Ok
+one_status (Replied replies.TrimTooNew) = statuses.BadRequest
+one_status (Replied replies.NoStream) = statuses.NotFound
+one_status came = push_status (came ∷ [])
 
 abbrev pub one_text : Came → List ℕ
-one_text (Refused fault) = lines_from 0 (Refused fault ∷ [])
-one_text (Replied reply) = reply_text reply
-one_text (Failed fault) = lines_from 0 (Failed fault ∷ [])
+one_text (Replied (replies.Entries es)) = compact_text (read_tree es)
+one_text (Replied (replies.Trimmed n)) = trimmed_text n
+one_text (Replied replies.TrimTooNew) = codes "trim bound is above the oldest accepted time"
+one_text (Replied replies.NoStream) = codes "no such stream"
+one_text came = lines_from 0 (came ∷ [])

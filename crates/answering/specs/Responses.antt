@@ -11,7 +11,7 @@ use Rattle.accept.specs.declared.fault.CallFault.TheVariants as call_faults
 use Rattle.requests.specs.declared.fault.ServeFault.{ServeFault}
 use Rattle.requests.specs.declared.fault.ServeFault.TheVariants as faults
 use Rattle.requests.specs.declared.route.Route.{Route}
-use Rattle.requests.specs.declared.route.Route.TheVariants.{Push, Read, Trim}
+use Rattle.requests.specs.declared.route.Route.TheVariants.{Push}
 use Rattle.requests.specs.declared.status.Status.{Status}
 use Rattle.requests.specs.declared.status.Status.TheVariants as statuses
 use Rattle.answering.specs.declared.responding.NoAnswer.{NoAnswer}
@@ -33,32 +33,25 @@ fault_text TooManyEntries = codes "more than 10000 entries"
 fault_text Memory = failure_body call_faults.Memory
 
 abbrev pub fault_status : PushFault → Status
-fault_status NotJson = statuses.BadRequest
-fault_status WrongShape = statuses.BadRequest
-fault_status (BadTime i j) = statuses.BadRequest
-fault_status TooManyEntries = statuses.BadRequest
 fault_status Memory = statuses.InternalServerError
+fault_status fault = statuses.BadRequest
 
 -- the status and the text where this came of the streams of a push, or of the one of a read or a trim
 abbrev pub single_status : List Came → Status
-single_status [] = push_status []
 single_status (c ∷ []) = one_status c
-single_status (c ∷ d ∷ cs) = push_status (c ∷ d ∷ cs)
+single_status cames = push_status cames
 
 abbrev pub single_text : List Came → List ℕ
-single_text [] = lines_from 0 []
 single_text (c ∷ []) = one_text c
-single_text (c ∷ d ∷ cs) = lines_from 0 (c ∷ d ∷ cs)
+single_text cames = lines_from 0 cames
 
 abbrev pub cames_status : Route → List Came → Status
 cames_status Push cames = push_status cames
-cames_status Read cames = single_status cames
-cames_status Trim cames = single_status cames
+cames_status route cames = single_status cames
 
 abbrev pub cames_text : Route → List Came → List ℕ
 cames_text Push cames = lines_from 0 cames
-cames_text Read cames = single_text cames
-cames_text Trim cames = single_text cames
+cames_text route cames = single_text cames
 
 -- the status of the answer, and its body
 abbrev pub status_for : Route → Course → Status
@@ -94,9 +87,7 @@ module _ {H : Type 0} (gives : Giving H) (route : Route) (now : ℕ) (tenant bod
       × IsShown (status_for route course) (text_for route course) answer
   RequestIsAnswered h (Err faults.Memory) h' = RequestIsUnsaid h h'
       ⊎ RequestIsLeft gives route now tenant body h h'
-  RequestIsAnswered h (Err faults.Read) h' = ⊥
-  RequestIsAnswered h (Err faults.Write) h' = ⊥
-  RequestIsAnswered h (Err faults.CutShort) h' = ⊥
+  RequestIsAnswered h (Err fault) h' = ⊥
 
   -- for private clauses: the same, with failures apart
   abbrev pub RequestEnds : H → Result Answer NoAnswer → H → Type 0

@@ -76,9 +76,8 @@ module _ {H : Type 0} (gives : Giving H) (now : ℕ) (body : List ℕ) where
 
   -- its calls were given up
   abbrev pub VerdictIsLeft : Verdict → H → H → Type 0
-  VerdictIsLeft (Fixed answer) h h' = ⊥
   VerdictIsLeft (Call route tenant) h h' = RequestIsLeft gives route now tenant body h h'
-  VerdictIsLeft NoMemory h h' = ⊥
+  VerdictIsLeft verdict h h' = ⊥
 
 -- what requests change: what is known of the calls, and the clock
 pub record World (H C : Type 0) : Type 0 where

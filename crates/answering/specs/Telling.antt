@@ -1,20 +1,18 @@
 -- The answer to a push while its streams are taken; for private clauses.
 use Rattle.std.specs.Prelude.{◌≡◌, ◌≢◌, List, [], ◌∷◌, ◌++◌, None, length, Result, Ok, Err, OnOk}
 use Rattle.std.specs.declared.alloc.AllocError.{AllocError}
-use Rattle.std.specs.List.{list_any}
 use Rattle.answering.specs.declared.lines.PushLines.{PushLines}
 use Rattle.answering.specs.declared.responding.NoAnswer.{NoAnswer}
 use Rattle.answering.specs.declared.responding.NoAnswer.TheVariants as no_answers
 use Rattle.answering.specs.Calls.{Came, Failed}
 use Rattle.answering.specs.Courses.{first_failure}
-use Rattle.answering.specs.Lines.{came_lines, lines_from, has_no_room, is_unavailable}
+use Rattle.answering.specs.Lines.{came_lines, lines_from, push_status}
 
 -- this came of the streams so far
 pub record Tells (cames : List Came) (lines : PushLines) : Type 0 where
   pub streams : lines.streams ≡ length cames
   pub text : lines.text.items ≡ lines_from 0 cames
-  pub no_room : lines.no_room ≡ list_any has_no_room cames
-  pub unavailable : lines.unavailable ≡ list_any is_unavailable cames
+  pub status : lines.status ≡ push_status cames
 
 -- the lines tell of one stream more
 abbrev pub TellsNext : Came → PushLines → PushLines → Type 0

@@ -38,9 +38,8 @@ module _ {S P C O : Type 0} where
 
 -- so it is where the turn lets the connection go on
 abbrev pub OnKept : Result TurnOutcome ServeFault → Type 0 → Type 0
-OnKept (Ok turns.Answered) t = t
-OnKept (Ok (turns.Unfinished n)) t = t
 OnKept (Ok turns.Closed) t = Unit {0}
+OnKept (Ok turn) t = t
 OnKept (Err fault) t = Unit {0}
 
 -- what may stand there when it is looked at next: no more than before; or this many bytes more
@@ -62,10 +61,9 @@ module _ {H : Type 0} (gives : Giving H) (now : ℕ) (body : List ℕ) where
   ResponseGives verdict close h text h' (Err faults.Memory) =
       (text ≡ []) × (((course : Course) × VerdictGives gives now body verdict h course h'
       × (failure_at verdict course ≡ None)) ⊎ VerdictIsLeft gives now body verdict h h')
-  ResponseGives verdict close h text h' (Err faults.Read) = ⊥
-  ResponseGives verdict close h text h' (Err faults.CutShort) = ⊥
+  ResponseGives verdict close h text h' (Err fault) = ⊥
 
-  pub record ResponseIsWritten (due due' : Dues H) (before after : Option (List ℕ))
+  pub record ResponseIsWritten {K : Type 0} (due due' : Dues K) (before after : Option (List ℕ))
       (verdict : Verdict) (close : Bool)
       (h h' : H)
       (result : Result Bool ServeFault) : Type 0 where
@@ -85,16 +83,14 @@ module _ {H C : Type 0} (gives : Giving H) (ticks : C → ℕ → C → Type 0) 
       ConnectionEnds gives ticks bytes None w text w' (Ok served.Closed)
   ConnectionTurnIsAnswered bytes w text rest w' (Ok (turns.Unfinished n)) =
       IsUnbegun bytes × (rest ≡ bytes) × IsSilent gives ticks w text w'
-  ConnectionTurnIsAnswered bytes w text rest w' (Err faults.Write) =
-      ConnectionEnds gives ticks bytes None w text w' (Err faults.Write)
-  ConnectionTurnIsAnswered bytes w text rest w' (Err faults.Memory) =
-      ConnectionEnds gives ticks bytes None w text w' (Err faults.Memory)
   ConnectionTurnIsAnswered bytes w text rest w' (Err faults.Read) = ⊥
   ConnectionTurnIsAnswered bytes w text rest w' (Err faults.CutShort) = ⊥
+  ConnectionTurnIsAnswered bytes w text rest w' (Err fault) =
+      ConnectionEnds gives ticks bytes None w text w' (Err fault)
 
   -- and its text was put where answers go
-  pub record ConnectionTurnIsServed (due due' : Dues H) (before after : Option (List ℕ))
-      (bytes : List ℕ)
+  pub record ConnectionTurnIsServed {K : Type 0} (due due' : Dues K)
+      (before after : Option (List ℕ)) (bytes : List ℕ)
       (w : World H C) (rest : List ℕ) (w' : World H C) (result : Result TurnOutcome ServeFault)
       : Type 0 where
     pub text : List ℕ

@@ -39,9 +39,7 @@ module _ {H C : Type 0} (gives : Giving H) (ticks : C → ℕ → C → Type 0) 
       KeepsOn due due' before after bytes w rest w' × IsUnbegun rest
   IsVisit due due' before after bytes w rest w' (Ok visited.Closed) =
       IsOver before after bytes None w w' (Ok served.Closed)
-  IsVisit due due' before after bytes w rest w' (Err faults.Write) =
-      IsOver before after bytes None w w' (Err faults.Write)
-  IsVisit due due' before after bytes w rest w' (Err faults.Memory) =
-      IsOver before after bytes None w w' (Err faults.Memory)
   IsVisit due due' before after bytes w rest w' (Err faults.Read) = ⊥
   IsVisit due due' before after bytes w rest w' (Err faults.CutShort) = ⊥
+  IsVisit due due' before after bytes w rest w' (Err fault) =
+      IsOver before after bytes None w w' (Err fault)

@@ -19,14 +19,11 @@ use Rattle.answering.specs.Telling.{Tells}
 -- at each place the labels of the stream are refused, or its call is the next of these
 abbrev pub AreStreams : List ℕ → List Asked → List (Option LabelFault) → List Call → Type 0
 AreStreams tenant [] [] [] = Unit {0}
-AreStreams tenant [] [] (call ∷ calls) = ⊥
-AreStreams tenant [] (p ∷ places) calls = ⊥
-AreStreams tenant (a ∷ more) [] calls = ⊥
 AreStreams tenant (a ∷ more) (Some fault ∷ places) calls = (first_fault a.pairs ≡ Some fault)
     × AreStreams tenant more places calls
-AreStreams tenant (a ∷ more) (None ∷ places) [] = ⊥
 AreStreams tenant (a ∷ more) (None ∷ places) (call ∷ calls) = IsCallOf tenant a call
     × AreStreams tenant more places calls
+AreStreams tenant all places calls = ⊥
 
 -- the body of a push asks for streams with these places and calls
 abbrev pub AsksForStreams : ℕ → List ℕ → List ℕ → List (Option LabelFault) → List Call → Type 0
@@ -83,22 +80,22 @@ pub record StopsAmong (before cames : List Came) : Type 0 where
   pub said : came_lines (length first) last ≢ []
   pub few : length behind < length cames
 
--- after others these came, and they were taken into the lines; or one of them failed first; or none did, and there was
--- no memory for the lines
+-- after others these came, and one of them failed; or none did, and there was no memory for the lines
+abbrev pub EndsSo : NoAnswer → List Came → List Came → Type 0
+EndsSo (no_answers.Failed failure) before cames = first_failure (before ++ cames) ≡ Some failure
+EndsSo no_answers.GivenUp before cames = (first_failure (before ++ cames) ≡ None)
+    × StopsAmong before cames
+
+-- after others these came, and they were taken into the lines, or not
 abbrev pub AreNoted : List Came → List Came → Result (Unit {0}) NoAnswer → PushLines → Type 0
 AreNoted before cames (Ok u) new = (first_failure (before ++ cames) ≡ None)
     × Tells (before ++ cames) new
-AreNoted before cames (Err (no_answers.Failed failure)) new =
-    first_failure (before ++ cames) ≡ Some failure
-AreNoted before cames (Err no_answers.GivenUp) new =
-    (first_failure (before ++ cames) ≡ None) × StopsAmong before cames
+AreNoted before cames (Err no_answer) new = EndsSo no_answer before cames
 
 -- the same up to where there was no memory: one of those after that may have failed
 abbrev pub AreNotedUpTo : List Came → List Came → Result (Unit {0}) NoAnswer → PushLines → Type 0
-AreNotedUpTo before cames (Ok u) new = AreNoted before cames (Ok u) new
-AreNotedUpTo before cames (Err (no_answers.Failed failure)) new =
-    AreNoted before cames (Err (no_answers.Failed failure)) new
 AreNotedUpTo before cames (Err no_answers.GivenUp) new = StopsAmong before cames
+AreNotedUpTo before cames result new = AreNoted before cames result new
 
 -- these were taken into the lines, and those are left
 pub record AreNotedTo (before cames left : List Came) (lines : PushLines) : Type 0 where

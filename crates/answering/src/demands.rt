@@ -1,16 +1,16 @@
 //! What a request asks for, what it waits for, and what it is told.
-ghost use Rattle.std.specs.Prelude.{◌≡◌, ◌<◌, ◌+◌, ◌∷◌, [], ℕ, List, All, IfOk, drop};
+ghost use Rattle.std.specs.Prelude.{◌≡◌, ◌<◌, ◌+◌, ℕ, List, All, IfOk, drop};
 ghost use Rattle.std.specs.VecDeque.{deque_len};
 ghost use Rattle.accept.specs.OneStream.{end_of_time};
 ghost use Rattle.accept.specs.Calls.{AreNumbers};
 ghost use Rattle.requests.specs.declared.route.Route.{Route};
-ghost use Rattle.answering.specs.Demands.{IsDemand, IsDemandOfOne, OneIsTold, StreamsAreTold, calls_asked};
-ghost use Rattle.answering.specs.Parts.{AsksForCall};
-ghost use Rattle.answering.specs.Windows.{called};
+ghost use Rattle.answering.specs.Demands.{IsDemand, IsDemandOfOne, StreamsAreTold, calls_asked};
+ghost use Rattle.answering.specs.Parts.{AsksForCall, CameIsTold};
+ghost use Rattle.answering.specs.Windows.{called, came_of};
 
 use crate::calling::{Uncalled, call_of_read, call_of_trim};
 use crate::lines::PushLines;
-use crate::replies::answer_of_moved;
+use crate::replies::answer_of_reply;
 use crate::responding::{NoAnswer, RequestBody};
 use crate::windows::{Streams, TakenStreams, note_streams, streams_of};
 use accept::{Call, CallFault, Reply};
@@ -75,10 +75,10 @@ pub(crate) fn answer_of_one(
     alloc: Global,
     outcome: Result<Reply, CallFault>,
 ) -> Result<Answer, NoAnswer>
-    ensures { OneIsTold outcome result }
+    ensures { CameIsTold (came_of outcome) result }
 {
     match outcome {
-        Ok(reply) => Ok(answer_of_moved(alloc, reply)?),
+        Ok(reply) => Ok(answer_of_reply(alloc, reply)?),
         Err(failure) => Err(NoAnswer::Failed(failure)),
     }
 }

@@ -1,7 +1,8 @@
 //! The lines of the answer to a push.
 ghost use Rattle.std.specs.Prelude.{◌≡◌, ◌≢◌, ◌<◌, ◌+◌, ◌^◌, ◌++◌, [], List, decimal, OnOk, OnErr, codes};
+ghost use Rattle.std.specs.List.{list_all};
 ghost use Rattle.answering.specs.Calls.{Came, Refused, Replied};
-ghost use Rattle.answering.specs.Lines.{stream_line, entry_front, entry_line, newline, outcome_line, outcome_lines, reply_lines, came_lines, reply_has_no_room, reply_is_unavailable, worst_status, push_status, lines_from};
+ghost use Rattle.answering.specs.Lines.{stream_line, entry_front, entry_line, newline, outcome_line, outcome_lines, came_lines, severity, worse_of, is_taken, came_status, push_status, lines_from};
 ghost use Rattle.answering.specs.Showing.{IsShown};
 ghost use Rattle.answering.specs.Telling.{Tells, NotesNext};
 
@@ -17,8 +18,8 @@ pub(crate) struct PushLines {
     /// How many streams were taken in.
     streams: usize,
     text: Vec<u8>,
-    no_room: bool,
-    unavailable: bool,
+    /// The worst of theirs.
+    status: Status,
 }
 
 #[tactic(auto, unfolding(crate::specs::Lines::stream_line))]
@@ -106,8 +107,9 @@ fn push_outcomes(text: &mut Vec<u8>, stream: usize, outcomes: &[Outcome]) -> Res
 }
 
 fn push_reply(text: &mut Vec<u8>, stream: usize, reply: &Reply) -> Result<(), AllocError>
-    ensures text { OnOk result (text.new.items ≡ text.old.items ++ reply_lines stream reply.now) }
-    ensures said { OnErr result (reply_lines stream reply.now ≢ []) }
+    ensures text { OnOk result
+        (text.new.items ≡ text.old.items ++ came_lines stream (Replied reply.now)) }
+    ensures said { OnErr result (came_lines stream (Replied reply.now) ≢ []) }
 {
     match reply {
         Reply::Verdict(outcomes) => push_outcomes(text, stream, outcomes.as_slice()),
@@ -117,47 +119,57 @@ fn push_reply(text: &mut Vec<u8>, stream: usize, reply: &Reply) -> Result<(), Al
     }
 }
 
-fn has_no_room(reply: &Reply) -> bool
-    ensures { result ≡ reply_has_no_room reply.now }
+/// How bad a status of a push is beside its others.
+fn severity(status: Status) -> u8
+    ensures { result ≡ severity status }
 {
-    match reply {
-        Reply::NoRoom => true,
-        Reply::Verdict(_)
-        | Reply::Entries(_)
-        | Reply::Trimmed(_)
-        | Reply::TrimTooNew
-        | Reply::NoStream
-        | Reply::Unavailable => false,
+    match status {
+        Status::NoContent => 0,
+        Status::BadRequest => 1,
+        Status::InsufficientStorage => 2,
+        Status::ServiceUnavailable => 3,
+        _ => 4,
     }
 }
 
-fn is_unavailable(reply: &Reply) -> bool
-    ensures { result ≡ reply_is_unavailable reply.now }
+fn worse_of(first: Status, second: Status) -> Status
+    ensures { result ≡ worse_of first second }
 {
-    match reply {
-        Reply::Unavailable => true,
-        Reply::Verdict(_)
-        | Reply::Entries(_)
-        | Reply::Trimmed(_)
-        | Reply::TrimTooNew
-        | Reply::NoStream
-        | Reply::NoRoom => false,
-    }
-}
-
-fn worst_status(unavailable: bool, no_room: bool, lines: &[u8]) -> Status
-    ensures { result ≡ worst_status unavailable no_room lines.now }
-{
-    if unavailable {
-        return Status::ServiceUnavailable;
-    }
-    if no_room {
-        return Status::InsufficientStorage;
-    }
-    if lines.is_empty() {
-        Status::NoContent
+    if severity(first) < severity(second) {
+        second
     } else {
-        Status::BadRequest
+        first
+    }
+}
+
+/// Whether the entry was stored, now or before.
+fn is_taken(outcome: Outcome) -> bool
+    ensures { result ≡ is_taken outcome }
+{
+    matches!(outcome, Outcome::Repeat | Outcome::Stored)
+}
+
+fn are_all_taken(outcomes: &[Outcome]) -> bool
+    ensures { result ≡ list_all is_taken outcomes.now }
+{
+    outcomes.iter().all(|outcome| is_taken(*outcome))
+}
+
+/// The status of a push of one stream with this reply.
+fn status_of_reply(reply: &Reply) -> Status
+    ensures { result ≡ came_status (Replied reply.now) }
+{
+    match reply {
+        Reply::Verdict(outcomes) => {
+            if are_all_taken(outcomes.as_slice()) {
+                Status::NoContent
+            } else {
+                Status::BadRequest
+            }
+        }
+        Reply::NoRoom => Status::InsufficientStorage,
+        Reply::Unavailable => Status::ServiceUnavailable,
+        _ => Status::NoContent,
     }
 }
 
@@ -169,8 +181,7 @@ impl PushLines {
         PushLines {
             streams: 0,
             text: Vec::new(alloc),
-            no_room: false,
-            unavailable: false,
+            status: Status::NoContent,
         }
     }
 
@@ -183,6 +194,7 @@ impl PushLines {
     {
         let stream = self.streams;
         self.streams += 1;
+        self.status = worse_of(self.status, Status::BadRequest);
         push_stream_line(&mut self.text, stream, fault.words().as_bytes())
     }
 
@@ -195,8 +207,7 @@ impl PushLines {
     {
         let stream = self.streams;
         self.streams += 1;
-        self.no_room |= has_no_room(reply);
-        self.unavailable |= is_unavailable(reply);
+        self.status = worse_of(self.status, status_of_reply(reply));
         push_reply(&mut self.text, stream, reply)
     }
 
@@ -208,12 +219,8 @@ impl PushLines {
         let PushLines {
             streams: _,
             text,
-            no_room,
-            unavailable,
+            status,
         } = self;
-        Answer {
-            status: worst_status(unavailable, no_room, text.as_slice()),
-            body: text,
-        }
+        Answer { status, body: text }
     }
 }

@@ -8,7 +8,7 @@ ghost use Rattle.labels.specs.Labels.{label_of};
 ghost use Rattle.pushjson.specs.Bodies.{labels_tree};
 ghost use Rattle.answering.specs.Calls.{Refused, Replied};
 ghost use Rattle.answering.specs.Lines.{push_status, lines_from};
-ghost use Rattle.answering.specs.Replies.{meta_tree, entry_tree, read_tree, trimmed_text, reply_status, reply_text};
+ghost use Rattle.answering.specs.Replies.{meta_tree, entry_tree, read_tree, trimmed_text, one_status, one_text};
 ghost use Rattle.answering.specs.Showing.{IsShown};
 
 use crate::lines::PushLines;
@@ -30,22 +30,32 @@ const PAIR_ROOM: usize = 6;
 /// # Errors
 ///
 /// `Memory`.
-pub fn answer_of_read(alloc: Global, reply: &Reply) -> Result<Answer, ServeFault>
-    ensures shows { IfOk result
-        (λ answer. IsShown (reply_status reply.now) (reply_text reply.now) answer) }
+pub fn answer_of_read(alloc: Global, reply: Reply) -> Result<Answer, ServeFault>
+    ensures shows { IfOk result (λ answer.
+        IsShown (one_status (Replied reply)) (one_text (Replied reply)) answer) }
     ensures fault { IfErr result (λ e. e ≡ ServeFault.Memory) }
 {
     Ok(answer_of_reply(alloc, reply)?)
 }
 
-/// The answer to a read or a trim that got this reply. Entries are moved into it.
-pub(crate) fn answer_of_moved(alloc: Global, reply: Reply) -> Result<Answer, AllocError>
-    ensures shows { IfOk result (λ answer. IsShown (reply_status reply) (reply_text reply) answer) }
-    ensures said { OnErr result (reply_text reply ≢ []) }
+/// The answer to a read or a trim that got this reply.
+pub(crate) fn answer_of_reply(alloc: Global, reply: Reply) -> Result<Answer, AllocError>
+    ensures shows { IfOk result (λ answer.
+        IsShown (one_status (Replied reply)) (one_text (Replied reply)) answer) }
+    ensures said { OnErr result (one_text (Replied reply) ≢ []) }
 {
     match reply {
         Reply::Entries(entries) => answer_of_entries(alloc, entries),
-        other => answer_of_reply(alloc, &other),
+        Reply::Trimmed(count) => answer_of_trimmed(alloc, count),
+        Reply::TrimTooNew => answer_of_text(
+            alloc,
+            Status::BadRequest,
+            b"trim bound is above the oldest accepted time",
+        ),
+        Reply::NoStream => answer_of_text(alloc, Status::NotFound, b"no such stream"),
+        Reply::Verdict(outcomes) => answer_of_lines(alloc, &Reply::Verdict(outcomes)),
+        Reply::NoRoom => answer_of_lines(alloc, &Reply::NoRoom),
+        Reply::Unavailable => answer_of_lines(alloc, &Reply::Unavailable),
     }
 }
 
@@ -58,27 +68,6 @@ pub(crate) fn answer_of_refusal(alloc: Global, fault: LabelFault) -> Result<Answ
     let mut lines = PushLines::new(alloc);
     lines.note_refusal(fault)?;
     Ok(lines.into_answer())
-}
-
-fn answer_of_reply(alloc: Global, reply: &Reply) -> Result<Answer, AllocError>
-    ensures shows { IfOk result
-        (λ answer. IsShown (reply_status reply.now) (reply_text reply.now) answer) }
-    ensures said { OnErr result (reply_text reply.now ≢ []) }
-{
-    match reply {
-        Reply::Entries(entries) => {
-            let copy = EntryList::copy_of(alloc, entries.as_slice())?;
-            answer_of_entries(alloc, copy)
-        }
-        Reply::Trimmed(count) => answer_of_trimmed(alloc, *count),
-        Reply::TrimTooNew => answer_of_text(
-            alloc,
-            Status::BadRequest,
-            b"trim bound is above the oldest accepted time",
-        ),
-        Reply::NoStream => answer_of_text(alloc, Status::NotFound, b"no such stream"),
-        Reply::Verdict(_) | Reply::NoRoom | Reply::Unavailable => answer_of_lines(alloc, reply),
-    }
 }
 
 fn answer_of_lines(alloc: Global, reply: &Reply) -> Result<Answer, AllocError>

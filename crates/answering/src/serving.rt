@@ -2,7 +2,7 @@
 //! read.
 ghost use Rattle.std.specs.Prelude.{◌≡◌, IfErr, []};
 ghost use Rattle.answering.specs.Due.{AreDueTexts};
-ghost use Rattle.answering.specs.Ends.{AreSameEnds, IsOfItsEnd, IsOfOneEnd, IsSameEnd};
+ghost use Rattle.answering.specs.Ends.{AreSameEnds, IsOfOneEnd, IsSameEnd};
 ghost use Rattle.answering.specs.Serving.{ConnectionIsServed, world, io};
 ghost use Rattle.answering.specs.Turns.{IsSameVisit, world_of, due_of, taken_of};
 
@@ -147,7 +147,8 @@ where
     ensures pass { S.is_ready service.now pass.new }
     ensures same { AreSameEnds ends.old ends.new }
     ensures through { O.through ends.new.writer.now ≡ O.through ends.old.writer.now }
-    ensures told { IfErr result (λ fault. IsOfItsEnd ends.new fault) }
+    ensures told { IfErr result (λ fault.
+        IsOfOneEnd ends.new.reader_failed ends.new.writer_failed fault) }
     ensures serves { ConnectionIsServed (S.gives service.now) C.ticks
         (io (I.remaining ends.old.reader.now) (O.contents ends.old.writer.now))
         (world pass.old clock.old)
@@ -217,7 +218,8 @@ pub fn serve<'a, 'b, 'c, 'd, S: Calls, R: Wait, C: Clock, I: Read, O: Write>(
     requires pass { S.is_ready service.now pass.old }
     ensures pass { S.is_ready service.now pass.new }
     ensures same { AreSameEnds ends.old ends.new }
-    ensures told { IfErr result (λ fault. IsOfItsEnd ends.new fault) }
+    ensures told { IfErr result (λ fault.
+        IsOfOneEnd ends.new.reader_failed ends.new.writer_failed fault) }
     ensures serves { ConnectionIsServed (S.gives service.now) C.ticks
         (io (I.remaining ends.old.reader.now) (O.contents ends.old.writer.now))
         (world pass.old clock.old)

@@ -11,7 +11,7 @@ use memory_disk::MemDisk;
 use std::alloc::Global;
 use std::fs::{self, File};
 use std::rt::{Clock, Files};
-use wal::Wal;
+use wal::{Capacity, Wal};
 
 /// The capacity of a segment, in bytes: 256 MiB, so that all appends go into one.
 const CAPACITY: u64 = 1 << 28;
@@ -67,7 +67,10 @@ pub fn small(alloc: Global) -> Result<MemDisk> {
 pub fn open<D: Disk + Drop>(alloc: Global, slots: [D; 2]) -> Result<Wal<D>>
     ensures { IfOk result (λ log. log.cap ≡ 2 ^ 28) }
 {
-    match Wal::open(alloc, slots, 0, 1, CAPACITY) {
+    let Some(capacity) = Capacity::new(CAPACITY) else {
+        unreachable!()
+    };
+    match Wal::open(alloc, slots, 0, 1, capacity) {
         Ok((log, _streams)) => Ok(log),
         Err(refusal) => Err(refusal.0.into()),
     }

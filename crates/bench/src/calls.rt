@@ -15,6 +15,7 @@ use std::rt::Clock;
 use std::sync::{Barrier, Wait};
 use std::thread::{self, Threads};
 use std::time::Instant;
+use wal::Capacity;
 
 /// The capacity of a segment, in bytes: so great that a timed push is appended, and no segment is ever full.
 const CAPACITY: u64 = 1 << 29;
@@ -61,10 +62,13 @@ where
     if slots.is_empty() || slots.len() > 64 || passes == 0 || passes > 64 {
         bail!("there are 1 to 64 shards and passes");
     }
+    let Some(capacity) = Capacity::new(CAPACITY) else {
+        unreachable!()
+    };
     let settings = Settings {
         passes,
         limits: Limits::PROFILE,
-        capacity: CAPACITY,
+        capacity,
     };
     match Ingester::open(rt, *rt, alloc, slots, settings) {
         Ok(opened) => Ok(opened),

@@ -11,6 +11,7 @@ use std::alloc::Global;
 use std::collections::VecDeque;
 use std::fs::{self, File, Files};
 use std::rt::Clock;
+use wal::Capacity;
 
 /// The capacity of a segment, in bytes: so great that a timed push is appended, and no segment is ever full.
 const CAPACITY: u64 = 1 << 29;
@@ -71,7 +72,10 @@ fn run_over<R: Clock + Files<File = File> + AllocGlobal>(
 /// A shard over empty files.
 fn open<R: Files<File = File> + AllocGlobal>(rt: &R, folder: &str) -> Result<LoneShard<FileDisk>> {
     let slots = [disk_in(rt, folder, "even")?, disk_in(rt, folder, "odd")?];
-    match LoneShard::open(rt.alloc(), slots, Limits::PROFILE, CAPACITY)? {
+    let Some(capacity) = Capacity::new(CAPACITY) else {
+        unreachable!()
+    };
+    match LoneShard::open(rt.alloc(), slots, Limits::PROFILE, capacity)? {
         Ok(lone) => Ok(lone),
         Err(refusal) => Err(refusal.0.into()),
     }

@@ -15,7 +15,8 @@ const ENTRIES: u32 = 1_000;
 
 /// The line of an entry, of 200 bytes.
 const LINE: &[u8] =
-    b"level=info ts=2023-11-14T22:13:20Z caller=handler.go:112 method=POST path=/api/v1/orders status=201 duration=12ms bytes=482 trace=4bf92f3577b34da6a3ce929d0e0e4736 user=4711 region=eu-west-1 node=a-17 ";
+    b"level=info ts=2023-11-14T22:13:20Z caller=handler.go:112 method=POST path=/api/v1/orders status=201 \
+    duration=12ms bytes=482 trace=4bf92f3577b34da6a3ce929d0e0e4736 user=4711 region=eu-west-1 node=a-17 ";
 
 /// Reads a segment of 64 MiB.
 pub fn run<R: Clock + Print + AllocGlobal>(rt: &R, mode: Mode) -> Result<()> {

@@ -56,7 +56,8 @@ fn load_of(alloc: Global, requests: u64, entries: u64) -> Result<Load> {
         let body = body_of(alloc, first, entries, LINE)?;
         let length = body.len();
         text.tell(format_args!(
-            "POST /loki/api/v1/push HTTP/1.1\r\nHost: 127.0.0.1:3100\r\nX-Scope-OrgID: t\r\nContent-Type: application/json\r\nContent-Length: {length}\r\n\r\n{body}"
+            "POST /loki/api/v1/push HTTP/1.1\r\nHost: 127.0.0.1:3100\r\nX-Scope-OrgID: t\r\n\
+            Content-Type: application/json\r\nContent-Length: {length}\r\n\r\n{body}"
         ));
         bodies.push(body)?;
     }

@@ -27,7 +27,8 @@ pub fn open_alone(
     slots: [MemDisk; 2],
     settings: CaseSettings,
 ) -> Result<OpenResult> {
-    match LoneShard::open(alloc, slots, settings.limits, settings.capacity)? {
+    let capacity = settings.lawful_capacity()?;
+    match LoneShard::open(alloc, slots, settings.limits, capacity)? {
         Ok(shard) => Ok(Ok(Box::new(alloc, shard)?)),
         Err(refusal) => Ok(Err(refusal)),
     }
@@ -43,13 +44,9 @@ pub fn open_apart(
     settings: CaseSettings,
     calls: &Gathered,
 ) -> Result<Apart> {
-    let CaseSettings {
-        limits,
-        capacity,
-        ..
-    } = settings;
     let mut calls = calls.calls(alloc)?;
-    match LoneShard::open_apart(alloc, slots, limits, capacity, &mut calls)? {
+    let capacity = settings.lawful_capacity()?;
+    match LoneShard::open_apart(alloc, slots, settings.limits, capacity, &mut calls)? {
         Ok((shard, grouped)) => Ok(Ok((Box::new(alloc, shard)?, grouped))),
         Err(refusal) => Ok(Err(refusal)),
     }

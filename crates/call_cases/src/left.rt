@@ -6,7 +6,7 @@ use disk::Disk;
 use memory_disk::MemDisk;
 use rows::Said;
 use std::alloc::Global;
-use wal::{OpenFault, Wal};
+use wal::{Capacity, OpenFault, Wal};
 
 /// The capacity of a segment, in bytes, where slots are opened only to be looked at.
 const CAPACITY: u64 = 16_384;
@@ -88,7 +88,10 @@ fn segment_in(
     if count == 0 || count > 64 {
         bail!("there are 1 to 64 shards");
     }
-    match Wal::open(alloc, copy_of(alloc, slots)?, shard, count, CAPACITY) {
+    let Some(capacity) = Capacity::new(CAPACITY) else {
+        unreachable!()
+    };
+    match Wal::open(alloc, copy_of(alloc, slots)?, shard, count, capacity) {
         Ok((log, _image)) => Ok(Ok((log.generation(), log.end().saturating_add(1)))),
         Err(refusal) => Ok(Err(refusal.0)),
     }

@@ -3,6 +3,7 @@
 use crate::calls::number_of;
 use accept::Limits;
 use anyhow::{Result, bail};
+use wal::Capacity;
 
 /// The settings with which slots are opened.
 #[derive(Clone, Copy)]
@@ -22,6 +23,17 @@ impl CaseSettings {
         capacity: 4_096,
         passes: 1,
     };
+
+    /// The greatest length of a segment.
+    ///
+    /// # Errors
+    /// More than 2^30 bytes.
+    pub fn lawful_capacity(&self) -> Result<Capacity> {
+        match Capacity::new(self.capacity) {
+            Some(capacity) => Ok(capacity),
+            None => bail!("a limit is out of its bounds"),
+        }
+    }
 
     /// Takes one of the settings from a line: its word, and the number after it.
     ///

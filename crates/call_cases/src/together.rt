@@ -52,17 +52,14 @@ impl Together {
     where
         R: Threads + Wait + Copy + Send + Sync + 'static,
     {
-        let CaseSettings {
-            limits,
-            capacity,
-            passes,
-        } = settings;
+        let CaseSettings { limits, passes, .. } = settings;
         if slots.is_empty() || slots.len() > 64 || passes == 0 || passes > 64 {
             bail!("there are 1 to 64 shards and passes");
         }
-        if !limits.are_lawful() || capacity > 1 << 30 {
+        if !limits.are_lawful() {
             bail!("a limit is out of its bounds");
         }
+        let capacity = settings.lawful_capacity()?;
         let count = slots.len() as u32;
         let settings = ingester::Settings {
             passes,

@@ -16,6 +16,7 @@ use memory_disk::MemDisk;
 use std::alloc::{AllocError, Global};
 use std::sync::Wait;
 use std::thread::Threads;
+use wal::Capacity;
 
 /// The bytes for which the slots of a shard have room together. Their records have room for twice as many.
 const ROOM: u64 = 1 << 22;
@@ -53,6 +54,14 @@ fn slots_of(alloc: Global, shards: u32, stops: u64) -> Result<Vec<[MemDisk; 2]>>
     Ok(slots)
 }
 
+/// The capacity of a plan, at most 2^30 bytes.
+fn capacity_of(plan: &CasePlan) -> Result<Capacity> {
+    let Some(capacity) = Capacity::new(plan.capacity.min(Capacity::MAX_BYTES)) else {
+        bail!("a capacity is at most 2^30");
+    };
+    Ok(capacity)
+}
+
 impl OnePassIngester {
     /// Opens the shards, slots and capacity of a plan.
     ///
@@ -67,11 +76,10 @@ impl OnePassIngester {
             bail!("there are 1 to 64 shards");
         }
         let count = slots.len() as u32;
-        let capacity = plan.capacity.min(1 << 30);
         let settings = Settings {
             passes: 1,
             limits: Limits::PROFILE,
-            capacity,
+            capacity: capacity_of(plan)?,
         };
         match Ingester::open(rt, *rt, alloc, slots, settings) {
             Ok((ingester, mut passes)) => {

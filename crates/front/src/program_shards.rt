@@ -1,5 +1,5 @@
 //! Shards that programs open and close.
-ghost use Rattle.std.specs.Prelude.{◌≡◌, ◌<◌, ◌≤◌, ◌^◌, ℕ, List, Some, slice_get, vec_len, IfOk, IfErr};
+ghost use Rattle.std.specs.Prelude.{◌≡◌, ◌<◌, ◌≤◌, ℕ, List, Some, slice_get, vec_len, IfOk, IfErr};
 ghost use Rattle.labels.specs.Shards.{max_shards};
 ghost use Rattle.accept.specs.OneStream.{AreLimits};
 ghost use Rattle.history.specs.Handles.{Passed};
@@ -18,17 +18,17 @@ use openings::Observer;
 use std::alloc::Global;
 use std::sync::Wait;
 use std::thread::Threads;
+use wal::Capacity;
 
 /// Opens shards over these slots under these limits, with 1 to 64 passes, and starts a thread for each shard that owns
-/// it. `capacity` is how many bytes a segment may have, at most 2^30. `observer` is told of each shard as
-/// soon as it is replayed.
+/// it. `capacity` is how many bytes a segment may have. `observer` is told of each shard as soon as it is replayed.
 pub fn open_shards<D, R, O>(
     rt: &R,
     alloc: Global,
     slots: Vec<[D; 2]>,
     passes: u32,
     limits: Limits,
-    capacity: u64,
+    capacity: Capacity,
     observer: &O,
 ) -> Result<(Ingester<D>, Vec<Pass>), ProgramFault>
 where
@@ -38,7 +38,6 @@ where
     requires slots { (0 < vec_len slots) × (vec_len slots ≤ max_shards) }
     requires passes { (0 < passes) × (passes ≤ max_passes) }
     requires limits { AreLimits limits }
-    requires capacity { capacity ≤ 2 ^ 30 }
     ensures opened { IfOk result
         (λ it. IsOpenedUnder limits (vec_len slots) passes capacity it.0 it.1.items) }
     ensures found { IfOk result (λ it.

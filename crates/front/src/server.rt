@@ -1,5 +1,5 @@
 //! The program `ingesterd`: the server.
-ghost use Rattle.std.specs.Prelude.{◌≡◌, ◌≢◌, ◌↔◌, ◌≤◌, ◌^◌, ℕ, Some, IfErr, IfOk, IsSome, OnOk, slice_get, option_map, string_bytes};
+ghost use Rattle.std.specs.Prelude.{◌≡◌, ◌≢◌, ◌↔◌, ◌≤◌, ℕ, Some, IfErr, IfOk, IsSome, OnOk, slice_get, option_map, string_bytes};
 ghost use Rattle.history.specs.Handles.{Passed};
 ghost use Rattle.ingester.specs.Calls.{IsPassOf};
 ghost use Rattle.accept.specs.OneStream.{AreLimits};
@@ -31,6 +31,7 @@ use std::rt::Clock;
 use std::sync::Wait;
 use std::thread::Threads;
 use std::time::Instant;
+use wal::Capacity;
 use workers::{AcceptEnd, Bounds, serve_listener};
 
 /// Runs `ingesterd DIR PORT SHARDS WORKERS [CONNECTIONS]`, and gives its exit status.
@@ -93,7 +94,7 @@ where
         open,
         half_sent,
     };
-    match serve_folder(rt, alloc, asked, output, marks) {
+    match serve_folder(rt, alloc, &asked, output, marks) {
         Ok(_served) => 0,
         Err(stopped) => {
             let _ = writeln!(errors, "{stopped}");
@@ -108,20 +109,19 @@ struct Asked<'a> {
     words: ServerWords<'a>,
     environment: &'a Environment,
     limits: Limits,
-    capacity: u64,
+    capacity: Capacity,
     open: u64,
     half_sent: u64,
     ghost given: { limits_of environment.now ≡ Some limits },
     ghost lawful: { AreLimits limits },
     ghost room: { capacity ≡ capacity_of (option_map string_bytes environment.now.capacity) },
-    ghost small: { capacity ≤ 2 ^ 30 },
 }
 
 // Opens the folder, serves, and closes it.
 fn serve_folder<R, W: Write>(
     rt: &R,
     alloc: Global,
-    asked: Asked<'_>,
+    asked: &Asked<'_>,
     output: &mut W,
     marks: Option<Stderr>,
 ) -> Result<AcceptEnd, ProgramFault>
@@ -129,12 +129,12 @@ where
     R: Files<File = File> + Net<Listener = TcpListener, Stream = TcpStream>,
     R: Clock + Threads + Wait + Copy + Send + Sync + 'static,
     ensures served { OnOk result
-        (HasSaidReady asked.entry.words.port (W.contents output.old) (W.contents output.new)) }
-    ensures ends { IfOk result (ServesUntil asked.entry.words.connections) }
-    ensures over { OnOk result (HasServedAsAsked (IsTick {R = R}) asked.entry.environment.now
-        asked.entry.words) }
+        (HasSaidReady asked.now.words.port (W.contents output.old) (W.contents output.new)) }
+    ensures ends { IfOk result (ServesUntil asked.now.words.connections) }
+    ensures over { OnOk result (HasServedAsAsked (IsTick {R = R}) asked.now.environment.now
+        asked.now.words) }
     ensures stopped { IfErr result
-        (HasSaidUntil asked.entry.words.port (W.contents output.old) (W.contents output.new)) }
+        (HasSaidUntil asked.now.words.port (W.contents output.old) (W.contents output.new)) }
 {
     let words = asked.words;
     let slots = match open_slots(rt, alloc, words.folder, words.shards, marks) {
@@ -158,7 +158,7 @@ where
     }
     let lines = Lines {
         shards: FullShardLines::new(rt, marks),
-        busy: BusyLines::new(rt, marks, open_by(rt, alloc, &asked)),
+        busy: BusyLines::new(rt, marks, open_by(rt, alloc, asked)),
     };
     let (passes, served) = serve_port(rt, alloc, asked, &ingester, passes, &lines, output);
     close_shards(rt, ingester, passes);
@@ -189,7 +189,7 @@ fn open_by<R: Files<File = File>>(rt: &R, alloc: Global, asked: &Asked<'_>) -> u
 fn serve_port<'a, D, R, W: Write>(
     rt: &'a R,
     alloc: Global,
-    asked: Asked<'_>,
+    asked: &Asked<'_>,
     ingester: &Ingester<D>,
     passes: Vec<Pass>,
     lines: &'a Lines<'a, R>,
@@ -198,19 +198,19 @@ fn serve_port<'a, D, R, W: Write>(
 where
     D: Disk + Drop + Send,
     R: Net<Listener = TcpListener, Stream = TcpStream> + Clock + Threads + Wait + Sync,
-    requires opened { IsOpenedUnder asked.limits asked.words.shards asked.words.workers
-        asked.capacity ingester.now passes.items }
+    requires opened { IsOpenedUnder asked.now.limits asked.now.words.shards asked.now.words.workers
+        asked.now.capacity ingester.now passes.items }
     requires passes { (i : ℕ) (pass : Passed) → slice_get passes.items i ≡ Some pass
         → IsPassOf ingester.now pass }
     ensures passes { (i : ℕ) (pass : Passed) → slice_get result.0.items i ≡ Some pass
         → IsPassOf ingester.now pass }
-    ensures over { OnOk result.1 (HasServedAsAsked (IsTick {R = R}) asked.entry.environment.now
-        asked.entry.words) }
+    ensures over { OnOk result.1 (HasServedAsAsked (IsTick {R = R}) asked.now.environment.now
+        asked.now.words) }
     ensures served { OnOk result.1
-        (HasSaidReady asked.entry.words.port (W.contents output.old) (W.contents output.new)) }
-    ensures ends { IfOk result.1 (ServesUntil asked.entry.words.connections) }
+        (HasSaidReady asked.now.words.port (W.contents output.old) (W.contents output.new)) }
+    ensures ends { IfOk result.1 (ServesUntil asked.now.words.connections) }
     ensures stopped { IfErr result.1
-        (HasSaidUntil asked.entry.words.port (W.contents output.old) (W.contents output.new)) }
+        (HasSaidUntil asked.now.words.port (W.contents output.old) (W.contents output.new)) }
     ensures running { IfErr result.1 (λ stop. stop_status stop ≡ 1) }
 {
     let words = asked.words;

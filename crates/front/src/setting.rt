@@ -1,5 +1,5 @@
 //! What the environment sets.
-ghost use Rattle.std.specs.Prelude.{◌≡◌, ◌≤◌, ◌^◌, IfSome, MatchOption, option_map, string_bytes};
+ghost use Rattle.std.specs.Prelude.{◌≡◌, IfSome, MatchOption, option_map, string_bytes};
 ghost use Rattle.accept.specs.OneStream.{AreLimits};
 ghost use Rattle.programs.specs.Words.{GivesCapacity, capacity_of, GivesOpen, open_of, GivesHalfSent, half_sent_of};
 ghost use Rattle.programs.specs.Environments.{limits_of};
@@ -9,16 +9,16 @@ use programs::{
     Environment, LimitSetting, capacity_in, half_sent_in, limits_in, open_connections_in,
 };
 use std::io::Write;
+use wal::Capacity;
 
 /// How many bytes a slot may have by the environment. `None` where it gives no such number; a line of `errors` then
 /// says which it may give.
-pub fn capacity_by<E: Write>(environment: &Environment, errors: &mut E) -> Option<u64>
+pub fn capacity_by<E: Write>(environment: &Environment, errors: &mut E) -> Option<Capacity>
     ensures given { MatchOption result
         (¬ GivesCapacity (option_map string_bytes environment.now.capacity))
         (λ _. GivesCapacity (option_map string_bytes environment.now.capacity)) }
     ensures says { IfSome result (λ capacity. capacity
         ≡ capacity_of (option_map string_bytes environment.now.capacity)) }
-    ensures few { IfSome result (λ capacity. capacity ≤ 2 ^ 30) }
 {
     let capacity = capacity_in(environment.capacity.as_deref());
     if capacity.is_none() {

@@ -1,6 +1,5 @@
 -- What is one of a list.
-use Rattle.std.proofs.Common.{◌≡◌, ◌⊎◌, List, [], ◌∷◌, ◌++◌, refl, inl, inr, ⊎_elim}
-use Rattle.std.specs.Prelude.{flat_map}
+use Rattle.std.proofs.Common.{◌≡◌, ◌⊎◌, List, [], ◌∷◌, ◌++◌, refl, inl, inr, ⊎_elim, flat_map}
 use Rattle.headline.specs.Headline.{IsOneOf}
 
 module _ {A : Type 0} (x : A) where

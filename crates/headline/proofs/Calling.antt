@@ -1,24 +1,6 @@
 -- Each step of a pass is of a call that it made.
-use Rattle.std.proofs.Common.{◌≡◌, ℕ, ◌+◌, ◌<◌, Bool, true, false, cond, eqb, List, [], ◌∷◌, ◌++◌, refl, sym, ap, ◌∙◌, subst, inl, inr, ⊎_elim, append_assoc, eq-eqb}
-use Rattle.std.specs.Prelude.{Result, Ok, Err, flat_map}
-use Rattle.std.proofs.lemmas.Bool.{false≢true}
-use Rattle.accept.specs.declared.call.Call.{Call}
-use Rattle.accept.specs.declared.call.Reply.{Reply}
-use Rattle.accept.specs.declared.history.Ask.{Ask}
-use Rattle.accept.specs.declared.history.Step.{Step}
-use Rattle.accept.specs.declared.history.Item.{Item}
-use Rattle.accept.specs.declared.history.Item.TheVariants.{Answered, Failed}
-use Rattle.history.specs.declared.views.About.{About}
-use Rattle.history.specs.Histories.{IsByPasses, IsAmong, AreAmong, behind_first, shard_in, steps_by, steps_on}
-use Rattle.history.specs.Plays.{HasStepsOf, ask_of}
-use Rattle.history.specs.Handles.{Passed, fresh_pass}
-use Rattle.owners.specs.Openings.{Opening}
-use Rattle.accept.specs.declared.fault.CallFault.{CallFault}
-use Rattle.accept.specs.declared.fault.CallFault.TheVariants.{Memory, PassClosed, LogSpent, InDoubt}
-use Rattle.ingester.specs.Calls.{IsAnswered, IsRefused, IsGiven, IsGivenAfter, next_step}
-use Rattle.headline.specs.Threads.{What, Called, Looked, Met, Closed, Happening, Happens, HappenAfter, Thread, IsThread, leaves_call_in_doubt, calls_by_what, happened_to, calls_made_by}
-use Rattle.headline.specs.Headline.{IsOneOf, HaveThreads, WasCalled}
-use Rattle.headline.proofs.Among.{among_left, among_right, among_split}
+use Rattle.std.proofs.Common.{◌≡◌, ℕ, ◌+◌, ◌<◌, Bool, true, false, cond, eqb, List, [], ◌∷◌, ◌++◌, refl, sym, ap, ◌∙◌, subst, inl, inr, ⊎_elim, append_assoc, eq-eqb, Result, Ok, Err, flat_map}
+use Rattle.headline.proofs.Common.{Call, Reply, CallFault, PassClosed, InDoubt, Ask, Step, Item, Answered, Failed, About, Opening, IsByPasses, IsAmong, AreAmong, behind_first, shard_in, steps_by, steps_on, HasStepsOf, ask_of, Passed, fresh_pass, IsAnswered, IsRefused, IsGiven, IsGivenAfter, next_step, What, Called, Looked, Met, Closed, Happening, Happens, HappenAfter, Thread, IsThread, leaves_call_in_doubt, calls_by_what, happened_to, calls_made_by, IsOneOf, HaveThreads, WasCalled, false≢true, among_left, among_right, among_split, cond_both}
 use Rattle.headline.proofs.Living.{grows_on, fresh_sound}
 
 behind_among : (a : Ask) (asks : List Ask) → IsOneOf a (behind_first asks) → IsOneOf a asks
@@ -64,11 +46,10 @@ module _ (asks : List Ask) (old new : Passed) (c : AreCalls asks old) where
       }
 
   refused : (call : Call) (fault : CallFault) → IsOneOf (ask_of old.caller (old.caller.last + 1) call) asks → IsRefused old call new fault → AreCalls asks new
-  refused call Memory its is = dropped (ap (λ (p : Passed). p.caller.made) is) (ap (λ (p : Passed). p.caller.pending) is)
   refused call PassClosed its is = kept (ap (λ (p : Passed). p.caller.made) is) (ap (λ (p : Passed). p.caller.pending) is)
-  refused call LogSpent its is = dropped (ap (λ (p : Passed). p.caller.made) is) (ap (λ (p : Passed). p.caller.pending) is)
   refused call InDoubt its (inl is) = dropped (ap (λ (p : Passed). p.caller.made) is) (ap (λ (p : Passed). p.caller.pending) is)
   refused call InDoubt its (inr is) = opened call its (ap (λ (p : Passed). p.caller.made) is) (ap (λ (p : Passed). p.caller.pending) is)
+  refused call fault its is = dropped (ap (λ (p : Passed). p.caller.made) is) (ap (λ (p : Passed). p.caller.pending) is)
 
   given : (call : Call) (outcome : Result Reply CallFault) → IsOneOf (ask_of old.caller (old.caller.last + 1) call) asks → IsGiven old call outcome new → AreCalls asks new
   given call (Ok reply) its is = answered call reply its is.answered
@@ -104,12 +85,8 @@ step_by p s (Answered r ∷ items) e one = ⊎_elim
     let same : s ≡ r = cc in
     let his : eqb p r.ask.pass ≡ true = eq-eqb p r.ask.pass (e ∙ ap (λ (t : Step). t.ask.pass) same) in
     subst (λ (b : Bool). IsOneOf s (cond b (r ∷ steps_by p items) (steps_by p items))) (sym his) (inl same))
-    (λ (t : IsOneOf (Answered s) items). later (eqb p r.ask.pass) (step_by p s items e t))
+    (λ (t : IsOneOf (Answered s) items). cond_both (eqb p r.ask.pass) (r ∷ steps_by p items) (steps_by p items) (IsOneOf s) (λ f. inr (step_by p s items e t)) (λ f. step_by p s items e t))
     one
-  where
-    later : (b : Bool) → IsOneOf s (steps_by p items) → IsOneOf s (cond b (r ∷ steps_by p items) (steps_by p items))
-    later true t = inr t
-    later false t = t
 
 pub step_on : (about : About) (k : ℕ) (s : Step) (steps : List Step) → IsOneOf s (steps_on about k steps) → IsOneOf s steps
 step_on about k s [] one = one
@@ -125,11 +102,12 @@ one_among a [] i = i
 one_among a (b ∷ asks) (inl e) = inl (sym e)
 one_among a (b ∷ asks) (inr i) = inr (one_among a asks i)
 
-each_among : (s : Step) (steps : List Step) (asks : List Ask) → AreAmong steps asks → IsOneOf s steps → IsOneOf s.ask asks
-each_among s [] asks i one = absurd one
-each_among s (r ∷ steps) asks i one = ⊎_elim
-    (λ (e : s ≡ r). subst (λ (t : Step). IsOneOf t.ask asks) (sym e) (one_among r.ask asks i.0))
-    (λ (t : IsOneOf s steps). each_among s steps asks i.1 t)
+-- each of these steps is of an open call
+pub open_one : (s : Step) (steps : List Step) (asks : List Ask) → AreAmong steps asks → IsOneOf s steps → IsAmong s.ask asks
+open_one s [] asks i one = absurd one
+open_one s (r ∷ steps) asks i one = ⊎_elim
+    (λ (e : s ≡ r). subst (λ (t : Step). IsAmong t.ask asks) (sym e) i.0)
+    (λ (t : IsOneOf s steps). open_one s steps asks i.1 t)
     one
 
 called_step : (asks : List Ask) (pass : Passed) (k : ℕ) (items : List Item) (s : Step) → AreCalls asks pass → HasStepsOf pass.caller k items → pass.caller.pass ≡ s.ask.pass → IsOneOf (Answered s) items → IsOneOf s.ask asks
@@ -137,7 +115,7 @@ called_step asks pass k items s c has his one =
     let made : List Step = steps_on pass.caller.about k pass.caller.made in
     ⊎_elim
     (λ (l : IsOneOf s made). c.made s (step_on pass.caller.about k s pass.caller.made l))
-    (λ (r : IsOneOf s has.rest). c.pending s.ask (each_among s has.rest pass.caller.pending has.among r))
+    (λ (r : IsOneOf s has.rest). c.pending s.ask (one_among s.ask pass.caller.pending (open_one s has.rest pass.caller.pending has.among r)))
     (among_split s made has.rest (subst (IsOneOf s) has.is (step_by pass.caller.pass s items his one)))
 
 pass_below : (n : ℕ) (s : Step) (items : List Item) → IsByPasses n items → IsOneOf (Answered s) items → s.ask.pass < n

@@ -1,15 +1,7 @@
 -- The steps of one call among the steps of its pass.
-use Rattle.std.proofs.Common.{◌≡◌, ◌≢◌, ◌⊎◌, ℕ, ◌<◌, ◌≤◌, Bool, true, false, cond, eqb, ◌&&◌, List, [], ◌∷◌, ◌++◌, map, filter, refl, sym, ap, ◌∙◌, subst, inl, inr, ⊎_elim, append-nil, eq-eqb, ne_eqb, arith}
+use Rattle.std.proofs.Common.{◌≡◌, ◌≢◌, ◌⊎◌, ℕ, ◌<◌, ◌≤◌, Bool, true, false, cond, eqb, ◌&&◌, List, [], ◌∷◌, ◌++◌, map, filter, refl, sym, ap, ◌∙◌, subst, ⊎_elim, append-nil, eq-eqb, ne_eqb, arith}
 use Rattle.std.proofs.lemmas.List.Elements.{filter-append}
-use Rattle.accept.specs.declared.history.Ask.{Ask}
-use Rattle.accept.specs.declared.history.Step.{Step}
-use Rattle.accept.specs.declared.history.Item.{Item}
-use Rattle.accept.specs.declared.history.Item.TheVariants.{Answered, Failed}
-use Rattle.accept.specs.Histories.{is_step_of}
-use Rattle.history.specs.declared.views.About.{About}
-use Rattle.history.specs.Histories.{shard_in, steps_by, steps_on, HaveNumbersBelow, HaveNumbersAbove, IsAmong, AreAmong}
-use Rattle.history.proofs.Past.{on_append, below_on}
-use Rattle.headline.specs.Headline.{before_step}
+use Rattle.headline.proofs.Common.{Ask, Step, Item, Answered, Failed, About, is_step_of, shard_in, steps_by, steps_on, HaveNumbersBelow, HaveNumbersAbove, IsAmong, AreAmong, before_step, cases_Bool, on_append, below_on, cond_both}
 
 -- the steps of a call
 abbrev steps_of : Ask → List Item → List Item
@@ -44,13 +36,9 @@ none_above : (n : ℕ) (xs : List Step) → HaveNumbersAbove n xs → filter (ha
 none_above n [] h = refl
 none_above n (s ∷ xs) h = skip_one n s xs (λ e. let l = h.0 in omega arith) ∙ none_above n xs h.1
 
-above_cond : (n : ℕ) (b : Bool) (s : Step) (xs : List Step) → n < s.ask.number → HaveNumbersAbove n xs → HaveNumbersAbove n (cond b (s ∷ xs) xs)
-above_cond n true s xs h t = (h, t)
-above_cond n false s xs h t = t
-
 above_on : (about : About) (k n : ℕ) (xs : List Step) → HaveNumbersAbove n xs → HaveNumbersAbove n (steps_on about k xs)
 above_on about k n [] h = tt
-above_on about k n (s ∷ xs) h = above_cond n (eqb k (shard_in about s.ask)) s (steps_on about k xs) h.0 (above_on about k n xs h.1)
+above_on about k n (s ∷ xs) h = cond_both (eqb k (shard_in about s.ask)) (s ∷ steps_on about k xs) (steps_on about k xs) (HaveNumbersAbove n) (λ e. (h.0, above_on about k n xs h.1)) (λ e. above_on about k n xs h.1)
 
 -- the numbers of these calls are n or above
 abbrev pub AreFrom : ℕ → List Ask → Type 0
@@ -119,11 +107,7 @@ skips a (x ∷ xs) ys none = ⊎_elim
     (λ (e : is_step_of a x ≡ false).
     ap (λ b. cond b [] (x ∷ before_step a (xs ++ ys))) e
     ∙ ap (λ l. x ∷ l) (skips a xs ys (sym (ap (λ b. cond b (x ∷ steps_of a xs) (steps_of a xs)) e) ∙ none)))
-    (either (is_step_of a x))
-  where
-    either : (b : Bool) → (b ≡ true) ⊎ (b ≡ false)
-    either true = inl refl
-    either false = inr refl
+    (cases_Bool (is_step_of a x))
 
 -- what stands before the one step of a call
 pub before_one : (s : Step) (xs ys : List Item) → steps_of s.ask (xs ++ Answered s ∷ ys) ≡ Answered s ∷ [] → before_step s.ask (xs ++ Answered s ∷ ys) ≡ xs

@@ -1,43 +1,27 @@
 -- The headline of an opening, until it is closed or cut.
-use Rattle.std.proofs.Common.{◌≡◌, ℕ, suc, ◌+◌, ◌<◌, ◌≤◌, List, [], ◌∷◌, true, length, refl, inl, inr, sym, ap, ◌∙◌, subst, ⊎_elim, arith, Option, Some, None, length-append}
-use Rattle.std.specs.Prelude.{slice_get}
+use Rattle.std.proofs.Common.{◌≡◌, ℕ, suc, ◌+◌, ◌<◌, ◌≤◌, List, [], ◌∷◌, true, length, refl, inl, inr, ◌⊎◌, sym, ap, ◌∙◌, subst, ⊎_elim, arith, Option, Some, None, length-append, slice_get}
 use Rattle.std.proofs.lemmas.Option.{slice_get_cases}
-use Rattle.accept.specs.declared.history.Item.{Item}
-use Rattle.accept.specs.Rooms.{Streams}
-use Rattle.disk.specs.Sight.{Sight}
-use Rattle.accept.specs.Histories.{is_marked}
-use Rattle.segment.specs.declared.owner.Owner.{Owner}
-use Rattle.segment.specs.Segments.{owner_of}
-use Rattle.wal.specs.declared.fault.OpenFault.TheVariants.{Device, Memory}
-use Rattle.wal.specs.declared.log.Wal.{Wal}
-use Rattle.wal.specs.Logs.{Follow, slots}
-use Rattle.wal.specs.Moments.{Pair, HasFailed, HasNoFailure}
-use Rattle.wal.specs.Recovery.{Recovers}
+use Rattle.headline.proofs.Common.{Streams, Item, Sight, Wal, OpenFault, Owner, Opening, is_marked, owner_of, Device, Memory, Follow, slots, Pair, HasFailed, HasNoFailure, Recovers, Covers, IsAfter, slots_of, CountsCause, base_at, history_of, doubt_of, fresh_book, opened_shard, IsHandedOut, Thread, last_passes, RefusedShard, IsForDeviceOrMemory, IsReplay, shard_then, Life, ShardEnd, HandedOut, CutAt, IsLife, IsEnd, WereRead, HasFailedSince, MayBeReplayed, MayBeRefused, IsHeadlineOf, failures_of, slots_then, LeftAt, AreLeftAt, writing_at, writing_in}
 use Rattle.wal.proofs.OneImage.{settled_seen}
-use Rattle.wal.specs.declared.fault.OpenFault.{OpenFault}
-use Rattle.wal.specs.Covers.{Covers, IsAfter}
-use Rattle.wal.specs.Opening.{slots_of, CountsCause}
-use Rattle.history.specs.Histories.{base_at, history_of, doubt_of}
-use Rattle.history.specs.Handles.{fresh_book}
-use Rattle.owners.specs.Openings.{Opening}
-use Rattle.owners.specs.Places.{opened_shard}
-use Rattle.ingester.specs.Closings.{IsHandedOut}
-use Rattle.headline.specs.Threads.{Thread, last_passes}
-use Rattle.headline.specs.Headline.{RefusedShard, IsForDeviceOrMemory, IsReplay}
-use Rattle.headline.specs.Turns.{Moment, Between, Within, IsMoment, FollowThen, shard_then}
-use Rattle.headline.specs.Lives.{Life, ShardEnd, HandedOut, CutAt, IsLife, IsEnd, WereRead, HasFailedSince, MayBeReplayed, MayBeRefused, IsHeadlineOf, failures_of, slots_then, LeftAt, AreLeftAt, writing_at, writing_in}
 use Rattle.headline.proofs.Leaving.{covered_left, found_at, left_length, left_at, opened_at, given_at}
-use Rattle.headline.proofs.Marking.{lead_marks, lead_follows, fresh_marks, turn_follows}
+use Rattle.headline.proofs.Marking.{lead_marks, lead_follows, fresh_marks, follow_before}
 use Rattle.headline.proofs.Saying.{IsKnown, end_among, says as said}
 use Rattle.headline.proofs.Turning.{index_get, stretch_rests, stretch_covers}
 use Rattle.headline.proofs.Having.{thread_told}
 
-pub both_same : (old new : Pair) → HasNoFailure old new → failures_of new ≡ failures_of old
+both_same : (old new : Pair) → HasNoFailure old new → failures_of new ≡ failures_of old
 both_same old new h = λ i. (h.0 i, h.1 i)
 
-pub both_differ : (old new : Pair) → HasFailed old new → failures_of new ≡ failures_of old → ⊥
+both_differ : (old new : Pair) → HasFailed old new → failures_of new ≡ failures_of old → ⊥
 both_differ old new (inl f) e = f (ap (λ (c : ℕ × ℕ). c.0) e)
 both_differ old new (inr f) e = f (ap (λ (c : ℕ × ℕ). c.1) e)
+
+-- a shard is refused for one of two causes, each with its counts
+pub for_device_or_memory : (r : RefusedShard) (old new : Pair) → r.failures_before ≡ failures_of old → r.failures_after ≡ failures_of new → CountsCause r.fault old new → (r.fault ≡ Device) ⊎ (r.fault ≡ Memory) → IsForDeviceOrMemory r
+for_device_or_memory r old new before after counted cause = ⊎_elim
+    (λ (e : r.fault ≡ Device). inl (e, λ same. both_differ old new (subst (λ (x : OpenFault). CountsCause x old new) e counted) (sym after ∙ same ∙ before)))
+    (λ (e : r.fault ≡ Memory). inr (e, after ∙ both_same old new (subst (λ (x : OpenFault). CountsCause x old new) e counted) ∙ sym before))
+    cause
 
 module _ {D : Type 0} (sight : D → Sight) (follows : D → Type 0) (only_now : (d : D) (c : List ℕ) → follows d → (sight d).left_since (sight d).moment c → (sight d).may_leave c)
     (lived : Life D) (life : IsLife sight follows lived) where
@@ -62,11 +46,6 @@ module _ {D : Type 0} (sight : D → Sight) (follows : D → Type 0) (only_now :
     pub follow : Follow follows opened
     pub marks : is_marked items ≡ true → HasFailed (slots sight opened) (slots_then sight follows end)
 
-  -- at the start of the turn that was cut
-  follow_before : (m : Moment D) → IsMoment sight follows m → FollowThen sight follows m → Follow follows (shard_then m).log
-  follow_before (Between s) is f = f
-  follow_before (Within t) is f = turn_follows sight follows t is.turn f
-
   pub good_end : (k : ℕ) (end : ShardEnd D) → IsEnd sight follows opening threads k end → (items : List Item) × IsGood k end items
   good_end k (HandedOut it) is =
       let out : IsHandedOut sight follows opening (last_passes threads) k it = is.0 in (
@@ -89,7 +68,7 @@ module _ {D : Type 0} (sight : D → Sight) (follows : D → Type 0) (only_now :
           covers = λ left l. stretch_covers sight follows only_now opening threads (length given) life.capacity k st left is life.shards o l;
           opened = is.opened;
           opened_as = is.opened_as;
-          follow = lead_follows sight follows (opened_shard opening k is.opened) (shard_then st.moment) st.turns is.turned (follow_before st.moment is.moment is.follow);
+          follow = lead_follows sight follows (opened_shard opening k is.opened) (shard_then st.moment) st.turns is.turned (follow_before sight follows st.moment is.moment is.follow);
           marks = (lead_marks sight follows is.opened (opened_shard opening k is.opened) (shard_then st.moment) st.turns (fresh_marks sight follows is.opened (fresh_book opening.table opening.about k) refl) is.turned).marked;
         },
   )
@@ -154,18 +133,7 @@ module _ {D : Type 0} (sight : D → Sight) (follows : D → Type 0) (only_now :
       let g = (history_at k).1 (omega arith) in
       let crash : LeftAt sight follows g.end f.given = left_at sight follows ends f.front f.behind f.given g.end (subst (AreLeftAt sight follows ends) f.all_are r.crash) (ap (slice_get ends) number ∙ g.there) in
       let covers = subst (λ (n : ℕ). Covers (owner_of k n) opening.about.limits (slots_of sight f.given) (history_of opening.about k (histories k)) (writing_at (Some g.end) (histories k))) counted (g.good.covers f.given crash) in
-      ⊎_elim
-      (λ (e : shown.fault ≡ Device). inl (
-        e,
-        λ same.
-            both_differ (slots_of sight f.given) (slots_of sight f.back) (subst (λ (x : OpenFault). CountsCause x (slots_of sight f.given) (slots_of sight f.back)) e f.refusal.counted) (sym r.after ∙ same ∙ r.before),
-      ))
-      (λ (e : shown.fault ≡ Memory). inr (
-        e,
-        r.after
-            ∙ both_same (slots_of sight f.given) (slots_of sight f.back) (subst (λ (x : OpenFault). CountsCause x (slots_of sight f.given) (slots_of sight f.back)) e f.refusal.counted)
-            ∙ sym r.before,
-      ))
+      for_device_or_memory shown (slots_of sight f.given) (slots_of sight f.back) r.before r.after f.refusal.counted
       (f.refusal.covered r.follow opening.about.limits (history_of opening.about k (histories k)) (writing_at (Some g.end) (histories k)) covers)
 
   pub says : IsHeadlineOf sight follows lived histories

@@ -1,36 +1,18 @@
 -- What is found in the end, after any events.
-use Rattle.std.proofs.Common.{◌≡◌, ℕ, zero, suc, ◌+◌, ◌<◌, List, [], ◌∷◌, ◌++◌, length, refl, sym, ap, ◌∙◌, subst, inl, inr, ⊎_elim, length-append, arith, Option}
+use Rattle.std.proofs.Common.{◌≡◌, ℕ, zero, suc, ◌+◌, ◌<◌, List, [], ◌∷◌, ◌++◌, length, refl, sym, ap, ◌∙◌, subst, inl, length-append, arith, Option}
 use Rattle.std.specs.FinMap as finite
-use Rattle.accept.specs.declared.limits.Limits.{Limits}
-use Rattle.accept.specs.declared.history.Ask.{Ask}
-use Rattle.accept.specs.declared.history.Item.{Item}
-use Rattle.accept.specs.declared.history.History.{History}
-use Rattle.accept.specs.Rooms.{Streams}
+use Rattle.headline.proofs.Common.{Streams, Limits, Ask, Item, History, About, Sight, Wal, owner_of, Recovers, Covers, IsAfter, slots_of, AllFollow, AreOpenedFrom, IsLegalAt, base_at, terms_of, history_of, RefusedShard, IsForDeviceOrMemory, IsReplay, Life, ShardEnd, IsLife, AreLeftAt, LogsFollow, writing_at, writing_in, legal_front}
 use Rattle.accept.proofs.Growing.{within-nothing}
 use Rattle.accept.proofs.Meanings.{meaning-nothing}
-use Rattle.disk.specs.Sight.{Sight}
-use Rattle.segment.specs.Segments.{owner_of}
-use Rattle.wal.specs.declared.fault.OpenFault.{OpenFault}
-use Rattle.wal.specs.declared.fault.OpenFault.TheVariants.{Device, Memory}
-use Rattle.wal.specs.declared.log.Wal.{Wal}
-use Rattle.wal.specs.Recovery.{Recovers}
-use Rattle.wal.specs.Covers.{Covers, IsAfter}
-use Rattle.wal.specs.Opening.{slots_of, AllFollow, CountsCause}
 use Rattle.wal.proofs.OneImage.{one_image}
 use Rattle.wal.proofs.Opened.{seen_stay}
-use Rattle.openings.specs.Findings.{AreOpenedFrom}
-use Rattle.history.specs.declared.views.About.{About}
-use Rattle.history.specs.Histories.{IsLegalAt, base_at, terms_of, history_of}
-use Rattle.history.proofs.Past.{legal_front}
 use Rattle.split.specs.Maps.{map_at}
 use Rattle.split.specs.Splits.{pair_at}
-use Rattle.headline.specs.Headline.{RefusedShard, IsForDeviceOrMemory, IsReplay}
-use Rattle.headline.specs.Lives.{Life, ShardEnd, IsLife, AreLeftAt, LogsFollow, writing_at, writing_in}
 use Rattle.headline.specs.Events.{Splitting, Event, Lived, Refused, Killed, Split, Unsplit, given_to, Makes, AreMade, AllFollowIn, ArePairsLeft, ArePairsLeftSince, AreLeftAfter, WasSplit, IsEvent, AreEvents, AreLeftLast, AreFoundLast, IsRefusedLast, AreHeadlinesOf, IsHeadlineOfEvents}
 use Rattle.headline.proofs.Leaving.{covered_left, left_length, given_at}
 use Rattle.headline.proofs.Turning.{index_get}
-use Rattle.headline.proofs.Telling.{plain_more}
-use Rattle.headline.proofs.Ending.{both_same, both_differ, history_at, histories, replays, says}
+use Rattle.headline.proofs.Telling.{part_of, plain_more}
+use Rattle.headline.proofs.Ending.{for_device_or_memory, history_at, histories, replays, says}
 use Rattle.headline.proofs.Pairing.{AreAtRest, opened_pair, left_pair, rests_attempt, covers_by, covers_since}
 
 -- a shard of these streams, before any call
@@ -43,10 +25,8 @@ one_state limits m n (zero, le, is) = is ∙ meaning-nothing m
 one_state limits m n (suc j, le, is) = absurd (omega arith)
 
 two : {A : Type 0} (xs : List A) → length xs ≡ 2 → (a : A) × (b : A) × (xs ≡ a ∷ b ∷ [])
-two [] e = absurd (omega arith)
-two (a ∷ []) e = absurd (omega arith)
 two (a ∷ b ∷ []) e = (a, b, refl)
-two (a ∷ b ∷ c ∷ xs) e = absurd (omega arith)
+two xs e = absurd (omega arith)
 
 module _ {D : Type 0} (sight : D → Sight) (follows : D → Type 0) (only_now : (d : D) (c : List ℕ) → follows d → (sight d).left_since (sight d).moment c → (sight d).may_leave c)
     (stay : (d : D) → follows d → (sight d).may_leave (sight d).seen) where
@@ -108,12 +88,7 @@ module _ {D : Type 0} (sight : D → Sight) (follows : D → Type 0) (only_now :
         record {
           base = refl;
           part = record { beginning = r.beginning; more = r.more };
-          part_is = record {
-            a_beginning_of_that_history = r.a_beginning_of_that_history;
-            continued_only_by_calls_being_written = r.continued_only_by_calls_being_written;
-            holds_every_answered_call = r.holds_every_answered_call;
-            holds_what_each_pass_had_seen = r.holds_what_each_pass_had_seen;
-          };
+          part_is = part_of life k its (after k) r;
           the_state_after = r.the_state_after ∙ plain_more (terms_of about k) (base_at about k) r.beginning r.more (alone (base_at about k)) legal.is (within-nothing about.limits (base_at about k)) (meaning-nothing (base_at about k));
         }
 
@@ -159,10 +134,7 @@ module _ {D : Type 0} (sight : D → Sight) (follows : D → Type 0) (only_now :
   -- the history of an opening that lived; no other event has one
   abbrev history_in : (e : Event D) → IsEvent sight follows e → ℕ → List Item
   history_in (Lived life) is = its life is
-  history_in (Refused a) is = λ k. []
-  history_in (Killed a) is = λ k. []
-  history_in (Split s) is = λ k. []
-  history_in (Unsplit s) is = λ k. []
+  history_in e is = λ k. []
 
   module _ (limits : Limits) (h : ℕ → History) (doubt : ℕ → List Ask) (n : ℕ) where
     -- what an old shard was read as
@@ -285,19 +257,7 @@ module _ {D : Type 0} (sight : D → Sight) (follows : D → Type 0) (only_now :
       let pair : pair_at r.left k ≡ f.given = ap (λ (i : ℕ). pair_at r.left i) (sym number) ∙ ap (λ (l : List (List D)). pair_at l (length f.front)) f.all_are ∙ pair_there f.front f.given f.behind in
       let covers = subst (λ (l : List D). Covers (owner_of k (length r.left)) kept.limits (slots_of sight l) (kept.h k) (kept.doubt k)) pair
       (subst (λ (m : ℕ). Covers (owner_of k m) kept.limits (slots_of sight (pair_at r.left k)) (kept.h k) (kept.doubt k)) (sym counted) (kept.keep.covers k (omega arith))) in
-      ⊎_elim
-      (λ (e : shown.fault ≡ Device). inl (
-        e,
-        λ same.
-            both_differ (slots_of sight f.given) (slots_of sight f.back) (subst (λ (x : OpenFault). CountsCause x (slots_of sight f.given) (slots_of sight f.back)) e f.refusal.counted) (sym r.after ∙ same ∙ r.before),
-      ))
-      (λ (e : shown.fault ≡ Memory). inr (
-        e,
-        r.after
-            ∙ both_same (slots_of sight f.given) (slots_of sight f.back) (subst (λ (x : OpenFault). CountsCause x (slots_of sight f.given) (slots_of sight f.back)) e f.refusal.counted)
-            ∙ sym r.before,
-      ))
-      (f.refusal.covered r.follow kept.limits (kept.h k) (kept.doubt k) covers)
+      for_device_or_memory shown (slots_of sight f.given) (slots_of sight f.back) r.before r.after f.refusal.counted (f.refusal.covered r.follow kept.limits (kept.h k) (kept.doubt k) covers)
 
   -- ---- from the first opening on
 
@@ -317,15 +277,9 @@ module _ {D : Type 0} (sight : D → Sight) (follows : D → Type 0) (only_now :
 
   headlines : (e : Event D) (events : List (Event D)) (are : AreEvents sight follows e events) → AreHeadlinesOf sight follows (e ∷ events) (all_histories e events are)
   headlines (Lived life) [] are = (says sight follows only_now life are, tt)
-  headlines (Refused a) [] are = tt
-  headlines (Killed a) [] are = tt
-  headlines (Split s) [] are = tt
-  headlines (Unsplit s) [] are = tt
   headlines (Lived life) (f ∷ events) are = (says sight follows only_now life are.0, headlines f events are.2)
-  headlines (Refused a) (f ∷ events) are = headlines f events are.2
-  headlines (Killed a) (f ∷ events) are = headlines f events are.2
-  headlines (Split s) (f ∷ events) are = headlines f events are.2
-  headlines (Unsplit s) (f ∷ events) are = headlines f events are.2
+  headlines e [] are = tt
+  headlines e (f ∷ events) are = headlines f events are.2
 
   pub events_say : (first : Life D) (events : List (Event D)) → AreEvents sight follows (Lived first) events → IsHeadlineOfEvents sight follows first events
   events_say first events are = record {

@@ -1,12 +1,7 @@
 -- Slots that were handed out end a stretch: nobody has to say which turns were made.
 use Rattle.std.proofs.Common.{ℕ, List, Bool, subst}
-use Rattle.disk.specs.Sight.{Sight}
-use Rattle.wal.specs.Opening.{AllFollow}
+use Rattle.headline.proofs.Common.{Sight, Opening, AllFollow, IsHandedOut, Thread, last_passes, Between, IsInTime, IsStretch}
 use Rattle.openings.proofs.Ordered.{ordered}
-use Rattle.owners.specs.Openings.{Opening}
-use Rattle.ingester.specs.Closings.{IsHandedOut}
-use Rattle.headline.specs.Threads.{Thread, last_passes}
-use Rattle.headline.specs.Turns.{Between, IsInTime, IsStretch}
 use Rattle.headline.proofs.Owning.{in_time_told}
 use Rattle.headline.proofs.Saying.{end_among}
 

@@ -1,26 +1,8 @@
 -- A pass, from the opening to its end, has seen the steps that it made, and after them at most some of its open calls.
-use Rattle.std.proofs.Common.{◌≡◌, ◌≢◌, ◌⊎◌, ℕ, zero, suc, ◌+◌, ◌<◌, ◌≤◌, Bool, true, false, ◌||◌, List, [], ◌∷◌, ◌++◌, replicate, refl, sym, ap, ◌∙◌, subst, inl, inr, ⊎_elim, append-nil}
-use Rattle.std.specs.Prelude.{Result, Ok, Err, slice_index_or}
+use Rattle.std.proofs.Common.{◌≡◌, ◌≢◌, ◌⊎◌, ℕ, ◌+◌, ◌<◌, ◌≤◌, Bool, true, false, List, [], ◌∷◌, ◌++◌, refl, sym, ap, ◌∙◌, subst, inl, inr, ⊎_elim, append-nil, Result, Ok, Err, slice_set}
 use Rattle.std.specs.Result.{IsErrOf}
-use Rattle.std.proofs.lemmas.Bool.{cases_eq, cases_lt, false≢true}
-use Rattle.accept.specs.declared.call.Call.{Call}
-use Rattle.accept.specs.declared.call.Reply.{Reply}
-use Rattle.accept.specs.declared.history.Ask.{Ask}
-use Rattle.accept.specs.declared.history.Step.{Step}
-use Rattle.accept.specs.declared.history.Item.{Item}
-use Rattle.history.specs.declared.views.About.{About}
-use Rattle.history.specs.declared.views.Caller.{Caller}
-use Rattle.history.specs.Histories.{IsLegalAt, IsAmong, AreAmong, steps_by, steps_on}
-use Rattle.history.specs.Plays.{seen_at, ask_of, HasStepsOf}
-use Rattle.history.specs.Handles.{Passed, is_closed_pass, HaveMet, fresh_pass}
+use Rattle.headline.proofs.Common.{Call, Reply, CallFault, PassClosed, InDoubt, Ask, Step, Item, About, Caller, Opening, IsLegalAt, IsAmong, AreAmong, steps_by, steps_on, seen_at, ask_of, HasStepsOf, Passed, is_closed_pass, HaveMet, fresh_pass, with_seen, IsAnswered, IsRefused, IsGiven, IsGivenAfter, next_step, shard_for, without_next, with_next, IsTold, What, Called, Looked, Met, Closed, Happening, Happens, HappenAfter, Thread, IsThread, IsLooked, IsMet, leaves_call_in_doubt, IsInTime, cases_eq, cases_lt, cases_Bool, false≢true, replicate_at, or_parts}
 use Rattle.history.proofs.Past.{steps_append, steps_mine, on_here, on_else, among_left}
-use Rattle.owners.specs.Openings.{Opening}
-use Rattle.accept.specs.declared.fault.CallFault.{CallFault}
-use Rattle.accept.specs.declared.fault.CallFault.TheVariants.{Memory, PassClosed, LogSpent, InDoubt}
-use Rattle.ingester.specs.Calls.{IsAnswered, IsRefused, IsGiven, IsGivenAfter, next_step, shard_for, without_next, with_next}
-use Rattle.ingester.specs.Closings.{IsTold}
-use Rattle.headline.specs.Threads.{What, Called, Looked, Met, Closed, Happening, Happens, HappenAfter, Thread, IsThread, IsLooked, IsMet, leaves_call_in_doubt}
-use Rattle.headline.specs.Turns.{IsInTime}
 use Rattle.headline.proofs.Living.{IsSound, ClosedIf, goes, given_open, sound_on, fresh_sound}
 use Rattle.headline.proofs.Owning.{HasOwn, told_in_time}
 
@@ -97,15 +79,22 @@ module _ (old new : Passed) (k : ℕ) where
       own
 
   refused : (call : Call) (fault : CallFault) → old.caller.pending ≡ [] ⊎ (fault ≡ PassClosed) → IsRefused old call new fault → HasOwn old.caller k → HasOwn new.caller k
-  refused call Memory (inl idle) is own = dropped is idle own
-  refused call Memory (inr e) is own = absurd (cc)
   refused call PassClosed idle is own = subst (λ (p : Passed). HasOwn p.caller k) (sym is) own
-  refused call LogSpent (inl idle) is own = dropped is idle own
-  refused call LogSpent (inr e) is own = absurd (cc)
   refused call InDoubt (inl idle) (inl is) own =
       stays (ap (λ (p : Passed). p.caller.pass) is) (ap (λ (p : Passed). p.caller.about) is) (ap (λ (p : Passed). p.caller.made) is) (ap (λ (p : Passed). seen_at p.caller k) is) (λ a i. absurd (subst (IsAmong a) idle i)) own
   refused call InDoubt (inl idle) (inr is) own = opened call (ap (λ (p : Passed). p.caller) is) own
-  refused call InDoubt (inr e) is own = absurd (cc)
+  refused call fault (inl idle) is own = dropped is idle own
+  refused call fault (inr e) is own = absurd (cc)
+
+-- where all but what it has seen is as it was
+module _ (old new : Passed) (seen : List (List Item)) (k : ℕ) (is : new ≡ record old { caller = with_seen old.caller seen }) where
+  saw_steps : HasStepsOf old.caller k (seen_at new.caller k) → HasOwn new.caller k
+  saw_steps h =
+      keeps old new k (ap (λ (p : Passed). p.caller.pass) is) (ap (λ (p : Passed). p.caller.about) is) (ap (λ (p : Passed). p.caller.made) is) h.rest h.is (subst (AreAmong h.rest) (sym (ap (λ (p : Passed). p.caller.pending) is)) h.among)
+
+  saw_nothing : seen_at new.caller k ≡ seen_at old.caller k → HasOwn old.caller k → HasOwn new.caller k
+  saw_nothing e own =
+      stays old new k (ap (λ (p : Passed). p.caller.pass) is) (ap (λ (p : Passed). p.caller.about) is) (ap (λ (p : Passed). p.caller.made) is) e (λ a i. subst (IsAmong a) (sym (ap (λ (p : Passed). p.caller.pending) is)) i) own
 
 spent : (fault : CallFault) → IsErrOf {T = Reply} {E = CallFault} (Err fault) PassClosed → fault ≡ PassClosed
 spent fault is = let same : Err fault ≡ Err PassClosed = is in cc
@@ -115,16 +104,8 @@ module _ {D : Type 0} (opening : Opening D) where
   idle_or : (old new : Passed) (call : Call) (fault : CallFault) → IsSound opening.about old → IsGiven old call (Err fault) new → (old.caller.pending ≡ []) ⊎ (fault ≡ PassClosed)
   idle_or old new call fault s is = ⊎_elim
       (λ (e : is_closed_pass old ≡ true). inr (spent fault (is.closed.1 e)))
-      (λ (e : is_closed_pass old ≡ false). inl (s.idle (open_of old.closed _ e)))
-      (either (is_closed_pass old))
-    where
-      open_of : (b c : Bool) → (b || c) ≡ false → b ≡ false
-      open_of false c e = refl
-      open_of true c e = absurd (false≢true (sym e))
-
-      either : (b : Bool) → (b ≡ true) ⊎ (b ≡ false)
-      either true = inl refl
-      either false = inr refl
+      (λ (e : is_closed_pass old ≡ false). inl (s.idle (or_parts old.closed _ e).0))
+      (cases_Bool (is_closed_pass old))
 
   given : (old new : Passed) (k : ℕ) (call : Call) (outcome : Result Reply CallFault) → IsSound opening.about old → IsGiven old call outcome new → HasOwn old.caller k → HasOwn new.caller k
   given old new k call (Ok reply) s is own = answered old new k call reply (s.idle (given_open opening old new call reply is)) is.answered own
@@ -136,55 +117,24 @@ module _ {D : Type 0} (opening : Opening D) where
   given_after true old new k call outcome s (inr is) own = opened old new k call (ap (λ (p : Passed). p.caller) is.1) own
 
   looked : (old new : Passed) (j k : ℕ) → IsLooked opening old j new → HasOwn old.caller k → HasOwn new.caller k
-  looked old new j k is own = ⊎_elim
-      (λ (e : k ≡ j). subst (HasOwn new.caller) (sym e) (keeps old new j pass about made is.steps.rest is.steps.is (into is.steps.rest is.steps.among)))
-      (λ (n : k ≢ j). stays old new k pass about made (is.others k n) (λ a i. subst (IsAmong a) (sym pending) i) own)
+  looked old new j k is own =
+      let seen = slice_set old.caller.seen j (seen_at new.caller j) in
+      ⊎_elim
+      (λ (e : k ≡ j). subst (HasOwn new.caller) (sym e) (saw_steps old new seen j is.pass is.steps))
+      (λ (n : k ≢ j). saw_nothing old new seen k is.pass (is.others k n) own)
       (cases_eq k j)
-    where
-      pass : new.caller.pass ≡ old.caller.pass
-      pass = ap (λ (x : Passed). x.caller.pass) is.pass
-
-      about : new.caller.about ≡ old.caller.about
-      about = ap (λ (x : Passed). x.caller.about) is.pass
-
-      made : new.caller.made ≡ old.caller.made
-      made = ap (λ (x : Passed). x.caller.made) is.pass
-
-      pending : new.caller.pending ≡ old.caller.pending
-      pending = ap (λ (x : Passed). x.caller.pending) is.pass
-
-      into : (steps : List Step) → AreAmong steps old.caller.pending → AreAmong steps new.caller.pending
-      into steps h = subst (AreAmong steps) (sym pending) h
 
   met : (old new : Passed) (other : Caller) (theirs : List (List Item)) (k : ℕ) → IsMet opening old other theirs new → HasOwn old.caller k → HasOwn new.caller k
   met old new other theirs k is own = ⊎_elim
       (λ (m : HaveMet old.caller other opening.about.shards new.caller.seen theirs). ⊎_elim
-      (λ (lt : k < opening.about.shards). has (m.below k lt).0.3)
-      (λ (le : opening.about.shards ≤ k). same (m.first_above k le))
+      (λ (lt : k < opening.about.shards). saw_steps old new new.caller.seen k is.pass (m.below k lt).0.3)
+      (λ (le : opening.about.shards ≤ k). saw_nothing old new new.caller.seen k is.pass (m.first_above k le) own)
       (cases_lt k opening.about.shards))
       (λ (m : HaveMet other old.caller opening.about.shards theirs new.caller.seen). ⊎_elim
-      (λ (lt : k < opening.about.shards). has (subst (HasStepsOf old.caller k) (sym (m.below k lt).1) (m.below k lt).0.4))
-      (λ (le : opening.about.shards ≤ k). same (m.second_above k le))
+      (λ (lt : k < opening.about.shards). saw_steps old new new.caller.seen k is.pass (subst (HasStepsOf old.caller k) (sym (m.below k lt).1) (m.below k lt).0.4))
+      (λ (le : opening.about.shards ≤ k). saw_nothing old new new.caller.seen k is.pass (m.second_above k le) own)
       (cases_lt k opening.about.shards))
       is.met
-    where
-      pass : new.caller.pass ≡ old.caller.pass
-      pass = ap (λ (x : Passed). x.caller.pass) is.pass
-
-      about : new.caller.about ≡ old.caller.about
-      about = ap (λ (x : Passed). x.caller.about) is.pass
-
-      made : new.caller.made ≡ old.caller.made
-      made = ap (λ (x : Passed). x.caller.made) is.pass
-
-      pending : new.caller.pending ≡ old.caller.pending
-      pending = ap (λ (x : Passed). x.caller.pending) is.pass
-
-      has : HasStepsOf old.caller k (seen_at new.caller k) → HasOwn new.caller k
-      has h = keeps old new k pass about made h.rest h.is (subst (AreAmong h.rest) (sym pending) h.among)
-
-      same : seen_at new.caller k ≡ seen_at old.caller k → HasOwn new.caller k
-      same e = stays old new k pass about made e (λ a i. subst (IsAmong a) (sym pending) i) own
 
   happens : (lost : Bool) (old new : Passed) (k : ℕ) (what : What) → IsSound opening.about old → Happens lost opening old what new → HasOwn old.caller k → HasOwn new.caller k
   happens lost old new k (Called call outcome) s is own = given_after lost old new k call outcome s is own
@@ -199,13 +149,8 @@ module _ {D : Type 0} (opening : Opening D) where
       let g = goes opening lost h.before h.after h.what (λ e. ap (λ (p : Passed). p.closed) is.0 ∙ up e) before is.1 in
       own_on (leaves_call_in_doubt h.what) h.after end hs k g.closed g.sound (happens lost h.before h.after k h.what before is.1 (subst (λ (p : Passed). HasOwn p.caller k) (sym is.0) own)) is.2
 
-  none_at : (n k : ℕ) → slice_index_or (replicate {A = List Item} n []) k [] ≡ []
-  none_at zero k = refl
-  none_at (suc n) zero = refl
-  none_at (suc n) (suc k) = none_at n k
-
   fresh_own : (p k : ℕ) → HasOwn (fresh_pass opening.table opening.about p).caller k
-  fresh_own p k = record { rest = []; is = ap (steps_by p) (none_at opening.about.shards k); among = tt }
+  fresh_own p k = record { rest = []; is = ap (steps_by p) (replicate_at {A = List Item} opening.about.shards k []); among = tt }
 
   -- a pass in time is told of a legal history
   pub thread_told : (t : Thread) (k : ℕ) (items : List Item) → IsThread opening t → IsLegalAt opening.about k items → IsInTime k items t.end → IsTold k items t.end

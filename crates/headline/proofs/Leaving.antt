@@ -1,20 +1,6 @@
 -- What a crash leaves, and what the next opening finds in it.
-use Rattle.std.proofs.Common.{◌≡◌, ℕ, zero, suc, ◌+◌, List, [], ◌∷◌, ◌++◌, length, refl, subst, arith, Some, None}
-use Rattle.std.specs.Prelude.{slice_get}
-use Rattle.accept.specs.declared.limits.Limits.{Limits}
-use Rattle.accept.specs.declared.history.Ask.{Ask}
-use Rattle.accept.specs.declared.history.History.{History}
-use Rattle.accept.specs.Rooms.{Streams}
-use Rattle.disk.specs.Sight.{Sight}
-use Rattle.segment.specs.declared.owner.Owner.{Owner}
-use Rattle.segment.specs.Segments.{owner_of}
-use Rattle.wal.specs.declared.log.Wal.{Wal}
-use Rattle.wal.specs.Logs.{Follow}
-use Rattle.wal.specs.Covers.{Covers}
-use Rattle.wal.specs.Opening.{slots_of}
-use Rattle.wal.specs.Opened.{IsOpenedFrom}
-use Rattle.openings.specs.Findings.{AreOpenedFrom}
-use Rattle.headline.specs.Lives.{ShardEnd, AreLeftBy, LeftAt, AreLeftAt, LogsFollow}
+use Rattle.std.proofs.Common.{◌≡◌, ℕ, zero, suc, ◌+◌, List, [], ◌∷◌, ◌++◌, length, refl, subst, arith, Some, None, slice_get}
+use Rattle.headline.proofs.Common.{Streams, Limits, Ask, History, Sight, Wal, Follow, Owner, owner_of, Covers, slots_of, IsOpenedFrom, AreOpenedFrom, ShardEnd, AreLeftBy, LeftAt, AreLeftAt, LogsFollow}
 
 module _ {D : Type 0} (sight : D → Sight) (follows : D → Type 0) where
   -- what is left of slots that keep a history keeps it
@@ -43,9 +29,6 @@ module _ {D : Type 0} (sight : D → Sight) (follows : D → Type 0) where
       → slice_get ends i ≡ Some end → slice_get ms i ≡ Some m → IsFoundAgain count capacity k end m
   found_again count capacity k j i [] left logs ms end m e a o f h g = let never : None ≡ Some end = h in absurd (cc)
   found_again count capacity k j i (x ∷ ends) [] logs ms end m e a o f h g = absurd a
-  found_again count capacity k j i (x ∷ ends) (l ∷ left) [] [] end m e a o f h g = absurd o
-  found_again count capacity k j i (x ∷ ends) (l ∷ left) [] (n ∷ ms) end m e a o f h g = absurd o
-  found_again count capacity k j i (x ∷ ends) (l ∷ left) (w ∷ logs) [] end m e a o f h g = absurd o
   found_again count capacity k j zero (x ∷ ends) (l ∷ left) (w ∷ logs) (n ∷ ms) end m e a o f h g =
       let same : x ≡ end = cc in
       let here : n ≡ m = cc in
@@ -59,6 +42,7 @@ module _ {D : Type 0} (sight : D → Sight) (follows : D → Type 0) where
       }
   found_again count capacity k j (suc i) (x ∷ ends) (l ∷ left) (w ∷ logs) (n ∷ ms) end m e a o f h g =
       found_again count capacity k (j + 1) i ends left logs ms end m (omega arith) a.1 o.1 f.1 h g
+  found_again count capacity k j i (x ∷ ends) (l ∷ left) logs ms end m e a o f h g = absurd o
 
   pub found_at : (count capacity k : ℕ) (ends : List (ShardEnd D)) (left : List (List D)) (logs : List (Wal D)) (ms : List Streams) (end : ShardEnd D) (m : Streams)
       → AreLeftAt sight follows ends left → AreOpenedFrom sight follows count capacity 0 left logs ms → LogsFollow sight follows logs
@@ -67,9 +51,8 @@ module _ {D : Type 0} (sight : D → Sight) (follows : D → Type 0) where
 
   pub left_length : (ends : List (ShardEnd D)) (left : List (List D)) → AreLeftAt sight follows ends left → length left ≡ length ends
   left_length [] [] a = refl
-  left_length [] (l ∷ left) a = absurd a
-  left_length (x ∷ ends) [] a = absurd a
   left_length (x ∷ ends) (l ∷ left) a = let more = left_length ends left a.1 in omega arith
+  left_length ends left a = absurd a
 
   -- the slots of one shard, as a crash left them
   pub left_at : (ends : List (ShardEnd D)) (front behind : List (List D)) (given : List D) (end : ShardEnd D) → AreLeftAt sight follows ends (front ++ given ∷ behind) → slice_get ends (length front) ≡ Some end → LeftAt sight follows end given

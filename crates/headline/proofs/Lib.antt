@@ -1,3 +1,4 @@
+pub mod Common
 pub mod Rising
 pub mod Owning
 pub mod Having

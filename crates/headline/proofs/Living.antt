@@ -1,25 +1,7 @@
 -- What a pass knows, from the opening to its end.
-use Rattle.std.proofs.Common.{◌≡◌, ◌≢◌, ◌⊎◌, ℕ, ◌+◌, ◌<◌, ◌≤◌, Bool, true, false, ◌||◌, List, [], ◌∷◌, ◌++◌, refl, sym, ap, ◌∙◌, subst, inl, inr, ⊎_elim, append-nil, arith}
-use Rattle.std.specs.Prelude.{Result, Ok, Err, slice_index_or}
+use Rattle.std.proofs.Common.{◌≡◌, ◌≢◌, ◌⊎◌, ℕ, ◌+◌, ◌<◌, ◌≤◌, Bool, true, false, List, [], ◌∷◌, ◌++◌, refl, sym, ap, ◌∙◌, subst, inl, inr, ⊎_elim, append-nil, arith, Result, Ok, Err, slice_index_or, slice_set}
 use Rattle.std.specs.Result.{IsErrOf}
-use Rattle.std.proofs.lemmas.Bool.{cases_eq, cases_lt, false≢true}
-use Rattle.accept.specs.declared.call.Call.{Call}
-use Rattle.accept.specs.declared.call.Reply.{Reply}
-use Rattle.accept.specs.declared.history.Ask.{Ask}
-use Rattle.accept.specs.declared.history.Item.{Item}
-use Rattle.history.specs.declared.views.About.{About}
-use Rattle.history.specs.declared.views.Caller.{Caller}
-use Rattle.history.specs.Histories.{IsBeginning, HaveNumbersBelow, IsRising, behind_first}
-use Rattle.history.specs.Plays.{seen_at, ask_of}
-use Rattle.history.specs.Handles.{Passed, is_closed_pass, HaveMet, fresh_pass}
-use Rattle.history.proofs.Lists.{begins_same, begins_front, begins_trans}
-use Rattle.history.proofs.Past.{below_more, below_last, rising_last}
-use Rattle.owners.specs.Openings.{Opening}
-use Rattle.accept.specs.declared.fault.CallFault.{CallFault}
-use Rattle.accept.specs.declared.fault.CallFault.TheVariants.{Memory, PassClosed, LogSpent, InDoubt}
-use Rattle.ingester.specs.Calls.{IsAnswered, IsRefused, IsGiven, IsGivenAfter, next_step, shard_for, without_next, with_next, closed_now}
-use Rattle.headline.specs.Threads.{What, Called, Looked, Met, Closed, Happening, Happens, HappenAfter, IsLooked, IsMet, leaves_call_in_doubt}
-use Rattle.headline.specs.Headline.{IsOneOf}
+use Rattle.headline.proofs.Common.{Call, Reply, CallFault, PassClosed, InDoubt, Ask, Item, About, Caller, Opening, IsBeginning, HaveNumbersBelow, IsRising, behind_first, seen_at, ask_of, Passed, is_closed_pass, HaveMet, fresh_pass, with_seen, IsAnswered, IsRefused, IsGiven, IsGivenAfter, next_step, shard_for, without_next, with_next, closed_now, What, Called, Looked, Met, Closed, Happening, Happens, HappenAfter, IsLooked, IsMet, leaves_call_in_doubt, IsOneOf, cases_eq, cases_lt, false≢true, begins_same, begins_front, begins_trans, below_more, below_last, rising_last, or_parts, false_from_ne_true}
 use Rattle.headline.proofs.Counting.{AreFrom}
 
 -- what a pass has made has rising numbers, below those of its open calls, and it has open calls only once it is closed
@@ -62,51 +44,33 @@ from_last : (n : ℕ) (asks : List Ask) (a : Ask) → AreFrom n asks → n ≤ a
 from_last n [] a h l = (l, tt)
 from_last n (b ∷ asks) a h l = (h.0, from_last n asks a h.1 l)
 
--- one number is used up
-sound_skipped : (about : About) (old : Passed) → IsSound about old → IsSound about (without_next old)
-sound_skipped about old s = record {
-  about_is = s.about_is;
-  idle = λ e. refl;
+-- it has made nothing more
+sound_kept : (about : About) (old new : Passed) (s : IsSound about old) → new.caller.about ≡ old.caller.about → (new.closed ≡ false → new.caller.pending ≡ []) → old.caller.last ≤ new.caller.last → new.caller.made ≡ old.caller.made → AreFrom s.floor new.caller.pending → IsSound about new
+sound_kept about old new s same idle more made pending = record {
+  about_is = same ∙ s.about_is;
+  idle = idle;
   floor = s.floor;
   low = let l = s.low in omega arith;
-  made = s.made;
-  pending = tt;
-  rising = s.rising;
+  made = subst (HaveNumbersBelow s.floor) (sym made) s.made;
+  pending = pending;
+  rising = subst IsRising (sym made) s.rising;
 }
+
+-- one number is used up
+sound_skipped : (about : About) (old : Passed) → IsSound about old → IsSound about (without_next old)
+sound_skipped about old s = sound_kept about old (without_next old) s refl (λ e. refl) (omega arith) refl tt
 
 -- one call stays open
 sound_open : (about : About) (old : Passed) (call : Call) → IsSound about old → old.closed ≡ true → IsSound about (with_next old call)
-sound_open about old call s up = record {
-  about_is = s.about_is;
-  idle = λ e. absurd (false≢true (sym e ∙ up));
-  floor = s.floor;
-  low = let l = s.low in omega arith;
-  made = s.made;
-  pending = from_last s.floor old.caller.pending (ask_of old.caller (old.caller.last + 1) call) s.pending s.low;
-  rising = s.rising;
-}
+sound_open about old call s up =
+    sound_kept about old (with_next old call) s refl (λ e. absurd (false≢true (sym e ∙ up))) (omega arith) refl (from_last s.floor old.caller.pending (ask_of old.caller (old.caller.last + 1) call) s.pending s.low)
 
 sound_closed : (about : About) (old : Passed) → IsSound about old → IsSound about (closed_now old)
-sound_closed about old s = record {
-  about_is = s.about_is;
-  idle = λ e. absurd (false≢true (sym e));
-  floor = s.floor;
-  low = s.low;
-  made = s.made;
-  pending = s.pending;
-  rising = s.rising;
-}
+sound_closed about old s = sound_kept about old (closed_now old) s refl (λ e. absurd (false≢true (sym e))) (omega arith) refl s.pending
 
 sound_lost : (about : About) (old : Passed) (call : Call) → IsSound about old → IsSound about (closed_now (with_next old call))
-sound_lost about old call s = record {
-  about_is = s.about_is;
-  idle = λ e. absurd (false≢true (sym e));
-  floor = s.floor;
-  low = let l = s.low in omega arith;
-  made = s.made;
-  pending = from_last s.floor old.caller.pending (ask_of old.caller (old.caller.last + 1) call) s.pending s.low;
-  rising = s.rising;
-}
+sound_lost about old call s =
+    sound_kept about old (closed_now (with_next old call)) s refl (λ e. absurd (false≢true (sym e))) (omega arith) refl (from_last s.floor old.caller.pending (ask_of old.caller (old.caller.last + 1) call) s.pending s.low)
 
 sound_as : (about : About) (a b : Passed) → b ≡ a → IsSound about a → IsSound about b
 sound_as about a b e s = subst (IsSound about) (sym e) s
@@ -115,18 +79,16 @@ grows_as : (old a b : Passed) → b ≡ a → Grows old a → Grows old b
 grows_as old a b e g = subst (Grows old) (sym e) g
 
 refused_sound : (about : About) (old new : Passed) (call : Call) (fault : CallFault) → IsSound about old → IsRefused old call new fault → IsSound about new
-refused_sound about old new call Memory s is = sound_as about (without_next old) new is (sound_skipped about old s)
 refused_sound about old new call PassClosed s is = sound_as about old new is s
-refused_sound about old new call LogSpent s is = sound_as about (without_next old) new is (sound_skipped about old s)
 refused_sound about old new call InDoubt s (inl is) = sound_as about (closed_now (without_next old)) new is (sound_closed about (without_next old) (sound_skipped about old s))
 refused_sound about old new call InDoubt s (inr is) = sound_as about (closed_now (with_next old call)) new is (sound_lost about old call s)
+refused_sound about old new call fault s is = sound_as about (without_next old) new is (sound_skipped about old s)
 
 refused_grows : (old new : Passed) (call : Call) (fault : CallFault) → IsRefused old call new fault → Grows old new
-refused_grows old new call Memory is = grows_as old (without_next old) new is (grows_kept old (without_next old) refl refl refl)
 refused_grows old new call PassClosed is = grows_as old old new is (grows_same old)
-refused_grows old new call LogSpent is = grows_as old (without_next old) new is (grows_kept old (without_next old) refl refl refl)
 refused_grows old new call InDoubt (inl is) = grows_as old (closed_now (without_next old)) new is (grows_kept old (closed_now (without_next old)) refl refl refl)
 refused_grows old new call InDoubt (inr is) = grows_as old (closed_now (with_next old call)) new is (grows_kept old (closed_now (with_next old call)) refl refl refl)
+refused_grows old new call fault is = grows_as old (without_next old) new is (grows_kept old (without_next old) refl refl refl)
 
 -- after a call in doubt the pass is closed
 refused_closed : (old new : Passed) (call : Call) → IsRefused old call new InDoubt → new.closed ≡ true
@@ -136,14 +98,9 @@ refused_closed old new call (inr is) = ap (λ (p : Passed). p.closed) is
 behind_one : (asks : List Ask) (a : Ask) → asks ≡ [] → behind_first (asks ++ a ∷ []) ≡ []
 behind_one asks a e = ap (λ (l : List Ask). behind_first (l ++ a ∷ [])) e
 
--- a pass that is not closed waits for no answer
-up_of : (b c : Bool) → (b || c) ≡ false → b ≡ false
-up_of false c e = refl
-up_of true c e = absurd (false≢true (sym e))
-
 answered_sound : (about : About) (old new : Passed) (call : Call) (reply : Reply) → IsSound about old → is_closed_pass old ≡ false → IsAnswered old new call reply → IsSound about new
 answered_sound about old new call reply s up is =
-    let none : old.caller.pending ≡ [] = s.idle (up_of old.closed _ up) in
+    let none : old.caller.pending ≡ [] = s.idle (or_parts old.closed _ up).0 in
     let made : new.caller.made ≡ old.caller.made ++ next_step old.caller call reply ∷ [] = ap (λ (p : Passed). p.caller.made) is.pass in
     let last : new.caller.last ≡ old.caller.last + 1 = ap (λ (p : Passed). p.caller.last) is.pass in
     let opened : new.caller.pending ≡ [] = ap (λ (p : Passed). p.caller.pending) is.pass ∙ behind_one old.caller.pending (ask_of old.caller (old.caller.last + 1) call) none in
@@ -171,20 +128,13 @@ answered_grows old new call reply is = record {
 not_spent : (reply : Reply) (fault : CallFault) → IsErrOf {T = Reply} {E = CallFault} (Ok reply) fault → ⊥
 not_spent reply fault is = let one : Ok reply ≡ Err fault = is in cc
 
-open_by : (b : Bool) → (b ≡ true → ⊥) → b ≡ false
-open_by b never = ⊎_elim (λ (e : b ≡ true). absurd (never e)) (λ (e : b ≡ false). e) (either b)
-  where
-    either : (b : Bool) → (b ≡ true) ⊎ (b ≡ false)
-    either true = inl refl
-    either false = inr refl
-
 module _ {D : Type 0} (opening : Opening D) where
   given_up : (old new : Passed) (call : Call) (reply : Reply) → IsGiven old call (Ok reply) new → is_closed_pass old ≡ false
-  given_up old new call reply is = open_by (is_closed_pass old) (λ e. not_spent reply PassClosed (is.closed.1 e))
+  given_up old new call reply is = false_from_ne_true (is_closed_pass old) (λ e. not_spent reply PassClosed (is.closed.1 e))
 
   -- an answered call was made by a pass that was not closed
   pub given_open : (old new : Passed) (call : Call) (reply : Reply) → IsGiven old call (Ok reply) new → old.closed ≡ false
-  given_open old new call reply is = up_of old.closed _ (given_up old new call reply is)
+  given_open old new call reply is = (or_parts old.closed _ (given_up old new call reply is)).0
 
   -- an answered call was answered by its contract
   pub given_answer : (lost : Bool) (old new : Passed) (call : Call) (reply : Reply) → IsGivenAfter lost old call (Ok reply) new → IsAnswered old new call reply × (is_closed_pass old ≡ false)
@@ -205,11 +155,8 @@ module _ {D : Type 0} (opening : Opening D) where
   given_grows old new call (Err fault) is = refused_grows old new call fault is.refused
 
   given_closed : (old new : Passed) (call : Call) (outcome : Result Reply CallFault) → IsGiven old call outcome new → ClosedIf (leaves_call_in_doubt (Called call outcome)) new
-  given_closed old new call (Ok reply) is e = absurd (false≢true e)
-  given_closed old new call (Err Memory) is e = absurd (false≢true e)
-  given_closed old new call (Err PassClosed) is e = absurd (false≢true e)
-  given_closed old new call (Err LogSpent) is e = absurd (false≢true e)
   given_closed old new call (Err InDoubt) is e = refused_closed old new call is.refused
+  given_closed old new call outcome is e = absurd (false≢true e)
 
   -- of one that happened
   pub record Goes (about : About) (old new : Passed) (lost : Bool) : Type 0 where
@@ -226,27 +173,23 @@ module _ {D : Type 0} (opening : Opening D) where
     closed = λ e. ap (λ (p : Passed). p.closed) is.1 ∙ up refl;
   }
 
+  -- all but what it has seen is as it was
+  saw : (old new : Passed) (seen : List (List Item)) → IsSound opening.about old → new ≡ record old { caller = with_seen old.caller seen } → ((k : ℕ) → IsBeginning (seen_at old.caller k) (seen_at new.caller k)) → Goes opening.about old new false
+  saw old new seen s is begins =
+      let made : new.caller.made ≡ old.caller.made = ap (λ (p : Passed). p.caller.made) is in
+      let pending : new.caller.pending ≡ old.caller.pending = ap (λ (p : Passed). p.caller.pending) is in
+      let last : new.caller.last ≡ old.caller.last = ap (λ (p : Passed). p.caller.last) is in
+      record {
+        sound = sound_kept opening.about old new s (ap (λ (p : Passed). p.caller.about) is) (λ e. pending ∙ s.idle (sym (ap (λ (p : Passed). p.closed) is) ∙ e)) (omega arith) made (subst (AreFrom s.floor) (sym pending) s.pending);
+        grows = record { pass = ap (λ (p : Passed). p.caller.pass) is; made = begins_as old.caller.made new.caller.made made; seen = begins };
+        closed = λ e. absurd (false≢true e);
+      }
+
   looked : (old new : Passed) (k : ℕ) → IsSound opening.about old → IsLooked opening old k new → Goes opening.about old new false
-  looked old new k s is = record {
-    sound = record {
-      about_is = ap (λ (p : Passed). p.caller.about) is.pass ∙ s.about_is;
-      idle = λ e. ap (λ (p : Passed). p.caller.pending) is.pass ∙ s.idle (sym (ap (λ (p : Passed). p.closed) is.pass) ∙ e);
-      floor = s.floor;
-      low = let l = s.low in let e : new.caller.last ≡ old.caller.last = ap (λ (p : Passed). p.caller.last) is.pass in omega arith;
-      made = subst (HaveNumbersBelow s.floor) (sym (ap (λ (p : Passed). p.caller.made) is.pass)) s.made;
-      pending = subst (AreFrom s.floor) (sym (ap (λ (p : Passed). p.caller.pending) is.pass)) s.pending;
-      rising = subst IsRising (sym (ap (λ (p : Passed). p.caller.made) is.pass)) s.rising;
-    };
-    grows = record {
-      pass = ap (λ (p : Passed). p.caller.pass) is.pass;
-      made = begins_as old.caller.made new.caller.made (ap (λ (p : Passed). p.caller.made) is.pass);
-      seen = λ j. ⊎_elim
-          (λ (e : j ≡ k). subst (λ i. IsBeginning (seen_at old.caller i) (seen_at new.caller i)) (sym e) is.begins)
-          (λ (n : j ≢ k). begins_as (seen_at old.caller j) (seen_at new.caller j) (is.others j n))
-          (cases_eq j k);
-    };
-    closed = λ e. absurd (false≢true e);
-  }
+  looked old new k s is = saw old new (slice_set old.caller.seen k (seen_at new.caller k)) s is.pass (λ j. ⊎_elim
+      (λ (e : j ≡ k). subst (λ i. IsBeginning (seen_at old.caller i) (seen_at new.caller i)) (sym e) is.begins)
+      (λ (n : j ≢ k). begins_as (seen_at old.caller j) (seen_at new.caller j) (is.others j n))
+      (cases_eq j k))
 
   met_seen : (old new : Passed) (other : Caller) (theirs : List (List Item)) → IsMet opening old other theirs new → (k : ℕ) → IsBeginning (seen_at old.caller k) (seen_at new.caller k)
   met_seen old new other theirs is k = ⊎_elim
@@ -260,29 +203,10 @@ module _ {D : Type 0} (opening : Opening D) where
       (cases_lt k opening.about.shards))
       is.met
 
-  met : (old new : Passed) (other : Caller) (theirs : List (List Item)) → IsSound opening.about old → IsMet opening old other theirs new → Goes opening.about old new false
-  met old new other theirs s is = record {
-    sound = record {
-      about_is = ap (λ (p : Passed). p.caller.about) is.pass ∙ s.about_is;
-      idle = λ e. ap (λ (p : Passed). p.caller.pending) is.pass ∙ s.idle (sym (ap (λ (p : Passed). p.closed) is.pass) ∙ e);
-      floor = s.floor;
-      low = let l = s.low in let e : new.caller.last ≡ old.caller.last = ap (λ (p : Passed). p.caller.last) is.pass in omega arith;
-      made = subst (HaveNumbersBelow s.floor) (sym (ap (λ (p : Passed). p.caller.made) is.pass)) s.made;
-      pending = subst (AreFrom s.floor) (sym (ap (λ (p : Passed). p.caller.pending) is.pass)) s.pending;
-      rising = subst IsRising (sym (ap (λ (p : Passed). p.caller.made) is.pass)) s.rising;
-    };
-    grows = record {
-      pass = ap (λ (p : Passed). p.caller.pass) is.pass;
-      made = begins_as old.caller.made new.caller.made (ap (λ (p : Passed). p.caller.made) is.pass);
-      seen = met_seen old new other theirs is;
-    };
-    closed = λ e. absurd (false≢true e);
-  }
-
   pub goes : (lost : Bool) (old new : Passed) (what : What) → ClosedIf lost old → IsSound opening.about old → Happens lost opening old what new → Goes opening.about old new (leaves_call_in_doubt what)
   goes lost old new (Called call outcome) up s is = called lost old new call outcome up s is
   goes lost old new (Looked k) up s is = looked old new k s is
-  goes lost old new (Met other theirs) up s is = met old new other theirs s is
+  goes lost old new (Met other theirs) up s is = saw old new new.caller.seen s is.pass (met_seen old new other theirs is)
   goes lost old new Closed up s is = record {
     sound = sound_as opening.about (closed_now old) new is (sound_closed opening.about old s);
     grows = grows_as old (closed_now old) new is (grows_kept old (closed_now old) refl refl refl);

@@ -1,22 +1,6 @@
 -- A mark stands in a history only where a device failed, and slots that follow the model did so from the opening on.
-use Rattle.std.proofs.Common.{◌≡◌, ◌⊎◌, Bool, true, false, cond, List, [], ◌∷◌, ◌++◌, refl, sym, ap, ◌∙◌, subst, inl, inr, ⊎_elim}
-use Rattle.std.proofs.lemmas.Bool.{false≢true}
-use Rattle.accept.specs.declared.history.Ask.{Ask}
-use Rattle.accept.specs.declared.history.Item.TheVariants.{Failed}
-use Rattle.accept.specs.Histories.{changes, is_marked}
-use Rattle.accept.specs.declared.call.Reply.TheVariants.{Unavailable}
-use Rattle.disk.specs.Sight.{Sight}
-use Rattle.wal.specs.declared.log.Wal.{Wal}
-use Rattle.wal.specs.Moments.{Pair, HasFailed, HasNoFailure}
-use Rattle.wal.specs.Logs.{Follow, slots}
-use Rattle.history.specs.Histories.{step_of}
-use Rattle.history.specs.Handles.{Booked, asks_of}
-use Rattle.history.proofs.Past.{marked_step, marked_mark}
-use Rattle.shard.specs.Calls.{reply_in, IsCommitted, IsMarkedInDoubt}
-use Rattle.shard.specs.Groups.{with_step, with_steps, changing_of, marked_by}
-use Rattle.shard.specs.Shards.{Sharded}
-use Rattle.shard.specs.Turns.{Turn, AreTogether, IsTurn}
-use Rattle.shard.specs.Leads.{Lead}
+use Rattle.std.proofs.Common.{◌≡◌, ◌⊎◌, true, false, cond, List, [], ◌∷◌, ◌++◌, refl, sym, ap, ◌∙◌, subst, inl, inr, ⊎_elim}
+use Rattle.headline.proofs.Common.{Unavailable, Ask, Failed, Sight, Wal, Sharded, Lead, changes, is_marked, Pair, HasFailed, HasNoFailure, Follow, slots, step_of, Booked, asks_of, reply_in, IsCommitted, IsMarkedInDoubt, with_step, with_steps, changing_of, marked_by, Turn, AreTogether, IsTurn, Moment, Between, Within, IsMoment, FollowThen, shard_then, false≢true, cases_Bool, marked_step, marked_mark}
 use Rattle.shard.proofs.Applied.{both_not}
 use Rattle.shard.proofs.Groups.{steps_marked}
 use Rattle.shard.proofs.Replies.{due_marked}
@@ -25,10 +9,6 @@ use Rattle.shard.proofs.Slots.{never_failed, failed_since, none_yet}
 still_failed : (a b c : Pair) → HasFailed a b → HasNoFailure b c → HasFailed a c
 still_failed a b c (inl f) h = inl (λ e. f (sym h.0 ∙ e))
 still_failed a b c (inr f) h = inr (λ e. f (sym h.1 ∙ e))
-
-either : (b : Bool) → (b ≡ true) ⊎ (b ≡ false)
-either true = inl refl
-either false = inr refl
 
 -- after a mark nothing changes
 none_after : (book : Booked) (asks : List Ask) → is_marked book.items ≡ true → changing_of book asks ≡ []
@@ -65,7 +45,7 @@ module _ {D : Type 0} (sight : D → Sight) (follows : D → Type 0) where
         let same : t.new.log ≡ t.old.log = h.applied.quiet (none_after t.old.book (asks_of h.front) e) in
         absurd (both_not (slots sight t.old.log) (slots sight t.new.log) failure (subst (λ (w : Wal D). HasNoFailure (slots sight t.old.log) (slots sight w)) (sym same) (none_yet (slots sight t.old.log)))))
         (λ (e : is_marked t.old.book.items ≡ false). e)
-        (either (is_marked t.old.book.items))
+        (cases_Bool (is_marked t.old.book.items))
 
     turn_marks : IsTurn sight follows t → IsMarkedAsFailed opened t.new
     turn_marks (inl h) = ⊎_elim
@@ -88,6 +68,11 @@ module _ {D : Type 0} (sight : D → Sight) (follows : D → Type 0) where
   turn_follows t (inl h) f = h.applied.before f
   turn_follows t (inr (inl h)) f = h.applied.before f
   turn_follows t (inr (inr h)) f = subst (λ (s : Sharded D). Follow follows s.log) h.same f
+
+  -- at the start of the turn that was cut
+  pub follow_before : (m : Moment D) → IsMoment sight follows m → FollowThen sight follows m → Follow follows (shard_then m).log
+  follow_before (Between s) is f = f
+  follow_before (Within t) is f = turn_follows t is.turn f
 
   pub lead_marks : (opened : Wal D) (start end : Sharded D) (ts : List (Turn D)) → IsMarkedAsFailed opened start → Lead sight follows start ts end → IsMarkedAsFailed opened end
   lead_marks opened start end [] m l = subst (IsMarkedAsFailed opened) (sym l) m

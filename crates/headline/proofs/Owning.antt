@@ -1,16 +1,6 @@
 -- Of the steps of a pass in a history: by what it has seen, by its numbers, and by what it announced.
 use Rattle.std.proofs.Common.{◌≡◌, ◌⊎◌, ℕ, ◌+◌, ◌≤◌, Bool, true, false, cond, eqb, List, [], ◌∷◌, ◌++◌, length, refl, sym, ap, ◌∙◌, subst, inl, inr, ⊎_elim, append_assoc, append-nil, eq-eqb, arith, length-append}
-use Rattle.accept.specs.declared.history.Ask.{Ask}
-use Rattle.accept.specs.declared.history.Step.{Step}
-use Rattle.accept.specs.declared.history.Item.{Item}
-use Rattle.history.specs.declared.views.About.{About}
-use Rattle.history.specs.declared.views.Caller.{Caller}
-use Rattle.history.specs.Histories.{IsBeginning, IsLegalAt, shard_in, steps_by, steps_on, asks_by, HasStep, IsAmong, AreAmong, IsRising}
-use Rattle.history.specs.Plays.{seen_at, AreHis, HasStepsOf}
-use Rattle.history.specs.Handles.{Passed}
-use Rattle.history.proofs.Past.{steps_append, made_left, not_made, rising_back, rising_front}
-use Rattle.ingester.specs.Closings.{IsTold}
-use Rattle.headline.specs.Turns.{calls_of_steps, calls_by, IsInTime}
+use Rattle.headline.proofs.Common.{Ask, Step, Item, About, Caller, Passed, IsBeginning, IsLegalAt, shard_in, steps_by, steps_on, asks_by, HasStep, IsAmong, AreAmong, IsRising, seen_at, AreHis, HasStepsOf, IsTold, calls_of_steps, calls_by, IsInTime, steps_append, made_left, not_made, rising_back, rising_front, cond_both}
 use Rattle.headline.proofs.Rising.{AreOn, on_back, HasOrder, in_order}
 
 -- the steps of a pass in what it has seen of shard k: those that it made, and some of its open calls
@@ -71,12 +61,8 @@ has_on about k a (s ∷ xs) h e = ⊎_elim
     (λ (same : s.ask ≡ a).
     let here : eqb k (shard_in about s.ask) ≡ true = eq-eqb k (shard_in about s.ask) (e ∙ ap (shard_in about) (sym same)) in
     subst (λ (b : Bool). HasStep a (cond b (s ∷ steps_on about k xs) (steps_on about k xs))) (sym here) (inl same))
-    (λ (t : HasStep a xs). later (eqb k (shard_in about s.ask)) (has_on about k a xs t e))
+    (λ (t : HasStep a xs). cond_both (eqb k (shard_in about s.ask)) (s ∷ steps_on about k xs) (steps_on about k xs) (HasStep a) (λ f. inr (has_on about k a xs t e)) (λ f. has_on about k a xs t e))
     h
-  where
-    later : (b : Bool) → HasStep a (steps_on about k xs) → HasStep a (cond b (s ∷ steps_on about k xs) (steps_on about k xs))
-    later true t = inr t
-    later false t = t
 
 -- a list that is no longer than its beginning is that
 no_more : {A : Type 0} (xs ys : List A) → length (xs ++ ys) ≤ length xs → ys ≡ []

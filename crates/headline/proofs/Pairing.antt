@@ -1,20 +1,6 @@
 -- Slots of shards, by their numbers, over which nothing was written.
-use Rattle.std.proofs.Common.{◌≡◌, ◌⊎◌, ℕ, zero, suc, ◌+◌, ◌<◌, List, [], ◌∷◌, ◌++◌, length, map, refl, sym, subst, inl, inr, arith, Some, None}
-use Rattle.std.specs.Prelude.{slice_get}
-use Rattle.accept.specs.declared.limits.Limits.{Limits}
-use Rattle.accept.specs.declared.history.Ask.{Ask}
-use Rattle.accept.specs.declared.history.History.{History}
-use Rattle.accept.specs.Rooms.{Streams}
-use Rattle.disk.specs.Sight.{Sight}
-use Rattle.segment.specs.declared.owner.Owner.{Owner}
-use Rattle.segment.specs.Segments.{owner_of}
-use Rattle.wal.specs.declared.fault.OpenFault.{OpenFault}
-use Rattle.wal.specs.declared.log.Wal.{Wal}
-use Rattle.wal.specs.Logs.{Follow}
-use Rattle.wal.specs.Covers.{Covers}
-use Rattle.wal.specs.Opening.{slots_of, disks, AllFollow}
-use Rattle.wal.specs.Opened.{IsOpenedFrom, IsReturned}
-use Rattle.openings.specs.Findings.{AreOpenedFrom, AreReturned, AreGood, IsFirstRefused}
+use Rattle.std.proofs.Common.{◌≡◌, ◌⊎◌, ℕ, zero, suc, ◌+◌, ◌<◌, List, [], ◌∷◌, ◌++◌, length, map, refl, sym, subst, inl, inr, arith, Some, None, slice_get}
+use Rattle.headline.proofs.Common.{Streams, Limits, Ask, History, Sight, Wal, Follow, OpenFault, Owner, owner_of, Covers, slots_of, disks, AllFollow, IsOpenedFrom, IsReturned, AreOpenedFrom, AreReturned, AreGood, IsFirstRefused, ShardEnd, LeftAt, AreLeftBy, AreLeftAt, LogsFollow}
 use Rattle.openings.proofs.Ordered.{ordered}
 use Rattle.ingester.specs.declared.refusal.OpenFault.{OpenFault as Refusal}
 use Rattle.ingester.specs.declared.refusal.OpenFault.TheVariants as refusals
@@ -22,7 +8,6 @@ use Rattle.ingester.specs.Findings.{IsUnmade}
 use Rattle.split.specs.Maps.{map_at}
 use Rattle.split.specs.Splits.{pair_at, EachPair, IsAtRest}
 use Rattle.split.proofs.Pairs.{KnowsNow, untouched}
-use Rattle.headline.specs.Lives.{ShardEnd, LeftAt, AreLeftBy, AreLeftAt, LogsFollow}
 use Rattle.headline.specs.Events.{Attempt, IsPairLeftSince, WasRefused, WasOpened}
 use Rattle.headline.proofs.Leaving.{covered_left}
 
@@ -31,12 +16,11 @@ module _ {D : Type 0} (sight : D → Sight) (follows : D → Type 0) where
   pub opened_pair : (count capacity k j i : ℕ) (given : List (List D)) (logs : List (Wal D)) (ms : List Streams) → k ≡ j + i → AreOpenedFrom sight follows count capacity j given logs ms → LogsFollow sight follows logs → i < length given
       → (log : Wal D) × Follow follows log × IsOpenedFrom sight follows (owner_of k count) capacity (pair_at given i) log (map_at ms i)
   opened_pair count capacity k j i [] logs ms e o f lt = absurd (omega arith)
-  opened_pair count capacity k j i (x ∷ given) [] ms e o f lt = absurd o
-  opened_pair count capacity k j i (x ∷ given) (w ∷ logs) [] e o f lt = absurd o
   opened_pair count capacity k j zero (x ∷ given) (w ∷ logs) (m ∷ ms) e o f lt =
       let at : j ≡ k = omega arith in
       (w, f.0, subst (λ (i : ℕ). IsOpenedFrom sight follows (owner_of i count) capacity x w m) at o.0)
   opened_pair count capacity k j (suc i) (x ∷ given) (w ∷ logs) (m ∷ ms) e o f lt = opened_pair count capacity k (j + 1) i given logs ms (omega arith) o.1 f.1 (omega arith)
+  opened_pair count capacity k j i given logs ms e o f lt = absurd o
 
   -- the slots of one shard, as a crash left them
   pub left_pair : (ends : List (ShardEnd D)) (left : List (List D)) (k : ℕ) (end : ShardEnd D) → AreLeftAt sight follows ends left → slice_get ends k ≡ Some end → LeftAt sight follows end (pair_at left k)
@@ -73,16 +57,14 @@ module _ {D : Type 0} (sight : D → Sight) (follows : D → Type 0) where
 
   rests_returned : (all backs : List (List D)) → AreReturned sight follows all backs → AreAtRest all backs
   rests_returned [] [] r = rest_none
-  rests_returned [] (y ∷ backs) r = absurd r
-  rests_returned (x ∷ all) [] r = absurd r
   rests_returned (x ∷ all) (y ∷ backs) r = rest_more x y all backs (of_returned x y r.0) (rests_returned all backs r.1)
+  rests_returned all backs r = absurd r
 
   -- some that are good, and the others
   rests_after : (count k : ℕ) (front front_back all backs : List (List D)) → AreGood sight follows count k front front_back → AreAtRest all backs → AreAtRest (front ++ all) (front_back ++ backs)
   rests_after count k [] [] all backs g r = r
-  rests_after count k [] (y ∷ fb) all backs g r = absurd g
-  rests_after count k (x ∷ front) [] all backs g r = absurd g
   rests_after count k (x ∷ front) (y ∷ fb) all backs g r = rest_more x y (front ++ all) (fb ++ backs) (of_returned x y g.0.0) (rests_after count (k + 1) front fb all backs g.1 r)
+  rests_after count k front fb all backs g r = absurd g
 
   first_refused : (count k : ℕ) (fault : OpenFault) (all backs : List (List D)) → IsFirstRefused sight follows count k fault all backs → AreAtRest all backs
   first_refused count k fault all backs f =
@@ -103,11 +85,8 @@ module _ {D : Type 0} (sight : D → Sight) (follows : D → Type 0) where
 
   all_opened : (count capacity j : ℕ) (given : List (List D)) (logs : List (Wal D)) (ms : List Streams) → AreOpenedFrom sight follows count capacity j given logs ms → AreAtRest given (map disks logs)
   all_opened count capacity j [] [] [] o = rest_none
-  all_opened count capacity j [] [] (m ∷ ms) o = absurd o
-  all_opened count capacity j [] (w ∷ logs) ms o = absurd o
-  all_opened count capacity j (x ∷ given) [] ms o = absurd o
-  all_opened count capacity j (x ∷ given) (w ∷ logs) [] o = absurd o
   all_opened count capacity j (x ∷ given) (w ∷ logs) (m ∷ ms) o = rest_more x (disks w) given (map disks logs) (rests_opened (owner_of j count) capacity x w m o.0) (all_opened count capacity (j + 1) given logs ms o.1)
+  all_opened count capacity j given logs ms o = absurd o
 
   -- an opening that came to nothing wrote nothing
   pub rests_attempt : KnowsNow sight follows → (a : Attempt D) → WasRefused sight follows a ⊎ WasOpened sight follows a → AreAtRest a.given a.backs

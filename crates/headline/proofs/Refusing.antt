@@ -1,16 +1,7 @@
 -- Wrong servers: of none of them the record holds, and one field refuses each.
 use Rattle.std.proofs.Common.{◌≡◌, ℕ, List, [], ◌∷◌, ◌++◌, refl, sym, ap, ◌∙◌, inl, inr, arith}
 use Rattle.std.specs.FinMap as finite
-use Rattle.accept.specs.declared.history.Ask.{Ask}
-use Rattle.accept.specs.declared.history.Item.{Item}
-use Rattle.accept.specs.declared.history.Item.TheVariants.{Answered}
-use Rattle.accept.specs.Rooms.{Streams}
-use Rattle.accept.specs.Histories.{meaning, answer, answered_to}
-use Rattle.wal.specs.declared.fault.OpenFault.TheVariants.{Device, Memory}
-use Rattle.history.specs.Histories.{IsBeginning, history_of}
-use Rattle.history.specs.Handles.{Passed}
-use Rattle.headline.specs.Threads.{Looked, Thread}
-use Rattle.headline.specs.Headline.{HaveThreads, RefusedShard, IsForDeviceOrMemory, IsHeadline}
+use Rattle.headline.proofs.Common.{Streams, Ask, Item, Answered, Passed, meaning, answer, answered_to, Device, Memory, IsBeginning, history_of, Looked, Thread, HaveThreads, RefusedShard, IsForDeviceOrMemory, IsHeadline}
 use Rattle.headline.proofs.Sample.{about, push, step, failed, in_doubt, knows, threads, held_one, not_empty}
 
 module _ (any : Passed) (read : ℕ → Streams → Type 0) (broken : ℕ → Type 0) (replay : ℕ → Streams → Type 0) (refusal : ℕ → RefusedShard → Type 0) where

@@ -1,24 +1,11 @@
 -- In a legal history the numbers of each pass rise, and each step is of a call on the shard's keys.
-use Rattle.std.proofs.Common.{◌≡◌, ◌≢◌, ℕ, Bool, true, false, cond, eqb, not, ◌&&◌, ◌||◌, List, [], ◌∷◌, ◌++◌, refl, sym, subst, ⊎_elim, append_assoc, append-nil}
-use Rattle.std.specs.Prelude.{nat_lt, IsTrue}
+use Rattle.std.proofs.Common.{◌≡◌, ◌≢◌, ℕ, Bool, true, false, cond, eqb, not, ◌&&◌, ◌||◌, List, [], ◌∷◌, ◌++◌, refl, sym, subst, ⊎_elim, append_assoc, append-nil, nat_lt, IsTrue}
 use Rattle.std.specs.List.{list_all}
-use Rattle.std.proofs.lemmas.Bool.{false≢true, ltb-true, eqb-true, cases_eq}
-use Rattle.accept.specs.declared.history.Ask.{Ask}
-use Rattle.accept.specs.declared.history.Step.{Step}
-use Rattle.accept.specs.declared.history.Item.{Item}
-use Rattle.accept.specs.declared.history.Item.TheVariants.{Answered, Failed}
-use Rattle.accept.specs.Histories.{MayFollow, is_new}
+use Rattle.headline.proofs.Common.{Ask, Step, Item, Answered, Failed, About, MayFollow, is_new, IsLegalAt, terms_of, history_of, shard_in, steps_by, HaveNumbersBelow, IsRising, ltb-true, eqb-true, cases_eq, steps_mark, steps_mine, steps_else, rising_last, legal_front, and_parts}
 use Rattle.accept.proofs.Legal.{legal-last}
-use Rattle.history.specs.declared.views.About.{About}
-use Rattle.history.specs.Histories.{IsLegalAt, terms_of, history_of, shard_in, steps_by, HaveNumbersBelow, IsRising}
-use Rattle.history.proofs.Past.{steps_mark, steps_mine, steps_else, rising_last, legal_front}
-
-both_of : (a b : Bool) → (a && b) ≡ true → (a ≡ true) × (b ≡ true)
-both_of true b e = (refl, e)
-both_of false b e = absurd (false≢true e)
 
 below_one : (mine : Bool) (n : ℕ) (s : Step) (xs : List Step) (more : Bool) → ((not mine || nat_lt s.ask.number n) && more) ≡ true → (more ≡ true → HaveNumbersBelow n xs) → HaveNumbersBelow n (cond mine (s ∷ xs) xs)
-below_one true n s xs more e t = let b = both_of (nat_lt s.ask.number n) more e in (ltb-true s.ask.number n b.0, t b.1)
+below_one true n s xs more e t = let b = and_parts (nat_lt s.ask.number n) more e in (ltb-true s.ask.number n b.0, t b.1)
 below_one false n s xs more e t = t e
 
 -- a new call has a number above those of its pass

@@ -1,26 +1,9 @@
 -- Small runs of which the record holds, so that a changed record can be refuted by them.
-use Rattle.std.proofs.Common.{◌≡◌, ◌⊎◌, ℕ, zero, suc, ◌<◌, Bool, true, false, List, [], ◌∷◌, ◌++◌, take, refl, sym, ap, ◌∙◌, subst, inl, inr, ⊎_elim, arith, Some, None}
-use Rattle.std.specs.Prelude.{slice_get, slice_index_or, ◌==◌, if◌then◌else◌, is_some, Ok}
+use Rattle.std.proofs.Common.{◌≡◌, ◌⊎◌, ℕ, zero, suc, ◌<◌, Bool, true, false, List, [], ◌∷◌, ◌++◌, take, refl, sym, ap, ◌∙◌, subst, inl, inr, ⊎_elim, arith, Some, None, slice_get, slice_index_or, ◌==◌, if◌then◌else◌, is_some, Ok, true≢false}
 use Rattle.std.specs.FinMap as finite
-use Rattle.std.proofs.lemmas.Bool.{true≢false}
-use Rattle.labels.specs.declared.key.StreamKey.{StreamKey}
-use Rattle.accept.specs.declared.call.Call.TheVariants.{Push}
-use Rattle.accept.specs.declared.call.Reply.TheVariants.{Unavailable}
-use Rattle.accept.specs.declared.history.Ask.{Ask}
-use Rattle.accept.specs.declared.history.Step.{Step}
-use Rattle.accept.specs.declared.history.Item.{Item}
-use Rattle.accept.specs.declared.history.Item.TheVariants.{Answered, Failed}
-use Rattle.accept.specs.Rooms.{Streams}
-use Rattle.accept.specs.Histories.{meaning, stream_of, MayFollow, answered_to, reply_to}
+use Rattle.headline.proofs.Common.{StreamKey, Streams, Push, Unavailable, Ask, Step, Item, Answered, Failed, About, Passed, meaning, stream_of, MayFollow, answered_to, reply_to, Device, Memory, IsBeginning, IsLegalAt, IsByPasses, base_at, terms_of, history_of, seen_at, HasStepsOf, Called, Happening, Thread, AnsweredCall, happened_to, IsOneOf, WasAnswered, WasCalled, RefusedShard, IsForDeviceOrMemory, IsReplay, IsHeadline, is_refusal, shard_at, step_for, steps_for, items_before, history_before}
 use Rattle.accept.proofs.Meanings.{get-meaning, meaning-nothing}
-use Rattle.wal.specs.declared.fault.OpenFault.TheVariants.{Device, Memory}
-use Rattle.history.specs.declared.views.About.{About}
 use Rattle.history.specs.Shards.{shard_of}
-use Rattle.history.specs.Histories.{IsBeginning, IsLegalAt, IsByPasses, terms_of, history_of}
-use Rattle.history.specs.Plays.{seen_at, HasStepsOf}
-use Rattle.history.specs.Handles.{Passed}
-use Rattle.headline.specs.Threads.{Called, Happening, Thread, AnsweredCall, happened_to}
-use Rattle.headline.specs.Headline.{IsOneOf, WasAnswered, WasCalled, RefusedShard, IsForDeviceOrMemory, IsReplay, IsHeadline, is_refusal, shard_at, step_for, steps_for, items_before, history_before}
 
 abbrev pub key : ℕ → StreamKey
 key n = record { tenant = 97 ∷ []; labels = n ∷ [] }
@@ -179,9 +162,10 @@ two k = push 1 ∷ push 2 ∷ []
 abbrev pub one_found : ℕ → Streams → Type 0
 one_found k state = state ≡ meaning (answered_to about.limits (history_of about k []) (push 1 ∷ []))
 
-pub also_stands : IsHeadline about [] nothing two empty_slots (λ k. ⊥) one_found wanting
-also_stands = record {
-  over_what_was_read = λ k lt. refl;
+-- an opening of which nobody made a call
+without_calls : (a : About) (read replay : ℕ → Streams → Type 0) → ((k : ℕ) → k < a.shards → read k (base_at a k)) → ((k : ℕ) → k < a.shards → (state : Streams) → replay k state → IsReplay a [] k [] (two k) state) → IsHeadline a [] nothing two read (λ k. ⊥) replay wanting
+without_calls a read replay reads replayed = record {
+  over_what_was_read = reads;
   each_shards_calls = λ k lt. (record { is = λ n i e. let never : None ≡ Some i = e in absurd (cc) }, tt);
   one_growing_history = λ h one. absurd one;
   each_answered_call_once = λ a one. absurd one;
@@ -191,17 +175,20 @@ also_stands = record {
   after_all_its_pass_had_seen = λ a one. absurd one;
   the_reply = λ a one. absurd one;
   a_refusal_in_its_stated_place = λ a one. absurd one;
-  whatever_crash_comes = λ k lt state e. record {
-    beginning = [];
-    more = push 1 ∷ [];
-    the_state_after = e;
-    a_beginning_of_that_history = record { rest = []; is = refl };
-    continued_only_by_calls_being_written = record { rest = push 2 ∷ []; is = refl };
-    holds_every_answered_call = λ a one. absurd one;
-    holds_what_each_pass_had_seen = λ t one. absurd one;
-  };
+  whatever_crash_comes = replayed;
   replay_gives = wanted;
 }
+
+pub also_stands : IsHeadline about [] nothing two empty_slots (λ k. ⊥) one_found wanting
+also_stands = without_calls about empty_slots one_found (λ k lt. refl) (λ k lt state e. record {
+  beginning = [];
+  more = push 1 ∷ [];
+  the_state_after = e;
+  a_beginning_of_that_history = record { rest = []; is = refl };
+  continued_only_by_calls_being_written = record { rest = push 2 ∷ []; is = refl };
+  holds_every_answered_call = λ a one. absurd one;
+  holds_what_each_pass_had_seen = λ t one. absurd one;
+})
 
 -- The slots held the stream of one call when they were opened.
 abbrev pub one_stream : Streams
@@ -217,20 +204,7 @@ abbrev pub no_replay : ℕ → Streams → Type 0
 no_replay k state = ⊥
 
 pub stands_over : IsHeadline about_more [] nothing two held_one (λ k. ⊥) no_replay wanting
-stands_over = record {
-  over_what_was_read = λ k lt. first k lt;
-  each_shards_calls = λ k lt. (record { is = λ n i e. let never : None ≡ Some i = e in absurd (cc) }, tt);
-  one_growing_history = λ h one. absurd one;
-  each_answered_call_once = λ a one. absurd one;
-  and_no_others = λ t one. absurd one;
-  no_step_without_its_call = λ have k lt s one. absurd one;
-  a_mark_only_where_a_device_failed = λ k lt e. absurd (true≢false (sym e));
-  after_all_its_pass_had_seen = λ a one. absurd one;
-  the_reply = λ a one. absurd one;
-  a_refusal_in_its_stated_place = λ a one. absurd one;
-  whatever_crash_comes = λ k lt state e. absurd e;
-  replay_gives = wanted;
-}
+stands_over = without_calls about_more held_one no_replay first (λ k lt state e. absurd e)
   where
     first : (k : ℕ) → k < 1 → held_one k (slice_index_or (one_stream ∷ []) k finite.empty)
     first zero lt = refl

@@ -1,34 +1,8 @@
 -- The headline, of one opening.
-use Rattle.std.proofs.Common.{◌≡◌, ℕ, suc, ◌+◌, ◌<◌, Bool, true, false, cond, eqb, List, [], ◌∷◌, ◌++◌, take, drop, filter, refl, sym, ap, ◌∙◌, subst, inl, ⊎_elim, append_assoc, append-nil, eq-eqb, Some, take-append-drop}
-use Rattle.std.specs.Prelude.{slice_get, Ok, Err}
-use Rattle.std.proofs.lemmas.Bool.{false≢true}
-use Rattle.accept.specs.declared.call.Call.{Call}
-use Rattle.accept.specs.declared.call.Reply.{Reply}
-use Rattle.accept.specs.declared.call.Reply.TheVariants.{NoRoom, Unavailable}
-use Rattle.accept.specs.declared.history.Ask.{Ask}
-use Rattle.accept.specs.declared.history.Step.{Step}
-use Rattle.accept.specs.declared.history.Item.{Item}
-use Rattle.accept.specs.declared.history.Item.TheVariants.{Answered}
-use Rattle.accept.specs.declared.history.History.{History}
-use Rattle.accept.specs.Rooms.{Streams}
-use Rattle.accept.specs.Histories.{answer, reply_to, MayFollow, is_step_of, is_marked}
+use Rattle.std.proofs.Common.{◌≡◌, ℕ, suc, ◌+◌, ◌<◌, Bool, true, false, cond, eqb, List, [], ◌∷◌, ◌++◌, take, drop, filter, refl, sym, ap, ◌∙◌, subst, inl, ⊎_elim, append_assoc, append-nil, eq-eqb, Some, take-append-drop, slice_get, Ok}
+use Rattle.headline.proofs.Common.{Streams, Call, Reply, NoRoom, Unavailable, Ask, Step, Item, Answered, History, About, Caller, Passed, Opening, answer, reply_to, MayFollow, is_step_of, is_marked, IsAfter, IsBeginning, IsLegalAt, IsByPasses, base_at, terms_of, history_of, shard_in, step_of, steps_by, steps_on, HaveNumbersBelow, HaveNumbersAbove, IsRising, seen_at, ask_of, Extends, HasStepsOf, IsAnswered, shard_for, IsTold, What, Called, Happening, Happens, Thread, IsThread, AnsweredCall, answers_by, last_passes, happened_to, IsOneOf, ask_for, shard_at, step_for, steps_for, before_step, WasAnswered, is_refusal, RefusedShard, IsForDeviceOrMemory, IsReplay, IsHeadline, false≢true, begins_trans, below_more, below_middle, rising_back, legal_front, shard_below, among_right, among_part}
 use Rattle.accept.proofs.Legal.{legal-last}
 use Rattle.accept.proofs.OtherKeys.{answer-only_about}
-use Rattle.wal.specs.Covers.{IsAfter}
-use Rattle.history.specs.declared.views.About.{About}
-use Rattle.history.specs.declared.views.Caller.{Caller}
-use Rattle.history.specs.Histories.{IsBeginning, IsLegalAt, IsByPasses, base_at, terms_of, history_of, shard_in, step_of, steps_by, steps_on, HaveNumbersBelow, HaveNumbersAbove, IsRising}
-use Rattle.history.specs.Plays.{seen_at, ask_of, Extends, HasStepsOf}
-use Rattle.history.specs.Handles.{Passed}
-use Rattle.history.proofs.Lists.{begins_trans}
-use Rattle.history.proofs.Past.{below_more, below_middle, rising_back, legal_front}
-use Rattle.history.proofs.Sharding.{shard_below}
-use Rattle.owners.specs.Openings.{Opening}
-use Rattle.ingester.specs.Calls.{IsAnswered, shard_for}
-use Rattle.ingester.specs.Closings.{IsTold}
-use Rattle.headline.specs.Threads.{What, Called, Looked, Met, Closed, Happening, Happens, Thread, IsThread, AnsweredCall, answers_by, last_passes, happened_to}
-use Rattle.headline.specs.Headline.{IsOneOf, ask_for, shard_at, step_for, steps_for, before_step, WasAnswered, is_refusal, RefusedShard, IsForDeviceOrMemory, IsReplay, IsHeadline}
-use Rattle.headline.proofs.Among.{among_right, among_part}
 use Rattle.headline.proofs.Calling.{step_called}
 use Rattle.headline.proofs.Counting.{one_step, above_open, before_one}
 use Rattle.headline.proofs.Living.{IsSound, Grows, given_answer, IsOnTheWay, on_the_way, sound_on, fresh_sound}
@@ -111,10 +85,7 @@ end_among t (u ∷ ts) h = ⊎_elim
 -- an answered call was a call
 called : (c : Caller) (w : What) (a : AnsweredCall) → IsOneOf a (answers_by c w) → (call : Call) × (reply : Reply) × (w ≡ Called call (Ok reply)) × (a ≡ record { knew = c; call = call; reply = reply })
 called c (Called call (Ok reply)) a h = ⊎_elim (λ (e : a ≡ record { knew = c; call = call; reply = reply }). (call, reply, refl, e)) (λ (n : ⊥). absurd n) h
-called c (Called call (Err fault)) a h = absurd h
-called c (Looked k) a h = absurd h
-called c (Met other theirs) a h = absurd h
-called c Closed a h = absurd h
+called c w a h = absurd h
 
 -- what is known of the history of a shard
 pub record IsKnown {D : Type 0} (opening : Opening D) (threads : List Thread) (k : ℕ) (items : List Item) : Type 0 where

@@ -1,29 +1,10 @@
 -- The calls of all openings, one after another.
-use Rattle.std.proofs.Common.{◌≡◌, ◌⊎◌, ℕ, zero, suc, ◌+◌, ◌<◌, Bool, true, false, cond, List, [], ◌∷◌, ◌++◌, length, refl, sym, ap, ◌∙◌, subst, inl, inr, ⊎_elim, append_assoc, append-nil, arith, Some}
-use Rattle.std.specs.Prelude.{slice_get, slice_index_or}
+use Rattle.std.proofs.Common.{◌≡◌, ◌⊎◌, ℕ, zero, suc, ◌+◌, ◌<◌, true, false, cond, List, [], ◌∷◌, ◌++◌, length, refl, sym, ap, ◌∙◌, subst, inl, inr, ⊎_elim, append_assoc, append-nil, arith, Some, slice_get, slice_index_or}
 use Rattle.std.specs.FinMap as finite
-use Rattle.std.proofs.lemmas.Bool.{false≢true}
-use Rattle.accept.specs.declared.call.Reply.{Reply}
-use Rattle.accept.specs.declared.call.Reply.TheVariants.{Verdict, Entries, Trimmed, TrimTooNew, NoStream, NoRoom, Unavailable}
-use Rattle.accept.specs.declared.limits.Limits.{Limits}
-use Rattle.accept.specs.declared.history.Ask.{Ask}
-use Rattle.accept.specs.declared.history.Step.{Step}
-use Rattle.accept.specs.declared.history.Item.{Item}
-use Rattle.accept.specs.declared.history.Item.TheVariants.{Answered, Failed}
-use Rattle.accept.specs.declared.history.History.{History}
-use Rattle.accept.specs.Rooms.{Streams}
-use Rattle.accept.specs.Histories.{Terms, IsLegal, IsWithin, MayFollow, answer, reply_to, meaning, answered_to, then_step}
+use Rattle.headline.proofs.Common.{Streams, Limits, Reply, NoRoom, Unavailable, Ask, Step, Item, Answered, Failed, History, About, Sight, Wal, Terms, IsLegal, IsWithin, MayFollow, answer, reply_to, meaning, answered_to, then_step, IsLegalAt, base_at, terms_of, history_of, AreOpenedFrom, is_refusal, IsReplay, Life, IsLife, IsHeadlineOf, MayBeReplayed, writing_in, false≢true, cases_Bool, legal_front}
 use Rattle.accept.proofs.Growing.{within-nothing, within-answer, within-answered_to, within-NoRoom, within-Unavailable, within-Failed}
 use Rattle.accept.proofs.Legal.{legal-beginning, legal-last, legal-within}
 use Rattle.accept.proofs.Meanings.{meaning-nothing, meaning-answered, meaning-NoRoom, meaning-Unavailable, meaning-Failed, meaning-answered_to, answered_to-append, equal_after}
-use Rattle.disk.specs.Sight.{Sight}
-use Rattle.wal.specs.declared.log.Wal.{Wal}
-use Rattle.history.specs.declared.views.About.{About}
-use Rattle.history.specs.Histories.{IsLegalAt, base_at, terms_of, history_of}
-use Rattle.history.proofs.Past.{legal_front}
-use Rattle.openings.specs.Findings.{AreOpenedFrom}
-use Rattle.headline.specs.Headline.{is_refusal, IsReplay}
-use Rattle.headline.specs.Lives.{Life, IsLife, IsHeadlineOf, MayBeReplayed, writing_in}
 use Rattle.headline.specs.Chains.{Part, answered_in, calls_found, IsPart, AreParts, base_in, IsContinued, AreLives, IsFoundLast, AreHeadlines, IsHeadlineOfLives}
 use Rattle.headline.proofs.Saying.{not_refused}
 use Rattle.headline.proofs.Ending.{histories, says}
@@ -32,17 +13,9 @@ abbrev over : Streams → List Item → History
 over base items = record { base = base; items = items }
 
 is_one_of : (r : Reply) → is_refusal r ≡ true → (r ≡ NoRoom) ⊎ (r ≡ Unavailable)
-is_one_of (Verdict outcomes) e = absurd (false≢true e)
-is_one_of (Entries entries) e = absurd (false≢true e)
-is_one_of (Trimmed removed) e = absurd (false≢true e)
-is_one_of TrimTooNew e = absurd (false≢true e)
-is_one_of NoStream e = absurd (false≢true e)
 is_one_of NoRoom e = inl (λ i. NoRoom)
 is_one_of Unavailable e = inr (λ i. Unavailable)
-
-either : (b : Bool) → (b ≡ true) ⊎ (b ≡ false)
-either true = inl refl
-either false = inr refl
+is_one_of reply e = absurd (false≢true e)
 
 module _ (terms : Terms) (base : Streams) where
   -- two histories that are within their limits and mean the same
@@ -96,7 +69,7 @@ module _ (terms : Terms) (base : Streams) where
       ap (λ l. meaning (over base l)) (sym same)
       ∙ plain (done ++ Answered s ∷ []) items (then_step h s.ask (answer terms.limits h s.ask.call)) here (answered done h s a may.0 e)
       ∙ ap (λ b. meaning (answered_to terms.limits h (cond b (answered_in items) (s.ask ∷ answered_in items)))) (sym e))
-      (either (is_refusal s.reply))
+      (cases_Bool (is_refusal s.reply))
 
   -- and so with calls in doubt after it
   pub plain_more : (items : List Item) (more : List Ask) (h : History) → IsLegal terms (over base items) → IsWithin terms.limits h → meaning h ≡ base → meaning (answered_to terms.limits (over base items) more) ≡ meaning (answered_to terms.limits h (answered_in items ++ more))
@@ -117,14 +90,20 @@ there_in [] k d lt = absurd (omega arith)
 there_in (x ∷ xs) zero d lt = λ i. Some x
 there_in (x ∷ xs) (suc k) d lt = there_in xs k d (omega arith)
 
+-- a replay gives so much of the history
+pub part_of : {D : Type 0} (life : Life D) (k : ℕ) (history : ℕ → List Item) (state : Streams) (r : IsReplay life.opening.about life.threads k (history k) (writing_in life.ends history k) state) → IsPart k life history (record { beginning = r.beginning; more = r.more })
+part_of life k history state r = record {
+  a_beginning_of_that_history = r.a_beginning_of_that_history;
+  continued_only_by_calls_being_written = r.continued_only_by_calls_being_written;
+  holds_every_answered_call = r.holds_every_answered_call;
+  holds_what_each_pass_had_seen = r.holds_what_each_pass_had_seen;
+}
+
 module _ {D : Type 0} (sight : D → Sight) (follows : D → Type 0) (only_now : (d : D) (c : List ℕ) → follows d → (sight d).left_since (sight d).moment c → (sight d).may_leave c) where
   as_many : (count capacity j : ℕ) (given : List (List D)) (logs : List (Wal D)) (ms : List Streams) → AreOpenedFrom sight follows count capacity j given logs ms → length ms ≡ length given
   as_many count capacity j [] [] [] o = refl
-  as_many count capacity j [] [] (m ∷ ms) o = absurd o
-  as_many count capacity j [] (w ∷ logs) ms o = absurd o
-  as_many count capacity j (x ∷ given) [] ms o = absurd o
-  as_many count capacity j (x ∷ given) (w ∷ logs) [] o = absurd o
   as_many count capacity j (x ∷ given) (w ∷ logs) (m ∷ ms) o = let more = as_many count capacity (j + 1) given logs ms o.1 in omega arith
+  as_many count capacity j given logs ms o = absurd o
 
   -- the next opening's base is what a crash left of this one
   next_base : (e next : Life D) (k : ℕ) → IsLife sight follows next → IsContinued sight follows e (next ∷ []) → k < length next.given → MayBeReplayed sight follows e.ends k (base_at next.opening.about k)
@@ -155,12 +134,7 @@ module _ {D : Type 0} (sight : D → Sight) (follows : D → Type 0) (only_now :
       plain_more (terms_of about k) (base_at about k) r.beginning r.more h legal.is (subst (λ (l : Limits). IsWithin l h) (sym same) within) base in
       record {
         part = record { beginning = r.beginning; more = r.more };
-        is_part = record {
-          a_beginning_of_that_history = r.a_beginning_of_that_history;
-          continued_only_by_calls_being_written = r.continued_only_by_calls_being_written;
-          holds_every_answered_call = r.holds_every_answered_call;
-          holds_what_each_pass_had_seen = r.holds_what_each_pass_had_seen;
-        };
+        is_part = part_of e k history state r;
         state_is = r.the_state_after ∙ its ∙ ap (λ (l : Limits). meaning (answered_to l h (answered_in r.beginning ++ r.more))) same;
       }
 

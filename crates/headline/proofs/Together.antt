@@ -1,13 +1,6 @@
 -- Calls that are made together happen one after another.
-use Rattle.std.proofs.Common.{◌≡◌, Bool, List, [], ◌∷◌, map, refl, ap}
-use Rattle.std.specs.Prelude.{Result}
-use Rattle.accept.specs.declared.call.Call.{Call}
-use Rattle.accept.specs.declared.call.Reply.{Reply}
-use Rattle.history.specs.Handles.{Passed}
-use Rattle.owners.specs.Openings.{Opening}
-use Rattle.accept.specs.declared.fault.CallFault.{CallFault}
-use Rattle.ingester.specs.Calls.{AreGivenAfter}
-use Rattle.headline.specs.Threads.{Called, Happening, HappenAfter, calls_with}
+use Rattle.std.proofs.Common.{◌≡◌, Bool, List, [], ◌∷◌, map, refl, ap, Result}
+use Rattle.headline.proofs.Common.{Call, Reply, CallFault, Passed, Opening, AreGivenAfter, Called, Happening, HappenAfter, calls_with}
 
 module _ {D : Type 0} (opening : Opening D) where
   pub in_order : (lost : Bool) (old new : Passed) (calls : List Call) (outcomes : List (Result Reply CallFault)) → AreGivenAfter lost old calls outcomes new

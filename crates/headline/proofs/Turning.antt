@@ -1,46 +1,13 @@
 -- What a crash leaves of a shard between its opening and its end.
-use Rattle.std.proofs.Common.{◌≡◌, ◌⊎◌, ℕ, zero, suc, Bool, true, false, List, [], ◌∷◌, ◌++◌, length, take, drop, refl, sym, ap, ◌∙◌, subst, inl, inr, ⊎_elim, append_assoc, append-nil, arith, Some, None}
-use Rattle.std.specs.Prelude.{slice_get, slice_index_or}
-use Rattle.accept.specs.declared.call.Reply.TheVariants.{Unavailable}
-use Rattle.accept.specs.declared.history.Ask.{Ask}
-use Rattle.accept.specs.declared.history.Item.{Item}
-use Rattle.accept.specs.declared.history.Item.TheVariants.{Answered, Failed}
-use Rattle.accept.specs.Histories.{meaning, answered_to, is_marked, IsWithin}
+use Rattle.std.proofs.Common.{◌≡◌, ◌⊎◌, ℕ, zero, suc, Bool, true, false, List, [], ◌∷◌, ◌++◌, length, take, drop, refl, sym, ap, ◌∙◌, subst, inl, inr, ⊎_elim, append_assoc, append-nil, arith, Some, None, slice_get, slice_index_or}
+use Rattle.std.proofs.Math.Seq.{take-length, take-nil}
+use Rattle.headline.proofs.Common.{Unavailable, Ask, Item, Answered, Failed, About, Sight, Wal, Owner, Sharded, Opening, meaning, answered_to, is_marked, IsWithin, owner_of, Follow, slots, owner, IsOnDisk, Allows, Covers, is_even, Recovers, pair, slots_of, IsLegalAt, IsByPasses, base_at, terms_of, history_of, reply_of, step_of, doubt_of, doubt_or, Booked, history_in, asks_of, fresh_book, MayLeave, IsCommitted, IsMarkedInDoubt, items_with, with_steps, changing_of, marked_by, MayLeaveAll, Turn, AreTogether, IsAlone, IsTurn, Thread, IsMade, Lead, Moment, Between, Within, Stretch, shard_then, calls_with_steps, made_in, writing_then, IsMoment, FollowThen, IsStretch, MayBeLeft, IsLeftThen, cases_Bool, doubt_marked, doubt_unmarked, legal_none}
 use Rattle.accept.proofs.Legal.{legal-within}
 use Rattle.accept.proofs.Meanings.{meaning-nothing}
-use Rattle.disk.specs.Sight.{Sight}
-use Rattle.segment.specs.declared.owner.Owner.{Owner}
-use Rattle.segment.specs.Segments.{owner_of}
-use Rattle.wal.specs.declared.log.Wal.{Wal}
-use Rattle.wal.specs.Logs.{Follow, slots, owner, IsOnDisk}
-use Rattle.wal.specs.Covers.{Allows, Covers}
-use Rattle.wal.specs.Recovery.{is_even, Recovers}
-use Rattle.wal.specs.Moments.{pair}
-use Rattle.wal.specs.Opening.{slots_of}
 use Rattle.wal.proofs.OneImage.{settled_covers}
-use Rattle.history.specs.declared.views.About.{About}
-use Rattle.history.specs.Histories.{IsLegalAt, IsByPasses, base_at, terms_of, history_of, reply_of, step_of, doubt_of, doubt_or}
-use Rattle.history.specs.Handles.{Booked, history_in, asks_of, fresh_book}
-use Rattle.history.proofs.Past.{doubt_marked, doubt_unmarked, legal_none}
-use Rattle.shard.specs.Calls.{MayLeave, IsCommitted, IsMarkedInDoubt}
-use Rattle.shard.specs.Groups.{items_with, with_steps, changing_of, marked_by, MayLeaveAll}
 use Rattle.shard.specs.Keeping.{owner_in, IsAllowed, KeepsHistory}
-use Rattle.shard.specs.Shards.{Sharded}
-use Rattle.shard.specs.Turns.{Turn, AreTogether, IsAlone, IsTurn}
 use Rattle.shard.proofs.Groups.{steps_mean, failed_means, step_written}
-use Rattle.owners.specs.Openings.{Opening}
-use Rattle.headline.specs.Threads.{Thread}
-use Rattle.shard.specs.Leads.{IsMade, Lead}
-use Rattle.headline.specs.Turns.{Moment, Between, Within, Stretch, shard_then, calls_with_steps, made_in, writing_then, IsMoment, FollowThen, IsStretch, MayBeLeft, IsLeftThen}
 use Rattle.headline.proofs.Leaving.{IsOpenedAt}
-
-take_none : {A : Type 0} (j : ℕ) → take {A = A} j [] ≡ []
-take_none zero = refl
-take_none (suc j) = refl
-
-take_whole : {A : Type 0} (xs : List A) → take (length xs) xs ≡ xs
-take_whole [] = refl
-take_whole (x ∷ xs) = ap (λ l. x ∷ l) (take_whole xs)
 
 drop_front : {A : Type 0} (xs ys : List A) → drop (length xs) (xs ++ ys) ≡ ys
 drop_front [] ys = refl
@@ -73,10 +40,6 @@ index_get [] k d x e = let never : None ≡ Some x = e in absurd (cc)
 index_get (y ∷ xs) zero d x e = let one : Some y ≡ Some x = e in cc
 index_get (y ∷ xs) (suc k) d x e = index_get xs k d x e
 
-either : (b : Bool) → (b ≡ true) ⊎ (b ≡ false)
-either true = inl refl
-either false = inr refl
-
 -- what a book's slots may hold, as the opening's
 as_opening : (about : About) (k : ℕ) (book : Booked) (doubt : List Ask) (a b : List ℕ) → book.about ≡ about → book.shard ≡ k → IsAllowed book doubt a b → Allows (owner_of k about.shards) about.limits (history_of about k book.items) doubt a b
 as_opening about k book doubt a b e f allowed =
@@ -89,9 +52,9 @@ allowed_or book asks a b (j, le, found) = ⊎_elim
     (λ (m : is_marked book.items ≡ true). subst (λ (d : List Ask). IsAllowed book d a b) (sym (doubt_marked book.items asks m)) (j, le, found))
     (λ (m : is_marked book.items ≡ false).
     let none : doubt_of book.items ≡ [] = doubt_unmarked book.items [] m in
-    let first : take j (doubt_of book.items) ≡ [] = ap (take j) none ∙ take_none j in
+    let first : take j (doubt_of book.items) ≡ [] = ap (take j) none ∙ take-nil j in
     (0, omega arith, subst (λ (d : List Ask). Recovers (owner_in book) a b (meaning (answered_to book.about.limits (history_in book) d))) first found))
-    (either (is_marked book.items))
+    (cases_Bool (is_marked book.items))
 
 -- the streams after all calls of a group are those after the calls that it writes
 all_allowed : (book : Booked) (asks : List Ask) (a b : List ℕ) → IsWithin book.about.limits (history_in book) → Recovers (owner_in book) a b (meaning (history_in (with_steps book asks))) → IsAllowed book (doubt_or book.items (changing_of book asks)) a b
@@ -102,11 +65,11 @@ all_allowed book asks a b within found = ⊎_elim
     let its : IsAllowed book written a b = (
       length written,
       omega arith,
-      subst (λ (d : List Ask). Recovers (owner_in book) a b (meaning (answered_to book.about.limits (history_in book) d))) (sym (take_whole written))
+      subst (λ (d : List Ask). Recovers (owner_in book) a b (meaning (answered_to book.about.limits (history_in book) d))) (sym (take-length written))
           (subst (Recovers (owner_in book) a b) (sym (steps_mean book asks within)) found),
     ) in
     subst (λ (d : List Ask). IsAllowed book d a b) (sym (doubt_unmarked book.items written m)) its)
-    (either (is_marked book.items))
+    (cases_Bool (is_marked book.items))
 
 group_allowed : (book : Booked) (asks : List Ask) (a b : List ℕ) → IsWithin book.about.limits (history_in book) → MayLeaveAll book asks a b → IsAllowed book (doubt_or book.items (changing_of book asks)) a b
 group_allowed book asks a b within (inl old) = allowed_or book (changing_of book asks) a b old
@@ -117,17 +80,17 @@ one_group : (book : Booked) (ask : Ask) (a b : List ℕ) → MayLeave book ask.c
 one_group book ask a b (inl old) = inl old
 one_group book ask a b (inr (w, found)) = inr (subst (Recovers (owner_in book) a b) (sym (step_written book ask w)) found)
 
--- a turn leaves a book of the same shard of the same opening
-pub same_book : {D : Type 0} (sight : D → Sight) (follows : D → Type 0) (t : Turn D) → IsTurn sight follows t → (t.new.book.about ≡ t.old.book.about) × (t.new.book.shard ≡ t.old.book.shard)
+-- a turn leaves a book of the same shard of the same opening, in the same table
+pub same_book : {D : Type 0} (sight : D → Sight) (follows : D → Type 0) (t : Turn D) → IsTurn sight follows t → (t.new.book.about ≡ t.old.book.about) × (t.new.book.shard ≡ t.old.book.shard) × (t.new.book.table ≡ t.old.book.table)
 same_book {D = D} sight follows t (inl h) = ⊎_elim
-    (λ (c : _ × (t.new.book ≡ with_steps t.old.book (asks_of h.front)) × _). (ap (λ (b : Booked). b.about) c.1, ap (λ (b : Booked). b.shard) c.1))
-    (λ (c : _ × (t.new.book ≡ _) × _). (ap (λ (b : Booked). b.about) c.1, ap (λ (b : Booked). b.shard) c.1))
+    (λ (c : _ × (t.new.book ≡ with_steps t.old.book (asks_of h.front)) × _). (ap (λ (b : Booked). b.about) c.1, ap (λ (b : Booked). b.shard) c.1, ap (λ (b : Booked). b.table) c.1))
+    (λ (c : _ × (t.new.book ≡ _) × _). (ap (λ (b : Booked). b.about) c.1, ap (λ (b : Booked). b.shard) c.1, ap (λ (b : Booked). b.table) c.1))
     h.applied.stepped
 same_book {D = D} sight follows t (inr (inl h)) = ⊎_elim
-    (λ (c : IsCommitted (slots sight t.old.log) (slots sight t.new.log) t.old.book h.job.ticket t.new.book h.reply). (ap (λ (b : Booked). b.about) c.book, ap (λ (b : Booked). b.shard) c.book))
-    (λ (c : IsMarkedInDoubt (slots sight t.old.log) (slots sight t.new.log) t.old.book h.job.ticket t.new.book h.reply). (ap (λ (b : Booked). b.about) c.book, ap (λ (b : Booked). b.shard) c.book))
+    (λ (c : IsCommitted (slots sight t.old.log) (slots sight t.new.log) t.old.book h.job.ticket t.new.book h.reply). (ap (λ (b : Booked). b.about) c.book, ap (λ (b : Booked). b.shard) c.book, ap (λ (b : Booked). b.table) c.book))
+    (λ (c : IsMarkedInDoubt (slots sight t.old.log) (slots sight t.new.log) t.old.book h.job.ticket t.new.book h.reply). (ap (λ (b : Booked). b.about) c.book, ap (λ (b : Booked). b.shard) c.book, ap (λ (b : Booked). b.table) c.book))
     h.applied.step
-same_book {D = D} sight follows t (inr (inr h)) = (ap (λ (s : Sharded D). s.book.about) h.same, ap (λ (s : Sharded D). s.book.shard) h.same)
+same_book {D = D} sight follows t (inr (inr h)) = (ap (λ (s : Sharded D). s.book.about) h.same, ap (λ (s : Sharded D). s.book.shard) h.same, ap (λ (s : Sharded D). s.book.table) h.same)
 
 module _ {D : Type 0} (sight : D → Sight) (follows : D → Type 0) (only_now : (d : D) (c : List ℕ) → follows d → (sight d).left_since (sight d).moment c → (sight d).may_leave c) where
   -- a crash since now leaves what a crash now may leave

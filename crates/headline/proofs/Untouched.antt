@@ -1,25 +1,12 @@
 -- Until its first turn a shard has its slots as they were opened.
-use Rattle.std.proofs.Common.{◌≡◌, ℕ, List, [], length, sym, ap, ◌∙◌, subst}
-use Rattle.std.specs.Prelude.{Some, slice_get}
+use Rattle.std.proofs.Common.{◌≡◌, ℕ, List, [], length, sym, ap, ◌∙◌, subst, Some, slice_get}
 use Rattle.std.proofs.lemmas.Option.{same_Some}
-use Rattle.disk.specs.Sight.{Sight}
-use Rattle.wal.specs.declared.log.Wal.{Wal}
-use Rattle.wal.specs.Logs.{Follow, slots}
-use Rattle.wal.specs.Opening.{slots_of, PairRests}
-use Rattle.shard.specs.Leads.{Lead}
-use Rattle.shard.specs.Shards.{Sharded}
+use Rattle.headline.proofs.Common.{Sight, Wal, Sharded, Lead, Follow, slots, slots_of, PairRests, opened_shard, shard_then, Life, ShardEnd, HandedOut, CutAt, IsLife, IsEnd, MadeNoTurn, WritesNothingBefore, slots_then}
 use Rattle.openings.proofs.Ordered.{ordered}
-use Rattle.owners.specs.Places.{opened_shard}
-use Rattle.headline.specs.Turns.{Moment, Between, Within, IsMoment, FollowThen, shard_then}
-use Rattle.headline.specs.Lives.{Life, ShardEnd, HandedOut, CutAt, IsLife, IsEnd, MadeNoTurn, WritesNothingBefore, slots_then}
 use Rattle.headline.proofs.Leaving.{given_at}
-use Rattle.headline.proofs.Marking.{lead_follows, turn_follows}
+use Rattle.headline.proofs.Marking.{lead_follows, follow_before}
 
 module _ {D : Type 0} (sight : D → Sight) (follows : D → Type 0) where
-  follow_before : (m : Moment D) → IsMoment sight follows m → FollowThen sight follows m → Follow follows (shard_then m).log
-  follow_before (Between s) is f = f
-  follow_before (Within t) is f = turn_follows sight follows t is.turn f
-
   -- without a turn the shard is as it was opened
   no_turn : (start end : Sharded D) (ts : List _) → Lead sight follows start ts end → ts ≡ [] → end.log ≡ start.log
   no_turn start end ts lead none = ap (λ (s : Sharded D). s.log) (subst (λ l. Lead sight follows start l end) none lead)
@@ -39,7 +26,7 @@ module _ {D : Type 0} (sight : D → Sight) (follows : D → Type 0) where
         (subst (λ (w : Wal D). PairRests (slots_of sight given) (slots sight w)) (sym log) (rests_at k out.opened out.opened_as (out.before ends.1) given here))
     rests k (CutAt st) ends none given here =
         let log : (shard_then st.moment).log ≡ ends.opened = no_turn (opened_shard life.opening k ends.opened) (shard_then st.moment) st.turns ends.turned none in
-        let f : Follow follows ends.opened = lead_follows sight follows (opened_shard life.opening k ends.opened) (shard_then st.moment) st.turns ends.turned (follow_before st.moment ends.moment ends.follow) in
+        let f : Follow follows ends.opened = lead_follows sight follows (opened_shard life.opening k ends.opened) (shard_then st.moment) st.turns ends.turned (follow_before sight follows st.moment ends.moment ends.follow) in
         subst (λ (w : Wal D). PairRests (slots_of sight given) (slots sight w)) (sym log) (rests_at k ends.opened ends.opened_as f given here)
 
     pub nothing_before : WritesNothingBefore sight follows life is

@@ -1,12 +1,7 @@
 -- One opening after another, each over what a crash left of the one before.
 use Rattle.std.specs.Prelude.{◌≡◌, ℕ, ◌<◌, List, [], ◌∷◌, ◌++◌, length, if◌then◌else◌}
-use Rattle.accept.specs.declared.limits.Limits.{Limits}
-use Rattle.accept.specs.declared.history.Ask.{Ask}
-use Rattle.accept.specs.declared.history.Item.{Item}
-use Rattle.accept.specs.declared.history.Item.TheVariants.{Answered, Failed}
-use Rattle.accept.specs.Rooms.{Streams}
+use Rattle.headline.specs.Types.{Streams, Limits, Ask, Item, Answered, Failed, Sight}
 use Rattle.accept.specs.Histories.{meaning, answered_to}
-use Rattle.disk.specs.Sight.{Sight}
 use Rattle.history.specs.Histories.{IsBeginning, base_at}
 use Rattle.history.specs.Plays.{seen_at}
 use Rattle.headline.specs.Threads.{Thread, AnsweredCall}

@@ -1,13 +1,8 @@
 -- A log from event to event, each over what a crash left of the one before: openings that lived, under any limits and
 -- capacity; openings that were refused or killed; and splits into another number of shards.
 use Rattle.std.specs.Prelude.{◌≡◌, ◌⊎◌, ◌<◌, ℕ, List, [], ◌∷◌, ◌++◌, length, map}
-use Rattle.accept.specs.declared.limits.Limits.{Limits}
-use Rattle.accept.specs.declared.history.Ask.{Ask}
-use Rattle.accept.specs.declared.history.Item.{Item}
-use Rattle.accept.specs.Rooms.{Streams}
+use Rattle.headline.specs.Types.{Streams, Limits, Ask, Item, Sight, Wal}
 use Rattle.accept.specs.Histories.{meaning, answered_to}
-use Rattle.disk.specs.Sight.{Sight}
-use Rattle.wal.specs.declared.log.Wal.{Wal}
 use Rattle.wal.specs.Opening.{slots_of, disks, AllFollow}
 use Rattle.openings.specs.Findings.{AreOpenedFrom, IsFirstRefused}
 use Rattle.history.specs.Histories.{base_at}
@@ -76,10 +71,8 @@ abbrev pub Makes : {D : Type 0} → Event D → (ℕ → List Item) → (ℕ →
     → Type 0
 Makes (Lived life) history before after = (k : ℕ) → k < length life.given
     → IsExecuted k life history (before k) (after k)
-Makes (Refused a) history before after = AreSame (length a.given) before after
-Makes (Killed a) history before after = AreSame (length a.given) before after
 Makes (Split s) history before after = IsSplit (length s.old) (length s.new) before after
-Makes (Unsplit s) history before after = AreSame (length s.old) before after
+Makes e history before after = AreSame (length (given_to e)) before after
 
 -- and events one after another, each with its history
 abbrev pub AreMade : {D : Type 0} → List (Event D) → List (ℕ → List Item) → (ℕ → Streams)
@@ -192,10 +185,7 @@ module _ {D : Type 0} (sight : D → Sight) (follows : D → Type 0) where
   AreHeadlinesOf [] [] = Unit {0}
   AreHeadlinesOf (Lived life ∷ events) (h ∷ histories) = IsHeadlineOf sight follows life h
       × AreHeadlinesOf events histories
-  AreHeadlinesOf (Refused a ∷ events) (h ∷ histories) = AreHeadlinesOf events histories
-  AreHeadlinesOf (Killed a ∷ events) (h ∷ histories) = AreHeadlinesOf events histories
-  AreHeadlinesOf (Split s ∷ events) (h ∷ histories) = AreHeadlinesOf events histories
-  AreHeadlinesOf (Unsplit s ∷ events) (h ∷ histories) = AreHeadlinesOf events histories
+  AreHeadlinesOf (e ∷ events) (h ∷ histories) = AreHeadlinesOf events histories
   AreHeadlinesOf events histories = ⊥
 
   -- Of each opening there are histories as the headline says. Whatever crash comes in the end, what is replayed is what

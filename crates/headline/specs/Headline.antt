@@ -1,18 +1,9 @@
 -- What is proved of the calls of an opening, word by word.
 use Rattle.std.specs.Prelude.{◌≡◌, ◌≢◌, ◌⊎◌, ℕ, ◌+◌, ◌<◌, ◌==◌, Bool, true, false, List, [], ◌∷◌, filter, if◌then◌else◌}
-use Rattle.accept.specs.declared.call.Reply.{Reply}
-use Rattle.accept.specs.declared.call.Reply.TheVariants.{Verdict, Entries, Trimmed, TrimTooNew, NoStream, NoRoom, Unavailable}
-use Rattle.accept.specs.declared.history.Ask.{Ask}
-use Rattle.accept.specs.declared.history.Step.{Step}
-use Rattle.accept.specs.declared.history.Item.{Item}
-use Rattle.accept.specs.declared.history.Item.TheVariants.{Answered}
-use Rattle.accept.specs.declared.history.History.{History}
-use Rattle.accept.specs.Rooms.{Streams}
+use Rattle.headline.specs.Types.{Streams, Reply, NoRoom, Unavailable, Ask, Step, Item, Answered, History, About, OpenFault}
 use Rattle.accept.specs.Histories.{key_of, answer, meaning, reply_to, answered_to, is_step_of, is_marked}
 use Rattle.accept.specs.OneKey.{only_about}
-use Rattle.wal.specs.declared.fault.OpenFault.{OpenFault}
 use Rattle.wal.specs.declared.fault.OpenFault.TheVariants.{Device, Memory}
-use Rattle.history.specs.declared.views.About.{About}
 use Rattle.history.specs.Histories.{IsBeginning, IsLegalAt, IsByPasses, base_at, terms_of, history_of, shard_in, step_of}
 use Rattle.history.specs.Plays.{seen_at, ask_of, HasStepsOf}
 use Rattle.headline.specs.Threads.{Happening, Thread, AnsweredCall, happened_to, calls_answered_to, calls_made_by}
@@ -22,13 +13,9 @@ IsOneOf x [] = ⊥
 IsOneOf x (y ∷ ys) = (x ≡ y) ⊎ IsOneOf x ys
 
 abbrev pub is_refusal : Reply → Bool
-is_refusal (Verdict outcomes) = false
-is_refusal (Entries entries) = false
-is_refusal (Trimmed removed) = false
-is_refusal TrimTooNew = false
-is_refusal NoStream = false
 is_refusal NoRoom = true
 is_refusal Unavailable = true
+is_refusal reply = false
 
 -- an answered call under its pass and number, as its step, and all steps of it among some items
 abbrev pub ask_for : AnsweredCall → Ask

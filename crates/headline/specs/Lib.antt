@@ -1,3 +1,4 @@
+pub mod Types
 pub mod Threads
 pub mod Headline
 pub mod Turns

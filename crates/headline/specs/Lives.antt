@@ -1,19 +1,13 @@
 -- An opening until it is closed or a crash comes, and what is then left of its slots.
 use Rattle.std.specs.Prelude.{◌≡◌, ℕ, ◌≤◌, List, [], ◌∷◌, Bool, Option, Some, None, length, slice_get}
-use Rattle.accept.specs.declared.limits.Limits.{Limits}
-use Rattle.accept.specs.declared.history.Ask.{Ask}
-use Rattle.accept.specs.declared.history.Item.{Item}
-use Rattle.accept.specs.Rooms.{Streams}
-use Rattle.disk.specs.Sight.{Sight}
+use Rattle.headline.specs.Types.{Streams, Limits, Ask, Item, Sight, Wal, Opening}
 use Rattle.segment.specs.Segments.{owner_of}
-use Rattle.wal.specs.declared.log.Wal.{Wal}
 use Rattle.wal.specs.Recovery.{Recovers}
 use Rattle.wal.specs.Moments.{Pair, HasFailed}
 use Rattle.wal.specs.Logs.{Follow, slots}
 use Rattle.wal.specs.Opening.{slots_of, AllFollow, PairRests}
 use Rattle.history.specs.Histories.{doubt_of}
 use Rattle.history.specs.Handles.{about_of}
-use Rattle.owners.specs.Openings.{Opening}
 use Rattle.openings.specs.Findings.{AreOpenedFrom, IsFirstRefused}
 use Rattle.ingester.specs.Closings.{IsHandedOut}
 use Rattle.headline.specs.Threads.{Thread, IsThread, last_passes}

@@ -1,16 +1,10 @@
 -- Passes of an opening, and what happens to them: calls, looks, meetings and their end.
-use Rattle.std.specs.Prelude.{◌≡◌, ◌≢◌, ◌⊎◌, ℕ, ◌+◌, ◌<◌, Bool, false, List, [], ◌∷◌, flat_map, Result, Ok, Err}
-use Rattle.accept.specs.declared.call.Call.{Call}
-use Rattle.accept.specs.declared.call.Reply.{Reply}
-use Rattle.history.specs.declared.views.Caller.{Caller}
-use Rattle.accept.specs.declared.history.Ask.{Ask}
-use Rattle.accept.specs.declared.history.Item.{Item}
+use Rattle.std.specs.Prelude.{◌≡◌, ◌≢◌, ◌⊎◌, ℕ, ◌+◌, ◌<◌, Bool, false, List, [], ◌∷◌, flat_map, Result, Ok}
+use Rattle.headline.specs.Types.{Call, Reply, CallFault, Ask, Item, Caller, Opening}
 use Rattle.history.specs.Histories.{IsBeginning, IsLegalAt, IsByPasses}
 use Rattle.history.specs.Plays.{seen_at, ask_of, look_to, HasStepsOf}
 use Rattle.history.specs.Handles.{Passed, HaveMet, fresh_pass, with_seen}
-use Rattle.owners.specs.Openings.{Opening}
 use Rattle.accept.specs.Doubts.{is_doubt}
-use Rattle.accept.specs.declared.fault.CallFault.{CallFault}
 use Rattle.ingester.specs.Calls.{IsGivenAfter, closed_now}
 
 -- a call, and what came of it; a look at a shard; a meeting with another pass, which has seen this then; or its end
@@ -55,9 +49,7 @@ Happens lost opening old Closed new = new ≡ closed_now old
 -- whether it was a call that is in doubt
 abbrev pub leaves_call_in_doubt : What → Bool
 leaves_call_in_doubt (Called call outcome) = is_doubt outcome
-leaves_call_in_doubt (Looked k) = false
-leaves_call_in_doubt (Met other theirs) = false
-leaves_call_in_doubt Closed = false
+leaves_call_in_doubt what = false
 
 -- these happened to a pass, one after another
 abbrev pub HappenAfter : {D : Type 0} → Bool → Opening D → Passed → List Happening → Passed → Type 0
@@ -99,10 +91,7 @@ pub record AnsweredCall : Type 0 where
 
 abbrev pub answers_by : Caller → What → List AnsweredCall
 answers_by c (Called call (Ok reply)) = record { knew = c; call = call; reply = reply } ∷ []
-answers_by c (Called call (Err fault)) = []
-answers_by c (Looked k) = []
-answers_by c (Met other theirs) = []
-answers_by c Closed = []
+answers_by c what = []
 
 -- all calls that were answered
 abbrev pub calls_answered_to : List Thread → List AnsweredCall
@@ -111,9 +100,7 @@ calls_answered_to threads = flat_map (λ h. answers_by h.before.caller h.what) (
 -- all calls that were made, each under its pass and number, whatever came of them
 abbrev pub calls_by_what : Caller → What → List Ask
 calls_by_what c (Called call outcome) = ask_of c (c.last + 1) call ∷ []
-calls_by_what c (Looked k) = []
-calls_by_what c (Met other theirs) = []
-calls_by_what c Closed = []
+calls_by_what c what = []
 
 abbrev pub calls_made_by : List Thread → List Ask
 calls_made_by threads = flat_map (λ h. calls_by_what h.before.caller h.what) (happened_to threads)

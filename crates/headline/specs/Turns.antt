@@ -1,21 +1,12 @@
 -- A shard between its opening and its end: the turns that its owner made, and what a crash then leaves.
 use Rattle.std.specs.Prelude.{◌≡◌, ◌⊎◌, ℕ, ◌≤◌, List, [], ◌∷◌, ◌++◌, drop, length, Some, slice_get}
-use Rattle.accept.specs.declared.history.Ask.{Ask}
-use Rattle.accept.specs.declared.history.Step.{Step}
-use Rattle.accept.specs.declared.history.Item.{Item}
-use Rattle.accept.specs.declared.history.Item.TheVariants.{Answered, Failed}
-use Rattle.disk.specs.Sight.{Sight}
-use Rattle.wal.specs.declared.log.Wal.{Wal}
+use Rattle.headline.specs.Types.{Ask, Step, Item, Answered, Failed, Sight, Wal, Passed, Sharded, Turn, Opening}
 use Rattle.wal.specs.Logs.{Follow, slots}
 use Rattle.wal.specs.Opening.{slots_of}
 use Rattle.history.specs.Histories.{IsBeginning, doubt_of, doubt_or, steps_by, asks_by}
 use Rattle.history.specs.Plays.{seen_at, AreHis}
-use Rattle.history.specs.Handles.{Passed}
 use Rattle.shard.specs.Groups.{changing_of}
-use Rattle.shard.specs.Shards.{Sharded}
-use Rattle.shard.specs.Turns.{Turn}
 use Rattle.shard.specs.Leads.{IsMade, Lead}
-use Rattle.owners.specs.Openings.{Opening}
 use Rattle.owners.specs.Places.{opened_shard}
 use Rattle.headline.specs.Threads.{Thread}
 use Rattle.headline.specs.Headline.{IsOneOf}

@@ -1,10 +1,7 @@
 //! The headline. The functions do nothing: each contract is a law.
 ghost use Rattle.std.specs.Prelude.{◌≡◌, ℕ, List, false, map, Result};
-ghost use Rattle.accept.specs.declared.limits.Limits.{Limits};
-ghost use Rattle.accept.specs.declared.history.Item.{Item};
+ghost use Rattle.headline.specs.Types.{Limits, Item, Passed, Opening};
 ghost use Rattle.disk.specs.Sight.{IsSynced};
-ghost use Rattle.history.specs.Handles.{Passed};
-ghost use Rattle.owners.specs.Openings.{Opening};
 ghost use Rattle.ingester.specs.Calls.{AreGiven};
 ghost use Rattle.headline.specs.Threads.{Happening, HappenAfter, calls_with};
 ghost use Rattle.headline.specs.Headline.{IsHeadline};

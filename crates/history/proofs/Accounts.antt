@@ -1,22 +1,7 @@
 -- What a pass knows stays right at each step.
-use Rattle.std.proofs.Common.{◌≡◌, ◌≢◌, ◌⊎◌, ℕ, zero, suc, ◌+◌, ◌<◌, ◌≤◌, List, [], ◌∷◌, ◌++◌, length, Bool, true, false, refl, sym, ap, ◌∙◌, subst, inl, inr, ⊎_elim, append_assoc, append-nil, arith, length-append, length-set}
-use Rattle.std.specs.Prelude.{slice_index_or, slice_set, replicate}
-use Rattle.std.proofs.lemmas.Bool.{cases_eq}
-use Rattle.std.proofs.lemmas.List.{get_or-set_same, get_or-set_other}
-use Rattle.accept.specs.declared.call.Call.{Call}
-use Rattle.accept.specs.declared.call.Reply.{Reply}
-use Rattle.accept.specs.declared.history.Ask.{Ask}
-use Rattle.accept.specs.declared.history.Step.{Step}
-use Rattle.accept.specs.declared.history.Item.{Item}
-use Rattle.accept.specs.declared.history.Item.TheVariants.{Answered}
-use Rattle.history.specs.declared.views.About.{About}
-use Rattle.history.specs.declared.views.Caller.{Caller}
-use Rattle.history.specs.declared.views.Token.{Token}
-use Rattle.history.specs.declared.views.Token.TheVariants.{Nothing, Open, Done}
-use Rattle.history.specs.Histories.{IsBeginning, shard_in, step_of, steps_by, steps_on, asks_by, HaveNumbersBelow, HaveNumbersAbove, IsRising, IsUnused, AreUnused, HasStep, HaveSteps, IsAmong, AreAmong, IsFirst, IsFirstIfAmong, behind_first, bound}
-use Rattle.history.specs.Rule.{AccountOk, HasOwn, IsOfOpenCall, AreOfOpenCalls, IsOrdered, IsQueue, TokenOk, newcomer, floor_of, IsOnItsWay, AreTold}
-use Rattle.history.specs.Plays.{seen_at, ask_of, before_of, announce_to, withdraw_to, collect_to, look_to, AreHis, HasStepsOf, IsRested, Extends}
-use Rattle.history.proofs.Lists.{put, put_at, put_else, put_all, begins_same, begins_more, begins_trans, in_line, behind, last_or_none, last_same}
+use Rattle.std.proofs.Common.{◌≡◌, ◌≢◌, ◌⊎◌, ℕ, zero, suc, ◌+◌, ◌<◌, ◌≤◌, List, [], ◌∷◌, ◌++◌, length, Bool, true, false, refl, sym, ap, ◌∙◌, subst, inl, inr, ⊎_elim, append_assoc, append-nil, arith, length-append, length-set, slice_index_or, slice_set, get_or-set_same, get_or-set_other}
+use Rattle.std.proofs.lemmas.List.{append_cancel_left, length-replicate}
+use Rattle.history.proofs.Common.{Call, Reply, Ask, Step, Item, Answered, About, Caller, Token, Nothing, Open, Done, IsBeginning, shard_in, step_of, steps_by, steps_on, asks_by, HaveNumbersBelow, HaveNumbersAbove, IsRising, IsUnused, AreUnused, HasStep, HaveSteps, IsAmong, AreAmong, IsFirst, IsFirstIfAmong, behind_first, bound, AccountOk, HasOwn, IsOfOpenCall, AreOfOpenCalls, IsOrdered, IsQueue, TokenOk, newcomer, floor_of, IsOnItsWay, AreTold, seen_at, ask_of, before_of, announce_to, withdraw_to, collect_to, look_to, AreHis, HasStepsOf, IsRested, Extends, cases_eq, put, put_at, put_else, put_all, begins_same, begins_more, begins_trans, in_line, replicate_at, last_or_none, last_same}
 use Rattle.history.proofs.Past.{AreFrom, steps_append, asks_step, steps_mine, steps_begin, on_here, on_else, below_on, below_more, below_last, below_middle, rising_last, rising_back, rising_front, parted, under_more, under_last, unused_below, unused_number, unused_step, unused_both, made_left, made_last, not_made, has_step, among_left, among_last, among_on, among_floor, queue_last, queue_behind, floor_first, among_behind, first_by_number, few_behind}
 
 -- what is told of calls, after a change of the one with number n
@@ -45,13 +30,13 @@ seen_set P (y ∷ l) zero new f b (suc j) = f (suc j)
 seen_set P (y ∷ l) (suc k) new f b zero = f zero
 seen_set P (y ∷ l) (suc k) new f b (suc j) = seen_set (λ i x. P (suc i) x) l k new (λ i. f (suc i)) b j
 
-open_done : (a : Ask) (f : Bool) (e : List Ask) (s : Step) (upto : List Item) (at : ℕ × ℕ) → Open a f e ≡ Done s upto at → ⊥
+pub open_done : (a : Ask) (f : Bool) (e : List Ask) (s : Step) (upto : List Item) (at : ℕ × ℕ) → Open a f e ≡ Done s upto at → ⊥
 open_done a f e s upto at q = cc
 
-nothing_done : (s : Step) (upto : List Item) (at : ℕ × ℕ) → Nothing ≡ Done s upto at → ⊥
+pub nothing_done : (s : Step) (upto : List Item) (at : ℕ × ℕ) → Nothing ≡ Done s upto at → ⊥
 nothing_done s upto at q = cc
 
-nothing_open : (a : Ask) (f : Bool) (e : List Ask) → Nothing ≡ Open a f e → ⊥
+pub nothing_open : (a : Ask) (f : Bool) (e : List Ask) → Nothing ≡ Open a f e → ⊥
 nothing_open a f e q = cc
 
 one_step : (s r : Step) (upto upto' : List Item) (at at' : ℕ × ℕ) → Done s upto at ≡ Done r upto' at' → s ≡ r
@@ -434,7 +419,7 @@ seen_put P l k new lt f b j = ⊎_elim
 pub both_begin : {A : Type 0} (a b : List A) → IsBeginning a b → IsBeginning b a → a ≡ b
 both_begin a b h k =
     let e : b ++ [] ≡ b ++ (k.rest ++ h.rest) = append-nil b ∙ h.is ∙ ap (λ l. l ++ h.rest) k.is ∙ append_assoc b k.rest h.rest in
-    k.is ∙ ap (λ l. b ++ l) (front_empty k.rest h.rest (sym (behind b [] (k.rest ++ h.rest) e))) ∙ append-nil b
+    k.is ∙ ap (λ l. b ++ l) (front_empty k.rest h.rest (sym (append_cancel_left b [] (k.rest ++ h.rest) e))) ∙ append-nil b
   where
     front_empty : {A : Type 0} (x y : List A) → x ++ y ≡ [] → x ≡ []
     front_empty [] y e = refl
@@ -515,7 +500,7 @@ module _ (items : ℕ → List Item) (c : Caller) (ts : ℕ → Token) (s : Step
   between_none rested front e =
       let made = steps_on c.about k c.made in
       let both : made ++ [] ≡ made ++ steps_by c.pass front = append-nil made ∙ split_there.0 ∙ ap (steps_by c.pass) e ∙ steps_append c.pass old front ∙ ap (λ l. l ++ steps_by c.pass front) (rested k) in
-      sym (behind made [] (steps_by c.pass front) both)
+      sym (append_cancel_left made [] (steps_by c.pass front) both)
 
   pub extends_of : IsRested c → Extends c.pass old s upto
   extends_of rested =
@@ -584,35 +569,16 @@ module _ (items : ℕ → List Item) (c : Caller) (ts : ℕ → Token) (s : Step
         };
       }
 
-nothing_at : (n k : ℕ) → slice_index_or (replicate {A = List Item} n []) k [] ≡ []
-nothing_at zero k = refl
-nothing_at (suc n) zero = refl
-nothing_at (suc n) (suc k) = nothing_at n k
-
-length-none : (n : ℕ) → length (replicate {A = List Item} n []) ≡ n
-length-none zero = refl
-length-none (suc n) = ap suc (length-none n)
-
 -- a pass that has seen and made nothing, where there is nothing
 pub newcomer_ok : (about : About) (p : ℕ) → AccountOk about (λ _. []) p (newcomer about p) (λ _. Nothing)
 newcomer_ok about p = record {
   named = refl;
-  numbers = record {
-    within = omega arith;
-    queue = tt;
-    few = omega arith;
-    rises = tt;
-    gone = tt;
-  };
-  steps = record {
-    rising = λ k. tt;
-    used = λ k. tt;
-    unused = λ k. tt;
-  };
+  numbers = record { within = omega arith; queue = tt; few = omega arith; rises = tt; gone = tt };
+  steps = record { rising = λ k. tt; used = λ k. tt; unused = λ k. tt };
   looks = record {
-    parts = λ k. record { rest = []; is = sym (ap (λ l. l ++ []) (nothing_at about.shards k)) };
-    wide = length-none about.shards;
-    own = λ k. record { rest = []; is = ap (steps_by p) (nothing_at about.shards k) };
+    parts = λ k. record { rest = []; is = sym (ap (λ l. l ++ []) (replicate_at {A = List Item} about.shards k [])) };
+    wide = length-replicate {A = List Item} about.shards [];
+    own = λ k. record { rest = []; is = ap (steps_by p) (replicate_at {A = List Item} about.shards k []) };
   };
   way = record {
     own = λ k. record { rest = []; is = refl; waiting = tt };

@@ -1,30 +1,10 @@
 -- The steps of a book keep the rule.
-use Rattle.std.proofs.Common.{◌≡◌, ℕ, ◌+◌, ◌*◌, ◌%◌, ◌^◌, ◌<◌, ◌≤◌, List, [], ◌∷◌, ◌++◌, length, Bool, true, false, cond, ◌&&◌, refl, sym, ap, ◌∙◌, subst, inr, arith, eq-eqb, length-append, length-set}
-use Rattle.std.specs.Prelude.{slice_set, slice_index, nat_lt}
-use Rattle.std.proofs.lemmas.List.{get_or-set_same, get_or-set_other}
-use mathlib.Core.Option.{none}
-use Rattle.atomic_table.specs.Table.{Me, Allows, step, keeps}
-use Rattle.accept.specs.declared.history.Ask.{Ask}
-use Rattle.accept.specs.declared.history.Step.{Step}
-use Rattle.accept.specs.declared.history.Item.{Item}
-use Rattle.accept.specs.declared.history.Item.TheVariants.{Answered}
-use Rattle.accept.specs.declared.call.Call.{Call}
-use Rattle.accept.specs.declared.call.Reply.{Reply}
-use Rattle.accept.specs.declared.call.Reply.TheVariants.{Unavailable, NoRoom}
+use Rattle.std.proofs.Common.{◌≡◌, ℕ, ◌+◌, ◌*◌, ◌%◌, ◌^◌, ◌<◌, ◌≤◌, List, [], ◌∷◌, ◌++◌, length, Bool, true, false, cond, ◌&&◌, refl, sym, ap, ◌∙◌, subst, inr, arith, eq-eqb, length-append, length-set, slice_set, slice_index, nat_lt, get_or-set_same, get_or-set_other}
+use Rattle.history.proofs.Common.{none, Me, Allows, step, keeps, Call, Reply, Unavailable, NoRoom, Ask, Step, Item, Answered, About, Shelf, View, Nobody, Keeps, Token, Open, Done, answer, after, changes, MayFollow, reply_to, is_marked, alone, TableContents, AccountOk, IsGood, AreWords, AreTold, KeepsRule, steps_in_all, keeper, answered, HasRoomForSteps, committed_at, put, put_at, put_all, put_other, put_two, put_two_at, begins_same}
 use Rattle.accept.specs.Rooms.{room as room_of}
-use Rattle.accept.specs.Histories.{answer, after, changes, MayFollow, reply_to, is_marked}
-use Rattle.history.specs.declared.views.About.{About}
-use Rattle.history.specs.declared.views.Shelf.{Shelf}
-use Rattle.history.specs.declared.views.View.{View}
-use Rattle.history.specs.declared.views.Role.TheVariants.{Nobody, Keeps}
-use Rattle.history.specs.declared.views.Token.{Token}
-use Rattle.history.specs.declared.views.Token.TheVariants.{Open, Done}
 use Rattle.history.specs.Histories.{IsBeginning, IsLegalAt, terms_of, history_of, reply_of, shard_in, steps_by, asks_by, IsByPasses, HaveNumbersBelow, HaveSteps, bound}
-use Rattle.history.specs.Rule.{alone, TableContents, AccountOk, IsGood, AreWords, AreTold, KeepsRule, steps_in_all}
-use Rattle.history.specs.Plays.{keeper, answered, HasRoomForSteps, committed_at}
-use Rattle.history.proofs.Lists.{put, put_at, put_all, put_other, put_two, put_two_at, begins_same}
 use Rattle.history.proofs.Past.{rising_count, asks_step, steps_else, all_new, legal_more, by_passes_append, marked_step, total_step, total_least}
-use Rattle.history.proofs.Accounts.{token_ok, grown_ok, committed_ok}
+use Rattle.history.proofs.Accounts.{one_open, token_ok, grown_ok, committed_ok}
 use Rattle.history.proofs.Seats.{seats_set, hand_put, doubt_put, held_by, book_of}
 
 mark_least : (b : Bool) → cond b 1 0 ≤ 1
@@ -85,10 +65,6 @@ refuses about k items call e = ap (λ b. cond b Unavailable (reply_unmarked abou
         let h = history_of about k items in
         cond (changes (answer limits h call) && nat_lt about.capacity (room_of (after limits h call))) NoRoom (answer limits h call)
 
--- an open call that is another's is the same call
-one_ask : (a b : Ask) (f : Bool) (d e : List Ask) → Open a f d ≡ Open b true e → a ≡ b
-one_ask a b f d e q = cc
-
 -- the histories and the passes after a step of the call a
 good_step : (about : About) (x : TableContents) (k : ℕ) (now : List Item) (a : Ask) (f : Bool) (b : List Ask) (at : ℕ × ℕ) → IsGood about x → a.pass < about.passes → shard_in about a ≡ k → x.tokens a.pass a.number ≡ Open a f b → HaveSteps b (x.items k)
     → let s : Step = answered about k (x.items k) a in now ≡ x.items k ++ Answered s ∷ []
@@ -123,9 +99,13 @@ good_step about x k now a f b at good lt here has had is =
     }
 
 -- a book adds a step
-commits : (slots id k : ℕ) (about : About) (items : List Item) (a : Ask) (f : Bool) (b : List Ask) (at : ℕ × ℕ) → shard_in about a ≡ k → HaveSteps b items
-    → Allows KeepsRule slots id (keeper about k items [] (Open a f b), []) k (λ n. (n + 1) % 2 ^ 64) (committed_at at (step slots k 1 0 none) (keeper about k items [] (Open a f b), []))
-commits slots id k about items a f b at here had s h wide e fits =
+pub commits_as : (slots id k : ℕ) (shelf : Shelf) (a : Ask) (f : Bool) (b : List Ask) (at : ℕ × ℕ) (m : Me Unit View) → m ≡ (alone (Keeps shelf) (Open a f b), []) → shelf.doubt ≡ [] → shelf.shard ≡ k → shard_in shelf.about a ≡ k
+    → HaveSteps b shelf.items → Allows KeepsRule slots id m k (λ n. (n + 1) % 2 ^ 64) (committed_at at (step slots k 1 0 none) m)
+commits_as slots id k shelf a f b at m is none_yet at_shard here had =
+    let about : About = shelf.about in
+    let items : List Item = shelf.items in
+    let same : m ≡ (keeper about k items [] (Open a f b), []) = is ∙ ap (λ (z : ℕ × List Ask). (keeper about z.0 items z.1 (Open a f b), [])) (λ i. (at_shard i, none_yet i)) in
+    subst (λ (u : Me Unit View). Allows KeepsRule slots id u k (λ n. (n + 1) % 2 ^ 64) (committed_at at (step slots k 1 0 none) u)) (sym same) (λ s h wide e fits.
     let r = book_of s id (record { about = about; shard = k; items = items; doubt = [] }) Nobody (Open a f b) h e in
     let x = r.contents in
     let seat = r.seats id (keeper about k items [] (Open a f b)) e in
@@ -153,7 +133,7 @@ commits slots id k about items a f b at here had s h wide e fits =
                 passes = λ p j n q. (q, refl);
                 hands = hand_put about x r.seating a.pass a.number id t' id (inr hand.1) (put x.items k now) x.callers r.seating.books r.seating.passes;
                 doubts = λ o j n q g. doubt_put x.tokens a.pass a.number (Open a f b) t' o hand.2
-                    (λ same. absurd (n (sym q ∙ ap (λ (i : Ask). r.seating.books (shard_in about i)) (sym (one_ask a o f b same.0 same.1)) ∙ ap r.seating.books here ∙ mine.2))) g;
+                    (λ its. absurd (n (sym q ∙ ap (λ (i : Ask). r.seating.books (shard_in about i)) (sym (one_open a o f true b its.0 its.1).0) ∙ ap r.seating.books here ∙ mine.2))) g;
               })
               s.views (keeper about k now [] t') r.seats
               (record {
@@ -165,10 +145,4 @@ commits slots id k about items a f b at here had s h wide e fits =
         },
       ),
       refl,
-    )
-
-pub commits_as : (slots id shard : ℕ) (shelf : Shelf) (a : Ask) (f : Bool) (b : List Ask) (at : ℕ × ℕ) (m : Me Unit View) → m ≡ (alone (Keeps shelf) (Open a f b), []) → shelf.doubt ≡ [] → shelf.shard ≡ shard → shard_in shelf.about a ≡ shard
-    → HaveSteps b shelf.items → Allows KeepsRule slots id m shard (λ n. (n + 1) % 2 ^ 64) (committed_at at (step slots shard 1 0 none) m)
-commits_as slots id shard shelf a f b at m is none_yet at_shard here had =
-    let same : m ≡ (keeper shelf.about shard shelf.items [] (Open a f b), []) = is ∙ ap (λ (z : ℕ × List Ask). (keeper shelf.about z.0 shelf.items z.1 (Open a f b), [])) (λ i. (at_shard i, none_yet i)) in
-    subst (λ (u : Me Unit View). Allows KeepsRule slots id u shard (λ n. (n + 1) % 2 ^ 64) (committed_at at (step slots shard 1 0 none) u)) (sym same) (commits slots id shard shelf.about shelf.items a f b at here had)
+    ))

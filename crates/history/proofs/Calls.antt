@@ -1,26 +1,9 @@
 -- The steps of a pass at its own word keep the rule.
-use Rattle.std.proofs.Common.{◌≡◌, ◌⊎◌, ℕ, ◌+◌, ◌<◌, List, [], ◌∷◌, ◌++◌, length, true, false, refl, sym, ap, ◌∙◌, subst, inl, inr, arith}
-use Rattle.std.specs.Prelude.{slice_set}
-use mathlib.Core.Option.{some, none}
-use lib.ListN.{get_elem?}
-use Rattle.atomic_table.specs.Table.{State, Me, Allows, stepped, step, keeps}
-use Rattle.accept.specs.declared.call.Call.{Call}
-use Rattle.accept.specs.declared.history.Ask.{Ask}
-use Rattle.accept.specs.declared.history.Step.{Step}
-use Rattle.accept.specs.declared.history.Item.{Item}
-use Rattle.history.specs.declared.views.About.{About}
-use Rattle.history.specs.declared.views.Caller.{Caller}
-use Rattle.history.specs.declared.views.View.{View}
-use Rattle.history.specs.declared.views.Role.TheVariants.{Nobody, Calls}
-use Rattle.history.specs.declared.views.Token.{Token}
-use Rattle.history.specs.declared.views.Token.TheVariants.{Nothing, Open, Done}
-use Rattle.history.specs.Histories.{shard_in, IsFirstIfAmong, behind_first, bound}
-use Rattle.history.specs.Rule.{alone, TableContents, Seating, AccountOk, IsInDoubt, number_of, HoldsFor, KeepsRule}
-use Rattle.history.specs.Plays.{IsRested, ask_of, before_of, announce_to, withdraw_to, collect_to, announced_as, withdrew, collected}
-use Rattle.history.proofs.Lists.{put, put_at, put_other, put_two, put_two_at}
+use Rattle.std.proofs.Common.{◌≡◌, ◌⊎◌, ℕ, ◌+◌, ◌<◌, List, [], ◌∷◌, ◌++◌, length, true, false, refl, sym, ap, ◌∙◌, subst, inl, inr, arith, slice_set}
+use Rattle.history.proofs.Common.{some, none, get_elem?, State, Me, Allows, stepped, step, keeps, Call, Ask, Step, Item, About, Caller, View, Nobody, Calls, Token, Nothing, Open, Done, shard_in, IsFirstIfAmong, behind_first, bound, alone, TableContents, Seating, AccountOk, IsInDoubt, number_of, HoldsFor, KeepsRule, IsRested, ask_of, before_of, announce_to, withdraw_to, collect_to, announced_as, withdrew, collected, put, put_at, put_other, put_two, put_two_at}
 use Rattle.history.proofs.Past.{legal_front, by_passes_front, number_last}
 use Rattle.history.proofs.Sharding.{shard_below}
-use Rattle.history.proofs.Accounts.{free_number, token_ok, announced_ok, withdrawn_ok, collected_ok, extends_of, rested_then, answers_first, returns_first, rested_of}
+use Rattle.history.proofs.Accounts.{nothing_open, open_done, free_number, token_ok, announced_ok, withdrawn_ok, collected_ok, extends_of, rested_then, answers_first, returns_first, rested_of}
 use Rattle.history.proofs.Seats.{Frame, seats_set, hand_put, doubt_put, account_at, with_pass, held_by, good_pass, words_pass, pass_of}
 
 pass_frame : (about : About) (x : TableContents) (seats : Seating) (p n id : ℕ) (c' : Caller) (t t' : Token) → seats.passes p ≡ id → x.tokens p n ≡ t → (x.tokens p n ≡ Nothing) ⊎ (seats.holders p n ≡ id) → ((a : Ask) → IsInDoubt a t → IsInDoubt a t')
@@ -32,15 +15,13 @@ pass_frame about x seats p n id c' t t' mine was free f = record {
   doubts = λ a j d e o. doubt_put x.tokens p n t t' a was (f a) o;
 }
 
-nothing_doubted : (t' : Token) (a : Ask) → IsInDoubt a Nothing → IsInDoubt a t'
-nothing_doubted t' a o = absurd (clash o.0 o.1)
-  where
-    clash : (e : List Ask) → Nothing ≡ Open a true e → ⊥
-    clash e q = cc
+open_doubted : (a b : Ask) (d e : List Ask) → Open a false d ≡ Open b true e → ⊥
+open_doubted a b d e q = cc
 
-announces : (slots id n : ℕ) (c : Caller) (call : Call) → length c.pending < 64 → c.last < n → n < bound
-    → Allows KeepsRule slots id (alone (Calls c) Nothing, []) (c.about.shards + c.pass) (λ _. n) (λ _. announced_as call (step slots (c.about.shards + c.pass) n 0 none) (alone (Calls c) Nothing, []) n)
-announces slots id n c call few above small s h wide e fits =
+-- what a pass does at its word. The seat and the word are known by equations
+pub announces_as : (slots id word n : ℕ) (c : Caller) (call : Call) (m : Me Unit View) → m ≡ (alone (Calls c) Nothing, []) → c.about.shards + c.pass ≡ word → length c.pending < 64 → c.last < n → n < bound
+    → Allows KeepsRule slots id m word (λ _. n) (λ _. announced_as call (step slots word n 0 none) m n)
+announces_as slots id word n c call m is at_word few above small = subst (λ (z : Me Unit View × ℕ). Allows KeepsRule slots id z.0 z.1 (λ _. n) (λ _. announced_as call (step slots z.1 n 0 none) z.0 n)) (λ i. (sym is i, at_word i)) (λ s h wide e fits.
     let k = pass_of s id c Nobody Nothing h e in
     let x = k.contents in
     let mine = (k.seats id (alone (Calls c) Nothing) e).role in
@@ -59,7 +40,7 @@ announces slots id n c call few above small s h wide e fits =
           words = words_pass c.about x s.words c.pass c' (put_two x.tokens c.pass n t') n k.words mine.1 (sym (number_last n c.pending (ask_of c n call)));
           good = good_pass c.about x c.pass n c' t' k.good (announced_ok c.about x.items c.pass c (x.tokens c.pass) ok call n above refl small few);
           seats = seats_set c.about x k.seating id (with_pass x c.pass n c' t') (held_by k.seating c.pass n id)
-              (pass_frame c.about x k.seating c.pass n id c' Nothing t' mine.2 free (inl free) (nothing_doubted t'))
+              (pass_frame c.about x k.seating c.pass n id c' Nothing t' mine.2 free (inl free) (λ a o. absurd (nothing_open a true o.0 o.1)))
               s.views (alone (Calls c') t') k.seats
               (record {
                 role = (mine.0, mine.1, mine.2, put_at x.callers c.pass c' c.pass refl);
@@ -70,12 +51,12 @@ announces slots id n c call few above small s h wide e fits =
         },
       ),
       ((refl, rested_of x.items c (x.tokens c.pass) ok), refl),
-    )
+    ))
 
 -- the pass with other calls that were seen, made and withdrawn, and others that are open
 abbrev with_calls : Caller → List (List Item) → List Step → List ℕ → List Ask → Caller
 with_calls c seen made withdrawn pending =
-    record { about = c.about; pass = c.pass; last = c.last; seen = seen; made = made; withdrawn = withdrawn; pending = pending }
+    record c { seen = seen; made = made; withdrawn = withdrawn; pending = pending }
 
 -- a pass gives back the token of a call that is not in doubt, and its word is that of the calls that are left
 gives_back : (s : State Unit View) (id n word : ℕ) (c : Caller) (t : Token) (seen : List (List Item)) (made : List Step) (withdrawn : List ℕ) (pending : List Ask) (k : HoldsFor c.about s) → get_elem? s.views id ≡ some (alone (Calls c) t)
@@ -97,9 +78,9 @@ gives_back s id n word c t seen made withdrawn pending k e has holds settled ok 
           (record { role = (mine.0, mine.1, mine.2, put_at x.callers c.pass c' c.pass refl); guest = tt; two = tt; hand = tt });
     }
 
-withdraws : (slots id word : ℕ) (c : Caller) (a : Ask) (d : List Ask) → a.pass ≡ c.pass → IsFirstIfAmong a c.pending → word ≡ number_of c.last (behind_first c.pending)
-    → Allows KeepsRule slots id (alone (Calls c) (Open a false d), []) (c.about.shards + c.pass) (λ _. word) (λ _. withdrew (step slots (c.about.shards + c.pass) word 0 none) (alone (Calls c) (Open a false d), []) word)
-withdraws slots id word c a d own number due s h wide e fits =
+pub withdraws_as : (slots id at_word word : ℕ) (c : Caller) (a : Ask) (d : List Ask) (m : Me Unit View) → m ≡ (alone (Calls c) (Open a false d), []) → c.about.shards + c.pass ≡ at_word → a.pass ≡ c.pass → IsFirstIfAmong a c.pending
+    → word ≡ number_of c.last (behind_first c.pending) → Allows KeepsRule slots id m at_word (λ _. word) (λ _. withdrew (step slots at_word word 0 none) m word)
+withdraws_as slots id at_word word c a d m is there own number due = subst (λ (z : Me Unit View × ℕ). Allows KeepsRule slots id z.0 z.1 (λ _. word) (λ _. withdrew (step slots z.1 word 0 none) z.0 word)) (λ i. (sym is i, there i)) (λ s h wide e fits.
     let n = a.number in
     let k = pass_of s id c Nobody (Open a false d) h e in
     let x = k.contents in
@@ -115,18 +96,15 @@ withdraws slots id word c a d own number due s h wide e fits =
       tt,
       (
         c.about,
-        gives_back s id n word c (Open a false d) c.seen c.made (c.withdrawn ++ n ∷ []) (behind_first c.pending) k e has holds (λ b o. not_doubted a b d o.0 o.1)
+        gives_back s id n word c (Open a false d) c.seen c.made (c.withdrawn ++ n ∷ []) (behind_first c.pending) k e has holds (λ b o. open_doubted a b d o.0 o.1)
             (withdrawn_ok c.about x.items c.pass c (x.tokens c.pass) ok a d first has) due,
       ),
       ((refl, first), refl),
-    )
-  where
-    not_doubted : (a b : Ask) (d e : List Ask) → Open a false d ≡ Open b true e → ⊥
-    not_doubted a b d e q = cc
+    ))
 
-collects : (slots id word : ℕ) (c : Caller) (r : Step) (upto : List Item) (at : ℕ × ℕ) → r.ask.pass ≡ c.pass → IsFirstIfAmong r.ask c.pending → word ≡ number_of c.last (behind_first c.pending) → IsRested c
-    → Allows KeepsRule slots id (alone (Calls c) (Done r upto at), []) (c.about.shards + c.pass) (λ _. word) (λ _. collected (step slots (c.about.shards + c.pass) word 0 none) (alone (Calls c) (Done r upto at), []) word)
-collects slots id word c r upto at own number due rested s h wide e fits =
+pub collects_as : (slots id at_word word : ℕ) (c : Caller) (r : Step) (upto : List Item) (at : ℕ × ℕ) (m : Me Unit View) → m ≡ (alone (Calls c) (Done r upto at), []) → c.about.shards + c.pass ≡ at_word → r.ask.pass ≡ c.pass
+    → IsFirstIfAmong r.ask c.pending → word ≡ number_of c.last (behind_first c.pending) → IsRested c → Allows KeepsRule slots id m at_word (λ _. word) (λ _. collected (step slots at_word word 0 none) m word)
+collects_as slots id at_word word c r upto at m is where_is own number due rested = subst (λ (z : Me Unit View × ℕ). Allows KeepsRule slots id z.0 z.1 (λ _. word) (λ _. collected (step slots z.1 word 0 none) z.0 word)) (λ i. (sym is i, where_is i)) (λ s h wide e fits.
     let n = r.ask.number in
     let k = pass_of s id c Nobody (Done r upto at) h e in
     let x = k.contents in
@@ -144,7 +122,7 @@ collects slots id word c r upto at own number due rested s h wide e fits =
       tt,
       (
         c.about,
-        gives_back s id n word c (Done r upto at) (slice_set c.seen (shard_in c.about r.ask) upto) (c.made ++ r ∷ []) c.withdrawn (behind_first c.pending) k e has holds (λ b o. not_open r upto at b o.0 o.1)
+        gives_back s id n word c (Done r upto at) (slice_set c.seen (shard_in c.about r.ask) upto) (c.made ++ r ∷ []) c.withdrawn (behind_first c.pending) k e has holds (λ b o. open_done b true o.0 r upto at (sym o.1))
             (collected_ok x.items c ts r upto at ok has first there) due,
       ),
       (
@@ -159,26 +137,4 @@ collects slots id word c r upto at own number due rested s h wide e fits =
         ),
         refl,
       ),
-    )
-  where
-    not_open : (r : Step) (upto : List Item) (at : ℕ × ℕ) (b : Ask) (e : List Ask) → Done r upto at ≡ Open b true e → ⊥
-    not_open r upto at b e q = cc
-
--- the same, of a seat that is known by equations
-pub announces_as : (slots id word n : ℕ) (c : Caller) (call : Call) (m : Me Unit View) → m ≡ (alone (Calls c) Nothing, []) → c.about.shards + c.pass ≡ word → length c.pending < 64 → c.last < n → n < bound
-    → Allows KeepsRule slots id m word (λ _. n) (λ _. announced_as call (step slots word n 0 none) m n)
-announces_as slots id word n c call m is at_word few above small =
-    subst (λ (u : Me Unit View). Allows KeepsRule slots id u word (λ _. n) (λ _. announced_as call (step slots word n 0 none) u n)) (sym is)
-    (subst (λ (z : ℕ). Allows KeepsRule slots id (alone (Calls c) Nothing, []) z (λ _. n) (λ _. announced_as call (step slots z n 0 none) (alone (Calls c) Nothing, []) n)) at_word (announces slots id n c call few above small))
-
-pub withdraws_as : (slots id at_word word : ℕ) (c : Caller) (a : Ask) (d : List Ask) (m : Me Unit View) → m ≡ (alone (Calls c) (Open a false d), []) → c.about.shards + c.pass ≡ at_word → a.pass ≡ c.pass → IsFirstIfAmong a c.pending
-    → word ≡ number_of c.last (behind_first c.pending) → Allows KeepsRule slots id m at_word (λ _. word) (λ _. withdrew (step slots at_word word 0 none) m word)
-withdraws_as slots id at_word word c a d m is there own number due =
-    subst (λ (u : Me Unit View). Allows KeepsRule slots id u at_word (λ _. word) (λ _. withdrew (step slots at_word word 0 none) u word)) (sym is)
-    (subst (λ (z : ℕ). Allows KeepsRule slots id (alone (Calls c) (Open a false d), []) z (λ _. word) (λ _. withdrew (step slots z word 0 none) (alone (Calls c) (Open a false d), []) word)) there (withdraws slots id word c a d own number due))
-
-pub collects_as : (slots id at_word word : ℕ) (c : Caller) (r : Step) (upto : List Item) (at : ℕ × ℕ) (m : Me Unit View) → m ≡ (alone (Calls c) (Done r upto at), []) → c.about.shards + c.pass ≡ at_word → r.ask.pass ≡ c.pass
-    → IsFirstIfAmong r.ask c.pending → word ≡ number_of c.last (behind_first c.pending) → IsRested c → Allows KeepsRule slots id m at_word (λ _. word) (λ _. collected (step slots at_word word 0 none) m word)
-collects_as slots id at_word word c r upto at m is there own number due rested =
-    subst (λ (u : Me Unit View). Allows KeepsRule slots id u at_word (λ _. word) (λ _. collected (step slots at_word word 0 none) u word)) (sym is)
-    (subst (λ (z : ℕ). Allows KeepsRule slots id (alone (Calls c) (Done r upto at), []) z (λ _. word) (λ _. collected (step slots z word 0 none) (alone (Calls c) (Done r upto at), []) word)) there (collects slots id word c r upto at own number due rested))
+    ))

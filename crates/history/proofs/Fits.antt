@@ -2,8 +2,7 @@
 use Rattle.std.proofs.Common.{ℕ, ◌<◌, arith}
 use Rattle.atomic_table.specs.Seated.{TableId}
 use Rattle.atomic_table.specs.declared.shared.Seat.{Seat}
-use Rattle.history.specs.declared.views.View.{View}
-use Rattle.history.specs.Handles.{IsBook, IsPass}
+use Rattle.history.proofs.Common.{View, IsBook, IsPass}
 
 pub book_fits : (z : TableId) (shard : ℕ) (s : Seat Unit View) → IsBook z shard s → (0 < z.words) × (shard < z.words)
 book_fits z shard s h = let w = h.3 in let l = h.2 in ((omega arith), (omega arith))

@@ -1,18 +1,7 @@
 -- A call on its way, or a pass, goes from one seat to another. No word and nothing that is known changes.
 use Rattle.std.proofs.Common.{◌≡◌, ◌≢◌, ℕ, length, refl, sym, ap, ◌∙◌, subst}
-use Rattle.atomic_table.specs.Table.{Splits, Joins}
-use Rattle.history.specs.declared.views.About.{About}
-use Rattle.history.specs.declared.views.Caller.{Caller}
-use Rattle.history.specs.declared.views.Shelf.{Shelf}
-use Rattle.history.specs.declared.views.View.{View}
-use Rattle.history.specs.declared.views.Role.{Role}
-use Rattle.history.specs.declared.views.Role.TheVariants.{Nobody, Opener, Keeps, Calls}
-use Rattle.history.specs.declared.views.Token.{Token}
-use Rattle.history.specs.declared.views.Token.TheVariants.{Nothing, Open, Done}
-use Rattle.history.specs.Rule.{alone, TableContents, Seating, IsRole, IsHand, AreTwo, KeepsRule}
-use Rattle.history.specs.Plays.{loose, kept_back, seat_alone, taken, seated, host, visitor}
-use Rattle.history.proofs.Lists.{put, put_at, put_else, put_other, put_two_at, put_two_other}
-use Rattle.history.proofs.Seats.{Frame, role_kept, seats_split, seats_join, still_there, held_by}
+use Rattle.history.proofs.Common.{Splits, Joins, About, Caller, Shelf, View, Role, Nobody, Opener, Keeps, Calls, Token, Nothing, Open, Done, alone, TableContents, Seating, IsRole, IsHand, AreTwo, KeepsRule, loose, kept_back, seat_alone, taken, seated, host, visitor, put, put_at, put_else, put_other, put_two_at, put_two_other}
+use Rattle.history.proofs.Seats.{Frame, role_kept, seats_split, seats_join, hand_same, still_there, held_by}
 
 -- the call goes to seat i
 abbrev moved : Seating → Token → ℕ → Seating
@@ -33,13 +22,8 @@ frame_moved about x seats b i (Done s upto at) h = record { books = λ k j n e. 
 role_moved : (about : About) (x : TableContents) (seats : Seating) (t : Token) (i j : ℕ) (role : Role) → IsRole about x seats j role → IsRole about x (moved seats t i) j role
 role_moved about x seats Nothing i j role h = h
 role_moved about x seats (Open a f e) i j Nobody h = h
-role_moved about x seats (Open a f e) i j (Opener known c d) h = h
-role_moved about x seats (Open a f e) i j (Keeps shelf) h = h
-role_moved about x seats (Open a f e) i j (Calls c) h = h
 role_moved about x seats (Done s upto at) i j Nobody h = h
-role_moved about x seats (Done s upto at) i j (Opener known c d) h = h
-role_moved about x seats (Done s upto at) i j (Keeps shelf) h = h
-role_moved about x seats (Done s upto at) i j (Calls c) h = h
+role_moved about x seats t i j role h = h
 
 hand_there : (about : About) (x : TableContents) (seats : Seating) (t : Token) (b i : ℕ) → IsHand about x seats b t → IsHand about x (moved seats t i) i t
 hand_there about x seats Nothing b i h = h
@@ -94,39 +78,27 @@ takes id v other w s h e n there =
 
 -- pass p goes to seat i
 abbrev seated_at : Seating → ℕ → ℕ → Seating
-seated_at seats p i = record { books = seats.books; passes = put seats.passes p i; holders = seats.holders }
+seated_at seats p i = record seats { passes = put seats.passes p i }
 
 frame_seated : (about : About) (x : TableContents) (seats : Seating) (p b i : ℕ) → seats.passes p ≡ b → Frame about x seats b x (seated_at seats p i)
 frame_seated about x seats p b i mine = record {
   books = λ k j n e. (e, refl);
   passes = λ q j n e. (put_other seats.passes p i seats.passes b q j mine e n ∙ e, refl);
-  hands = same;
+  hands = λ j t n h. hand_same about x seats x.items x.callers seats.books (put seats.passes p i) j t h;
   doubts = λ a j n e o. o;
 }
-  where
-    same : (j : ℕ) (t : Token) → j ≢ b → IsHand about x seats j t → IsHand about x (seated_at seats p i) j t
-    same j Nothing n h = h
-    same j (Open a f e) n h = h
-    same j (Done s upto at) n h = h
-
-hand_same : (about : About) (x : TableContents) (seats : Seating) (p i j : ℕ) (t : Token) → IsHand about x seats j t → IsHand about x (seated_at seats p i) j t
-hand_same about x seats p i j Nothing h = h
-hand_same about x seats p i j (Open a f e) h = h
-hand_same about x seats p i j (Done s upto at) h = h
 
 two_roles : (about : About) (x : TableContents) (seats : Seating) (id other : ℕ) (role : Role) (d : Caller) → other ≢ id → IsRole about x seats id role → IsRole about x seats other (Calls d) → AreTwo role (Calls d)
-two_roles about x seats id other Nobody d n h k = tt
-two_roles about x seats id other (Opener known a b) d n h k = tt
-two_roles about x seats id other (Keeps shelf) d n h k = tt
 two_roles about x seats id other (Calls c) d n h k = λ e. n (sym k.2 ∙ ap seats.passes (sym e) ∙ h.2)
+two_roles about x seats id other role d n h k = tt
 
 -- a pass sits with seat id
-sits : (id : ℕ) (v : View) (other : ℕ) (d : Caller) → Joins KeepsRule id v other (alone (Calls d) Nothing) (seated v (alone (Calls d) Nothing)) loose
-sits id v other d s h e n there =
+pub sits_as : (id : ℕ) (v : View) (other : ℕ) (w : View) (d : Caller) → w ≡ alone (Calls d) Nothing → Joins KeepsRule id v other w (seated v w) loose
+sits_as id v other w d is = subst (λ (u : View). Joins KeepsRule id v other u (seated v u) loose) (sym is) (λ s h e n there.
     let k = h.1 in
-    let w : View = alone (Calls d) Nothing in
+    let own : View = alone (Calls d) Nothing in
     let mine = k.seats id v e in
-    let its = (k.seats other w (still_there s.views id other (seated v w) w n there)).role in
+    let its = (k.seats other own (still_there s.views id other (seated v own) own n there)).role in
     let apart : id ≢ other = λ q. n (sym q) in
     let seats = seated_at k.seating d.pass id in
     let f = frame_seated h.0 k.contents k.seating d.pass other id its.2 in (
@@ -136,18 +108,15 @@ sits id v other d s h e n there =
         seating = seats;
         words = k.words;
         good = k.good;
-        seats = seats_join h.0 k.contents k.seating other k.contents seats f s.views id (seated v w) k.seats
+        seats = seats_join h.0 k.contents k.seating other k.contents seats f s.views id (seated v own) k.seats
             (record {
               role = role_kept h.0 k.contents k.seating other k.contents seats f id v.role apart mine.role;
               guest = (its.0, its.1, put_at k.seating.passes d.pass id d.pass refl, its.3);
               two = two_roles h.0 k.contents k.seating id other v.role d n mine.role its;
-              hand = hand_same h.0 k.contents k.seating d.pass id id v.hand mine.hand;
+              hand = hand_same h.0 k.contents k.seating k.contents.items k.contents.callers k.seating.books (put k.seating.passes d.pass id) id v.hand mine.hand;
             });
       },
-    )
-
-pub sits_as : (id : ℕ) (v : View) (other : ℕ) (w : View) (d : Caller) → w ≡ alone (Calls d) Nothing → Joins KeepsRule id v other w (seated v w) loose
-sits_as id v other w d is = subst (λ (u : View). Joins KeepsRule id v other u (seated v u) loose) (sym is) (sits id v other d)
+    ))
 
 -- one book or pass, or nothing
 abbrev IsOne : Role → Type 0
@@ -156,10 +125,9 @@ IsOne role = Unit {0}
 
 -- what sits beside the pass stays
 role_stays : (about : About) (x : TableContents) (seats : Seating) (p i id : ℕ) (role : Role) (d : Caller) → d.pass ≡ p → AreTwo role (Calls d) → IsRole about x seats id role → IsOne role → IsRole about x (seated_at seats p i) id role
-role_stays about x seats p i id Nobody d e two h o = tt
 role_stays about x seats p i id (Opener known a b) d e two h o = absurd o
-role_stays about x seats p i id (Keeps shelf) d e two h o = h
 role_stays about x seats p i id (Calls c) d e two h o = (h.0, h.1, put_else seats.passes p i c.pass (λ q. two (sym q ∙ sym e)) ∙ h.2, h.3)
+role_stays about x seats p i id role d e two h o = h
 
 -- a pass that sits with seat id leaves it
 leaves : (id : ℕ) (role : Role) (d : Caller) (hand : Token) → IsOne role → Splits KeepsRule id (record { role = role; guest = Calls d; hand = hand }) (alone role hand) (alone (Calls d) Nothing)
@@ -181,7 +149,7 @@ leaves id role d hand one s h e =
               role = role_stays h.0 k.contents k.seating d.pass new id role d refl mine.two mine.role one;
               guest = tt;
               two = two_nobody role;
-              hand = hand_same h.0 k.contents k.seating d.pass new id hand mine.hand;
+              hand = hand_same h.0 k.contents k.seating k.contents.items k.contents.callers k.seating.books (put k.seating.passes d.pass new) id hand mine.hand;
             })
             (record { role = (its.0, its.1, put_at k.seating.passes d.pass new d.pass refl, its.3); guest = tt; two = tt; hand = tt });
       },
@@ -189,9 +157,7 @@ leaves id role d hand one s h e =
   where
     two_nobody : (role : Role) → AreTwo role Nobody
     two_nobody Nobody = tt
-    two_nobody (Opener known a b) = tt
-    two_nobody (Keeps shelf) = tt
-    two_nobody (Calls c) = tt
+    two_nobody role = tt
 
 pub pass_leaves : (id : ℕ) (v : View) (c d : Caller) → v ≡ record { role = Calls c; guest = Calls d; hand = Nothing } → Splits KeepsRule id v (host v) (visitor v)
 pass_leaves id v c d is = subst (λ (u : View). Splits KeepsRule id u (host u) (visitor u)) (sym is) (leaves id (Calls c) d Nothing tt)

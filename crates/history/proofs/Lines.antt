@@ -1,27 +1,12 @@
 -- Several open calls of a pass: tickets in line, and calls that are made as if one after another.
-use Rattle.std.proofs.Common.{◌≡◌, ℕ, ◌+◌, List, [], ◌∷◌, ◌++◌, Bool, true, false, cond, eqb, refl, sym, ap, ◌∙◌, subst, append-nil}
-use Rattle.std.proofs.lemmas.Bool.{eqb-true}
+use Rattle.std.proofs.Common.{◌≡◌, ℕ, ◌+◌, List, [], ◌∷◌, ◌++◌, Bool, true, false, cond, eqb, refl, sym, ap, ◌∙◌, subst, append-nil, eqb-true}
 use Rattle.atomic_table.specs.Seated.{TableId}
-use Rattle.accept.specs.declared.call.Call.{Call}
-use Rattle.accept.specs.declared.call.Reply.{Reply}
-use Rattle.accept.specs.declared.history.Ask.{Ask}
-use Rattle.accept.specs.declared.history.Step.{Step}
-use Rattle.accept.specs.declared.history.Item.{Item}
-use Rattle.accept.specs.declared.history.Item.TheVariants.{Answered}
-use Rattle.history.specs.declared.views.About.{About}
-use Rattle.history.specs.declared.views.Caller.{Caller}
-use Rattle.history.specs.Histories.{shard_in, step_of, steps_by, HasStep, HaveSteps, behind_first, asks_on}
-use Rattle.history.specs.Plays.{ask_of, before_of, announce_to, withdraw_to, collect_to}
-use Rattle.history.specs.Handles.{Announced, tickets_announced, tickets_on, AreInLine}
-use Rattle.history.proofs.Past.{have_more, have_last, made_now}
-
-cond_asks : (b : Bool) (a : Ask) (xs ys : List Ask) → cond b (a ∷ (xs ++ ys)) (xs ++ ys) ≡ cond b (a ∷ xs) xs ++ ys
-cond_asks true a xs ys = refl
-cond_asks false a xs ys = refl
+use Rattle.history.proofs.Common.{Call, Reply, Ask, Step, Item, Answered, About, Caller, shard_in, step_of, steps_by, HasStep, HaveSteps, behind_first, asks_on, ask_of, before_of, announce_to, withdraw_to, collect_to, Announced, ticket_for, tickets_announced, tickets_on, AreInLine}
+use Rattle.history.proofs.Past.{cond_append, have_more, have_last, made_now}
 
 asks_on_append : (about : About) (k : ℕ) (xs ys : List Ask) → asks_on about k (xs ++ ys) ≡ asks_on about k xs ++ asks_on about k ys
 asks_on_append about k [] ys = refl
-asks_on_append about k (a ∷ xs) ys = ap (λ l. cond (eqb k (shard_in about a)) (a ∷ l) l) (asks_on_append about k xs ys) ∙ cond_asks (eqb k (shard_in about a)) a (asks_on about k xs) (asks_on about k ys)
+asks_on_append about k (a ∷ xs) ys = ap (λ l. cond (eqb k (shard_in about a)) (a ∷ l) l) (asks_on_append about k xs ys) ∙ cond_append (eqb k (shard_in about a)) a (asks_on about k xs) (asks_on about k ys)
 
 line_cond : (front : List Ask) (b : Bool) (t : Announced) (ts : List Announced) → (b ≡ true → t.before ≡ front) → AreInLine (front ++ cond b (t.ask ∷ []) []) ts → AreInLine front (cond b (t ∷ ts) ts)
 line_cond front true t ts f h = (f refl, h)
@@ -33,8 +18,7 @@ stand_in_line table about k c [] at = tt
 stand_in_line table about k c (call ∷ calls) at =
     let n : ℕ = c.last + 1 in
     let a : Ask = ask_of c n call in
-    let t : Announced = record { table = table; ask = a; doubted = false; before = before_of c n call } in
-    line_cond (asks_on about k c.pending) (eqb k (shard_in about a)) t (tickets_on about k (tickets_announced table (announce_to c n call) calls))
+    line_cond (asks_on about k c.pending) (eqb k (shard_in about a)) (ticket_for table c n call) (tickets_on about k (tickets_announced table (announce_to c n call) calls))
     (λ e. (λ i. asks_on (at i) (shard_in (at i) a) c.pending) ∙ ap (λ (j : ℕ). asks_on about j c.pending) (sym (eqb-true k (shard_in about a) e)))
     (subst (λ (l : List Ask). AreInLine l (tickets_on about k (tickets_announced table (announce_to c n call) calls))) (asks_on_append about k c.pending (a ∷ [])) (stand_in_line table about k (announce_to c n call) calls at))
 
@@ -66,24 +50,8 @@ behind_two (c ∷ qs) a b = refl
 
 -- a call that is announced before an answer is taken in leaves what it would leave after it
 pub collects_first : (c : Caller) (n m : ℕ) (one two : Call) (s : Step) (upto : List Item) → collect_to (announce_to (announce_to c n one) m two) s upto ≡ announce_to (collect_to (announce_to c n one) s upto) m two
-collects_first c n m one two s upto = λ i. record {
-  about = c.about;
-  pass = c.pass;
-  last = m;
-  seen = (collect_to (announce_to c n one) s upto).seen;
-  made = c.made ++ s ∷ [];
-  withdrawn = c.withdrawn;
-  pending = behind_two c.pending (ask_of c n one) (ask_of c m two) i;
-}
+collects_first c n m one two s upto = λ i. record (announce_to (collect_to (announce_to c n one) s upto) m two) { pending = behind_two c.pending (ask_of c n one) (ask_of c m two) i }
 
 -- and before a call is taken back
 pub withdraws_first : (c : Caller) (n m k : ℕ) (one two : Call) → withdraw_to (announce_to (announce_to c n one) m two) k ≡ announce_to (withdraw_to (announce_to c n one) k) m two
-withdraws_first c n m k one two = λ i. record {
-  about = c.about;
-  pass = c.pass;
-  last = m;
-  seen = c.seen;
-  made = c.made;
-  withdrawn = c.withdrawn ++ k ∷ [];
-  pending = behind_two c.pending (ask_of c n one) (ask_of c m two) i;
-}
+withdraws_first c n m k one two = λ i. record (announce_to (withdraw_to (announce_to c n one) k) m two) { pending = behind_two c.pending (ask_of c n one) (ask_of c m two) i }

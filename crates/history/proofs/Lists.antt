@@ -1,5 +1,5 @@
 -- Functions changed at one place, and beginnings of lists.
-use Rattle.std.proofs.Common.{◌≡◌, ◌≢◌, ◌⊎◌, ℕ, List, [], ◌∷◌, ◌++◌, length, cond, eqb, refl, sym, ap, ◌∙◌, subst, inl, inr, ⊎_elim, append_assoc, append-nil, eq-eqb, ne_eqb, arith, length-append}
+use Rattle.std.proofs.Common.{◌≡◌, ◌≢◌, ◌⊎◌, ℕ, List, [], ◌∷◌, ◌++◌, length, cond, eqb, refl, sym, ap, ◌∙◌, subst, inl, inr, ⊎_elim, append_assoc, append-nil, eq-eqb, ne_eqb, arith, length-append, zero, suc, replicate, slice_index_or}
 use Rattle.std.proofs.lemmas.Bool.{cases_eq}
 use Rattle.history.specs.Histories.{IsBeginning}
 
@@ -53,6 +53,11 @@ put_both {A} {B} f g i x y P here there j =
     (λ (n : i ≢ j). subst (λ (z : A). P j z (put g i y j)) (sym (put_else f i x j n)) (subst (λ (z : B). P j (f j) z) (sym (put_else g i y j n)) (there j n)))
     (cases_eq i j)
 
+pub replicate_at : {A : Type 0} (n k : ℕ) (a : A) → slice_index_or (replicate n a) k a ≡ a
+replicate_at zero k a = refl
+replicate_at (suc n) zero a = refl
+replicate_at (suc n) (suc k) a = replicate_at n k a
+
 module _ {A : Type 0} where
   pub begins_same : (a : List A) → IsBeginning a a
   begins_same a = record { rest = []; is = sym (append-nil a) }
@@ -90,12 +95,6 @@ module _ {A : Type 0} where
       (λ (t : IsBeginning a b). inl (begins_cons x y a b (sym one ∙ two) t))
       (λ (t : IsBeginning b a). inr (begins_cons y x b a (sym two ∙ one) t))
       (in_line a b l (record { rest = h.rest; is = ap tail_of h.is }) (record { rest = k.rest; is = ap tail_of k.is }))
-
-  -- what stands after a common beginning
-  pub behind : (a b c : List A) → a ++ b ≡ a ++ c → b ≡ c
-  unfolding tail_of
-  behind [] b c e = e
-  behind (x ∷ a) b c e = behind a b c (ap tail_of e)
 
   -- a list has no element or a last one
   pub last_or_none : (l : List A) → (l ≡ []) ⊎ ((front : List A) × (x : A) × (l ≡ front ++ x ∷ []))

@@ -1,44 +1,25 @@
 -- Looks at a shard's word keep the rule.
-use Rattle.std.proofs.Common.{◌≡◌, ℕ, ◌<◌, [], length, refl, sym, ap, ◌∙◌, subst, arith}
-use Rattle.std.specs.Prelude.{slice_index}
-use mathlib.Core.Option.{some, none}
-use lib.ListN.{get_elem?}
-use Rattle.atomic_table.specs.Table.{Me, Allows, step, keeps}
+use Rattle.std.proofs.Common.{◌≡◌, ℕ, ◌<◌, [], length, refl, sym, ap, ◌∙◌, subst, arith, slice_index}
+use Rattle.history.proofs.Common.{some, none, get_elem?, Me, Allows, step, keeps, About, Caller, Shelf, View, Nobody, Keeps, Calls, Nothing, IsBeginning, IsLegalAt, IsByPasses, alone, TableContents, Seating, AccountOk, number_of, KeepsRule, seen_at, look_to, looked, met, settled, items_counted, HasRoomForSteps, HasStepsOf, put, put_at, put_else, put_other}
 use Rattle.atomic_table.proofs.Lists.{set_again}
-use Rattle.history.specs.declared.views.About.{About}
-use Rattle.history.specs.declared.views.Caller.{Caller}
-use Rattle.history.specs.declared.views.Shelf.{Shelf}
-use Rattle.history.specs.declared.views.View.{View}
-use Rattle.history.specs.declared.views.Role.TheVariants.{Nobody, Keeps, Calls}
-use Rattle.history.specs.declared.views.Token.{Token}
-use Rattle.history.specs.declared.views.Token.TheVariants.{Nothing, Open, Done}
-use Rattle.history.specs.Histories.{IsBeginning, IsLegalAt, IsByPasses}
-use Rattle.history.specs.Rule.{alone, TableContents, Seating, AccountOk, IsHand, number_of, KeepsRule}
-use Rattle.history.specs.Plays.{seen_at, look_to, looked, met, settled, items_counted, HasRoomForSteps, HasStepsOf}
-use Rattle.history.proofs.Lists.{put, put_at, put_else, put_other}
 use Rattle.history.proofs.Books.{short}
 use Rattle.history.proofs.Accounts.{looked_ok, steps_of}
-use Rattle.history.proofs.Seats.{Frame, seats_set, account_at, with_caller, good_caller, words_look, words_same, pass_of, book_of}
+use Rattle.history.proofs.Seats.{Frame, seats_set, hand_same, account_at, with_caller, good_caller, words_look, words_same, pass_of, book_of}
 
 -- what is known of a pass alone changes
 caller_frame : (about : About) (x : TableContents) (seats : Seating) (p id : ℕ) (c' : Caller) → seats.passes p ≡ id → Frame about x seats id (with_caller x p c') seats
 caller_frame about x seats p id c' mine = record {
   books = λ k j n e. (e, refl);
   passes = λ q j n e. (e, put_other x.callers p c' seats.passes id q j mine e n);
-  hands = λ j t n h. same j t h;
+  hands = λ j t n h. hand_same about x seats x.items (put x.callers p c') seats.books seats.passes j t h;
   doubts = λ a j n e o. o;
 }
-  where
-    same : (j : ℕ) (t : Token) → IsHand about x seats j t → IsHand about (with_caller x p c') seats j t
-    same j Nothing h = h
-    same j (Open a f e) h = h
-    same j (Done s upto at) h = h
 
 word_same : (c d : Caller) → c ≡ d → number_of c.last c.pending ≡ number_of d.last d.pending
 word_same c d e = ap (λ (o : Caller). number_of o.last o.pending) e
 
-looks : (slots id k : ℕ) (c : Caller) → k < c.about.shards → Allows KeepsRule slots id (alone (Calls c) Nothing, []) k (λ n. n) (looked (step slots k 0 0 none) (alone (Calls c) Nothing, []))
-looks slots id k c lt s h wide e fits =
+pub looks_as : (slots id k : ℕ) (c : Caller) (m : Me Unit View) → m ≡ (alone (Calls c) Nothing, []) → k < c.about.shards → Allows KeepsRule slots id m k (λ n. n) (looked (step slots k 0 0 none) m)
+looks_as slots id k c m is lt = subst (λ (u : Me Unit View). Allows KeepsRule slots id u k (λ n. n) (looked (step slots k 0 0 none) u)) (sym is) (λ s h wide e fits.
     let r = pass_of s id c Nobody Nothing h e in
     let x = r.contents in
     let mine = (r.seats id (alone (Calls c) Nothing) e).role in
@@ -61,27 +42,18 @@ looks slots id k c lt s h wide e fits =
         },
       ),
       ((x.items k, refl, ok.looks.parts k, r.good.legal k, sym (r.words.lengths k lt), steps_of x.items c ts k ok, (let w = ok.looks.wide in omega arith), r.good.by_passes k), refl),
-    )
-
-pub looks_as : (slots id k : ℕ) (c : Caller) (m : Me Unit View) → m ≡ (alone (Calls c) Nothing, []) → k < c.about.shards → Allows KeepsRule slots id m k (λ n. n) (looked (step slots k 0 0 none) m)
-looks_as slots id k c m is lt = subst (λ (u : Me Unit View). Allows KeepsRule slots id u k (λ n. n) (looked (step slots k 0 0 none) u)) (sym is) (looks slots id k c lt)
+    ))
 
 both_frame : (about : About) (x : TableContents) (seats : Seating) (p q id : ℕ) (c' d' : Caller) → seats.passes p ≡ id → seats.passes q ≡ id → Frame about x seats id (with_caller (with_caller x p c') q d') seats
 both_frame about x seats p q id c' d' mine its = record {
   books = λ k j n e. (e, refl);
   passes = λ o j n e. (e, put_other (put x.callers p c') q d' seats.passes id o j its e n ∙ put_other x.callers p c' seats.passes id o j mine e n);
-  hands = λ j t n h. same j t h;
+  hands = λ j t n h. hand_same about x seats x.items (put (put x.callers p c') q d') seats.books seats.passes j t h;
   doubts = λ a j n e o. o;
 }
-  where
-    same : (j : ℕ) (t : Token) → IsHand about x seats j t → IsHand about (with_caller (with_caller x p c') q d') seats j t
-    same j Nothing h = h
-    same j (Open a f e) h = h
-    same j (Done s upto at) h = h
 
-meets : (slots id k : ℕ) (c d : Caller) → k < c.about.shards
-    → Allows KeepsRule slots id (record { role = Calls c; guest = Calls d; hand = Nothing }, []) k (λ n. n) (met (step slots k 0 0 none) (record { role = Calls c; guest = Calls d; hand = Nothing }, []))
-meets slots id k c d lt s h wide e fits =
+pub meets_as : (slots id k : ℕ) (c d : Caller) (m : Me Unit View) → m ≡ (record { role = Calls c; guest = Calls d; hand = Nothing }, []) → k < c.about.shards → Allows KeepsRule slots id m k (λ n. n) (met (step slots k 0 0 none) m)
+meets_as slots id k c d m is lt = subst (λ (u : Me Unit View). Allows KeepsRule slots id u k (λ n. n) (met (step slots k 0 0 none) u)) (sym is) (λ s h wide e fits.
     let v : View = record { role = Calls c; guest = Calls d; hand = Nothing } in
     let r = pass_of s id c (Calls d) Nothing h e in
     let x = r.contents in
@@ -118,13 +90,10 @@ meets slots id k c d lt s h wide e fits =
         },
       ),
       ((x.items k, refl, (ok.looks.parts k, okay.looks.parts k, r.good.legal k, steps_of x.items c ts k ok, steps_of x.items d us k okayed, its.0, r.good.by_passes k), (let o = ok.looks.wide in omega arith), (let o = okay.looks.wide in omega arith)), refl),
-    )
+    ))
 
-pub meets_as : (slots id k : ℕ) (c d : Caller) (m : Me Unit View) → m ≡ (record { role = Calls c; guest = Calls d; hand = Nothing }, []) → k < c.about.shards → Allows KeepsRule slots id m k (λ n. n) (met (step slots k 0 0 none) m)
-meets_as slots id k c d m is lt = subst (λ (u : Me Unit View). Allows KeepsRule slots id u k (λ n. n) (met (step slots k 0 0 none) u)) (sym is) (meets slots id k c d lt)
-
-settles : (slots id k : ℕ) (shelf : Shelf) (c : Caller) → Allows KeepsRule slots id (record { role = Keeps shelf; guest = Calls c; hand = Nothing }, []) k (λ n. n) (settled (step slots k 0 0 none) (record { role = Keeps shelf; guest = Calls c; hand = Nothing }, []))
-settles slots id k shelf c s h wide e fits =
+pub settles_as : (slots id k : ℕ) (shelf : Shelf) (c : Caller) (m : Me Unit View) → m ≡ (record { role = Keeps shelf; guest = Calls c; hand = Nothing }, []) → Allows KeepsRule slots id m k (λ n. n) (settled (step slots k 0 0 none) m)
+settles_as slots id k shelf c m is = subst (λ (u : Me Unit View). Allows KeepsRule slots id u k (λ n. n) (settled (step slots k 0 0 none) u)) (sym is) (λ s h wide e fits.
     let v : View = record { role = Keeps shelf; guest = Calls c; hand = Nothing } in
     let r = book_of s id shelf (Calls c) Nothing h e in
     let x = r.contents in
@@ -156,13 +125,10 @@ settles slots id k shelf c s h wide e fits =
           subst (λ l. IsByPasses shelf.about.passes l) mine.3 (r.good.by_passes shelf.shard),
         ),
       ),
-    )
+    ))
 
-pub settles_as : (slots id k : ℕ) (shelf : Shelf) (c : Caller) (m : Me Unit View) → m ≡ (record { role = Keeps shelf; guest = Calls c; hand = Nothing }, []) → Allows KeepsRule slots id m k (λ n. n) (settled (step slots k 0 0 none) m)
-settles_as slots id k shelf c m is = subst (λ (u : Me Unit View). Allows KeepsRule slots id u k (λ n. n) (settled (step slots k 0 0 none) u)) (sym is) (settles slots id k shelf c)
-
-counts : (slots id k : ℕ) (shelf : Shelf) → k ≡ shelf.shard → Allows KeepsRule slots id (alone (Keeps shelf) Nothing, []) k (λ n. n) (items_counted (step slots k 0 0 none) (alone (Keeps shelf) Nothing, []))
-counts slots id k shelf here s h wide e fits =
+pub counts_as : (slots id k : ℕ) (shelf : Shelf) (m : Me Unit View) → m ≡ (alone (Keeps shelf) Nothing, []) → k ≡ shelf.shard → Allows KeepsRule slots id m k (λ n. n) (items_counted (step slots k 0 0 none) m)
+counts_as slots id k shelf m is here = subst (λ (u : Me Unit View). Allows KeepsRule slots id u k (λ n. n) (items_counted (step slots k 0 0 none) u)) (sym is) (λ s h wide e fits.
     let v : View = alone (Keeps shelf) Nothing in
     let r = book_of s id shelf Nobody Nothing h e in
     let x = r.contents in
@@ -189,7 +155,4 @@ counts slots id k shelf here s h wide e fits =
           subst (λ l. IsByPasses shelf.about.passes l) mine.3 (r.good.by_passes shelf.shard),
         ),
       ),
-    )
-
-pub counts_as : (slots id k : ℕ) (shelf : Shelf) (m : Me Unit View) → m ≡ (alone (Keeps shelf) Nothing, []) → k ≡ shelf.shard → Allows KeepsRule slots id m k (λ n. n) (items_counted (step slots k 0 0 none) m)
-counts_as slots id k shelf m is here = subst (λ (u : Me Unit View). Allows KeepsRule slots id u k (λ n. n) (items_counted (step slots k 0 0 none) u)) (sym is) (counts slots id k shelf here)
+    ))

@@ -1,30 +1,11 @@
 -- Calls in doubt, and the failure mark, keep the rule.
-use Rattle.std.proofs.Common.{◌≡◌, ◌≢◌, ℕ, ◌+◌, ◌%◌, ◌^◌, ◌<◌, ◌≤◌, List, [], ◌∷◌, ◌++◌, length, Bool, true, false, cond, eqb, not, ◌&&◌, refl, sym, ap, ◌∙◌, subst, inr, ⊎_elim, arith, append-nil, eq-eqb, ne_eqb, length-append}
-use Rattle.std.specs.Prelude.{IsTrue}
+use Rattle.std.proofs.Common.{◌≡◌, ℕ, ◌+◌, ◌%◌, ◌^◌, ◌<◌, ◌≤◌, List, [], ◌∷◌, ◌++◌, length, Bool, true, false, cond, eqb, not, ◌&&◌, refl, sym, ap, ◌∙◌, subst, inr, arith, append-nil, eq-eqb, length-append, IsTrue, eqb-true}
 use Rattle.std.specs.List.{list_any, list_all}
-use Rattle.std.proofs.lemmas.Bool.{cases_eq}
-use mathlib.Core.Option.{none}
-use Rattle.atomic_table.specs.Table.{Me, Allows, Joins, step, keeps}
-use Rattle.accept.specs.declared.history.Ask.{Ask}
-use Rattle.accept.specs.declared.history.Step.{Step}
-use Rattle.accept.specs.declared.history.Item.{Item}
-use Rattle.accept.specs.declared.history.Item.TheVariants.{Failed}
-use Rattle.accept.specs.Histories.{MayFollow, is_marked, is_step_of, key_of}
-use Rattle.history.specs.declared.views.About.{About}
-use Rattle.history.specs.declared.views.Shelf.{Shelf}
-use Rattle.history.specs.declared.views.View.{View}
-use Rattle.history.specs.declared.views.Role.{Role}
-use Rattle.history.specs.declared.views.Role.TheVariants.{Nobody, Keeps}
-use Rattle.history.specs.declared.views.Token.{Token}
-use Rattle.history.specs.declared.views.Token.TheVariants.{Nothing, Open, Done}
+use Rattle.history.proofs.Common.{none, Me, Allows, Joins, step, keeps, Ask, Step, Item, Failed, About, Shelf, View, Role, Nobody, Keeps, Token, Nothing, Open, MayFollow, is_marked, is_step_of, key_of, IsLegalAt, terms_of, history_of, shard_in, steps_by, of_pass, asks_by, HavePassesBelow, IsByPasses, HaveNumbersBelow, alone, TableContents, AccountOk, IsGood, IsInDoubt, AreOpen, IsOnItsWay, AreTold, KeepsRule, steps_in_all, loose, keeper, in_doubt, marked, put, put_at, put_all, put_other, put_two, put_two_at, cond_both, and_from}
 use Rattle.history.specs.Shards.{is_of_shard}
-use Rattle.history.specs.Histories.{IsLegalAt, terms_of, history_of, shard_in, steps_by, of_pass, asks_by, HavePassesBelow, IsByPasses, HaveNumbersBelow}
-use Rattle.history.specs.Rule.{alone, TableContents, Seating, AccountOk, IsGood, IsInDoubt, AreOpen, IsOnItsWay, AreTold, IsHand, KeepsRule, steps_in_all}
-use Rattle.history.specs.Plays.{loose, keeper, in_doubt, marked}
-use Rattle.history.proofs.Lists.{put, put_at, put_all, put_other, put_two, put_two_at}
 use Rattle.history.proofs.Past.{asks_append, steps_mark, no_step, legal_more, by_passes_append, marked_mark, total_mark}
 use Rattle.history.proofs.Accounts.{one_open, token_ok, told_append, grown_ok, doubted_ok}
-use Rattle.history.proofs.Seats.{Frame, role_kept, seats_set, seats_join, still_there, hand_put, doubt_put, held_by, book_of}
+use Rattle.history.proofs.Seats.{Frame, role_kept, seats_set, seats_join, hand_same, still_there, hand_put, doubt_put, held_by, book_of}
 use Rattle.history.proofs.Books.{room, words_longer, longer_begins}
 
 open_append : (about : About) (x : TableContents) (k : ℕ) (d e : List Ask) → AreOpen about x k d → AreOpen about x k e → AreOpen about x k (d ++ e)
@@ -35,16 +16,16 @@ one_call : (a b : Ask) (f : Bool) (d : List Ask) → IsInDoubt b (Open a f d) �
 one_call a b f d o = let same = one_open a b f true d o.0 o.1 in (d, ap (λ (c : Ask). Open c true d) same.0)
 
 -- an open call comes into the book's hand, and goes into doubt
-doubts : (id : ℕ) (shelf : Shelf) (other : ℕ) (role : Role) (a : Ask) (f : Bool) (b : List Ask) → shard_in shelf.about a ≡ shelf.shard
-    → Joins KeepsRule id (alone (Keeps shelf) Nothing) other (alone role (Open a f b)) (in_doubt (alone (Keeps shelf) Nothing) (alone role (Open a f b))) loose
-doubts id shelf other role a f b here s h e n there =
-    let w : View = alone role (Open a f b) in
-    let both : View = in_doubt (alone (Keeps shelf) Nothing) w in
+pub doubts_as : (id : ℕ) (v : View) (other : ℕ) (w : View) (shelf : Shelf) (role : Role) (a : Ask) (f : Bool) (b : List Ask) → v ≡ alone (Keeps shelf) Nothing → w ≡ alone role (Open a f b) → shard_in shelf.about a ≡ shelf.shard
+    → Joins KeepsRule id v other w (in_doubt v w) loose
+doubts_as id v other w shelf role a f b is its here = subst (λ (z : View × View). Joins KeepsRule id z.0 other z.1 (in_doubt z.0 z.1) loose) (λ i. (sym is i, sym its i)) (λ s h e n there.
+    let own : View = alone role (Open a f b) in
+    let both : View = in_doubt (alone (Keeps shelf) Nothing) own in
     let r = book_of s id shelf Nobody Nothing h e in
     let about : About = shelf.about in
     let x = r.contents in
     let mine = r.seats id (alone (Keeps shelf) Nothing) e in
-    let hand = (r.seats other w (still_there s.views id other both w n there)).hand in
+    let hand = (r.seats other own (still_there s.views id other both own n there)).hand in
     let t' : Token = Open a true b in
     let x' : TableContents = record { items = x.items; callers = x.callers; tokens = put_two x.tokens a.pass a.number t' } in
     let seats = held_by r.seating a.pass a.number id in
@@ -77,25 +58,13 @@ doubts id shelf other role a f b here s h e n there =
               hand = (hand.0, put_two_at r.seating.holders a.pass a.number id a.pass a.number refl refl, at_it);
             });
       },
-    )
-
-pub doubts_as : (id : ℕ) (v : View) (other : ℕ) (w : View) (shelf : Shelf) (role : Role) (a : Ask) (f : Bool) (b : List Ask) → v ≡ alone (Keeps shelf) Nothing → w ≡ alone role (Open a f b) → shard_in shelf.about a ≡ shelf.shard
-    → Joins KeepsRule id v other w (in_doubt v w) loose
-doubts_as id v other w shelf role a f b is its here = subst (λ (z : View × View). Joins KeepsRule id z.0 other z.1 (in_doubt z.0 z.1) loose) (λ i. (sym is i, sym its i)) (doubts id shelf other role a f b here)
-
-cond_told : (made : List Step) (ts : ℕ → Token) (b : Bool) (a : Ask) (asks : List Ask) → (b ≡ true → IsInDoubt a (ts a.number)) → AreTold made ts asks → AreTold made ts (cond b (a ∷ asks) asks)
-cond_told made ts true a asks f h = (inr (subst (λ (u : Token). IsOnItsWay a u) (sym (f refl).1) (refl, refl)), h)
-cond_told made ts false a asks f h = h
+    ))
 
 told_doubt : (about : About) (x : TableContents) (k q : ℕ) (made : List Step) (asks : List Ask) → AreOpen about x k asks → AreTold made (x.tokens q) (of_pass q asks)
 told_doubt about x k q made [] h = tt
-told_doubt about x k q made (a ∷ asks) h = cond_told made (x.tokens q) (eqb q a.pass) a (of_pass q asks) (λ e. (h.2.0, ap (λ (p : ℕ). x.tokens p a.number) (eqb_same q a.pass e) ∙ h.2.1)) (told_doubt about x k q made asks h.3)
-  where
-    clash : true ≡ false → ⊥
-    clash e = cc
-
-    eqb_same : (a b : ℕ) → eqb a b ≡ true → a ≡ b
-    eqb_same a b e = ⊎_elim (λ (same : a ≡ b). same) (λ (n : a ≢ b). absurd (clash (sym e ∙ ne_eqb a b n))) (cases_eq a b)
+told_doubt about x k q made (a ∷ asks) h = cond_both (eqb q a.pass) (a ∷ of_pass q asks) (of_pass q asks) (AreTold made (x.tokens q))
+    (λ e. (inr (subst (λ (u : Token). IsOnItsWay a u) (sym (ap (λ (p : ℕ). x.tokens p a.number) (eqb-true q a.pass e) ∙ h.2.1)) (refl, refl)), told_doubt about x k q made asks h.3))
+    (λ e. told_doubt about x k q made asks h.3)
 
 -- calls that are open are of the passes
 open_passes : (about : About) (x : TableContents) (k : ℕ) (asks : List Ask) → AreOpen about x k asks → HavePassesBelow about.passes asks
@@ -110,10 +79,9 @@ may_doubt about x k good (a ∷ asks) h =
     let ok = good.passes a.pass h.0 in
     let its = token_ok about x.items a.pass (x.callers a.pass) (x.tokens a.pass) ok a.number (Open a true h.2.0) h.2.1 in
     let below : HaveNumbersBelow a.number (steps_by a.pass (x.items k)) = subst (λ (j : ℕ). HaveNumbersBelow a.number (steps_by a.pass (x.items j))) h.1 its.3 in
-    both (list_any (is_step_of a) (x.items k)) (is_of_shard about.shards k (key_of a.call)) _ (no_step a (x.items k) below) (eq-eqb k (shard_in about a) (sym h.1)) (may_doubt about x k good asks h.3)
-  where
-    both : (b c d : Bool) → b ≡ false → c ≡ true → d ≡ true → ((not b && c) && d) ≡ true
-    both b c d p q r = λ i. (not (p i) && q i) && r i
+    and_from (not (list_any (is_step_of a) (x.items k)) && is_of_shard about.shards k (key_of a.call)) _
+    (and_from (not (list_any (is_step_of a) (x.items k))) (is_of_shard about.shards k (key_of a.call)) (ap not (no_step a (x.items k) below)) (eq-eqb k (shard_in about a) (sym h.1)))
+    (may_doubt about x k good asks h.3)
 
 -- the histories and the passes after a mark
 good_mark : (about : About) (x : TableContents) (k : ℕ) (now : List Item) (asks : List Ask) → IsGood about x → AreOpen about x k asks → is_marked (x.items k) ≡ false → now ≡ x.items k ++ Failed asks ∷ []
@@ -144,9 +112,14 @@ good_mark about x k now asks good open_calls unmarked is =
     }
 
 -- a book adds a failure mark
-marks : (slots id k : ℕ) (about : About) (items : List Item) (asks : List Ask) → is_marked items ≡ false
-    → Allows KeepsRule slots id (keeper about k items asks Nothing, []) k (λ n. (n + 1) % 2 ^ 64) (marked (step slots k 1 0 none) (keeper about k items asks Nothing, []))
-marks slots id k about items asks unmarked s h wide e fits =
+pub marks_as : (slots id k : ℕ) (shelf : Shelf) (m : Me Unit View) → m ≡ (alone (Keeps shelf) Nothing, []) → shelf.shard ≡ k → is_marked shelf.items ≡ false
+    → Allows KeepsRule slots id m k (λ n. (n + 1) % 2 ^ 64) (marked (step slots k 1 0 none) m)
+marks_as slots id k shelf m is at_shard unmarked =
+    let about : About = shelf.about in
+    let items : List Item = shelf.items in
+    let asks : List Ask = shelf.doubt in
+    let same : m ≡ (keeper about k items asks Nothing, []) = is ∙ ap (λ (z : ℕ). (keeper about z items asks Nothing, [])) at_shard in
+    subst (λ (u : Me Unit View). Allows KeepsRule slots id u k (λ n. (n + 1) % 2 ^ 64) (marked (step slots k 1 0 none) u)) (sym same) (λ s h wide e fits.
     let r = book_of s id (record { about = about; shard = k; items = items; doubt = asks }) Nobody Nothing h e in
     let x = r.contents in
     let mine = (r.seats id (keeper about k items asks Nothing) e).role in
@@ -167,7 +140,7 @@ marks slots id k about items asks unmarked s h wide e fits =
               (record {
                 books = λ i j n q. (q, put_other x.items k now r.seating.books id i j mine.2 q n);
                 passes = λ p j n q. (q, refl);
-                hands = λ j t n q. same about x x' r.seating refl j t q;
+                hands = λ j t n q. hand_same about x r.seating (put x.items k now) x.callers r.seating.books r.seating.passes j t q;
                 doubts = λ b j n q o. o;
               })
               s.views (keeper about k now [] Nothing) r.seats
@@ -175,15 +148,4 @@ marks slots id k about items asks unmarked s h wide e fits =
         },
       ),
       refl,
-    )
-  where
-    same : (about : About) (x x' : TableContents) (seats : Seating) → x'.tokens ≡ x.tokens → (j : ℕ) (t : Token) → IsHand about x seats j t → IsHand about x' seats j t
-    same about x x' seats e j Nothing h = h
-    same about x x' seats e j (Open a f b) h = (h.0, h.1, (λ i. e i a.pass a.number) ∙ h.2)
-    same about x x' seats e j (Done d upto at) h = (h.0, h.1, (λ i. e i d.ask.pass d.ask.number) ∙ h.2)
-
-pub marks_as : (slots id shard : ℕ) (shelf : Shelf) (m : Me Unit View) → m ≡ (alone (Keeps shelf) Nothing, []) → shelf.shard ≡ shard → is_marked shelf.items ≡ false
-    → Allows KeepsRule slots id m shard (λ n. (n + 1) % 2 ^ 64) (marked (step slots shard 1 0 none) m)
-marks_as slots id shard shelf m is at_shard unmarked =
-    let same : m ≡ (keeper shelf.about shard shelf.items shelf.doubt Nothing, []) = is ∙ ap (λ (z : ℕ). (keeper shelf.about z shelf.items shelf.doubt Nothing, [])) at_shard in
-    subst (λ (u : Me Unit View). Allows KeepsRule slots id u shard (λ n. (n + 1) % 2 ^ 64) (marked (step slots shard 1 0 none) u)) (sym same) (marks slots id shard shelf.about shelf.items shelf.doubt unmarked)
+    ))

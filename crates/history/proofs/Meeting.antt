@@ -1,15 +1,6 @@
 -- Two passes look at one shard after another.
-use Rattle.std.proofs.Common.{◌≡◌, ◌≢◌, ℕ, ◌+◌, List, [], refl, sym, ◌∙◌, subst, ⊎_elim, arith, length-set}
-use Rattle.std.specs.Prelude.{slice_index_or, slice_set}
-use Rattle.std.proofs.lemmas.Bool.{cases_eq}
-use Rattle.std.proofs.lemmas.List.{get_or-set_same, get_or-set_other}
-use Rattle.atomic_table.specs.Table.{Me}
-use Rattle.accept.specs.declared.history.Item.{Item}
-use Rattle.history.specs.declared.views.Caller.{Caller}
-use Rattle.history.specs.declared.views.View.{View}
-use Rattle.history.specs.Histories.{IsBeginning}
-use Rattle.history.specs.Plays.{IsMeeting, HasStepsOf, Meets}
-use Rattle.history.specs.Handles.{caller_in, pair_of, with_seen, HaveMet}
+use Rattle.std.proofs.Common.{◌≡◌, ◌≢◌, ℕ, ◌+◌, List, [], refl, sym, ◌∙◌, subst, ⊎_elim, arith, length-set, slice_index_or, slice_set, get_or-set_same, get_or-set_other}
+use Rattle.history.proofs.Common.{Me, Item, Caller, View, IsBeginning, IsMeeting, HasStepsOf, Meets, caller_in, pair_of, with_seen, HaveMet, cases_eq}
 
 pub met_start : (c d : Caller) → HaveMet c d 0 c.seen d.seen
 met_start c d = record { first_length = refl; second_length = refl; below = λ k l. absurd (omega arith); first_above = λ k l. refl; second_above = λ k l. refl }

@@ -1,20 +1,10 @@
 -- Laws of histories, and of the steps that a pass has in them.
-use Rattle.std.proofs.Common.{◌≡◌, ◌≢◌, ◌⊎◌, ℕ, zero, suc, ◌+◌, ◌*◌, ◌<◌, ◌≤◌, List, [], ◌∷◌, ◌++◌, length, take, Bool, true, false, cond, eqb, not, ◌&&◌, ◌||◌, refl, sym, ap, ◌∙◌, subst, inl, inr, ⊎_elim, append_assoc, append-nil, eq-eqb, ne_eqb, arith, length-append, Some, None}
-use Rattle.std.specs.Prelude.{slice_get, nat_lt, IsTrue}
+use Rattle.std.proofs.Common.{◌≡◌, ◌≢◌, ◌⊎◌, ℕ, zero, suc, ◌+◌, ◌*◌, ◌<◌, ◌≤◌, List, [], ◌∷◌, ◌++◌, length, take, Bool, true, false, cond, eqb, not, ◌&&◌, ◌||◌, refl, sym, ap, ◌∙◌, subst, inl, inr, ⊎_elim, append_assoc, append-nil, eq-eqb, ne_eqb, arith, length-append, Some, None, slice_get, nat_lt, IsTrue, lt-ltb}
 use Rattle.std.specs.List.{list_any, list_all}
-use Rattle.std.proofs.lemmas.Bool.{cases_eq}
-use borrow.Author.Tests.{lt-ltb}
-use Rattle.accept.specs.declared.history.Ask.{Ask}
-use Rattle.accept.specs.declared.history.Step.{Step}
-use Rattle.accept.specs.declared.history.Item.{Item}
-use Rattle.accept.specs.declared.history.Item.TheVariants.{Answered, Failed}
-use Rattle.accept.specs.Histories.{MayFollow, is_marked, is_new, is_step_of}
-use Rattle.history.specs.declared.views.About.{About}
-use Rattle.history.specs.Histories.{IsBeginning, IsLegalAt, terms_of, base_at, history_of, shard_in, steps_by, steps_on, of_pass, asks_by, IsByPasses, HaveNumbersBelow, HaveNumbersAbove, IsRising, AreNumbersBelow, IsUnused, AreUnused, HasStep, HaveSteps, IsAmong, IsFirst, IsFirstNumber, behind_first, asks_on, doubt_or, doubt_of, bound}
-use Rattle.history.specs.Rule.{number_of, floor_of, IsQueue, steps_in_all}
+use Rattle.history.proofs.Common.{Ask, Step, Item, Answered, Failed, About, MayFollow, is_marked, is_new, is_step_of, IsBeginning, IsLegalAt, terms_of, base_at, history_of, shard_in, steps_by, steps_on, of_pass, asks_by, IsByPasses, HaveNumbersBelow, HaveNumbersAbove, IsRising, AreNumbersBelow, IsUnused, AreUnused, HasStep, HaveSteps, IsAmong, IsFirst, IsFirstNumber, behind_first, asks_on, doubt_or, doubt_of, bound, number_of, floor_of, IsQueue, steps_in_all, cases_eq, cond_both}
 use Rattle.history.proofs.Lists.{head_or, tail_of}
 
-cond_append : {A : Type 0} (b : Bool) (x : A) (xs ys : List A) → cond b (x ∷ (xs ++ ys)) (xs ++ ys) ≡ cond b (x ∷ xs) xs ++ ys
+pub cond_append : {A : Type 0} (b : Bool) (x : A) (xs ys : List A) → cond b (x ∷ (xs ++ ys)) (xs ++ ys) ≡ cond b (x ∷ xs) xs ++ ys
 cond_append true x xs ys = refl
 cond_append false x xs ys = refl
 
@@ -57,13 +47,9 @@ module _ (about : About) (k : ℕ) where
   pub on_else : (xs : List Step) (s : Step) → k ≢ shard_in about s.ask → steps_on about k (xs ++ s ∷ []) ≡ steps_on about k xs
   on_else xs s n = on_append xs (s ∷ []) ∙ ap (λ b. steps_on about k xs ++ cond b (s ∷ []) []) (ne_eqb k (shard_in about s.ask) n) ∙ append-nil (steps_on about k xs)
 
-  below_cond : (n : ℕ) (b : Bool) (s : Step) (xs : List Step) → s.ask.number < n → HaveNumbersBelow n xs → HaveNumbersBelow n (cond b (s ∷ xs) xs)
-  below_cond n true s xs h t = (h, t)
-  below_cond n false s xs h t = t
-
   pub below_on : (n : ℕ) (xs : List Step) → HaveNumbersBelow n xs → HaveNumbersBelow n (steps_on about k xs)
   below_on n [] h = tt
-  below_on n (s ∷ xs) h = below_cond n (eqb k (shard_in about s.ask)) s (steps_on about k xs) h.0 (below_on n xs h.1)
+  below_on n (s ∷ xs) h = cond_both (eqb k (shard_in about s.ask)) (s ∷ steps_on about k xs) (steps_on about k xs) (HaveNumbersBelow n) (λ e. (h.0, below_on n xs h.1)) (λ e. below_on n xs h.1)
 
 pub below_more : (n m : ℕ) (xs : List Step) → n ≤ m → HaveNumbersBelow n xs → HaveNumbersBelow m xs
 below_more n m [] le h = tt
@@ -339,14 +325,12 @@ pub by_passes_front : (n : ℕ) (a b : List Item) → IsBeginning a b → IsByPa
 by_passes_front n a b h g = by_passes_left n a h.rest (subst (λ l. IsByPasses n l) h.is g)
 
 pub marked_step : (xs : List Item) (s : Step) → is_marked (xs ++ Answered s ∷ []) ≡ is_marked xs
-marked_step [] s = refl
 marked_step (Answered t ∷ xs) s = marked_step xs s
-marked_step (Failed asks ∷ xs) s = refl
+marked_step xs s = refl
 
 pub marked_mark : (xs : List Item) (asks : List Ask) → is_marked (xs ++ Failed asks ∷ []) ≡ true
-marked_mark [] asks = refl
 marked_mark (Answered t ∷ xs) asks = marked_mark xs asks
-marked_mark (Failed more ∷ xs) asks = refl
+marked_mark xs asks = refl
 
 -- with a mark its list is in doubt, without one what else is
 pub doubt_marked : (xs : List Item) (asks : List Ask) → is_marked xs ≡ true → doubt_or xs asks ≡ doubt_of xs
@@ -359,19 +343,19 @@ doubt_unmarked [] asks e = refl
 doubt_unmarked (Answered s ∷ xs) asks e = doubt_unmarked xs asks e
 doubt_unmarked (Failed more ∷ xs) asks e = absurd (cc)
 
--- one more step of a pass below n is one more in the total
-total_past : (n : ℕ) (xs : List Item) (s : Step) → n ≤ s.ask.pass → steps_in_all n (xs ++ Answered s ∷ []) ≡ steps_in_all n xs
-total_past zero xs s h = refl
-total_past (suc n) xs s h =
-    let a : steps_in_all n (xs ++ Answered s ∷ []) ≡ steps_in_all n xs = total_past n xs s (omega arith) in
-    let b : length (steps_by n (xs ++ Answered s ∷ [])) ≡ length (steps_by n xs) = ap length (steps_else n xs s (λ e. omega arith)) in
+total_same : (n : ℕ) (xs ys : List Item) → ((p : ℕ) → p < n → steps_by p ys ≡ steps_by p xs) → steps_in_all n ys ≡ steps_in_all n xs
+total_same zero xs ys same = refl
+total_same (suc n) xs ys same =
+    let a : steps_in_all n ys ≡ steps_in_all n xs = total_same n xs ys (λ p l. same p (omega arith)) in
+    let b : length (steps_by n ys) ≡ length (steps_by n xs) = ap length (same n (omega arith)) in
     omega arith
 
+-- one more step of a pass below n is one more in the total
 pub total_step : (n : ℕ) (xs : List Item) (s : Step) → s.ask.pass < n → steps_in_all n (xs ++ Answered s ∷ []) ≡ steps_in_all n xs + 1
 total_step zero xs s h = absurd (omega arith)
 total_step (suc n) xs s h = ⊎_elim
     (λ (e : n ≡ s.ask.pass).
-    let a : steps_in_all n (xs ++ Answered s ∷ []) ≡ steps_in_all n xs = total_past n xs s (omega arith) in
+    let a : steps_in_all n (xs ++ Answered s ∷ []) ≡ steps_in_all n xs = total_same n xs (xs ++ Answered s ∷ []) (λ p l. steps_else p xs s (λ d. omega arith)) in
     let b : length (steps_by n (xs ++ Answered s ∷ [])) ≡ length (steps_by n xs) + 1 = ap length (steps_mine n xs s e) ∙ length-append (steps_by n xs) (s ∷ []) in
     omega arith)
     (λ (e : n ≢ s.ask.pass).
@@ -381,11 +365,7 @@ total_step (suc n) xs s h = ⊎_elim
     (cases_eq n s.ask.pass)
 
 pub total_mark : (n : ℕ) (xs : List Item) (asks : List Ask) → steps_in_all n (xs ++ Failed asks ∷ []) ≡ steps_in_all n xs
-total_mark zero xs asks = refl
-total_mark (suc n) xs asks =
-    let a : steps_in_all n (xs ++ Failed asks ∷ []) ≡ steps_in_all n xs = total_mark n xs asks in
-    let b : length (steps_by n (xs ++ Failed asks ∷ [])) ≡ length (steps_by n xs) = ap length (steps_mark n xs asks) in
-    omega arith
+total_mark n xs asks = total_same n xs (xs ++ Failed asks ∷ []) (λ p l. steps_mark p xs asks)
 
 pub total_least : (n : ℕ) (xs : List Item) → ((p : ℕ) → p < n → length (steps_by p xs) ≤ bound) → steps_in_all n xs ≤ n * bound
 total_least zero xs h = omega arith

@@ -1,28 +1,9 @@
 -- What a step of one seat leaves of what the others know.
-use Rattle.std.proofs.Common.{◌≡◌, ◌≢◌, ◌⊎◌, ℕ, zero, suc, ◌+◌, ◌<◌, List, [], ◌∷◌, ◌++◌, length, Bool, refl, sym, ap, ◌∙◌, subst, inl, inr, ⊎_elim, arith}
-use Rattle.std.specs.Prelude.{slice_set, slice_index}
-use Rattle.std.proofs.lemmas.Bool.{cases_eq}
+use Rattle.std.proofs.Common.{◌≡◌, ◌≢◌, ◌⊎◌, ℕ, zero, suc, ◌+◌, ◌<◌, List, [], ◌∷◌, ◌++◌, length, refl, sym, ap, ◌∙◌, subst, inl, inr, ⊎_elim, arith, slice_set, slice_index, length-set}
 use Rattle.std.proofs.lemmas.List.{get_or-set_same, get_or-set_other, set-get_or}
-use mathlib.Core.Option.{some, some-injective, some-ne-none}
-use lib.ListN.{get_elem?}
-use Rattle.atomic_table.specs.Table.{State}
+use Rattle.history.proofs.Common.{some, some-injective, some-ne-none, get_elem?, State, Ask, Item, About, Caller, Shelf, View, Role, Nobody, Opener, Keeps, Calls, Token, Nothing, Open, Done, shard_in, TableContents, Seating, number_of, AccountOk, IsGood, AreWords, IsInDoubt, AreOpen, IsRole, IsHand, IsSeat, HoldsFor, KeepsRule, loose, cases_eq, put, put_all, put_both, put_two, put_two_at, put_two_else}
 use Rattle.atomic_table.proofs.Lists.{at_set, set_else}
-use Rattle.std.proofs.Common.{length-set}
-use Rattle.accept.specs.declared.history.Ask.{Ask}
-use Rattle.accept.specs.declared.history.Step.{Step}
-use Rattle.accept.specs.declared.history.Item.{Item}
-use Rattle.history.specs.declared.views.About.{About}
-use Rattle.history.specs.declared.views.Caller.{Caller}
-use Rattle.history.specs.declared.views.Shelf.{Shelf}
-use Rattle.history.specs.declared.views.View.{View}
-use Rattle.history.specs.declared.views.Role.{Role}
-use Rattle.history.specs.declared.views.Role.TheVariants.{Nobody, Opener, Keeps, Calls}
-use Rattle.history.specs.declared.views.Token.{Token}
-use Rattle.history.specs.declared.views.Token.TheVariants.{Nothing, Open, Done}
-use Rattle.history.specs.Histories.{shard_in}
-use Rattle.history.specs.Rule.{TableContents, Seating, number_of, AccountOk, IsGood, AreWords, IsInDoubt, AreOpen, IsRole, IsHand, IsSeat, HoldsFor, KeepsRule}
-use Rattle.history.specs.Plays.{loose}
-use Rattle.history.proofs.Lists.{put, put_all, put_both, put_two, put_two_at, put_two_else}
+use Rattle.history.proofs.Accounts.{nothing_done, nothing_open}
 
 -- what the seats other than b have is as it was
 pub record Frame (about : About) (x : TableContents) (seats : Seating) (b : ℕ) (x' : TableContents) (seats' : Seating) : Type 0 where
@@ -81,9 +62,22 @@ module _ (about : About) (x : TableContents) (seats : Seating) (b : ℕ) (x' : T
       (at_set views id j both v t.1))
       (at_set (slice_set views id both) b j loose v e)
 
+-- hands know of calls alone
+pub hand_same : (about : About) (x : TableContents) (seats : Seating) (items : ℕ → List Item) (callers : ℕ → Caller) (books passes : ℕ → ℕ) (j : ℕ) (t : Token) → IsHand about x seats j t
+    → IsHand about (record { items = items; callers = callers; tokens = x.tokens }) (record { books = books; passes = passes; holders = seats.holders }) j t
+hand_same about x seats items callers books passes j Nothing h = h
+hand_same about x seats items callers books passes j t h = h
+
 -- a seat that another was not
 pub still_there : (views : List View) (id other : ℕ) (both w : View) → other ≢ id → get_elem? (slice_set views id both) other ≡ some w → get_elem? views other ≡ some w
 still_there views id other both w n e = sym (set_else views id other both n) ∙ e
+
+-- a call in another's hand is not call n of pass p, which is on no way, or in the hand of b
+others_call : (x : TableContents) (seats : Seating) (p n b j : ℕ) (t : Token) (q m : ℕ) → (x.tokens p n ≡ Nothing) ⊎ (seats.holders p n ≡ b) → (Nothing ≡ t → ⊥) → j ≢ b → seats.holders q m ≡ j → x.tokens q m ≡ t → p ≡ q → n ≡ m → ⊥
+others_call x seats p n b j t q m free some_call d held is e f = ⊎_elim
+    (λ (z : x.tokens p n ≡ Nothing). some_call (sym z ∙ (λ i. x.tokens (e i) (f i)) ∙ is))
+    (λ (z : seats.holders p n ≡ b). d (sym held ∙ (λ i. seats.holders (sym e i) (sym f i)) ∙ z))
+    free
 
 -- a hand that has nothing of call n of pass p
 pub hand_put : (about : About) (x : TableContents) (seats : Seating) (p n b : ℕ) (t' : Token) (i' : ℕ) → (x.tokens p n ≡ Nothing) ⊎ (seats.holders p n ≡ b)
@@ -91,23 +85,11 @@ pub hand_put : (about : About) (x : TableContents) (seats : Seating) (p n b : �
     → IsHand about (record { items = items; callers = callers; tokens = put_two x.tokens p n t' }) (record { books = books; passes = passes; holders = put_two seats.holders p n i' }) j t
 hand_put about x seats p n b t' i' free items callers books passes j Nothing d h = tt
 hand_put about x seats p n b t' i' free items callers books passes j (Open a f e) d h =
-    let apart : p ≡ a.pass → n ≡ a.number → ⊥ = λ q r. ⊎_elim
-    (λ (z : x.tokens p n ≡ Nothing). clash_open a f e (sym z ∙ (λ i. x.tokens (q i) (r i)) ∙ h.2))
-    (λ (z : seats.holders p n ≡ b). d (sym h.1 ∙ (λ i. seats.holders (sym q i) (sym r i)) ∙ z))
-    free in
+    let apart = others_call x seats p n b j (Open a f e) a.pass a.number free (nothing_open a f e) d h.1 h.2 in
     (h.0, put_two_else seats.holders p n i' a.pass a.number apart ∙ h.1, put_two_else x.tokens p n t' a.pass a.number apart ∙ h.2)
-  where
-    clash_open : (a : Ask) (f : Bool) (e : List Ask) → Nothing ≡ Open a f e → ⊥
-    clash_open a f e q = cc
 hand_put about x seats p n b t' i' free items callers books passes j (Done s upto at) d h =
-    let apart : p ≡ s.ask.pass → n ≡ s.ask.number → ⊥ = λ q r. ⊎_elim
-    (λ (z : x.tokens p n ≡ Nothing). clash_done s upto at (sym z ∙ (λ i. x.tokens (q i) (r i)) ∙ h.2))
-    (λ (z : seats.holders p n ≡ b). d (sym h.1 ∙ (λ i. seats.holders (sym q i) (sym r i)) ∙ z))
-    free in
+    let apart = others_call x seats p n b j (Done s upto at) s.ask.pass s.ask.number free (nothing_done s upto at) d h.1 h.2 in
     (h.0, put_two_else seats.holders p n i' s.ask.pass s.ask.number apart ∙ h.1, put_two_else x.tokens p n t' s.ask.pass s.ask.number apart ∙ h.2)
-  where
-    clash_done : (s : Step) (upto : List Item) (at : ℕ × ℕ) → Nothing ≡ Done s upto at → ⊥
-    clash_done s upto at e = cc
 
 -- a call in doubt that is not the changed one, or stays as it is
 pub doubt_put : (tokens : ℕ → ℕ → Token) (p n : ℕ) (t t' : Token) (a : Ask) → tokens p n ≡ t → (IsInDoubt a t → IsInDoubt a t') → IsInDoubt a (tokens a.pass a.number) → IsInDoubt a (put_two tokens p n t' a.pass a.number)
@@ -134,7 +116,7 @@ abbrev pub with_caller : TableContents → ℕ → Caller → TableContents
 with_caller x p c = record { items = x.items; callers = put x.callers p c; tokens = x.tokens }
 
 abbrev pub held_by : Seating → ℕ → ℕ → ℕ → Seating
-held_by seats p n j = record { books = seats.books; passes = seats.passes; holders = put_two seats.holders p n j }
+held_by seats p n j = record seats { holders = put_two seats.holders p n j }
 
 pub good_pass : (about : About) (x : TableContents) (p n : ℕ) (c : Caller) (t : Token) → IsGood about x → AccountOk about x.items p c (put (x.tokens p) n t) → IsGood about (with_pass x p n c t)
 good_pass about x p n c t good ok = record {

@@ -1,8 +1,6 @@
 -- Tickets that go into doubt, one after another.
-use Rattle.std.proofs.Common.{◌≡◌, ℕ, zero, suc, ◌+◌, ◌<◌, List, [], ◌∷◌, ◌++◌, length, take, refl, ap, ◌∙◌, arith}
-use Rattle.std.specs.Prelude.{slice_index_or, slice_set}
-use Rattle.history.specs.Histories.{shard_in}
-use Rattle.history.specs.Handles.{Booked, Announced, asks_of, doubted, doubted_to, AreOf}
+use Rattle.std.proofs.Common.{◌≡◌, ℕ, zero, suc, ◌+◌, ◌<◌, List, [], ◌∷◌, ◌++◌, length, take, refl, ap, ◌∙◌, arith, slice_index_or, slice_set}
+use Rattle.history.proofs.Common.{shard_in, Booked, Announced, asks_of, doubted, doubted_to, AreOf}
 
 -- those after are as they were
 pub doubted_at : (ts : List Announced) (i : ℕ) (d : Announced) → slice_index_or (doubted_to i ts) i d ≡ slice_index_or ts i d

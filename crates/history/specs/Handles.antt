@@ -2,26 +2,9 @@
 use Rattle.std.specs.Prelude.{◌≡◌, ℕ, zero, suc, ◌+◌, ◌<◌, ◌≤◌, ◌==◌, ◌||◌, List, [], ◌∷◌, ◌++◌, Bool, true, false, length, if◌then◌else◌, slice_index_or}
 use Rattle.atomic_table.specs.Seated.{TableId}
 use Rattle.atomic_table.specs.declared.shared.Seat.{Seat}
-use Rattle.accept.specs.declared.limits.Limits.{Limits}
-use Rattle.accept.specs.Rooms.{Streams}
-use Rattle.accept.specs.declared.call.Call.{Call}
-use Rattle.accept.specs.declared.call.Call.TheVariants.{Read}
-use Rattle.accept.specs.declared.call.Reply.TheVariants.{Unavailable}
-use Rattle.accept.specs.declared.history.Ask.{Ask}
-use Rattle.accept.specs.declared.history.Step.{Step}
-use Rattle.accept.specs.declared.history.Item.{Item}
-use Rattle.accept.specs.declared.history.Item.TheVariants.{Answered}
-use Rattle.accept.specs.declared.history.History.{History}
-use Rattle.history.specs.declared.views.About.{About}
-use Rattle.history.specs.declared.views.Caller.{Caller}
-use Rattle.history.specs.declared.views.Shelf.{Shelf}
-use Rattle.history.specs.declared.views.View.{View}
-use Rattle.history.specs.declared.views.Role.{Role}
-use Rattle.history.specs.declared.views.Role.TheVariants.{Nobody, Opener, Keeps, Calls}
-use Rattle.history.specs.declared.views.Token.{Token}
-use Rattle.history.specs.declared.views.Token.TheVariants.{Nothing, Open, Done}
+use Rattle.history.specs.Types.{Streams, Limits, Call, Read, Unavailable, Ask, Step, Item, Answered, History, About, Caller, Shelf, View, Role, Nobody, Opener, Keeps, Calls, Token, Nothing, Open, Done}
 use Rattle.history.specs.Histories.{history_of, shard_in, step_of, bound, max_open}
-use Rattle.history.specs.Rule.{alone, newcomer}
+use Rattle.history.specs.Rule.{alone, unnamed, newcomer}
 use Rattle.history.specs.Plays.{seen_at, ask_of, before_of, announce_to, IsMeeting}
 
 -- a shard's history, in the table of this name
@@ -66,14 +49,7 @@ is_closed_pass pass = pass.closed || (pass.caller.last + 1 == bound)
 
 -- what stands where a seat has none
 abbrev pub no_about : About
-no_about =
-    record {
-      shards = 0;
-      passes = 0;
-      limits = record { line = 0; half_age = 0; max_old = 0; max_ahead = 0 };
-      capacity = 0;
-      bases = [];
-    }
+no_about = unnamed (record { shards = 0; passes = 0 })
 
 abbrev pub no_ask : Ask
 no_ask = record { pass = 0; number = 0; call = Read (record { tenant = []; labels = [] }) 0 0 }
@@ -125,12 +101,9 @@ announced s =
 -- the seat has an open call in hand, with this number, of this pass
 abbrev pub IsTicket : Seat Unit View → ℕ → ℕ → Type 0
 IsTicket s n p =
-    (s.me ≡ (
-      alone Nobody (Open (ask_in s.me.0.hand) (doubt_in s.me.0.hand)
-          (before_in s.me.0.hand)),
-      [],
-    ))
-    × ((ask_in s.me.0.hand).number ≡ n) × ((ask_in s.me.0.hand).pass ≡ p)
+    let hand = s.me.0.hand in
+    (s.me ≡ (alone Nobody (Open (ask_in hand) (doubt_in hand) (before_in hand)), []))
+    × ((ask_in hand).number ≡ n) × ((ask_in hand).pass ≡ p)
 
 -- what contracts see of a receipt
 abbrev pub received : Seat Unit View → Received
@@ -145,12 +118,9 @@ received s =
 -- the seat has a call with its step in hand, with this number, of this pass
 abbrev pub IsReceipt : Seat Unit View → ℕ → ℕ → Type 0
 IsReceipt s n p =
-    (s.me ≡ (
-      alone Nobody (Done (step_in s.me.0.hand) (upto_in s.me.0.hand)
-          (moment_in s.me.0.hand)),
-      [],
-    ))
-    × ((step_in s.me.0.hand).ask.number ≡ n) × ((step_in s.me.0.hand).ask.pass ≡ p)
+    let hand = s.me.0.hand in
+    (s.me ≡ (alone Nobody (Done (step_in hand) (upto_in hand) (moment_in hand)), []))
+    × ((step_in hand).ask.number ≡ n) × ((step_in hand).ask.pass ≡ p)
 
 -- what contracts see of a book
 abbrev pub booked : Seat Unit View → Booked
@@ -185,17 +155,20 @@ IsPass s shards word last calls =
 abbrev pub refused_by : List Item → Caller → Call → List Item
 refused_by items c call = items ++ Answered (step_of (ask_of c (c.last + 1) call) Unavailable) ∷ []
 
+-- the ticket of a call that a pass announces under a number
+abbrev pub ticket_for : TableId → Caller → ℕ → Call → Announced
+ticket_for table c n call = record {
+  table = table;
+  ask = ask_of c n call;
+  doubted = false;
+  before = before_of c n call;
+}
+
 -- the tickets of calls that a pass announces one after another
 abbrev pub tickets_announced : TableId → Caller → List Call → List Announced
 tickets_announced table c [] = []
 tickets_announced table c (call ∷ calls) =
-    record {
-      table = table;
-      ask = ask_of c (c.last + 1) call;
-      doubted = false;
-      before = before_of c
-          (c.last + 1) call;
-    }
+    ticket_for table c (c.last + 1) call
     ∷ tickets_announced table (announce_to c (c.last + 1) call) calls
 
 -- those of these tickets that are shard k's
@@ -261,24 +234,10 @@ AreOf book (t ∷ ts) = (t.table ≡ book.table) × (shard_in book.about t.ask �
     × AreOf book ts
 
 abbrev pub with_doubt : Shelf → List Ask → Shelf
-with_doubt shelf doubt = record {
-  about = shelf.about;
-  shard = shelf.shard;
-  items = shelf.items;
-  doubt = doubt;
-}
+with_doubt shelf doubt = record shelf { doubt = doubt }
 
 abbrev pub with_seen : Caller → List (List Item) → Caller
-with_seen c seen =
-    record {
-      about = c.about;
-      pass = c.pass;
-      last = c.last;
-      seen = seen;
-      made = c.made;
-      withdrawn = c.withdrawn;
-      pending = c.pending;
-    }
+with_seen c seen = record c { seen = seen }
 
 -- two passes in one seat
 abbrev pub pair_of : Caller → Caller → View

@@ -1,16 +1,8 @@
 -- Histories of the shards of one opening, and what stands in them of a pass.
 use Rattle.std.specs.Prelude.{◌≡◌, ◌≢◌, ◌⊎◌, ℕ, ◌<◌, ◌==◌, List, [], ◌∷◌, ◌++◌, if◌then◌else◌, slice_index_or}
 use Rattle.std.specs.FinMap as finite
-use Rattle.accept.specs.declared.call.Call.{Call}
-use Rattle.accept.specs.declared.call.Reply.{Reply}
-use Rattle.accept.specs.declared.history.Ask.{Ask}
-use Rattle.accept.specs.declared.history.Step.{Step}
-use Rattle.accept.specs.declared.history.Item.{Item}
-use Rattle.accept.specs.declared.history.Item.TheVariants.{Answered, Failed}
-use Rattle.accept.specs.declared.history.History.{History}
-use Rattle.accept.specs.Rooms.{Streams}
+use Rattle.history.specs.Types.{Streams, Call, Reply, Ask, Step, Item, Answered, Failed, History, About}
 use Rattle.accept.specs.Histories.{Terms, IsLegal, key_of, reply_to}
-use Rattle.history.specs.declared.views.About.{About}
 use Rattle.history.specs.Shards.{shard_of, is_of_shard}
 
 -- `front` is a beginning of `all`

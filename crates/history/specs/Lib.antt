@@ -1,3 +1,4 @@
+pub mod Types
 pub mod Shards
 pub mod Histories
 pub mod Rule

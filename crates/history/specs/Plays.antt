@@ -1,19 +1,7 @@
 -- What each step of a seat leaves it with, and tells it.
 use Rattle.std.specs.Prelude.{◌≡◌, ◌≢◌, ◌⊎◌, ℕ, ◌+◌, ◌*◌, ◌<◌, ◌≤◌, List, [], ◌∷◌, ◌++◌, true, false, length, slice_index_or, slice_set}
 use Rattle.atomic_table.specs.Table.{Step as TableStep, Me}
-use Rattle.accept.specs.declared.call.Call.{Call}
-use Rattle.accept.specs.declared.call.Reply.{Reply}
-use Rattle.accept.specs.declared.history.Ask.{Ask}
-use Rattle.accept.specs.declared.history.Step.{Step}
-use Rattle.accept.specs.declared.history.Item.{Item}
-use Rattle.accept.specs.declared.history.Item.TheVariants.{Answered, Failed}
-use Rattle.history.specs.declared.views.About.{About}
-use Rattle.history.specs.declared.views.Caller.{Caller}
-use Rattle.history.specs.declared.views.View.{View}
-use Rattle.history.specs.declared.views.Role.{Role}
-use Rattle.history.specs.declared.views.Role.TheVariants.{Nobody, Opener, Keeps, Calls}
-use Rattle.history.specs.declared.views.Token.{Token}
-use Rattle.history.specs.declared.views.Token.TheVariants.{Nothing, Open, Done}
+use Rattle.history.specs.Types.{Call, Reply, Ask, Step, Item, Answered, Failed, About, Caller, View, Role, Nobody, Opener, Keeps, Calls, Token, Nothing, Open, Done}
 use Rattle.history.specs.Histories.{IsBeginning, IsLegalAt, reply_of, shard_in, step_of, steps_by, steps_on, asks_by, asks_on, IsByPasses, HasStep, IsRising, IsAmong, AreAmong, IsFirst, behind_first, bound}
 use Rattle.history.specs.Rule.{alone, opener, newcomer}
 
@@ -23,7 +11,7 @@ loose = alone Nobody Nothing
 
 -- the call in hand goes to a seat of its own
 abbrev pub kept_back : View → View
-kept_back v = record { role = v.role; guest = v.guest; hand = Nothing }
+kept_back v = record v { hand = Nothing }
 
 -- and that seat has nothing else
 abbrev pub seat_alone : View → View
@@ -31,11 +19,11 @@ seat_alone v = alone Nobody v.hand
 
 -- another seat's call comes into hand
 abbrev pub taken : View → View → View
-taken v w = record { role = v.role; guest = v.guest; hand = w.hand }
+taken v w = record v { hand = w.hand }
 
 -- a pass sits with a book, or with another pass
 abbrev pub seated : View → View → View
-seated v w = record { role = v.role; guest = w.role; hand = v.hand }
+seated v w = record v { guest = w.role }
 
 -- the guest leaves
 abbrev pub host : View → View
@@ -120,15 +108,7 @@ ask_of c n call = record { pass = c.pass; number = n; call = call }
 
 -- the pass with this call pending after its other open calls
 abbrev pub announce_to : Caller → ℕ → Call → Caller
-announce_to c n call = record {
-  about = c.about;
-  pass = c.pass;
-  last = n;
-  seen = c.seen;
-  made = c.made;
-  withdrawn = c.withdrawn;
-  pending = c.pending ++ ask_of c n call ∷ [];
-}
+announce_to c n call = record c { last = n; pending = c.pending ++ ask_of c n call ∷ [] }
 
 -- the open calls of the pass on the shard of this call
 abbrev pub before_of : Caller → ℕ → Call → List Ask
@@ -150,15 +130,7 @@ announced_as call st m found m' = Announces call st.first m.0.role m'.0 × (m'.1
 
 -- the pass without its first open call, and with this number withdrawn
 abbrev pub withdraw_to : Caller → ℕ → Caller
-withdraw_to c n = record {
-  about = c.about;
-  pass = c.pass;
-  last = c.last;
-  seen = c.seen;
-  made = c.made;
-  withdrawn = c.withdrawn ++ n ∷ [];
-  pending = behind_first c.pending;
-}
+withdraw_to c n = record c { withdrawn = c.withdrawn ++ n ∷ []; pending = behind_first c.pending }
 
 abbrev pub Withdraws : Role → Token → View → Type 0
 Withdraws (Calls c) (Open a f e) w = (w ≡ alone (Calls (withdraw_to c a.number)) Nothing)
@@ -171,13 +143,9 @@ withdrew st m found m' = Withdraws m.0.role m.0.hand m'.0 × (m'.1 ≡ m.1)
 
 -- the pass with its first open call answered by this step, up to which it has seen the shard's history
 abbrev pub collect_to : Caller → Step → List Item → Caller
-collect_to c s new = record {
-  about = c.about;
-  pass = c.pass;
-  last = c.last;
+collect_to c s new = record c {
   seen = slice_set c.seen (shard_in c.about s.ask) new;
   made = c.made ++ s ∷ [];
-  withdrawn = c.withdrawn;
   pending = behind_first c.pending;
 }
 
@@ -216,15 +184,7 @@ collected st m found m' = Collects m.0.role m.0.hand m'.0 × (m'.1 ≡ m.1)
 
 -- the pass with this seen of shard k
 abbrev pub look_to : Caller → ℕ → List Item → Caller
-look_to c k new = record {
-  about = c.about;
-  pass = c.pass;
-  last = c.last;
-  seen = slice_set c.seen k new;
-  made = c.made;
-  withdrawn = c.withdrawn;
-  pending = c.pending;
-}
+look_to c k new = record c { seen = slice_set c.seen k new }
 
 -- each of these calls was made, or is open
 abbrev pub AreHis : List Step → List Ask → List Ask → Type 0

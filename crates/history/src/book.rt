@@ -1,14 +1,13 @@
-ghost use Rattle.std.specs.Prelude.{◌≡◌, ◌<◌, ◌++◌, ◌∷◌, [], List, true, false, length};
-ghost use Rattle.accept.specs.declared.history.Ask.{Ask};
-ghost use Rattle.accept.specs.declared.call.Reply.TheVariants.{Unavailable};
-ghost use Rattle.accept.specs.declared.history.Item.TheVariants.{Answered, Failed};
+ghost use Rattle.std.specs.Prelude.{◌≡◌, ℕ, ◌<◌, ◌++◌, [], List, true, false, length};
+ghost use Rattle.std.specs.Arc.{arc_value};
+ghost use Rattle.std.specs.Coded.{codes};
+ghost use Rattle.accept.specs.contracts.image.Image as image;
+ghost use Rattle.history.specs.Types.{Unavailable, Ask, Answered, Failed, Keeps, Nothing};
 ghost use Rattle.accept.specs.Histories.{is_marked};
 ghost use Rattle.history.specs.Histories.{IsBeginning, IsLegalAt, IsByPasses, HaveSteps, doubt_or, doubt_of, reply_of, shard_in, step_of};
 ghost use Rattle.history.specs.Plays.{seen_at, HasStepsOf, HasRoomForSteps};
-ghost use Rattle.history.specs.declared.views.Role.TheVariants.{Keeps};
-ghost use Rattle.history.specs.declared.views.Token.TheVariants.{Nothing};
 ghost use Rattle.history.specs.Rule.{alone};
-ghost use Rattle.history.specs.Handles.{longer, asks_of, doubted_to, AreOf, shelf_in, booked, with_doubt};
+ghost use Rattle.history.specs.Handles.{Booked, IsBook, longer, asks_of, doubted_to, AreOf, shelf_in, booked, with_doubt};
 
 use crate::handles::{Pass, Receipt, Ticket};
 use crate::table::{
@@ -21,10 +20,6 @@ use std::sync::Arc;
 
 /// What a shard keeps of its history on its disk.
 pub trait Kept {
-    ghost use Rattle.std.specs.Prelude.{ℕ, List};
-    ghost use Rattle.accept.specs.declared.history.Ask.{Ask};
-    ghost use Rattle.history.specs.Handles.{Booked};
-
     /// A crash now leaves the meaning of this book's history, or of that history followed by a beginning of these calls
     /// in doubt.
     ghost kept: { Self → Booked → List Ask → Type 0 };
@@ -46,16 +41,9 @@ pub struct Book {
 }
 
 impl Model for Book {
-    ghost use Rattle.std.specs.Coded.{codes};
-    ghost use Rattle.accept.specs.contracts.image.Image as image;
-    ghost use Rattle.history.specs.Handles.{Booked};
-
     ghost Value = { Booked };
 
     ghost coded = { Prim.hlevel (codes, image.the_row.coded) };
-
-    ghost use Rattle.std.specs.Arc.{arc_value};
-    ghost use Rattle.history.specs.Handles.{booked, IsBook};
 
     ghost view = { λ b. booked b.seat };
 

@@ -1,8 +1,10 @@
 //! What threads hold: tickets, receipts and passes.
 ghost use Rattle.std.specs.Prelude.{◌≡◌, ◌+◌, ◌<◌, ◌==◌, true, false, length};
+ghost use Rattle.std.specs.Coded.{codes};
+ghost use Rattle.accept.specs.contracts.image.Image as image;
 ghost use Rattle.history.specs.Histories.{behind_first, bound, max_open};
 ghost use Rattle.history.specs.Rule.{number_of};
-ghost use Rattle.history.specs.Handles.{is_closed_pass};
+ghost use Rattle.history.specs.Handles.{Announced, Received, Passed, announced, received, passed, IsTicket, IsReceipt, IsPass, is_closed_pass};
 
 use crate::table::ViewSeat;
 use std::marker::Model;
@@ -22,15 +24,9 @@ pub struct Ticket {
 }
 
 impl Model for Ticket {
-    ghost use Rattle.std.specs.Coded.{codes};
-    ghost use Rattle.accept.specs.contracts.image.Image as image;
-    ghost use Rattle.history.specs.Handles.{Announced};
-
     ghost Value = { Announced };
 
     ghost coded = { Prim.hlevel (codes, image.the_row.coded) };
-
-    ghost use Rattle.history.specs.Handles.{announced, IsTicket};
 
     ghost view = { λ t. announced t.seat };
 
@@ -62,15 +58,9 @@ pub struct Receipt {
 }
 
 impl Model for Receipt {
-    ghost use Rattle.std.specs.Coded.{codes};
-    ghost use Rattle.accept.specs.contracts.image.Image as image;
-    ghost use Rattle.history.specs.Handles.{Received};
-
     ghost Value = { Received };
 
     ghost coded = { Prim.hlevel (codes, image.the_row.coded) };
-
-    ghost use Rattle.history.specs.Handles.{received, IsReceipt};
 
     ghost view = { λ r. received r.seat };
 
@@ -106,15 +96,9 @@ pub struct Pass {
 }
 
 impl Model for Pass {
-    ghost use Rattle.std.specs.Coded.{codes};
-    ghost use Rattle.accept.specs.contracts.image.Image as image;
-    ghost use Rattle.history.specs.Handles.{Passed};
-
     ghost Value = { Passed };
 
     ghost coded = { Prim.hlevel (codes, image.the_row.coded) };
-
-    ghost use Rattle.history.specs.Handles.{passed, IsPass};
 
     ghost view = { λ p. passed p.seat p.closed };
 

@@ -1,7 +1,9 @@
 ghost use Rattle.std.specs.Prelude.{◌≡◌, ◌≢◌, ◌↔◌, ℕ, ◌+◌, ◌<◌, ◌≤◌, [], false, length, IfOk, OnOk, OnErr, IsOk};
+ghost use Rattle.std.specs.Arc.{arc_value};
+ghost use Rattle.atomic_table.specs.Seated.{TableId, table_id_coded};
 ghost use Rattle.history.specs.Histories.{IsBeginning, IsLegalAt, IsByPasses, IsFirst, IsFirstIfAmong, bound, max_open};
-ghost use Rattle.history.specs.Plays.{seen_at, ask_of, before_of, announce_to, withdraw_to, collect_to, look_to, IsRested, HasSeenStep, HasStepsOf};
-ghost use Rattle.history.specs.Handles.{is_closed_pass, caller_in, pair_of, with_seen, HaveMet};
+ghost use Rattle.history.specs.Plays.{seen_at, announce_to, withdraw_to, collect_to, look_to, IsRested, HasSeenStep, HasStepsOf};
+ghost use Rattle.history.specs.Handles.{is_closed_pass, ticket_for, caller_in, pair_of, with_seen, HaveMet};
 
 use crate::handles::{Pass, PassSpent, Receipt, Ticket};
 use crate::table::{
@@ -20,13 +22,9 @@ pub struct History {
 }
 
 impl Model for History {
-    ghost use Rattle.atomic_table.specs.Seated.{TableId, table_id_coded};
-
     ghost Value = { TableId };
 
     ghost coded = { table_id_coded };
-
-    ghost use Rattle.std.specs.Arc.{arc_value};
 
     ghost view = { λ h. (arc_value h.table).shared.table_id };
 }
@@ -39,13 +37,9 @@ pub struct Ended {
 }
 
 impl Model for Ended {
-    ghost use Rattle.atomic_table.specs.Seated.{TableId, table_id_coded};
-
     ghost Value = { TableId };
 
     ghost coded = { table_id_coded };
-
-    ghost use Rattle.std.specs.Arc.{arc_value};
 
     ghost view = { λ e. (arc_value e.table).shared.table_id };
 }
@@ -65,12 +59,7 @@ impl History {
         requires table { pass.old.table ≡ self.now }
         requires few { length pass.old.caller.pending < max_open }
         ensures ticket { IfOk result (λ t. t
-            ≡ record {
-              table = self.now;
-              ask = ask_of pass.old.caller (pass.old.caller.last + 1) call.now;
-              doubted = false;
-              before = before_of pass.old.caller (pass.old.caller.last + 1) call.now;
-            }) }
+            ≡ ticket_for self.now pass.old.caller (pass.old.caller.last + 1) call.now) }
         ensures pass { OnOk result (pass.new
             ≡ record pass.old {
               caller = announce_to pass.old.caller
@@ -91,12 +80,8 @@ impl History {
         requires few { length pass.old.caller.pending < max_open }
         requires open { is_closed_pass pass.old ≡ false }
         requires call { call.now ≡ J.call }
-        ensures ticket { result ≡ record {
-          table = self.now;
-          ask = ask_of pass.old.caller (pass.old.caller.last + 1) call.now;
-          doubted = false;
-          before = before_of pass.old.caller (pass.old.caller.last + 1) call.now;
-        } }
+        ensures ticket { result
+            ≡ ticket_for self.now pass.old.caller (pass.old.caller.last + 1) call.now }
         ensures pass { pass.new ≡ record pass.old {
           caller = announce_to pass.old.caller
               (pass.old.caller.last + 1) call.now;
@@ -113,12 +98,7 @@ impl History {
         requires table { pass.old.table ≡ self.now }
         requires few { length pass.old.caller.pending < max_open }
         requires number { (pass.old.caller.last < number) × (number < bound) }
-        ensures ticket { result ≡ record {
-          table = self.now;
-          ask = ask_of pass.old.caller number J.call;
-          doubted = false;
-          before = before_of pass.old.caller number J.call;
-        } }
+        ensures ticket { result ≡ ticket_for self.now pass.old.caller number J.call }
         ensures pass { pass.new ≡ record pass.old {
           caller =
               announce_to pass.old.caller number J.call;

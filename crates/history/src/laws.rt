@@ -1,8 +1,6 @@
 //! What several open calls of a pass mean.
 ghost use Rattle.std.specs.Prelude.{◌≡◌, ◌+◌, [], List, true, OnOk};
-ghost use Rattle.accept.specs.declared.history.Ask.{Ask};
-ghost use Rattle.accept.specs.declared.history.Item.{Item};
-ghost use Rattle.accept.specs.declared.call.Reply.TheVariants.{Unavailable};
+ghost use Rattle.history.specs.Types.{Unavailable, Ask, Item};
 ghost use Rattle.accept.specs.Histories.{is_marked};
 ghost use Rattle.history.specs.Histories.{shard_in};
 ghost use Rattle.history.specs.Plays.{ask_of, call_to};

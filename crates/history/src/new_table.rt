@@ -1,5 +1,5 @@
 //! How a table is made, with the books and the passes of its opening.
-ghost use Rattle.std.specs.Prelude.{◌≡◌, ℕ, ◌+◌, ◌<◌, ◌≤◌, [], length, IfOk};
+ghost use Rattle.std.specs.Prelude.{◌≡◌, ◌+◌, ◌<◌, ◌≤◌, [], length, IfOk};
 ghost use Rattle.std.specs.Arc.{arc_value};
 ghost use Rattle.labels.specs.Shards.{max_shards};
 ghost use Rattle.history.specs.Rule.{opener};

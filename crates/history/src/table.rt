@@ -1,5 +1,10 @@
 //! The table that all threads share, its rule, and what its steps tell. Word k is the length of shard k's history.
 //! After the shards' words comes one for each pass: 0, or, while calls of it are open, the last number that it used.
+ghost use Rattle.std.specs.Prelude.{ℕ};
+ghost use Rattle.history.specs.Types.{Call, About};
+ghost use Rattle.history.specs.Rule.{KeepsRule, opener, unnamed};
+ghost use Rattle.history.specs.Plays.{named, announced_as, committed_at, marked, withdrew, collected, looked, met, settled, items_counted, after_book, next_book, after_pass, next_pass, kept_back, seat_alone, host, visitor, taken, loose, seated, in_doubt};
+ghost use Rattle.history.specs.Handles.{no_about, no_ask};
 
 use crate::views::{Sizes, View};
 use atomic_table::{Join, Play, Seat, Shared, Split, Table, TableRule};
@@ -10,8 +15,6 @@ use std::marker::{Brand, PhantomData};
 pub struct Rules;
 
 impl TableRule<(), View, Sizes> for Rules {
-    ghost use Rattle.history.specs.Rule.{KeepsRule, opener, unnamed};
-
     ghost holds = { λ _. KeepsRule };
 
     ghost first = { λ key. opener (unnamed key) 0 0 };
@@ -25,34 +28,24 @@ pub(crate) type ViewSeat = Seat<(), View>;
 
 /// What an opening is for. The call that opens chooses it.
 pub trait Naming {
-    ghost use Rattle.history.specs.declared.views.About.{About};
-
     ghost about: { About };
 }
 
 impl Naming for Brand {
-    ghost use Rattle.history.specs.Handles.{no_about};
-
     ghost about = { no_about };
 }
 
 /// The call that is announced. The call that announces chooses it.
 pub trait Saying {
-    ghost use Rattle.accept.specs.declared.call.Call.{Call};
-
     ghost call: { Call };
 }
 
 impl Saying for Brand {
-    ghost use Rattle.history.specs.Handles.{no_ask};
-
     ghost call = { no_ask.call };
 }
 
 /// When a step is committed: what the clocks of the shard's two slots say. The call that commits chooses it.
 pub trait At {
-    ghost use Rattle.std.specs.Prelude.{ℕ};
-
     ghost moment: { ℕ × ℕ };
 }
 
@@ -66,8 +59,6 @@ pub struct NamesOpening<J> {
 }
 
 impl<J: Naming> Play<(), View> for NamesOpening<J> {
-    ghost use Rattle.history.specs.Plays.{named};
-
     ghost then = { named J.about };
 }
 
@@ -77,8 +68,6 @@ pub struct Announces<J> {
 }
 
 impl<J: Saying> Play<(), View> for Announces<J> {
-    ghost use Rattle.history.specs.Plays.{announced_as};
-
     ghost then = { announced_as J.call };
 }
 
@@ -88,8 +77,6 @@ pub struct Commits<J> {
 }
 
 impl<J: At> Play<(), View> for Commits<J> {
-    ghost use Rattle.history.specs.Plays.{committed_at};
-
     ghost then = { committed_at J.moment };
 }
 
@@ -97,8 +84,6 @@ impl<J: At> Play<(), View> for Commits<J> {
 pub struct Marks;
 
 impl Play<(), View> for Marks {
-    ghost use Rattle.history.specs.Plays.{marked};
-
     ghost then = { marked };
 }
 
@@ -106,8 +91,6 @@ impl Play<(), View> for Marks {
 pub struct Withdraws;
 
 impl Play<(), View> for Withdraws {
-    ghost use Rattle.history.specs.Plays.{withdrew};
-
     ghost then = { withdrew };
 }
 
@@ -115,8 +98,6 @@ impl Play<(), View> for Withdraws {
 pub struct Collects;
 
 impl Play<(), View> for Collects {
-    ghost use Rattle.history.specs.Plays.{collected};
-
     ghost then = { collected };
 }
 
@@ -124,8 +105,6 @@ impl Play<(), View> for Collects {
 pub struct Looks;
 
 impl Play<(), View> for Looks {
-    ghost use Rattle.history.specs.Plays.{looked};
-
     ghost then = { looked };
 }
 
@@ -133,8 +112,6 @@ impl Play<(), View> for Looks {
 pub struct Meets;
 
 impl Play<(), View> for Meets {
-    ghost use Rattle.history.specs.Plays.{met};
-
     ghost then = { met };
 }
 
@@ -142,8 +119,6 @@ impl Play<(), View> for Meets {
 pub struct Settles;
 
 impl Play<(), View> for Settles {
-    ghost use Rattle.history.specs.Plays.{settled};
-
     ghost then = { settled };
 }
 
@@ -151,8 +126,6 @@ impl Play<(), View> for Settles {
 pub struct Counts;
 
 impl Play<(), View> for Counts {
-    ghost use Rattle.history.specs.Plays.{items_counted};
-
     ghost then = { items_counted };
 }
 
@@ -160,8 +133,6 @@ impl Play<(), View> for Counts {
 pub struct NextBook;
 
 impl Split<View> for NextBook {
-    ghost use Rattle.history.specs.Plays.{after_book, next_book};
-
     ghost left = { λ v. after_book v.role };
 
     ghost right = { λ v. next_book v.role };
@@ -171,8 +142,6 @@ impl Split<View> for NextBook {
 pub struct NextPass;
 
 impl Split<View> for NextPass {
-    ghost use Rattle.history.specs.Plays.{after_pass, next_pass};
-
     ghost left = { λ v. after_pass v.role };
 
     ghost right = { λ v. next_pass v.role };
@@ -182,8 +151,6 @@ impl Split<View> for NextPass {
 pub struct Gives;
 
 impl Split<View> for Gives {
-    ghost use Rattle.history.specs.Plays.{kept_back, seat_alone};
-
     ghost left = { kept_back };
 
     ghost right = { seat_alone };
@@ -193,8 +160,6 @@ impl Split<View> for Gives {
 pub struct Leaves;
 
 impl Split<View> for Leaves {
-    ghost use Rattle.history.specs.Plays.{host, visitor};
-
     ghost left = { host };
 
     ghost right = { visitor };
@@ -204,8 +169,6 @@ impl Split<View> for Leaves {
 pub struct Takes;
 
 impl Join<View> for Takes {
-    ghost use Rattle.history.specs.Plays.{taken, loose};
-
     ghost both = { taken };
 
     ghost spent = { loose };
@@ -215,8 +178,6 @@ impl Join<View> for Takes {
 pub struct Sits;
 
 impl Join<View> for Sits {
-    ghost use Rattle.history.specs.Plays.{seated, loose};
-
     ghost both = { seated };
 
     ghost spent = { loose };
@@ -226,8 +187,6 @@ impl Join<View> for Sits {
 pub struct Doubts;
 
 impl Join<View> for Doubts {
-    ghost use Rattle.history.specs.Plays.{in_doubt, loose};
-
     ghost both = { in_doubt };
 
     ghost spent = { loose };

@@ -127,9 +127,9 @@ module _ {D : Type 0} (sight : D → Sight) (follows : D → Type 0) where
 
   -- what was opened is what shards are made of, with the fresh books of its histories
   pub grounded : (table : TableId) (passes : ℕ) (limits : Limits) (count capacity : ℕ) (all : List (List D)) (logs : List (Wal D)) (ms : List Streams) (books : List Booked)
-      → AreOpenedFrom sight follows count capacity 0 all logs ms → length ms ≡ count → AreLimits limits → capacity ≤ 2 ^ 30
+      → AreOpenedFrom sight follows count capacity 0 all logs ms → length ms ≡ count → AreLimits limits
       → books ≡ fresh_books table (about_of ms passes limits capacity) (length ms) → AreGround sight follows limits logs ms books
-  grounded table passes limits count capacity all logs ms books h many lawful small is k log m book at_log at_m at_book =
+  grounded table passes limits count capacity all logs ms books h many lawful is k log m book at_log at_m at_book =
       let about = about_of ms passes limits capacity in
       let start : 0 + k ≡ k = omega arith in
       let found = subst (λ n. IsFoundAt count capacity n log m) start (opened_at count capacity 0 k all logs ms log m h at_log at_m) in
@@ -141,7 +141,7 @@ module _ {D : Type 0} (sight : D → Sight) (follows : D → Type 0) where
         same_limits = refl;
         small_limits = lawful;
         same_capacity = o.same_capacity;
-        small_capacity = subst (λ c. c ≤ 2 ^ 30) (sym o.same_capacity) small;
+        small_capacity = o.small_capacity;
         same_owner = o.same_owner ∙ ap (owner_of k) (sym many);
         usable = o.usable;
         settled = o.settled;

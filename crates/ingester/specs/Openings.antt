@@ -1,5 +1,5 @@
 -- What an ingester is, what an opening is set up with, and what it hands out.
-use Rattle.std.specs.Prelude.{◌≡◌, ℕ, ◌<◌, ◌≤◌, ◌^◌, List, Some, length, slice_get}
+use Rattle.std.specs.Prelude.{◌≡◌, ℕ, ◌<◌, ◌≤◌, List, Some, length, slice_get}
 use Rattle.atomic_table.specs.Seated.{TableId}
 use Rattle.labels.specs.Shards.{max_shards}
 use Rattle.accept.specs.OneStream.{AreLimits}
@@ -29,7 +29,6 @@ pub record AreSettings (settings : Settings) : Type 0 where
   pub some_pass : 0 < settings.passes
   pub few_passes : settings.passes ≤ max_passes
   pub limits : AreLimits settings.limits
-  pub capacity : settings.capacity ≤ 2 ^ 30
 
 -- this number of pairs of slots were opened, as the settings say, and these are the passes
 pub record IsOpenedAs {D : Type 0} (sight : D → Sight) (follows : D → Type 0) (settings : Settings)

@@ -186,7 +186,7 @@ fn plan_opening<D: Disk + Drop>(
         limits,
         capacity,
     } = *settings;
-    let (history, books, seats) = History::new(alloc, images, passes, limits, capacity)?;
+    let (history, books, seats) = History::new(alloc, images, passes, limits, capacity.bytes())?;
     let plan = make_plan(alloc, &books[0], logs, passes as usize)?;
     Ok(PlannedOpening {
         history,

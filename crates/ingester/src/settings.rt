@@ -1,6 +1,7 @@
 //! What an opening is set up with.
 
 use accept::Limits;
+use wal::Capacity;
 
 /// What an opening is set up with.
 #[derive(Clone, Copy)]
@@ -9,6 +10,6 @@ pub struct Settings {
     pub passes: u32,
     /// The limits by which entries are judged.
     pub limits: Limits,
-    /// How many bytes a segment may have: at most 2^30.
-    pub capacity: u64,
+    /// How many bytes a segment may have.
+    pub capacity: Capacity,
 }

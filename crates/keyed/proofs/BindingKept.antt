@@ -10,10 +10,6 @@ use Rattle.keyed.specs.declared.binding.Binding.TheVariants.{Unbound, Bound}
 use Rattle.keyed.specs.Bindings.{FitsBinding, IsBound, AreBound, IsUnusedOrBound}
 
 module _ {K : Type 0} where
-  abbrev number_of : Binding K → ℕ
-  number_of Unbound = 0
-  number_of (Bound key n) = n
-
   abbrev is_bound : Binding K → ℕ
   is_bound Unbound = 0
   is_bound (Bound key n) = 1
@@ -35,10 +31,6 @@ module _ {T K : Type 0} (fits : K → ℕ → T → Type 0) where
 
   pub begins : R [] (Unbound ∷ [])
   begins = inl (refl, refl)
-
-  -- a message that stands in front or after
-  behind : (x : T) (items : List T) (i : ℕ) (y : T) → get_elem? (items ++ x ∷ []) i ≡ some y → (get_elem? items i ≡ some y) ⊎ (x ≡ y)
-  behind x items i y e = at_snoc items x y i e
 
   knots_set : (key : K) (n : ℕ) (bindings : List (Binding K)) (port : ℕ) → ((j : ℕ) (v : Binding K) → j ≢ port → get_elem? bindings j ≡ some v → v ≡ Bound key n) → (j : ℕ) (v : Binding K) → get_elem? (slice_set bindings port (Bound key n)) j ≡ some v → v ≡ Bound key n
   knots_set key n bindings port h j v e = ⊎_elim

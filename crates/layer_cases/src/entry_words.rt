@@ -42,12 +42,14 @@ pub fn write_stream(highest: u64, last: &Entry, kept: &[&Entry], into: &mut Said
 
 /// Says a line for each stream, in rising order of their keys.
 pub fn write_image(alloc: Global, image: &Image, into: &mut Said) -> Result<(), AllocError> {
-    for (key, stream) in image.iter() {
-        let kept = stream.kept.in_order(alloc)?;
-        write_key(key, into);
-        into.put(" ");
-        write_stream(stream.highest, &stream.last, &kept, into);
-        into.put("\n");
+    for (key, state) in image.iter() {
+        if let Some(last) = state.last() {
+            let kept = state.kept(alloc)?;
+            write_key(key, into);
+            into.put(" ");
+            write_stream(state.highest(), last, &kept, into);
+            into.put("\n");
+        }
     }
     Ok(())
 }

@@ -6,10 +6,7 @@ use disk::Disk;
 use memory_disk::MemDisk;
 use rows::Said;
 use std::alloc::Global;
-use wal::Wal;
-
-/// The greatest capacity of a log, in bytes.
-const MAX_CAPACITY: u64 = 1 << 30;
+use wal::{Capacity, Wal};
 
 /// The shard, the number of shards and the capacity with which rows open a log, where they say nothing else.
 pub const EXAMPLE: &str = "0 1 200";
@@ -78,7 +75,9 @@ pub fn open(
         bail!("no capacity")
     };
     let (shard, count) = owner_of(owner)?;
-    let capacity = number_of(capacity)?.min(MAX_CAPACITY);
+    let Some(capacity) = Capacity::new(number_of(capacity)?.min(Capacity::MAX_BYTES)) else {
+        bail!("no capacity")
+    };
     let SlotPair { first, second } = slots;
     match Wal::open(alloc, [first, second], shard, count, capacity) {
         Ok((log, image)) => {

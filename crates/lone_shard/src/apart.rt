@@ -12,7 +12,7 @@ use history::Pass;
 use shard::{Job, Settled, Shard};
 use std::alloc::Global;
 use std::collections::VecDeque;
-use wal::OpenFault;
+use wal::{Capacity, OpenFault};
 
 /// The most calls of such a group: there are at most 64 passes, and the shard keeps one.
 const MOST_APART: usize = 63;
@@ -81,13 +81,12 @@ impl<D: Disk + Drop> LoneShard<D> {
     /// until none is left. Those passes make no other call.
     ///
     /// # Errors
-    /// Limits that aren't lawful, a capacity above 2^30, more than 63 calls, a number that no call may have, or want of
-    /// memory.
+    /// Limits that aren't lawful, more than 63 calls, a number that no call may have, or want of memory.
     pub fn open_apart(
         alloc: Global,
         slots: [D; 2],
         limits: Limits,
-        capacity: u64,
+        capacity: Capacity,
         calls: &mut VecDeque<Call>,
     ) -> Result<Result<(LoneShard<D>, Grouped), (OpenFault, [D; 2])>> {
         if calls.len() > MOST_APART {

@@ -11,7 +11,7 @@ use disk::Disk;
 use history::{History, Pass};
 use shard::Shard;
 use std::alloc::Global;
-use wal::{OpenFault, Wal};
+use wal::{Capacity, OpenFault, Wal};
 
 /// The only shard of an opening over two slots, its history, and the one pass that makes its calls.
 #[derive(Drop)]
@@ -30,14 +30,14 @@ pub(crate) fn opened<D: Disk + Drop>(
     alloc: Global,
     slots: [D; 2],
     limits: Limits,
-    capacity: u64,
+    capacity: Capacity,
     passes: u32,
 ) -> Result<Result<(LoneShard<D>, Vec<Pass>), (OpenFault, [D; 2])>>
     requires passes { passes ≤ max_passes }
     ensures idle { IfOk result
         (λ opened. IfOk opened (λ it. All (IsIdlePass it.0.history) it.1.items)) }
 {
-    if !limits.are_lawful() || capacity > 1 << 30 {
+    if !limits.are_lawful() {
         bail!("a limit is out of its bounds");
     }
     let (log, image) = match Wal::open(alloc, slots, 0, 1, capacity) {
@@ -45,7 +45,13 @@ pub(crate) fn opened<D: Disk + Drop>(
         Err(refusal) => return Ok(Err(refusal)),
     };
     let mut bases = vec![in alloc; image]?;
-    let (history, mut books, mut others) = History::new(alloc, &bases, passes, limits, capacity)?;
+    let (history, mut books, mut others) = History::new(
+        alloc,
+        &bases,
+        passes,
+        limits,
+        capacity.bytes(),
+    )?;
     let (Some(book), Some(pass), Some(image)) = (books.pop(), others.pop(), bases.pop()) else {
         bail!("an opening of one shard has a book and a pass");
     };
@@ -67,12 +73,12 @@ impl<D: Disk + Drop> LoneShard<D> {
     /// the slots back.
     ///
     /// # Errors
-    /// Limits that aren't lawful, a capacity above 2^30, or want of memory.
+    /// Limits that aren't lawful, or want of memory.
     pub fn open(
         alloc: Global,
         slots: [D; 2],
         limits: Limits,
-        capacity: u64,
+        capacity: Capacity,
     ) -> Result<Result<LoneShard<D>, (OpenFault, [D; 2])>> {
         match opened(alloc, slots, limits, capacity, 1)? {
             Ok((lone, _)) => Ok(Ok(lone)),

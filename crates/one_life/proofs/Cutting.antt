@@ -1,31 +1,21 @@
 -- What comes of the one job of a turn, and of its call.
-use Rattle.std.proofs.Common.{◌≡◌, ℕ, ◌+◌, ◌≤◌, Bool, false, cond, eq-eqb, List, [], ◌∷◌, ◌++◌, length, refl, sym, ap, ◌∙◌, subst, inl, inr, ⊎_elim, arith}
-use Rattle.std.specs.Prelude.{Ok}
-use Rattle.accept.specs.declared.call.Call.{Call}
-use Rattle.accept.specs.declared.call.Reply.{Reply}
-use Rattle.accept.specs.declared.history.Ask.{Ask}
-use Rattle.accept.specs.Calls.{AreNumbers}
-use Rattle.disk.specs.Sight.{Sight}
-use Rattle.wal.specs.Logs.{slots}
-use Rattle.history.specs.declared.views.Caller.{Caller}
-use Rattle.history.specs.Histories.{IsFirst, shard_in, step_of}
-use Rattle.history.specs.Plays.{IsRested, HasSeenStep, ask_of, collect_to}
-use Rattle.history.specs.Handles.{Booked, Passed, Announced, Received, is_closed_pass, asks_of}
-use Rattle.shard.specs.declared.first_jobs.Job.{Job}
+use Rattle.std.proofs.Common.{◌≡◌, ℕ, ◌+◌, ◌≤◌, Bool, false, cond, eq-eqb, List, [], ◌∷◌, ◌++◌, length, refl, sym, ap, ◌∙◌, subst, inl, inr, ⊎_elim, arith, Ok}
+use Rattle.headline.proofs.Common.{Call, Reply, Ask, Caller, Sight, Sharded, Opening, AreNumbers, slots, IsFirst, shard_in, step_of, IsRested, HasSeenStep, ask_of, collect_to, Booked, Passed, Announced, Received, is_closed_pass, asks_of, Job, HaveStepsOr, with_steps, marked_by, Turn, AreReady, AreTogether, IsAlone, IsGivenBack, IsTurn, given_back_of, IsPassOf, IsGiven, with_next}
+use Rattle.shard.specs.declared.first_jobs.GroupEnd.{GroupEnd}
 use Rattle.shard.specs.declared.group.Settled.{Settled}
 use Rattle.shard.specs.declared.group.Settled.TheVariants.{Answered, GivenBack}
-use Rattle.shard.specs.Groups.{HaveStepsOr, with_steps, marked_by}
 use Rattle.shard.specs.Jobs.{tickets_of, jobs_by}
 use Rattle.shard.specs.Keeping.{moments}
 use Rattle.shard.specs.Queues.{settled_of}
-use Rattle.shard.specs.Turns.{Turn, AreReady, AreTogether, IsAlone, IsGivenBack, IsTurn, given_back_of}
-use Rattle.owners.specs.Openings.{Opening}
-use Rattle.ingester.specs.Calls.{IsPassOf, IsGiven, with_next}
 use Rattle.ingester.specs.Batches.{IsTaken}
 use Rattle.ingester.proofs.Passing.{settled_call}
 use Rattle.one_life.specs.Cut.{IsOfTicket}
 
 -- ---- one job
+
+-- a turn, by its parts
+abbrev pub turn_by : {D : Type 0} → Sharded D → Sharded D → List Job → List Job → List Settled → List Settled → GroupEnd → Turn D
+turn_by old new jobs rest was now ended = record { old = old; new = new; jobs = jobs; rest = rest; was = was; now = now; ended = ended }
 
 pub ready_one : (book : Booked) (t : Announced) (call : Call) → t.table ≡ book.table → shard_in book.about t.ask ≡ book.shard → t.ask.call ≡ call → AreNumbers call → t.before ≡ [] → AreReady book (record { ticket = t; call = call } ∷ [])
 ready_one book t call table here is numbers none = record {

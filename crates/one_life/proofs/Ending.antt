@@ -1,30 +1,8 @@
 -- What was promised of two shards, up to a turn that a crash cuts, is a life.
-use Rattle.std.proofs.Common.{◌≡◌, ℕ, zero, suc, true, false, List, [], ◌∷◌, refl, sym, ap, ◌∙◌, subst, inl, inr, ⊎_elim, arith, Some, None}
-use Rattle.std.specs.Prelude.{slice_get, Result, Ok, Err}
+use Rattle.std.proofs.Common.{◌≡◌, ℕ, zero, suc, true, false, List, [], ◌∷◌, refl, sym, ap, ◌∙◌, subst, inl, inr, ⊎_elim, arith, Some, None, slice_get, Result, Ok, Err}
 use Rattle.std.specs.Result.{IsErrOf}
-use Rattle.std.proofs.lemmas.Bool.{false≢true}
-use Rattle.accept.specs.declared.call.Call.{Call}
-use Rattle.accept.specs.declared.call.Reply.{Reply}
-use Rattle.accept.specs.declared.fault.CallFault.{CallFault}
-use Rattle.accept.specs.declared.fault.CallFault.TheVariants.{PassClosed, InDoubt}
-use Rattle.accept.specs.declared.history.Item.{Item}
-use Rattle.accept.specs.declared.limits.Limits.{Limits}
-use Rattle.disk.specs.Sight.{Sight}
-use Rattle.wal.specs.declared.log.Wal.{Wal}
-use Rattle.wal.specs.Logs.{Follow}
-use Rattle.history.specs.Handles.{Passed, is_closed_pass}
-use Rattle.shard.specs.Leads.{IsMade}
-use Rattle.shard.specs.Shards.{Sharded}
-use Rattle.shard.specs.Turns.{Turn}
-use Rattle.owners.specs.Openings.{Opening}
-use Rattle.owners.specs.Places.{IsOf, opened_shard}
+use Rattle.headline.proofs.Common.{Limits, Call, Reply, CallFault, PassClosed, InDoubt, Item, Sight, Wal, Follow, Sharded, Turn, Opening, Passed, is_closed_pass, IsMade, IsOf, opened_shard, IsGiven, with_next, closed_now, IsTold, Called, Met, Thread, IsThread, IsMet, IsOneOf, Between, Within, IsInTime, Stretch, IsStretch, ShardEnd, CutAt, IsEnd, false≢true}
 use Rattle.owners.proofs.Turning.{turn_of}
-use Rattle.ingester.specs.Calls.{IsGiven, with_next, closed_now}
-use Rattle.ingester.specs.Closings.{IsTold}
-use Rattle.headline.specs.Threads.{Called, Met, Thread, IsThread, IsMet}
-use Rattle.headline.specs.Headline.{IsOneOf}
-use Rattle.headline.specs.Turns.{Between, Within, IsInTime, Stretch, IsStretch}
-use Rattle.headline.specs.Lives.{ShardEnd, CutAt, IsEnd}
 use Rattle.headline.proofs.Owning.{in_time_told}
 use Rattle.one_life.specs.declared.opening.Two.{Two}
 use Rattle.one_life.specs.Cut.{AreOpened, IsMadeBy, HaveMetIn, IsCutTurn, IsCutOnce}
@@ -58,6 +36,10 @@ of_start {D = D} sight follows opening k s there is = record {
 -- the same is told of a pass that was closed
 pub told_closed : (k : ℕ) (items : List Item) (pass : Passed) → IsTold k items pass → IsTold k items (closed_now pass)
 told_closed k items pass t = record { begins = t.begins; steps = t.steps }
+
+-- a pass that was compared with a shard is in time with it
+pub time : {D : Type 0} (k : ℕ) (s t : Sharded D) (pass : Passed) → s.book.shard ≡ k → t ≡ s → IsTold s.book.shard s.book.items pass → IsInTime k t.book.items pass
+time {D = D} k s t pass number same told = in_time_told pass k t.book.items (subst (λ (x : Sharded D). IsTold k x.book.items pass) (sym same) (subst (λ (j : ℕ). IsTold j s.book.items pass) number told))
 
 module _ {D : Type 0} (sight : D → Sight) (follows : D → Type 0) (limits : Limits) (capacity : ℕ) (slots : List (List D)) (opening : Opening D)
     (start before end : Two D) (opened : AreOpened sight follows limits capacity slots opening start) (called answered : Passed) (first second last : Call) (reply other : Reply)
@@ -122,10 +104,6 @@ module _ {D : Type 0} (sight : D → Sight) (follows : D → Type 0) (limits : L
 
   second_of : IsOf sight follows opening 1 before.second
   second_of = made_of 1 start.second before.second two.turn two.from two.to two.made (of_start sight follows opening 1 start.second second_there opened.second)
-
-  -- a pass that was compared with a shard is in time with it
-  time : (k : ℕ) (s t : Sharded D) (pass : Passed) → s.book.shard ≡ k → t ≡ s → IsTold s.book.shard s.book.items pass → IsInTime k t.book.items pass
-  time k s t pass number same told = in_time_told pass k t.book.items (subst (λ (x : Sharded D). IsTold k x.book.items pass) (sym same) (subst (λ (j : ℕ). IsTold j s.book.items pass) number told))
 
   one_told : (s : Sharded D) → IsTold s.book.shard s.book.items end.one → IsTold s.book.shard s.book.items ended
   one_told s t = told_closed s.book.shard s.book.items (with_next before.one last) (subst (IsTold s.book.shard s.book.items) cut.one t)

@@ -1,21 +1,7 @@
 -- What was promised of an opening, a call and a close is a life.
-use Rattle.std.proofs.Common.{◌≡◌, ℕ, zero, suc, ◌+◌, Bool, List, [], ◌∷◌, length, get_or, refl, sym, ap, subst, ⊎_elim, arith, Some, None}
-use Rattle.std.specs.Prelude.{slice_get, slice_set, Option, Result, MatchOption, IfSome}
-use Rattle.accept.specs.declared.call.Call.{Call}
-use Rattle.accept.specs.declared.call.Reply.{Reply}
-use Rattle.accept.specs.declared.limits.Limits.{Limits}
-use Rattle.disk.specs.Sight.{Sight}
-use Rattle.wal.specs.Opening.{AllFollow}
-use Rattle.history.specs.Handles.{Passed, about_of, fresh_pass}
-use Rattle.owners.specs.Openings.{Opening}
-use Rattle.accept.specs.declared.fault.CallFault.{CallFault}
-use Rattle.ingester.specs.Calls.{IsGiven, IsPassOf}
-use Rattle.ingester.specs.Closings.{Handed, IsHandedOut}
-use Rattle.openings.specs.Findings.{AreOpenedFrom}
+use Rattle.std.proofs.Common.{◌≡◌, ℕ, zero, suc, ◌+◌, Bool, List, [], ◌∷◌, length, get_or, refl, sym, ap, subst, ⊎_elim, arith, Some, None, slice_get, slice_set, Option, Result, MatchOption, IfSome}
+use Rattle.headline.proofs.Common.{Limits, Call, Reply, CallFault, Sight, Opening, AllFollow, Passed, about_of, fresh_pass, IsGiven, IsPassOf, Handed, IsHandedOut, AreOpenedFrom, Called, Thread, IsThread, IsOneOf, Life, ShardEnd, HandedOut, IsEnd}
 use Rattle.ingester.specs.Openings.{AreFresh}
-use Rattle.headline.specs.Threads.{Called, Thread, IsThread}
-use Rattle.headline.specs.Headline.{IsOneOf}
-use Rattle.headline.specs.Lives.{Life, ShardEnd, HandedOut, IsEnd}
 use Rattle.one_life.specs.Once.{IsLivedOnce}
 
 -- a fresh pass waits for nothing

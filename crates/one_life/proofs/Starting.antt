@@ -1,18 +1,8 @@
 -- What was promised of two logs, and of histories over what was found of them, is an opening.
-use Rattle.std.proofs.Common.{◌≡◌, ℕ, ◌+◌, ◌≤◌, ◌^◌, List, [], ◌∷◌, ◌++◌, length, length-append, refl, sym, ap, ◌∙◌, subst, arith}
+use Rattle.std.proofs.Common.{◌≡◌, ℕ, ◌+◌, List, [], ◌∷◌, ◌++◌, length, length-append, refl, sym, ap, ◌∙◌, subst, arith}
 use Rattle.atomic_table.specs.Seated.{TableId}
-use Rattle.accept.specs.OneStream.{AreLimits}
-use Rattle.accept.specs.Rooms.{Streams}
-use Rattle.accept.specs.declared.limits.Limits.{Limits}
-use Rattle.disk.specs.Sight.{Sight}
-use Rattle.segment.specs.Segments.{owner_of}
+use Rattle.headline.proofs.Common.{AreLimits, Streams, Limits, About, Sight, Wal, owner_of, IsOpenedFrom, base_at, Booked, Passed, about_of, fresh_book, fresh_books, fresh_pass, fresh_passes, IsGround}
 use Rattle.segment.specs.Fitting.{FitStreams}
-use Rattle.wal.specs.declared.log.Wal.{Wal}
-use Rattle.wal.specs.Opened.{IsOpenedFrom}
-use Rattle.history.specs.declared.views.About.{About}
-use Rattle.history.specs.Histories.{base_at}
-use Rattle.history.specs.Handles.{Booked, Passed, about_of, fresh_book, fresh_books, fresh_pass, fresh_passes}
-use Rattle.shard.specs.Shards.{Sharded, IsGround}
 use Rattle.one_life.specs.declared.opening.Two.{Two}
 use Rattle.one_life.specs.Cut.{HaveBegun, AreOpened, opening_with}
 
@@ -46,15 +36,15 @@ module _ {D : Type 0} (sight : D → Sight) (follows : D → Type 0) (limits : L
   about = about_of (m ∷ n ∷ []) 2 limits capacity
 
   -- a log of a shard, and its fresh book
-  pub ground_two : (k : ℕ) (given : List D) (log : Wal D) (found : Streams) (table : TableId) (book : Booked) → IsOpenedFrom sight follows (owner_of k 2) capacity given log found → base_at about k ≡ found → AreLimits limits → capacity ≤ 2 ^ 30 → book ≡ fresh_book table about k
+  pub ground_two : (k : ℕ) (given : List D) (log : Wal D) (found : Streams) (table : TableId) (book : Booked) → IsOpenedFrom sight follows (owner_of k 2) capacity given log found → base_at about k ≡ found → AreLimits limits → book ≡ fresh_book table about k
       → IsGround sight follows limits log found book
-  ground_two k given log found table book o base lawful small is = subst (IsGround sight follows limits log found) (sym is) (record {
+  ground_two k given log found table book o base lawful is = subst (IsGround sight follows limits log found) (sym is) (record {
     fresh = refl;
     base = base;
     same_limits = refl;
     small_limits = lawful;
     same_capacity = o.same_capacity;
-    small_capacity = subst (λ c. c ≤ 2 ^ 30) (sym o.same_capacity) small;
+    small_capacity = o.small_capacity;
     same_owner = o.same_owner;
     usable = o.usable;
     settled = o.settled;

@@ -1,48 +1,18 @@
 -- Shards and passes stay those of their opening.
-use Rattle.std.proofs.Common.{◌≡◌, ℕ, ◌+◌, List, [], ◌∷◌, ◌++◌, refl, sym, ap, ◌∙◌, subst, inl, inr, ⊎_elim}
-use Rattle.std.specs.Prelude.{Ok}
+use Rattle.std.proofs.Common.{◌≡◌, ℕ, ◌+◌, List, [], ◌∷◌, ◌++◌, sym, ap, ◌∙◌, subst, Ok}
 use Rattle.atomic_table.specs.Seated.{TableId}
-use Rattle.accept.specs.declared.call.Call.{Call}
-use Rattle.accept.specs.declared.call.Reply.{Reply}
-use Rattle.accept.specs.declared.history.Ask.{Ask}
-use Rattle.accept.specs.declared.limits.Limits.{Limits}
-use Rattle.accept.specs.Histories.{key_of}
-use Rattle.disk.specs.Sight.{Sight}
-use Rattle.wal.specs.Logs.{slots}
-use Rattle.history.specs.declared.views.About.{About}
-use Rattle.history.specs.Histories.{behind_first}
-use Rattle.history.specs.Plays.{ask_of}
-use Rattle.history.specs.Handles.{Booked, Passed, HaveMet, with_seen, asks_of}
-use Rattle.history.specs.Shards.{shard_of}
-use Rattle.shard.specs.Calls.{IsCommitted, IsMarkedInDoubt}
-use Rattle.shard.specs.Groups.{with_steps}
-use Rattle.shard.specs.Shards.{Sharded}
-use Rattle.shard.specs.Turns.{Turn, IsTurn}
-use Rattle.owners.specs.Openings.{Opening}
-use Rattle.ingester.specs.Calls.{IsGiven, shard_for}
+use Rattle.headline.proofs.Common.{Limits, Call, Reply, Ask, About, Sight, Sharded, Opening, key_of, behind_first, ask_of, Booked, Passed, HaveMet, with_seen, fresh_pass, shard_of, Turn, IsTurn, opened_shard, IsGiven, shard_for}
 use Rattle.headline.proofs.Turning.{same_book}
 use Rattle.one_life.specs.declared.opening.Two.{Two}
 use Rattle.one_life.specs.Cut.{IsOn, IsBookOf, IsIdle, AreOfOpening, AreOpened, IsMadeBy, HaveCalled, IsCutTurn, IsCutOnce, opening_with}
 use Rattle.one_life.proofs.Ending.{cut_life}
 
 module _ {D : Type 0} (sight : D → Sight) (follows : D → Type 0) where
-  -- a turn leaves a book of the same table
-  same_table : (t : Turn D) → IsTurn sight follows t → t.new.book.table ≡ t.old.book.table
-  same_table t (inl h) = ⊎_elim
-      (λ (c : _ × (t.new.book ≡ with_steps t.old.book (asks_of h.front)) × _). ap (λ (b : Booked). b.table) c.1)
-      (λ (c : _ × (t.new.book ≡ _) × _). ap (λ (b : Booked). b.table) c.1)
-      h.applied.stepped
-  same_table t (inr (inl h)) = ⊎_elim
-      (λ (c : IsCommitted (slots sight t.old.log) (slots sight t.new.log) t.old.book h.job.ticket t.new.book h.reply). ap (λ (b : Booked). b.table) c.book)
-      (λ (c : IsMarkedInDoubt (slots sight t.old.log) (slots sight t.new.log) t.old.book h.job.ticket t.new.book h.reply). ap (λ (b : Booked). b.table) c.book)
-      h.applied.step
-  same_table t (inr (inr h)) = ap (λ (s : Sharded D). s.book.table) h.same
-
   module _ (table : TableId) (about : About) where
     book_after : (k : ℕ) (t : Turn D) → IsTurn sight follows t → IsBookOf table about k t.old.book → IsBookOf table about k t.new.book
     book_after k t turn is =
         let same = same_book sight follows t turn in
-        record { same_table = same_table t turn ∙ is.same_table; same_about = same.0 ∙ is.same_about; number = same.1 ∙ is.number }
+        record { same_table = same.2 ∙ is.same_table; same_about = same.0 ∙ is.same_about; number = same.1 ∙ is.number }
 
     idle_after : (old new : Passed) (call : Call) (reply : Reply) → IsGiven old call (Ok reply) new → IsIdle table about old → IsIdle table about new
     idle_after old new call reply given is =
@@ -94,29 +64,19 @@ module _ {D : Type 0} (table : TableId) (about : About) where
   pub own_of : (it : Two D) → AreOfOpening table about it → AreOfOpening table it.first.book.about it
   own_of it are = subst (λ (a : About). AreOfOpening table a it) (sym are.first.same_about) are
 
+book_as : {D : Type 0} (opening : Opening D) (k : ℕ) (s : Sharded D) → s ≡ opened_shard opening k s.opened → IsBookOf opening.table opening.about k s.book
+book_as {D = D} opening k s is = record { same_table = ap (λ (x : Sharded D). x.book.table) is; same_about = ap (λ (x : Sharded D). x.book.about) is; number = ap (λ (x : Sharded D). x.book.shard) is }
+
+pub idle_as : {D : Type 0} (opening : Opening D) (p : ℕ) (pass : Passed) → pass ≡ fresh_pass opening.table opening.about p → IsIdle opening.table opening.about pass
+idle_as opening p pass is = record { same_table = ap (λ (x : Passed). x.table) is; same_about = ap (λ (x : Passed). x.caller.about) is; idle = ap (λ (x : Passed). x.caller.pending) is }
+
 pub opened_of : {D : Type 0} (sight : D → Sight) (follows : D → Type 0) (limits : Limits) (capacity : ℕ) (given : List (List D)) (opening : Opening D) (it : Two D) (table : TableId) → AreOpened sight follows limits capacity given opening it → opening.table ≡ table → AreOfOpening table opening.about it
-opened_of {D = D} sight follows limits capacity given opening it table opened same = subst (λ (t : TableId). AreOfOpening t opening.about it) same (record {
+opened_of sight follows limits capacity given opening it table opened same = subst (λ (t : TableId). AreOfOpening t opening.about it) same (record {
   two_shards = opened.shards ∙ opened.two_shards;
-  first = record {
-    same_table = ap (λ (s : Sharded D). s.book.table) opened.first;
-    same_about = ap (λ (s : Sharded D). s.book.about) opened.first;
-    number = ap (λ (s : Sharded D). s.book.shard) opened.first;
-  };
-  second = record {
-    same_table = ap (λ (s : Sharded D). s.book.table) opened.second;
-    same_about = ap (λ (s : Sharded D). s.book.about) opened.second;
-    number = ap (λ (s : Sharded D). s.book.shard) opened.second;
-  };
-  one = record {
-    same_table = ap (λ (p : Passed). p.table) opened.one;
-    same_about = ap (λ (p : Passed). p.caller.about) opened.one;
-    idle = ap (λ (p : Passed). p.caller.pending) opened.one;
-  };
-  two = record {
-    same_table = ap (λ (p : Passed). p.table) opened.two;
-    same_about = ap (λ (p : Passed). p.caller.about) opened.two;
-    idle = ap (λ (p : Passed). p.caller.pending) opened.two;
-  };
+  first = book_as opening 0 it.first opened.first;
+  second = book_as opening 1 it.second opened.second;
+  one = idle_as opening 0 it.one opened.one;
+  two = idle_as opening 1 it.two opened.two;
 })
 
 -- all that was promised, up to the turn that is cut

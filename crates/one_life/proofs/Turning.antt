@@ -1,18 +1,6 @@
 -- What was promised of a shard that is opened and makes one turn is a stretch.
 use Rattle.std.proofs.Common.{◌≡◌, ℕ, [], ◌∷◌, refl, sym, ap, ◌∙◌, subst, ⊎_elim, Some}
-use Rattle.disk.specs.Sight.{Sight}
-use Rattle.wal.specs.declared.log.Wal.{Wal}
-use Rattle.history.specs.Histories.{IsBeginning}
-use Rattle.history.specs.Plays.{seen_at, HasStepsOf}
-use Rattle.history.specs.Handles.{Booked, Passed, fresh_book}
-use Rattle.shard.specs.Shards.{Sharded}
-use Rattle.shard.specs.Turns.{Turn}
-use Rattle.owners.specs.Openings.{Opening, opening_of}
-use Rattle.ingester.specs.Closings.{IsTold}
-use Rattle.headline.specs.Threads.{Thread}
-use Rattle.headline.specs.Headline.{IsOneOf}
-use Rattle.headline.specs.Turns.{IsInTime}
-use Rattle.shard.specs.Leads.{IsMade}
+use Rattle.headline.proofs.Common.{Sight, Wal, Sharded, Turn, IsBeginning, seen_at, HasStepsOf, Booked, Passed, fresh_book, Opening, opening_of, IsTold, Thread, IsOneOf, IsInTime, IsMade}
 use Rattle.headline.proofs.Owning.{in_time_told}
 use Rattle.headline.proofs.Turning.{same_book}
 use Rattle.one_life.specs.Turned.{IsTurnedOnce}

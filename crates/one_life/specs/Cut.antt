@@ -1,22 +1,14 @@
 -- Two shards and two passes of an opening, until a crash cuts a turn.
 use Rattle.std.specs.Prelude.{◌≡◌, ℕ, List, [], ◌∷◌, false, length, map, Ok, Err}
 use Rattle.atomic_table.specs.Seated.{TableId}
-use Rattle.accept.specs.declared.limits.Limits.{Limits}
-use Rattle.accept.specs.declared.call.Call.{Call}
-use Rattle.accept.specs.declared.call.Reply.{Reply}
+use Rattle.headline.specs.Types.{Limits, Call, Reply, InDoubt, About, Sight, Follow, Sharded, Turn}
 use Rattle.accept.specs.Histories.{key_of}
-use Rattle.accept.specs.declared.fault.CallFault.TheVariants.{InDoubt}
-use Rattle.disk.specs.Sight.{Sight}
-use Rattle.wal.specs.Logs.{Follow}
-use Rattle.history.specs.declared.views.About.{About}
 use Rattle.history.specs.Handles.{Announced, Booked, Passed, is_closed_pass, about_of, fresh_book, fresh_pass, with_seen, HaveMet}
 use Rattle.history.specs.Histories.{step_of}
 use Rattle.history.specs.Shards.{shard_of}
 use Rattle.shard.specs.declared.group.Settled.{Settled}
 use Rattle.shard.specs.declared.group.Settled.TheVariants.{Answered, GivenBack}
 use Rattle.shard.specs.Leads.{IsMade}
-use Rattle.shard.specs.Shards.{Sharded}
-use Rattle.shard.specs.Turns.{Turn}
 use Rattle.owners.specs.Openings.{Opening, opening_of}
 use Rattle.owners.specs.Places.{opened_shard}
 use Rattle.openings.specs.Findings.{AreOpenedFrom}

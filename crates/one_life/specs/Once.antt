@@ -1,10 +1,7 @@
 -- What the public calls of an ingester promise of a small life.
 use Rattle.std.specs.Prelude.{◌≡◌, List, [], ◌∷◌, Bool, map, Result}
-use Rattle.accept.specs.declared.call.Call.{Call}
-use Rattle.accept.specs.declared.call.Reply.{Reply}
-use Rattle.disk.specs.Sight.{Sight}
+use Rattle.headline.specs.Types.{Call, Reply, CallFault, Sight}
 use Rattle.wal.specs.Opening.{AllFollow}
-use Rattle.accept.specs.declared.fault.CallFault.{CallFault}
 use Rattle.headline.specs.Threads.{Called, happened_to}
 use Rattle.headline.specs.Lives.{Life, HandedOut, IsLife}
 

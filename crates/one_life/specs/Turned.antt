@@ -1,10 +1,6 @@
 -- What the public calls of a shard promise of one turn.
 use Rattle.std.specs.Prelude.{◌≡◌, [], ◌∷◌}
-use Rattle.disk.specs.Sight.{Sight}
-use Rattle.wal.specs.Logs.{Follow}
-use Rattle.history.specs.Handles.{Passed}
-use Rattle.shard.specs.Turns.{Turn}
-use Rattle.owners.specs.Openings.{Opening}
+use Rattle.headline.specs.Types.{Sight, Follow, Passed, Turn, Opening}
 use Rattle.headline.specs.Threads.{Thread}
 use Rattle.headline.specs.Turns.{Between, Within, IsStretch}
 

@@ -1,5 +1,5 @@
 //! Two shards and two passes, and a turn that a crash may cut.
-ghost use Rattle.std.specs.Prelude.{◌≤◌, ◌^◌, [], ◌∷◌, IfSome};
+ghost use Rattle.std.specs.Prelude.{[], ◌∷◌, IfSome};
 ghost use Rattle.accept.specs.OneStream.{AreLimits};
 ghost use Rattle.accept.specs.Calls.{AreNumbers};
 ghost use Rattle.one_life.specs.Cut.{IsOn, AreOfOpening, HaveCalled, IsCutTurn, IsCutOnce};
@@ -11,6 +11,7 @@ use disk::Disk;
 use history::History;
 use shard::{GroupEnd, Job};
 use std::alloc::Global;
+use wal::Capacity;
 
 // Each pass makes a call, by a turn of a shard of its own.
 fn call_both<D: Disk>(
@@ -78,11 +79,10 @@ pub fn cut_once<D: Disk + Drop>(
     alloc: Global,
     slots: ([D; 2], [D; 2]),
     limits: Limits,
-    capacity: u64,
+    capacity: Capacity,
     calls: (Call, Call, Call),
 ) -> Option<(Two<D>, (Reply, Reply))>
     requires limits { AreLimits limits }
-    requires capacity { capacity ≤ 2 ^ 30 }
     requires shards { IsOn 0 calls.0 × IsOn 1 calls.1 × IsOn 0 calls.2 }
     requires numbers { AreNumbers calls.0 × AreNumbers calls.1 × AreNumbers calls.2 }
     ensures { IfSome result (λ it. IsCutOnce D.sight D.follows (slots.0 ∷ slots.1 ∷ [])

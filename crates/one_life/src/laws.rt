@@ -1,8 +1,6 @@
 //! A law of calls over two shards. The function does nothing: its contract is the law.
 ghost use Rattle.std.specs.Prelude.{ℕ, List};
-ghost use Rattle.accept.specs.declared.limits.Limits.{Limits};
-ghost use Rattle.history.specs.Handles.{Passed};
-ghost use Rattle.owners.specs.Openings.{Opening};
+ghost use Rattle.headline.specs.Types.{Limits, Passed, Opening};
 ghost use Rattle.one_life.specs.declared.opening.Two.{Two};
 ghost use Rattle.one_life.specs.Cut.{AreOpened, IsMadeBy, HaveMetIn, IsCutTurn, IsCutOnce};
 

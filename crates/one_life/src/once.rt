@@ -1,5 +1,5 @@
 //! One opening, one call, and the end.
-ghost use Rattle.std.specs.Prelude.{◌≡◌, ◌≤◌, ◌^◌, vec_len, IfSome};
+ghost use Rattle.std.specs.Prelude.{◌≡◌, vec_len, IfSome};
 ghost use Rattle.accept.specs.OneStream.{AreLimits};
 ghost use Rattle.accept.specs.Calls.{AreNumbers};
 ghost use Rattle.one_life.specs.Once.{IsLivedOnce};
@@ -10,6 +10,7 @@ use ingester::{Ingester, Settings};
 use std::alloc::Global;
 use std::sync::Wait;
 use std::thread::Threads;
+use wal::Capacity;
 
 /// Opens one shard, makes one call, and closes: what comes out, with what came of the call, is the life of an opening.
 ///
@@ -22,7 +23,7 @@ pub fn live_once<D: Disk + Drop, R, H>(
     alloc: Global,
     slots: Vec<[D; 2]>,
     limits: Limits,
-    capacity: u64,
+    capacity: Capacity,
     call: Call,
 ) -> Option<(([D; 2], bool), Result<Reply, CallFault>)>
 where
@@ -31,7 +32,6 @@ where
     H: Wait + Copy + Send + 'static,
     requires slots { vec_len slots ≡ 1 }
     requires limits { AreLimits limits }
-    requires capacity { capacity ≤ 2 ^ 30 }
     requires numbers { AreNumbers call }
     ensures { IfSome result (λ it. IsLivedOnce D.sight D.follows slots.items call it.1 it.0) }
 {

@@ -1,5 +1,5 @@
 //! An opening of two shards with two passes, made of what `Ingester::open` makes one of.
-ghost use Rattle.std.specs.Prelude.{◌≡◌, ◌≤◌, ◌^◌, [], ◌∷◌, length, vec_len, IfSome};
+ghost use Rattle.std.specs.Prelude.{◌≡◌, [], ◌∷◌, length, vec_len, IfSome};
 ghost use Rattle.accept.specs.OneStream.{AreLimits};
 ghost use Rattle.segment.specs.Segments.{owner_of};
 ghost use Rattle.wal.specs.Opened.{IsOpenedFrom};
@@ -12,7 +12,7 @@ use disk::Disk;
 use history::{Book, History, Pass};
 use shard::Shard;
 use std::alloc::Global;
-use wal::Wal;
+use wal::{Capacity, Wal};
 
 /// Two shards of an opening, and two of its passes.
 #[derive(Drop)]
@@ -50,11 +50,11 @@ fn take_both<T>(list: &mut Vec<T>) -> (T, T)
 }
 
 // Begins histories over what was found of two shards, with two passes.
-fn begin(alloc: Global, images: &[Image], limits: Limits, capacity: u64) -> Option<Begun>
+fn begin(alloc: Global, images: &[Image], limits: Limits, capacity: Capacity) -> Option<Begun>
     requires { length images.now ≡ 2 }
     ensures { IfSome result (λ it. HaveBegun (about_of images.now 2 limits capacity) it) }
 {
-    match History::new(alloc, images, 2, limits, capacity) {
+    match History::new(alloc, images, 2, limits, capacity.bytes()) {
         Ok((history, mut books, mut passes)) => Some(Begun {
             history,
             books: take_both(&mut books),
@@ -68,9 +68,8 @@ fn begin(alloc: Global, images: &[Image], limits: Limits, capacity: u64) -> Opti
 fn open_logs<D: Disk + Drop>(
     alloc: Global,
     slots: ([D; 2], [D; 2]),
-    capacity: u64,
+    capacity: Capacity,
 ) -> Option<((Wal<D>, Image), (Wal<D>, Image))>
-    requires { capacity ≤ 2 ^ 30 }
     ensures first { IfSome result (λ it.
         IsOpenedFrom D.sight D.follows (owner_of 0 2) capacity slots.0 it.0.0 it.0.1) }
     ensures second { IfSome result (λ it.
@@ -115,10 +114,9 @@ pub fn open_two<D: Disk + Drop>(
     alloc: Global,
     slots: ([D; 2], [D; 2]),
     limits: Limits,
-    capacity: u64,
+    capacity: Capacity,
 ) -> Option<(History, Two<D>)>
     requires limits { AreLimits limits }
-    requires capacity { capacity ≤ 2 ^ 30 }
     ensures opened { IfSome result (λ it. AreOpened D.sight D.follows limits capacity
         (slots.0 ∷ slots.1 ∷ []) (opening_with it.1) it.1) }
     ensures table { IfSome result (λ it. it.1.first.book.table ≡ it.0) }

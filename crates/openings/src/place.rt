@@ -2,16 +2,16 @@
 ghost use Rattle.std.specs.Prelude.{◌≡◌, ◌<◌, ◌≤◌, ◌*◌, ◌^◌};
 ghost use Rattle.std.specs.Mem.{type_size};
 ghost use Rattle.labels.specs.Shards.{max_shards};
-ghost use Rattle.segment.specs.Segments.{owner_of};
 ghost use Rattle.openings.specs.Places.{IsNotLookedAt, AreSlotsThere, IsTried, slots_in, refusal_in};
 
 use crate::observer::Observer;
 use accept::Image;
 use disk::Disk;
+use segment::Owner;
 use segment_reader::ReadBlocks;
 use std::alloc::Global;
 use std::mem;
-use wal::{OpenFault, Wal, both};
+use wal::{Capacity, OpenFault, Wal, both};
 
 // The slots of a shard, and what became of them. While a thread opens them they are out.
 #[derive(Drop)]
@@ -36,16 +36,14 @@ fn open_slots<D: Disk + Drop, B: ReadBlocks>(
     by: &B,
     alloc: Global,
     given: [D; 2],
-    shard: u32,
-    count: u32,
-    capacity: u64,
+    owner: Owner,
+    capacity: Capacity,
 ) -> Place<D>
     requires reader { B.can_read }
-    requires shard { (shard < count) × (count ≤ max_shards) }
-    requires capacity { capacity ≤ 2 ^ 30 }
-    ensures { IsTried D.sight D.follows (owner_of shard count) capacity given result }
+    requires shard { (owner.shard < owner.count) × (owner.count ≤ max_shards) }
+    ensures { IsTried D.sight D.follows owner capacity given result }
 {
-    match Wal::open_by(by, alloc, given, shard, count, capacity) {
+    match Wal::open_by(by, alloc, given, owner, capacity) {
         Ok((log, image)) => Place::Opened(log, image),
         Err(refusal) => {
             let fault = refusal.0;
@@ -76,24 +74,21 @@ pub(crate) fn open_place<D: Disk + Drop, B: ReadBlocks, O: Observer>(
     by: &B,
     alloc: Global,
     place: &mut Place<D>,
-    shard: u32,
-    count: u32,
-    capacity: u64,
+    owner: Owner,
+    capacity: Capacity,
     observer: &O,
 )
     requires reader { B.can_read }
     requires fits { 2 * type_size D.row < 2 ^ 63 }
     requires given { IsNotLookedAt place.old }
-    requires shard { (shard < count) × (count ≤ max_shards) }
-    requires capacity { capacity ≤ 2 ^ 30 }
-    ensures { IsTried D.sight D.follows (owner_of shard count) capacity
-        (slots_in place.old) place.new }
+    requires shard { (owner.shard < owner.count) × (owner.count ≤ max_shards) }
+    ensures { IsTried D.sight D.follows owner capacity (slots_in place.old) place.new }
 {
     let Place::Given(first, second) = mem::replace(place, Place::Out) else {
         unreachable!();
     };
-    let tried = open_slots(by, alloc, [first, second], shard, count, capacity);
-    tell_opened(observer, shard, &tried);
+    let tried = open_slots(by, alloc, [first, second], owner, capacity);
+    tell_opened(observer, owner.shard, &tried);
     *place = tried;
 }
 

@@ -15,16 +15,17 @@ use crate::observer::Observer;
 use crate::place::{Place, given_place, open_place, refusal_of, take_slots};
 use accept::Image;
 use disk::Disk;
+use segment::Owner;
 use segment_reader::ReadAhead;
 use std::alloc::Global;
 use std::collections::VecDeque;
 use std::thread::{Threads, available_parallelism, for_each_mut};
-use wal::{OpenFault, Wal};
+use wal::{Capacity, OpenFault, Wal};
 
 /// Opens the logs of all shards, up to 64, and gives them with the streams that stood in them. `capacity` is how many
-/// bytes a segment may have, at most 2^30. They are opened side by side, by as many threads as there are processors at
-/// most; where no thread can be made, the caller's own does its work. `observer` is told of each log as it is opened,
-/// also where another shard is refused. Nothing is written.
+/// bytes a segment may have. They are opened side by side, by as many threads as there are processors at most; where no
+/// thread can be made, the caller's own does its work. `observer` is told of each log as it is opened, also where
+/// another shard is refused. Nothing is written.
 ///
 /// # Errors
 ///
@@ -34,12 +35,11 @@ pub fn open_logs<D: Disk + Drop + Send, R: Threads + Sync, O: Observer + Sync>(
     rt: &R,
     alloc: Global,
     slots: &mut VecDeque<[D; 2]>,
-    capacity: u64,
+    capacity: Capacity,
     observer: &O,
 ) -> Result<(Vec<Wal<D>>, Vec<Image>), LogsFault>
     requires few { deque_len slots.old ≤ max_shards }
     requires room { deque_len slots.old ≤ deque_capacity slots.old }
-    requires capacity { capacity ≤ 2 ^ 30 }
     ensures opened { IfOk result
         (λ it. AreOpenedFrom D.sight D.follows (deque_len slots.old) capacity 0 slots.old.items
         it.0.items it.1.items × (slots.new.items ≡ [])) }
@@ -98,13 +98,12 @@ fn try_each<D: Disk + Drop + Send, R: Threads + Sync, O: Observer + Sync>(
     rt: &R,
     alloc: Global,
     places: &mut Vec<Place<D>>,
-    capacity: u64,
+    capacity: Capacity,
     observer: &O,
 )
     requires fits { 2 * type_size D.row < 2 ^ 63 }
     requires given { All IsNotLookedAt places.old.items }
     requires few { vec_len places.old ≤ max_shards }
-    requires capacity { capacity ≤ 2 ^ 30 }
     ensures tried { AreTried D.sight D.follows (vec_len places.old) capacity 0
         (map slots_in places.old.items)
         places.new.items }
@@ -117,11 +116,16 @@ fn try_each<D: Disk + Drop + Send, R: Threads + Sync, O: Observer + Sync>(
     let try_one = |shard: usize, place: &mut Place<D>|
         requires { IsSync R.row × (2 * type_size D.row < 2 ^ 63) × IsNotLookedAt place.old
             × (shard < count)
-            × (count ≤ max_shards)
-            × (capacity ≤ 2 ^ 30) }
+            × (count ≤ max_shards) }
         ensures { IsTried D.sight D.follows (owner_of shard count) capacity
             (slots_in place.old) place.new }
-    { open_place(&by, alloc, place, shard as u32, count, capacity, observer) };
+    {
+        let owner = Owner {
+            shard: shard as u32,
+            count,
+        };
+        open_place(&by, alloc, place, owner, capacity, observer)
+    };
     for_each_mut(rt, places.as_mut_slice(), threads, &try_one);
 }
 

@@ -32,6 +32,7 @@ use std::env::{self, VarError};
 use std::io;
 use std::rt::Env;
 pub use terminal::{say_line, terminal_in};
+use wal::Capacity;
 pub use watched::Watched;
 
 /// The greatest number of shards, and of passes.
@@ -44,13 +45,10 @@ const MAX_PORT: u64 = 65_535;
 const MAX_CONNECTIONS: u64 = 4_294_967_295;
 
 /// How many bytes a slot may have where the environment does not say.
-pub const CAPACITY: u64 = 67_108_864;
+const CAPACITY: u64 = 67_108_864;
 
 /// The smallest capacity that the environment may say.
 const LEAST_CAPACITY: u64 = 4_096;
-
-/// The greatest capacity that the environment may say.
-const GREATEST_CAPACITY: u64 = 1 << 30;
 
 /// How many connections may be open where the environment does not say.
 const OPEN_CONNECTIONS: u64 = 10_000;
@@ -165,18 +163,35 @@ fn number_in(text: &str, least: u64, most: u64) -> Option<u64>
     Some(number)
 }
 
+// The capacity of this many bytes.
+fn capacity_with(bytes: u64) -> Capacity
+    requires few { bytes ≤ 2 ^ 30 }
+    ensures { result ≡ bytes }
+{
+    let Some(capacity) = Capacity::new(bytes) else {
+        unreachable!()
+    };
+    capacity
+}
+
+/// How many bytes a slot may have where the environment does not say: 67,108,864.
+pub fn unset_capacity() -> Capacity
+    ensures { result ≡ capacity_of None }
+{
+    capacity_with(CAPACITY)
+}
+
 /// How many bytes a slot may have by the environment: 4,096 to 2^30, in 1 to 19 decimal digits, and 67,108,864 where it
 /// says nothing. `None` where it says anything else.
-pub fn capacity_in(setting: Option<&str>) -> Option<u64>
+pub fn capacity_in(setting: Option<&str>) -> Option<Capacity>
     ensures given { MatchOption result (¬ GivesCapacity (option_map (λ s. s.now) setting.entry))
         (λ _. GivesCapacity (option_map (λ s. s.now) setting.entry)) }
     ensures says { IfSome result (λ capacity. capacity
         ≡ capacity_of (option_map (λ s. s.now) setting.entry)) }
-    ensures few { IfSome result (λ capacity. capacity ≤ 2 ^ 30) }
 {
     match setting {
-        Some(text) => number_in(text, LEAST_CAPACITY, GREATEST_CAPACITY),
-        None => Some(CAPACITY),
+        Some(text) => Some(capacity_with(number_in(text, LEAST_CAPACITY, Capacity::MAX_BYTES)?)),
+        None => Some(unset_capacity()),
     }
 }
 

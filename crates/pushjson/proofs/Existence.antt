@@ -1,22 +1,111 @@
--- Bytes have an answer as a push, a query and a trim.
-use Rattle.std.proofs.Common.{◌≡◌, ◌≢◌, ◌⊎◌, inl, inr, ℕ, ◌<◌, ◌≤◌, List, map, Result, Ok, Err, Option, Some, None, refl, sym, ◌∙◌, subst, arith}
+-- Bytes have one answer as a push, one as a query and one as a trim.
+use Rattle.std.proofs.Common.{◌≡◌, ◌≢◌, ◌⊎◌, inl, inr, ℕ, ◌<◌, ◌≤◌, List, map, Result, Ok, Err, Option, Some, None, refl, sym, ◌∙◌, subst, arith, [], ◌∷◌, length, take, get_or, length-take, All}
 use Rattle.std.specs.Str.{IsUtf8, is_utf8}
 use Rattle.std.proofs.lemmas.Str.{IsUtf8-from_is_utf8, is_utf8-from_IsUtf8}
 use Rattle.serde_json.specs.Data.{Data}
 use Rattle.serde_json.specs.Read.{read}
 use Rattle.pushjson.specs.Times.{IsTime}
-use Rattle.pushjson.specs.Bodies.{Stream, body_tree, IsJson, HaveTimes, IsFirstBadTime, entry_count, batch_of}
-use Rattle.pushjson.specs.Queries.{Query, Trim, query_tree, trim_tree, raw_read_of, raw_trim_of, ReadsQuery, ReadsTrim, HasOneQuery, HasOneTrim}
-use Rattle.pushjson.specs.Reads.{IsPushAnswer, HasOneAnswer}
+use Rattle.pushjson.specs.Bodies.{Stream, body_tree, IsJson, HaveTimes, IsFirstBadTime, entry_count, batch_of, TimedLine, labels_tree, third_tree, value_tree, stream_tree, AreTimed, IsFirstBad}
+use Rattle.pushjson.specs.Queries.{Query, Trim, query_tree, trim_tree, raw_read_of, raw_trim_of, ReadsQuery, ReadsTrim}
+use Rattle.pushjson.specs.Reads.{IsPushAnswer, HasOne}
+use Rattle.pushjson.specs.declared.push.RawBatch.{RawBatch}
+use Rattle.pushjson.specs.declared.query.RawRead.{RawRead}
+use Rattle.pushjson.specs.declared.query.RawTrim.{RawTrim}
 use Rattle.pushjson.specs.declared.fault.PushFault.{PushFault}
 use Rattle.pushjson.specs.declared.fault.PushFault.TheVariants.{NotJson, WrongShape, BadTime, TooManyEntries, Memory}
-use Rattle.pushjson.proofs.Deciding.{Decided, tested, body_decided, query_decided, trim_decided, below_decided, both_decided, time_decided, bad_time_in}
-use Rattle.pushjson.proofs.OneAnswer.{same_answer}
-use Rattle.pushjson.proofs.OneQuery.{same_query_answer, same_trim_answer}
+use Rattle.pushjson.proofs.Deciding.{Decided, tested, body_decided, query_decided, trim_decided, order_decided, both_decided, time_decided, bad_time_in}
+use Rattle.std.proofs.lemmas.Bool.{cases_order}
+use Rattle.std.proofs.lemmas.List.{get_or-take}
+use Rattle.serde_json.specs.View.{items_of}
+use Rattle.labels.specs.Labels.{Label}
 
--- there is an answer that does not want for memory
-abbrev Has : {A : Type 0} → (Result A PushFault → Type 0) → Type 0
-Has {A} Answers = (r : Result A PushFault) × (r ≢ Err Memory) × Answers r
+-- a printer of lists is injective where that of their elements is
+same_items : {Y : Type 0} (tree : Y → Data) → ((y z : Y) → tree y ≡ tree z → y ≡ z) → (ys zs : List Y) → items_of (map tree ys) ≡ items_of (map tree zs) → ys ≡ zs
+same_items tree inj [] [] e = refl
+same_items tree inj (y ∷ ys) (z ∷ zs) e =
+    let first : y ≡ z = inj y z cc in
+    let rest : ys ≡ zs = same_items tree inj ys zs cc in
+    cc
+same_items tree inj ys zs e = cc
+
+same_labels : (ps qs : List Label) → labels_tree ps ≡ labels_tree qs → ps ≡ qs
+same_labels [] [] e = refl
+same_labels (p ∷ ps) (q ∷ qs) e =
+    let name : p.0 ≡ q.0 = cc in
+    let value : p.1 ≡ q.1 = cc in
+    let first : p ≡ q = λ i. (name i, value i) in
+    let rest : ps ≡ qs = same_labels ps qs cc in
+    cc
+same_labels ps qs e = cc
+
+same_third : (o p : Option (List Label)) → items_of (third_tree o) ≡ items_of (third_tree p) → o ≡ p
+same_third None None e = refl
+same_third (Some ps) (Some qs) e = let pairs : ps ≡ qs = same_labels ps qs cc in cc
+same_third o p e = cc
+
+same_value : (v w : TimedLine) → value_tree v ≡ value_tree w → v ≡ w
+same_value v w e =
+    let time : v.time ≡ w.time = cc in
+    let line : v.line ≡ w.line = cc in
+    let third : v.third ≡ w.third = same_third v.third w.third cc in
+    λ i. record { time = time i; line = line i; third = third i }
+
+same_stream : (s t : Stream) → stream_tree s ≡ stream_tree t → s ≡ t
+same_stream s t e =
+    let pairs : s.pairs ≡ t.pairs = same_labels s.pairs t.pairs cc in
+    let values : s.values ≡ t.values = same_items value_tree same_value s.values t.values cc in
+    λ i. record { pairs = pairs i; values = values i }
+
+pub same_body : (ss ts : List Stream) → body_tree ss ≡ body_tree ts → ss ≡ ts
+same_body ss ts e = same_items stream_tree same_stream ss ts cc
+
+pub same_query : (q r : Query) → query_tree q ≡ query_tree r → q ≡ r
+same_query q r e =
+    let pairs : q.pairs ≡ r.pairs = same_labels q.pairs r.pairs cc in
+    let from : q.from ≡ r.from = cc in
+    let to : q.to ≡ r.to = cc in
+    λ i. record { pairs = pairs i; from = from i; to = to i }
+
+pub same_trim : (t u : Trim) → trim_tree t ≡ trim_tree u → t ≡ u
+same_trim t u e =
+    let pairs : t.pairs ≡ u.pairs = same_labels t.pairs u.pairs cc in
+    let bound : t.bound ≡ u.bound = cc in
+    λ i. record { pairs = pairs i; bound = bound i }
+
+pub same_tree : (bytes : List ℕ) (d e : Data) → IsJson bytes d → IsJson bytes e → d ≡ e
+same_tree bytes d e j k = let both : Some d ≡ Some e = sym j.1 ∙ k.1 in cc
+
+no_value : TimedLine
+no_value = record { time = []; line = []; third = None }
+
+no_stream : Stream
+no_stream = record { pairs = []; values = [] }
+
+-- a bad time is no time
+bad_among_times : (values : List TimedLine) (j : ℕ) → IsFirstBad values j → AreTimed values → ⊥
+bad_among_times values j b h = b.here no_value (h j no_value b.within)
+
+pub bad_among_good : (ss : List Stream) (i j : ℕ) → IsFirstBadTime ss i j → HaveTimes ss → ⊥
+bad_among_good ss i j b h = bad_among_times (get_or ss i no_stream).values j (b.here no_stream) (h i no_stream b.within)
+
+-- what holds of a front holds of each element within
+at_front : {A : Type 0} (P : A → Type 0) (all : List A) (j k : ℕ) (d : A) → j < k → k < length all → All P (take k all) → P (get_or all j d)
+at_front P all j k d h w front = rw (← get_or-take k all j d h) (front j d (omega (arith, length-take k all)))
+
+-- there is one first element of which a fact does not hold
+one_first : {A : Type 0} (P : A → Type 0) (all : List A) (j k : ℕ) (d : A) → ¬ (P (get_or all j d)) → ¬ (P (get_or all k d)) → j < length all → k < length all → All P (take j all) → All P (take k all) → j ≡ k
+one_first P all j k d bad bad' w w' front front' =
+    elim (cases_order j k) [ inl e ↦ e | inr o ↦ elim o [ inl h ↦ absurd (bad (at_front P all j k d h w' front')) | inr h ↦ absurd (bad' (at_front P all k j d h w front)) ] ]
+
+same_bad : (values : List TimedLine) (j k : ℕ) → IsFirstBad values j → IsFirstBad values k → j ≡ k
+same_bad values j k b c = one_first (λ v. IsTime v.time) values j k no_value (b.here no_value) (c.here no_value) b.within c.within b.earlier c.earlier
+
+pub same_place : (ss : List Stream) (i k j l : ℕ) → IsFirstBadTime ss i j → IsFirstBadTime ss k l → i ≡ k
+same_place ss i k j l b c =
+    one_first (λ s. AreTimed s.values) ss i k no_stream (bad_among_times (get_or ss i no_stream).values j (b.here no_stream)) (bad_among_times (get_or ss k no_stream).values l (c.here no_stream)) b.within c.within b.earlier c.earlier
+
+pub same_entry : (ss : List Stream) (i j l : ℕ) → IsFirstBadTime ss i j → IsFirstBadTime ss i l → j ≡ l
+same_entry ss i j l b c = same_bad (get_or ss i no_stream).values j l (b.here no_stream) (c.here no_stream)
 
 json_by : (bytes : List ℕ) → IsUtf8 bytes → (o : Option Data) → read bytes ≡ o → ((d : Data) × IsJson bytes d) ⊎ ((d : Data) → ¬ (IsJson bytes d))
 json_by bytes u None e = inr (λ d j. let none : None ≡ Some d = sym e ∙ j.1 in cc)
@@ -26,51 +115,120 @@ json_in : (bytes : List ℕ) → ((d : Data) × IsJson bytes d) ⊎ ((d : Data) 
 json_in bytes =
     elim (tested (is_utf8 bytes) (IsUtf8 bytes) (IsUtf8-from_is_utf8 bytes) (is_utf8-from_IsUtf8 bytes)) [ inl u ↦ json_by bytes u (read bytes) refl | inr h ↦ inr (λ d j. h j.0) ]
 
-counted : (bytes : List ℕ) (streams : List Stream) → IsJson bytes (body_tree streams) → HaveTimes streams → (10000 < entry_count streams) ⊎ (¬ (10000 < entry_count streams)) → Has (IsPushAnswer bytes)
-counted bytes streams json times (inl many) = (Err TooManyEntries, λ e. cc, (streams, json, times, many))
-counted bytes streams json times (inr few) = (Ok (map batch_of streams), λ e. cc, (streams, json, times, at_most _ _ few, refl))
+-- there is an answer that does not want for memory
+abbrev Has : {X : Type 0} → (Result X PushFault → Type 0) → Type 0
+Has {X} Answers = (r : Result X PushFault) × (r ≢ Err Memory) × Answers r
+
+module _ {X Y : Type 0} (tree : Y → Data) (IsJudged : Y → Result X PushFault → Type 0) (bytes : List ℕ) where
+  -- an answer says that the bytes are no JSON, or that their tree is of another shape, or how what it is of is judged
+  abbrev Says : Result X PushFault → Type 0
+  Says r =
+      ((r ≡ Err NotJson) × ((d : Data) → ¬ (IsJson bytes d)))
+      ⊎ (((d : Data) × (r ≡ Err WrongShape) × IsJson bytes d × ((y : Y) → d ≢ tree y))
+      ⊎ ((y : Y) × IsJson bytes (tree y) × IsJudged y r))
+
+  said_alone : ((y z : Y) → tree y ≡ tree z → y ≡ z) → ((y : Y) (r s : Result X PushFault) → IsJudged y r → IsJudged y s → r ≡ s) → (r s : Result X PushFault) → Says r → Says s → r ≡ s
+  said_alone same one r s (inl p) (inl q) = p.0 ∙ sym q.0
+  said_alone same one r s (inl p) (inr (inl q)) = absurd (p.1 q.0 q.2)
+  said_alone same one r s (inl p) (inr (inr q)) = absurd (p.1 (tree q.0) q.1)
+  said_alone same one r s (inr (inl p)) (inl q) = absurd (q.1 p.0 p.2)
+  said_alone same one r s (inr (inl p)) (inr (inl q)) = p.1 ∙ sym q.1
+  said_alone same one r s (inr (inl p)) (inr (inr q)) = absurd (p.3 q.0 (same_tree bytes p.0 (tree q.0) p.2 q.1))
+  said_alone same one r s (inr (inr p)) (inl q) = absurd (q.1 (tree p.0) p.1)
+  said_alone same one r s (inr (inr p)) (inr (inl q)) = absurd (q.3 p.0 (same_tree bytes q.0 (tree p.0) q.2 p.1))
+  said_alone same one r s (inr (inr p)) (inr (inr q)) =
+      one p.0 r s p.2 (subst (λ (y : Y). IsJudged y s) (same q.0 p.0 (same_tree bytes (tree q.0) (tree p.0) q.1 p.1)) q.2)
+
+  -- if what prints as a tree has an answer, bytes have one, and one alone
+  has_one : (Answers : Result X PushFault → Type 0) → ((y z : Y) → tree y ≡ tree z → y ≡ z) → ((y : Y) (r s : Result X PushFault) → IsJudged y r → IsJudged y s → r ≡ s) → ((r : Result X PushFault) → Answers r → r ≢ Err Memory → Says r) → ((d : Data) → Decided tree d)
+      → (((d : Data) → ¬ (IsJson bytes d)) → Answers (Err NotJson)) → ((d : Data) → IsJson bytes d → ((y : Y) → d ≢ tree y) → Answers (Err WrongShape)) → ((y : Y) → IsJson bytes (tree y) → Has Answers) → HasOne Answers
+  has_one Answers same one says decided not_json wrong right = (it.0, it.1, it.2, λ s answers lasts. said_alone same one s it.0 (says s answers lasts) (says it.0 it.2 it.1))
+    where
+      by : (d : Data) → IsJson bytes d → Decided tree d → Has Answers
+      by d json (inl p) = right p.0 (subst (IsJson bytes) p.1 json)
+      by d json (inr h) = (Err WrongShape, λ e. cc, wrong d json h)
+
+      it : Has Answers
+      it = elim (json_in bytes) [ inl p ↦ by p.0 p.1 (decided p.0) | inr h ↦ (Err NotJson, λ e. cc, not_json h) ]
+
+-- how streams are judged
+abbrev AreJudged : List Stream → Result (List RawBatch) PushFault → Type 0
+AreJudged ss r =
+    (HaveTimes ss × (entry_count ss ≤ 10000) × (r ≡ Ok (map batch_of ss)))
+    ⊎ ((HaveTimes ss × (10000 < entry_count ss) × (r ≡ Err TooManyEntries))
+    ⊎ ((i : ℕ) × (j : ℕ) × IsFirstBadTime ss i j × (r ≡ Err (BadTime i j))))
+
+one_judged : (ss : List Stream) (r s : Result (List RawBatch) PushFault) → AreJudged ss r → AreJudged ss s → r ≡ s
+one_judged ss r s (inl p) (inl q) = p.2 ∙ sym q.2
+one_judged ss r s (inl p) (inr (inl q)) = absurd (omega (arith, p.1, q.1))
+one_judged ss r s (inl p) (inr (inr q)) = absurd (bad_among_good ss q.0 q.1 q.2 p.0)
+one_judged ss r s (inr (inl p)) (inl q) = absurd (omega (arith, p.1, q.1))
+one_judged ss r s (inr (inl p)) (inr (inl q)) = p.2 ∙ sym q.2
+one_judged ss r s (inr (inl p)) (inr (inr q)) = absurd (bad_among_good ss q.0 q.1 q.2 p.0)
+one_judged ss r s (inr (inr p)) (inl q) = absurd (bad_among_good ss p.0 p.1 p.2 q.0)
+one_judged ss r s (inr (inr p)) (inr (inl q)) = absurd (bad_among_good ss p.0 p.1 p.2 q.0)
+one_judged ss r s (inr (inr p)) (inr (inr q)) =
+    let place : p.0 ≡ q.0 = same_place ss p.0 q.0 p.1 q.1 p.2 q.2 in
+    let entry : p.1 ≡ q.1 = same_entry ss q.0 p.1 q.1 (subst (λ (i : ℕ). IsFirstBadTime ss i p.1) place p.2) q.2 in
+    cc (p.3, q.3)
+
+push_says : (bytes : List ℕ) (r : Result (List RawBatch) PushFault) → IsPushAnswer bytes r → r ≢ Err Memory → Says body_tree AreJudged bytes r
+push_says bytes (Ok b) a m = inr (inr (a.0, a.1, inl (a.2, a.3, λ i. Ok (a.4 i))))
+push_says bytes (Err NotJson) a m = inl (refl, a)
+push_says bytes (Err WrongShape) a m = inr (inl (a.0, refl, a.1, a.2))
+push_says bytes (Err (BadTime i j)) a m = inr (inr (a.0, a.1, inr (inr (i, j, a.2, refl))))
+push_says bytes (Err TooManyEntries) a m = inr (inr (a.0, a.1, inr (inl (a.2, a.3, refl))))
+push_says bytes (Err Memory) a m = absurd (m refl)
+
+pub one_answer : (bytes : List ℕ) → HasOne (IsPushAnswer bytes)
+one_answer bytes = has_one body_tree AreJudged bytes (IsPushAnswer bytes) same_body one_judged (push_says bytes) body_decided (λ h. h) (λ d json h. (d, json, h)) right
   where
-    at_most : (a b : ℕ) → ¬ (a < b) → b ≤ a
-    at_most a b h = omega (arith, h)
+    right : (ss : List Stream) → IsJson bytes (body_tree ss) → Has (IsPushAnswer bytes)
+    right ss json = elim (bad_time_in ss) [
+      | inl times ↦ elim (order_decided 10000 (entry_count ss)) [ inl many ↦ (Err TooManyEntries, λ e. cc, (ss, json, times, many)) | inr few ↦ (Ok (map batch_of ss), λ e. cc, (ss, json, times, few, refl)) ]
+      | inr bad ↦ (Err (BadTime bad.0 bad.1), λ e. cc, (ss, json, bad.2))
+    ]
 
-timed : (bytes : List ℕ) (streams : List Stream) → IsJson bytes (body_tree streams) → HaveTimes streams ⊎ ((i : ℕ) × (j : ℕ) × IsFirstBadTime streams i j) → Has (IsPushAnswer bytes)
-timed bytes streams json (inl times) = counted bytes streams json times (below_decided 10000 (entry_count streams))
-timed bytes streams json (inr bad) = (Err (BadTime bad.0 bad.1), λ e. cc, (streams, json, bad.2))
+-- a query and a trim are judged by whether their times are times
+abbrev IsTimed : {X Y : Type 0} → (Y → Type 0) → (Y → X) → Y → Result X PushFault → Type 0
+IsTimed HasTimes raw y r = (HasTimes y × (r ≡ Ok (raw y))) ⊎ ((¬ (HasTimes y)) × (r ≡ Err (BadTime 0 0)))
 
-push_by : (bytes : List ℕ) (d : Data) → IsJson bytes d → Decided body_tree d → Has (IsPushAnswer bytes)
-push_by bytes d json (inl p) = timed bytes p.0 (subst (IsJson bytes) p.1 json) (bad_time_in p.0)
-push_by bytes d json (inr h) = (Err WrongShape, λ e. cc, (d, json, h))
+one_timed : {X Y : Type 0} (HasTimes : Y → Type 0) (raw : Y → X) (y : Y) (r s : Result X PushFault) → IsTimed HasTimes raw y r → IsTimed HasTimes raw y s → r ≡ s
+one_timed HasTimes raw y r s (inl p) (inl q) = p.1 ∙ sym q.1
+one_timed HasTimes raw y r s (inl p) (inr q) = absurd (q.0 p.0)
+one_timed HasTimes raw y r s (inr p) (inl q) = absurd (p.0 q.0)
+one_timed HasTimes raw y r s (inr p) (inr q) = p.1 ∙ sym q.1
 
-has_push : (bytes : List ℕ) → Has (IsPushAnswer bytes)
-has_push bytes = elim (json_in bytes) [ inl p ↦ push_by bytes p.0 p.1 (body_decided p.0) | inr h ↦ (Err NotJson, λ e. cc, h) ]
+abbrev HasQueryTimes : Query → Type 0
+HasQueryTimes q = IsTime q.from × IsTime q.to
 
-pub one_answer : (bytes : List ℕ) → HasOneAnswer bytes
-one_answer bytes = let has = has_push bytes in (has.0, has.1, has.2, λ s answers lasts. same_answer bytes s has.0 answers has.2 lasts has.1)
+query_says : (bytes : List ℕ) (r : Result RawRead PushFault) → ReadsQuery bytes r → r ≢ Err Memory → Says query_tree (IsTimed HasQueryTimes raw_read_of) bytes r
+query_says bytes (Ok b) a m = inr (inr (a.0, a.1, inl ((a.2, a.3), λ i. Ok (a.4 i))))
+query_says bytes (Err NotJson) a m = inl (refl, a)
+query_says bytes (Err WrongShape) a m = inr (inl (a.0, refl, a.1, a.2))
+query_says bytes (Err (BadTime i j)) a m = inr (inr (a.0, a.1, inr (a.2, λ k. Err (BadTime (a.3 k) (a.4 k)))))
+query_says bytes (Err TooManyEntries) a m = absurd a
+query_says bytes (Err Memory) a m = absurd (m refl)
 
-query_timed : (bytes : List ℕ) (q : Query) → IsJson bytes (query_tree q) → (IsTime q.from × IsTime q.to) ⊎ (¬ (IsTime q.from × IsTime q.to)) → Has (ReadsQuery bytes)
-query_timed bytes q json (inl times) = (Ok (raw_read_of q), λ e. cc, (q, json, times.0, times.1, refl))
-query_timed bytes q json (inr h) = (Err (BadTime 0 0), λ e. cc, (q, json, h, refl, refl))
+pub one_query : (bytes : List ℕ) → HasOne (ReadsQuery bytes)
+one_query bytes = has_one query_tree (IsTimed HasQueryTimes raw_read_of) bytes (ReadsQuery bytes) same_query (one_timed HasQueryTimes raw_read_of) (query_says bytes) query_decided (λ h. h) (λ d json h. (d, json, h)) right
+  where
+    right : (q : Query) → IsJson bytes (query_tree q) → Has (ReadsQuery bytes)
+    right q json = elim (both_decided (time_decided q.from) (time_decided q.to)) [ inl t ↦ (Ok (raw_read_of q), λ e. cc, (q, json, t.0, t.1, refl)) | inr h ↦ (Err (BadTime 0 0), λ e. cc, (q, json, h, refl, refl)) ]
 
-query_by : (bytes : List ℕ) (d : Data) → IsJson bytes d → Decided query_tree d → Has (ReadsQuery bytes)
-query_by bytes d json (inl p) = query_timed bytes p.0 (subst (IsJson bytes) p.1 json) (both_decided (time_decided p.0.from) (time_decided p.0.to))
-query_by bytes d json (inr h) = (Err WrongShape, λ e. cc, (d, json, h))
+abbrev HasTrimTime : Trim → Type 0
+HasTrimTime t = IsTime t.bound
 
-has_query : (bytes : List ℕ) → Has (ReadsQuery bytes)
-has_query bytes = elim (json_in bytes) [ inl p ↦ query_by bytes p.0 p.1 (query_decided p.0) | inr h ↦ (Err NotJson, λ e. cc, h) ]
+trim_says : (bytes : List ℕ) (r : Result RawTrim PushFault) → ReadsTrim bytes r → r ≢ Err Memory → Says trim_tree (IsTimed HasTrimTime raw_trim_of) bytes r
+trim_says bytes (Ok b) a m = inr (inr (a.0, a.1, inl (a.2, λ i. Ok (a.3 i))))
+trim_says bytes (Err NotJson) a m = inl (refl, a)
+trim_says bytes (Err WrongShape) a m = inr (inl (a.0, refl, a.1, a.2))
+trim_says bytes (Err (BadTime i j)) a m = inr (inr (a.0, a.1, inr (a.2, λ k. Err (BadTime (a.3 k) (a.4 k)))))
+trim_says bytes (Err TooManyEntries) a m = absurd a
+trim_says bytes (Err Memory) a m = absurd (m refl)
 
-pub one_query : (bytes : List ℕ) → HasOneQuery bytes
-one_query bytes = let has = has_query bytes in (has.0, has.1, has.2, λ s answers lasts. same_query_answer bytes s has.0 answers has.2 lasts has.1)
-
-trim_timed : (bytes : List ℕ) (t : Trim) → IsJson bytes (trim_tree t) → (IsTime t.bound) ⊎ (¬ (IsTime t.bound)) → Has (ReadsTrim bytes)
-trim_timed bytes t json (inl time) = (Ok (raw_trim_of t), λ e. cc, (t, json, time, refl))
-trim_timed bytes t json (inr h) = (Err (BadTime 0 0), λ e. cc, (t, json, h, refl, refl))
-
-trim_by : (bytes : List ℕ) (d : Data) → IsJson bytes d → Decided trim_tree d → Has (ReadsTrim bytes)
-trim_by bytes d json (inl p) = trim_timed bytes p.0 (subst (IsJson bytes) p.1 json) (time_decided p.0.bound)
-trim_by bytes d json (inr h) = (Err WrongShape, λ e. cc, (d, json, h))
-
-has_trim : (bytes : List ℕ) → Has (ReadsTrim bytes)
-has_trim bytes = elim (json_in bytes) [ inl p ↦ trim_by bytes p.0 p.1 (trim_decided p.0) | inr h ↦ (Err NotJson, λ e. cc, h) ]
-
-pub one_trim : (bytes : List ℕ) → HasOneTrim bytes
-one_trim bytes = let has = has_trim bytes in (has.0, has.1, has.2, λ s answers lasts. same_trim_answer bytes s has.0 answers has.2 lasts has.1)
+pub one_trim : (bytes : List ℕ) → HasOne (ReadsTrim bytes)
+one_trim bytes = has_one trim_tree (IsTimed HasTrimTime raw_trim_of) bytes (ReadsTrim bytes) same_trim (one_timed HasTrimTime raw_trim_of) (trim_says bytes) trim_decided (λ h. h) (λ d json h. (d, json, h)) right
+  where
+    right : (t : Trim) → IsJson bytes (trim_tree t) → Has (ReadsTrim bytes)
+    right t json = elim (time_decided t.bound) [ inl time ↦ (Ok (raw_trim_of t), λ e. cc, (t, json, time, refl)) | inr h ↦ (Err (BadTime 0 0), λ e. cc, (t, json, h, refl, refl)) ]

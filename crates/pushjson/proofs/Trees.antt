@@ -1,4 +1,4 @@
--- Trees whose front is known to be that of what was read.
+-- Trees whose front is known to be that of what was read, and members of an object, taken one after the other.
 use Rattle.std.proofs.Common.{◌≡◌, ◌≢◌, ℕ, List, [], ◌∷◌, ◌++◌, map, Less, String, Global, string_bytes, string_cmp, nat_cmp, refl, ap, sym, ◌∙◌, append_assoc, append-nil}
 use Rattle.std.proofs.lemmas.List.{map-append}
 use Rattle.std.specs.Cmp.Lexicographic.{slice_cmp}
@@ -7,20 +7,21 @@ use Rattle.std.specs.List.Sorted.{IsStrictlySortedBy}
 use Rattle.std.specs.Map.{keys_of}
 use Rattle.serde_json.specs.declared.value.Value.{Value}
 use Rattle.serde_json.specs.Data.{Data, string, object, Items, Members, no_members, member}
-use Rattle.serde_json.specs.View.{items_of}
+use Rattle.serde_json.specs.View.{items_of, members_view}
 use Rattle.labels.specs.Labels.{Label}
 use Rattle.labels.specs.Canonical.{NamesRise}
 use Rattle.pushjson.specs.Bodies.{labels_tree, HaveRisingNames}
 use Rattle.pushjson.specs.Shape.{IsFaultOf}
 use Rattle.pushjson.specs.declared.fault.PushFault.{PushFault}
-use Rattle.pushjson.specs.declared.fault.PushFault.TheVariants.{NotJson, WrongShape, BadTime, TooManyEntries, Memory}
+use Rattle.pushjson.specs.declared.fault.PushFault.TheVariants.{WrongShape}
+use Rattle.std.specs.Prelude.{Option, Some, None, is_some, true, false}
+use Rattle.std.specs.Option.{MatchOption}
 
 -- an item that is the tree of nothing stands in no list of such trees
 pub no_list : {Y : Type 0} (tree : Y → Data) (before : List Data) (d : Data) (after : List Data) → ((y : Y) → d ≢ tree y) → (ys : List Y) → items_of (before ++ d ∷ after) ≢ items_of (map tree ys)
-no_list tree [] d after h [] = λ e. cc
 no_list tree [] d after h (y ∷ ys) = λ e. h y cc
-no_list tree (b ∷ before) d after h [] = λ e. cc
 no_list tree (b ∷ before) d after h (y ∷ ys) = λ e. no_list tree before d after h ys cc
+no_list tree before d after h ys = λ e. cc
 
 -- the members of these labels, and then others
 abbrev pub labels_then : List Label → Members → Members
@@ -37,18 +38,14 @@ labels_then-end (p ∷ ps) = ap (member p.0 (string p.1)) (labels_then-end ps)
 
 -- a member that is no text stands among no labels
 pub no_labels : (ps : List Label) (name : List ℕ) (d : Data) (ms : Members) → ((text : List ℕ) → d ≢ string text) → (qs : List Label) → labels_then ps (member name d ms) ≢ labels_tree qs
-no_labels [] name d ms h [] = λ e. cc
 no_labels [] name d ms h (q ∷ qs) = λ e. h q.1 cc
-no_labels (p ∷ ps) name d ms h [] = λ e. cc
 no_labels (p ∷ ps) name d ms h (q ∷ qs) = λ e. no_labels ps name d ms h qs cc
+no_labels ps name d ms h qs = λ e. cc
 
 -- what is wrong with a part is wrong with the whole
 pub part_fault : {Y W : Type 0} (part : Y → Data) (p : Data) (whole : W → Data) (d : Data) (e : PushFault) → IsFaultOf part p e → (((y : Y) → p ≢ part y) → (w : W) → d ≢ whole w) → IsFaultOf whole d e
-part_fault part p whole d NotJson r h = r
 part_fault part p whole d WrongShape r h = h r
-part_fault part p whole d (BadTime i j) r h = r
-part_fault part p whole d TooManyEntries r h = r
-part_fault part p whole d Memory r h = r
+part_fault part p whole d e r h = r
 
 -- an item that is no tree of its kind makes an array that is none
 pub item_fault : {Y : Type 0} (tree : Y → Data) (around : Items → Data) (before : List Y) (d whole : Data) (after : List Data) (e : PushFault) → ((is js : Items) → around is ≡ around js → is ≡ js) → whole ≡ around (items_of (map tree before ++ d ∷ after)) → IsFaultOf tree d e → IsFaultOf (λ ys. around (items_of (map tree ys))) whole e
@@ -93,6 +90,19 @@ rising_last ps es h e =
 -- names that rise, each below all that follow, are each below the next
 pub names_rise : (ps : List Label) → HaveRisingNames ps → NamesRise ps
 unfolding IsStrictlySortedBy
-names_rise [] h = tt
-names_rise (p ∷ []) h = tt
 names_rise (p ∷ q ∷ qs) h = (h.0.0, names_rise (q ∷ qs) h.1)
+names_rise ps h = tt
+
+-- an object has no member of a key in front where its members have none
+pub other_member : (key : List ℕ) (whole : Data) (ms : Members) → whole ≡ object ms → ((d : Data) (rest : Members) → ms ≢ member key d rest) → (d : Data) (rest : Members) → whole ≢ object (member key d rest)
+other_member key whole ms w h d rest = λ same. let s : object ms ≡ object (member key d rest) = sym w ∙ same in h d rest cc
+
+-- what holds where nothing came holds
+pub none_came : {A : Type 0} (P : Type 0) (Q : A → Type 0) (o : Option A) → false ≡ is_some o → MatchOption o P Q → P
+none_came P Q None e h = h
+none_came P Q (Some x) e h = cc
+
+-- members of which one more came are not none
+pub more_came : (ms new : List (String Global × Value)) (P : Type 0) (o : Option (String Global × Value)) → true ≡ is_some o → MatchOption o P (λ x. ms ≡ x ∷ new) → members_view ms ≢ no_members
+more_came ms new P None e h = λ same. cc
+more_came ms new P (Some x) e h = λ same. let s : members_view (x ∷ new) ≡ no_members = ap members_view (sym h) ∙ same in cc

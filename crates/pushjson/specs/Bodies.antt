@@ -75,12 +75,7 @@ entry_count streams = sum_by (λ s. length s.values) streams
 
 -- without a third element there is no metadata
 abbrev pub entry_of_line : TimedLine → Entry
-entry_of_line v = record {
-  time = digits_value 10 v.time;
-  line = v.line;
-  meta =
-      unwrap_or v.third [];
-}
+entry_of_line v = record { time = digits_value 10 v.time; line = v.line; meta = unwrap_or v.third [] }
 
 abbrev pub batch_of : Stream → RawBatch
 batch_of s = record { pairs = s.pairs; entries = map entry_of_line s.values }

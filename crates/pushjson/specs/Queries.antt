@@ -41,34 +41,19 @@ raw_trim_of t = record { pairs = t.pairs; bound = digits_value 10 t.bound }
 
 -- the answer to a query body of these bytes
 abbrev pub ReadsQuery : List ℕ → Result RawRead PushFault → Type 0
-ReadsQuery bytes (Ok r) = (q : Query) × IsJson bytes (query_tree q) × IsTime q.from × IsTime q.to
-    × (r ≡ raw_read_of q)
+ReadsQuery bytes (Ok r) = (q : Query) × IsJson bytes (query_tree q) × IsTime q.from × IsTime q.to × (r ≡ raw_read_of q)
 ReadsQuery bytes (Err NotJson) = (d : Data) → ¬ IsJson bytes d
 ReadsQuery bytes (Err WrongShape) = (d : Data) × IsJson bytes d × ((q : Query) → d ≢ query_tree q)
-ReadsQuery bytes (Err (BadTime i j)) = (q : Query) × IsJson bytes (query_tree q)
-    × (¬ (IsTime q.from × IsTime q.to))
+ReadsQuery bytes (Err (BadTime i j)) = (q : Query) × IsJson bytes (query_tree q) × (¬ (IsTime q.from × IsTime q.to))
     × (i ≡ 0) × (j ≡ 0)
 ReadsQuery bytes (Err TooManyEntries) = ⊥
 ReadsQuery bytes (Err Memory) = ⊤
 
 -- the answer to a trim body of these bytes
 abbrev pub ReadsTrim : List ℕ → Result RawTrim PushFault → Type 0
-ReadsTrim bytes (Ok r) = (t : Trim) × IsJson bytes (trim_tree t) × IsTime t.bound
-    × (r ≡ raw_trim_of t)
+ReadsTrim bytes (Ok r) = (t : Trim) × IsJson bytes (trim_tree t) × IsTime t.bound × (r ≡ raw_trim_of t)
 ReadsTrim bytes (Err NotJson) = (d : Data) → ¬ IsJson bytes d
 ReadsTrim bytes (Err WrongShape) = (d : Data) × IsJson bytes d × ((t : Trim) → d ≢ trim_tree t)
-ReadsTrim bytes (Err (BadTime i j)) = (t : Trim) × IsJson bytes (trim_tree t) × (¬ IsTime t.bound)
-    × (i ≡ 0) × (j ≡ 0)
+ReadsTrim bytes (Err (BadTime i j)) = (t : Trim) × IsJson bytes (trim_tree t) × (¬ IsTime t.bound) × (i ≡ 0) × (j ≡ 0)
 ReadsTrim bytes (Err TooManyEntries) = ⊥
 ReadsTrim bytes (Err Memory) = ⊤
-
--- while memory lasts, bytes have one answer, and one alone
-abbrev pub HasOneQuery : List ℕ → Type 0
-HasOneQuery bytes =
-    (r : Result RawRead PushFault) × (r ≢ Err Memory) × ReadsQuery bytes r
-    × ((s : Result RawRead PushFault) → ReadsQuery bytes s → s ≢ Err Memory → s ≡ r)
-
-abbrev pub HasOneTrim : List ℕ → Type 0
-HasOneTrim bytes =
-    (r : Result RawTrim PushFault) × (r ≢ Err Memory) × ReadsTrim bytes r
-    × ((s : Result RawTrim PushFault) → ReadsTrim bytes s → s ≢ Err Memory → s ≡ r)

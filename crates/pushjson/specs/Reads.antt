@@ -16,8 +16,7 @@ IsPushAnswer bytes (Ok batches) =
     × (entry_count streams ≤ max_entries)
     × (batches ≡ map batch_of streams)
 IsPushAnswer bytes (Err NotJson) = (d : Data) → ¬ IsJson bytes d
-IsPushAnswer bytes (Err WrongShape) = (d : Data) × IsJson bytes d
-    × ((streams : List Stream) → d ≢ body_tree streams)
+IsPushAnswer bytes (Err WrongShape) = (d : Data) × IsJson bytes d × ((streams : List Stream) → d ≢ body_tree streams)
 IsPushAnswer bytes (Err (BadTime i j)) = (streams : List Stream) × IsJson bytes (body_tree streams)
     × IsFirstBadTime streams i j
 IsPushAnswer bytes (Err TooManyEntries) = (streams : List Stream) × IsJson bytes (body_tree streams)
@@ -25,34 +24,29 @@ IsPushAnswer bytes (Err TooManyEntries) = (streams : List Stream) × IsJson byte
 IsPushAnswer bytes (Err Memory) = ⊤
 
 -- an answer, without where its batches lie in memory
-abbrev pub batches_answered : Result (Vec RawBatch Global) PushFault
-    → Result (List RawBatch) PushFault
+abbrev pub batches_answered : Result (Vec RawBatch Global) PushFault → Result (List RawBatch) PushFault
 batches_answered (Ok batches) = Ok batches.items
 batches_answered (Err fault) = Err fault
 
 abbrev pub ReadsPush : List ℕ → Result (Vec RawBatch Global) PushFault → Type 0
 ReadsPush bytes read = IsPushAnswer bytes (batches_answered read)
 
--- while memory lasts, bytes have one answer, and one alone: its kind, its place and its batches
-abbrev pub HasOneAnswer : List ℕ → Type 0
-HasOneAnswer bytes =
-    (r : Result (List RawBatch) PushFault) × (r ≢ Err Memory) × IsPushAnswer bytes r
-    × ((s : Result (List RawBatch) PushFault) → IsPushAnswer bytes s → s ≢ Err Memory → s ≡ r)
+-- while memory lasts, there is one answer, and one alone: its kind, its place and its value
+abbrev pub HasOne : {X : Type 0} → (Result X PushFault → Type 0) → Type 0
+HasOne {X} Answers =
+    (r : Result X PushFault) × (r ≢ Err Memory) × Answers r
+    × ((s : Result X PushFault) → Answers s → s ≢ Err Memory → s ≡ r)
 
 -- for private clauses: the entries of the stream at i, which has these values
 abbrev pub GivesEntries : ℕ → List TimedLine → Result (Vec Entry Global) PushFault → Type 0
 GivesEntries i values (Ok entries) = AreTimed values × (entries.items ≡ map entry_of_line values)
 GivesEntries i values (Err (BadTime k j)) = (k ≡ i) × IsFirstBad values j
 GivesEntries i values (Err Memory) = ⊤
-GivesEntries i values (Err NotJson) = ⊥
-GivesEntries i values (Err WrongShape) = ⊥
-GivesEntries i values (Err TooManyEntries) = ⊥
+GivesEntries i values (Err fault) = ⊥
 
 -- for private clauses: the batches of these streams, whatever their number
 abbrev pub GivesBatches : List Stream → Result (Vec RawBatch Global) PushFault → Type 0
 GivesBatches streams (Ok batches) = HaveTimes streams × (batches.items ≡ map batch_of streams)
 GivesBatches streams (Err (BadTime i j)) = IsFirstBadTime streams i j
 GivesBatches streams (Err Memory) = ⊤
-GivesBatches streams (Err NotJson) = ⊥
-GivesBatches streams (Err WrongShape) = ⊥
-GivesBatches streams (Err TooManyEntries) = ⊥
+GivesBatches streams (Err fault) = ⊥

@@ -7,7 +7,7 @@ use Rattle.serde_json.specs.declared.value.Value.{Value}
 use Rattle.labels.specs.Labels.{label_of}
 use Rattle.pushjson.specs.Bodies.{Stream, TimedLine, IsJson}
 use Rattle.pushjson.specs.declared.fault.PushFault.{PushFault}
-use Rattle.pushjson.specs.declared.fault.PushFault.TheVariants.{NotJson, WrongShape, BadTime, TooManyEntries, Memory}
+use Rattle.pushjson.specs.declared.fault.PushFault.TheVariants.{NotJson, WrongShape, Memory}
 use Rattle.pushjson.specs.Queries.{Query, Trim}
 use Rattle.pushjson.specs.declared.shape.StreamTexts.{StreamTexts}
 use Rattle.pushjson.specs.declared.shape.ValueTexts.{ValueTexts}
@@ -18,9 +18,7 @@ use Rattle.pushjson.specs.declared.shape.TrimTexts.{TrimTexts}
 abbrev pub IsFaultOf : {Y : Type 0} → (Y → Data) → Data → PushFault → Type 0
 IsFaultOf {Y} tree d WrongShape = (y : Y) → d ≢ tree y
 IsFaultOf tree d Memory = ⊤
-IsFaultOf tree d NotJson = ⊥
-IsFaultOf tree d (BadTime i j) = ⊥
-IsFaultOf tree d TooManyEntries = ⊥
+IsFaultOf tree d fault = ⊥
 
 -- the tree is that of what was read, as `of` sees it, or of nothing that could be
 abbrev pub ReadsTree : {X Y : Type 0} → (X → Y) → (Y → Data) → Data → Result X PushFault → Type 0
@@ -37,33 +35,17 @@ abbrev pub ReadsData : List ℕ → Result Value PushFault → Type 0
 ReadsData bytes (Ok tree) = IsJson bytes (view tree)
 ReadsData bytes (Err NotJson) = (d : Data) → ¬ IsJson bytes d
 ReadsData bytes (Err Memory) = ⊤
-ReadsData bytes (Err WrongShape) = ⊥
-ReadsData bytes (Err (BadTime i j)) = ⊥
-ReadsData bytes (Err TooManyEntries) = ⊥
+ReadsData bytes (Err fault) = ⊥
 
 -- the texts, without where they lie in memory
 abbrev pub value_texts_of : ValueTexts → TimedLine
-value_texts_of v = record {
-  time = string_bytes v.time;
-  line = string_bytes v.line;
-  third =
-      v.third;
-}
+value_texts_of v = record { time = string_bytes v.time; line = string_bytes v.line; third = v.third }
 
 abbrev pub stream_texts_of : StreamTexts → Stream
-stream_texts_of s = record {
-  pairs = map label_of s.pairs.items;
-  values =
-      map value_texts_of s.values.items;
-}
+stream_texts_of s = record { pairs = map label_of s.pairs.items; values = map value_texts_of s.values.items }
 
 abbrev pub query_texts_of : QueryTexts → Query
-query_texts_of q = record {
-  pairs = map label_of q.pairs.items;
-  from = string_bytes q.from;
-  to =
-      string_bytes q.to;
-}
+query_texts_of q = record { pairs = map label_of q.pairs.items; from = string_bytes q.from; to = string_bytes q.to }
 
 abbrev pub trim_texts_of : TrimTexts → Trim
 trim_texts_of t = record { pairs = map label_of t.pairs.items; bound = string_bytes t.bound }

@@ -36,8 +36,7 @@ pub struct RawBatch {
 pub fn read_push(alloc: Global, bytes: &[u8]) -> Result<Vec<RawBatch>, PushFault>
     ensures reads { ReadsPush bytes.now result }
     ensures sorted { IfOk result (λ batches. All (λ b. HaveRisingNames b.pairs) batches.items) }
-    ensures range { IfOk result
-        (λ batches. All (λ b. AreTimes b.entries) batches.items) }
+    ensures range { IfOk result (λ batches. All (λ b. AreTimes b.entries) batches.items) }
 {
     let streams = body_texts(alloc, read_tree(alloc, bytes)?)?;
     let batches = batches_of(alloc, streams)?;

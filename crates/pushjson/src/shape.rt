@@ -68,8 +68,7 @@ fn text_of(value: Value) -> Result<String, PushFault>
 
 // The items of an array.
 fn items_in(value: Value) -> Result<Vec<Value>, PushFault>
-    ensures { ReadsTree (λ items. map view items.items) (λ ds. array (items_of ds))
-        (view value) result }
+    ensures { ReadsTree (λ items. map view items.items) (λ ds. array (items_of ds)) (view value) result }
 {
     match value {
         Value::Array(items) => Ok(items),
@@ -109,8 +108,7 @@ fn only_member(value: Value, key: &str) -> Result<Value, PushFault>
 // The values of an object with these two keys, which rise.
 fn two_members(value: Value, first: &str, second: &str) -> Result<(Value, Value), PushFault>
     ensures { ReadsTree (λ p. (view p.0, view p.1)) (λ (p : Data
-        × Data). object (member first.now p.0 (member second.now p.1 no_members)))
-        (view value) result }
+        × Data). object (member first.now p.0 (member second.now p.1 no_members))) (view value) result }
 {
     let Value::Object(members) = value else {
         return Err(PushFault::WrongShape);
@@ -135,10 +133,8 @@ fn three_members(
     second: &str,
     third: &str,
 ) -> Result<(Value, Value, Value), PushFault>
-    ensures { ReadsTree (λ p. (view p.0, view p.1, view p.2)) (λ (p : Data × Data
-        × Data). object (member first.now p.0
-        (member second.now p.1 (member third.now p.2 no_members))))
-        (view value) result }
+    ensures { ReadsTree (λ p. (view p.0, view p.1, view p.2)) (λ (p : Data × Data × Data). object (member first.now p.0
+        (member second.now p.1 (member third.now p.2 no_members)))) (view value) result }
 {
     let Value::Object(members) = value else {
         return Err(PushFault::WrongShape);
@@ -161,8 +157,7 @@ fn three_members(
 
 // The names and values of an object of texts.
 fn label_texts(alloc: Global, value: Value) -> Result<Vec<(String, String)>, PushFault>
-    ensures tree { ReadsTree (λ pairs. map label_of pairs.items) (λ ps. object (labels_tree ps))
-        (view value) result }
+    ensures tree { ReadsTree (λ pairs. map label_of pairs.items) (λ ps. object (labels_tree ps)) (view value) result }
     ensures sorted { IfOk result (λ pairs. HaveRisingNames (map label_of pairs.items)) }
 {
     let Value::Object(members) = value else {
@@ -214,8 +209,7 @@ fn value_texts(alloc: Global, value: Value) -> Result<ValueTexts, PushFault>
 }
 
 fn values_texts(alloc: Global, value: Value) -> Result<Vec<ValueTexts>, PushFault>
-    ensures { ReadsTree (λ values. map value_texts_of values.items)
-        (λ vs. array (items_of (map value_tree vs)))
+    ensures { ReadsTree (λ values. map value_texts_of values.items) (λ vs. array (items_of (map value_tree vs)))
         (view value) result }
 {
     let items = items_in(value)?;
@@ -238,10 +232,8 @@ fn stream_texts(alloc: Global, value: Value) -> Result<StreamTexts, PushFault>
 
 // The streams of a push body.
 pub(crate) fn body_texts(alloc: Global, value: Value) -> Result<Vec<StreamTexts>, PushFault>
-    ensures tree { ReadsTree (λ streams. map stream_texts_of streams.items) body_tree
-        (view value) result }
-    ensures sorted { IfOk result
-        (λ streams. All (λ s. HaveRisingNames s.pairs) (map stream_texts_of streams.items)) }
+    ensures tree { ReadsTree (λ streams. map stream_texts_of streams.items) body_tree (view value) result }
+    ensures sorted { IfOk result (λ streams. All (λ s. HaveRisingNames s.pairs) (map stream_texts_of streams.items)) }
 {
     let items = items_in(only_member(value, "streams")?)?;
     let mut streams = Vec::with_capacity(alloc, items.len())?;

@@ -12,8 +12,7 @@ const MAX_TIME_DIGITS: usize = 19;
 /// `END_OF_TIME`. `None` where it writes none.
 #[tactic(auto, unfolding(crate::specs::Times::IsTime))]
 pub fn time_of(text: &str) -> Option<u64>
-    ensures { MatchOption result
-        (¬ IsTime text.now) (λ time. IsTime text.now × (time ≡ digits_value 10 text.now)
+    ensures { MatchOption result (¬ IsTime text.now) (λ time. IsTime text.now × (time ≡ digits_value 10 text.now)
         × (time < end_of_time)) }
 {
     if text.len() > MAX_TIME_DIGITS {

@@ -14,7 +14,7 @@ use Rattle.accept.specs.declared.call.Reply.TheVariants.{Verdict, Entries, NoRoo
 use Rattle.accept.specs.declared.history.Ask.{Ask}
 use Rattle.accept.specs.declared.history.Item.TheVariants.{Answered}
 use Rattle.accept.specs.OneStream.{outcomes, image_of}
-use Rattle.accept.specs.Rooms.{room, room_at}
+use Rattle.accept.specs.Rooms.{segment_bytes, room, room_at}
 use Rattle.accept.specs.Histories.{changes, set_stream}
 use Rattle.accept.specs.Calls.{answer_from, stream_after}
 use Rattle.accept.proofs.Growing.{image_of-nothing, within-nothing}
@@ -64,7 +64,7 @@ room_of_one =
     let none : finite.get (finite.empty {X = StreamImage} {R = key_cmp}) k ≡ None = no_base in
     done (room (finite.insert finite.empty k one)) (room finite.empty) _ put_in room-empty (ap (room_at k) none)
   where
-    done : (n e r : ℕ) → n + r ≡ e + 55 → e ≡ 27 → r ≡ 0 → n ≡ 82
+    done : (n e r : ℕ) → n + r ≡ e + 55 → e ≡ segment_bytes → r ≡ 0 → n ≡ 82
     done n e r p q z = omega arith
 
 abbrev pick : Bool → Ask → List Ask → List Ask

@@ -2,7 +2,7 @@
 use Rattle.std.specs.Prelude.{◌≡◌, ◌≤◌, ◌+◌, ◌^◌, Bool, true, false, None, [], length}
 use Rattle.accept.specs.declared.limits.Limits.{Limits}
 use Rattle.accept.specs.OneStream.{AreLimits}
-use Rattle.accept.specs.Rooms.{Streams, room}
+use Rattle.accept.specs.Rooms.{Streams, segment_bytes, room}
 use Rattle.accept.specs.Histories.{meaning, is_marked, IsWithin}
 use Rattle.disk.specs.Sight.{Sight}
 use Rattle.segment.specs.Fitting.{FitStreams}
@@ -34,7 +34,7 @@ pub record IsGround {D : Type 0} (sight : D → Sight) (follows : D → Type 0) 
   pub usable : log.failed ≡ false
   pub settled : Follow follows log → IsOnDisk sight log m
   pub fit : FitStreams (owner log) m
-  pub small : room m ≤ 2 ^ 31 + 27
+  pub small : room m ≤ 2 ^ 31 + segment_bytes
 
 -- The flag, the limits, the states and the log are those of the book's history. Of the states nothing is said once a
 -- device has failed.

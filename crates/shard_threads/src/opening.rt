@@ -12,6 +12,7 @@ use std::alloc::Global;
 use std::sync::Wait;
 use std::test::Fail;
 use std::thread::Threads;
+use wal::Capacity;
 
 /// How many bytes a segment may have.
 const CAPACITY: u64 = 4_096;
@@ -58,10 +59,13 @@ where
     if slots.is_empty() || slots.len() > 64 || passes == 0 || passes > 64 {
         return Err("there are 1 to 64 shards and passes".into());
     }
+    let Some(capacity) = Capacity::new(CAPACITY) else {
+        unreachable!()
+    };
     let settings = Settings {
         passes,
         limits: Limits::PROFILE,
-        capacity: CAPACITY,
+        capacity,
     };
     match Ingester::open(rt, *rt, alloc, slots, settings) {
         Ok(opened) => Ok(opened),

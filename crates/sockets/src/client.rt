@@ -49,7 +49,8 @@ fn text_of(alloc: Global, requests: &[Request<'_>]) -> io::Result<String> {
     for (route, body) in requests {
         let length = body.len();
         let one = format!(in alloc;
-            "POST {route} HTTP/1.1\r\nX-Scope-OrgID: t\r\nContent-Type: application/json\r\nContent-Length: {length}\r\n\r\n{body}"
+            "POST {route} HTTP/1.1\r\nX-Scope-OrgID: t\r\nContent-Type: application/json\r\n\
+            Content-Length: {length}\r\n\r\n{body}"
         )?;
         text.push_str(one.as_str())?;
     }

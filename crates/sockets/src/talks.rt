@@ -14,6 +14,7 @@ use std::rt::Clock;
 use std::sync::Wait;
 use std::test::*;
 use std::thread::{Threads, join};
+use wal::Capacity;
 use workers::{Bounds, Watch, serve_listener};
 
 /// How many bytes a segment may have.
@@ -166,10 +167,13 @@ where
     if slots.is_empty() || slots.len() > 64 || workers == 0 || workers > 64 {
         return Err("there are 1 to 64 shards and workers".into());
     }
+    let Some(capacity) = Capacity::new(CAPACITY) else {
+        unreachable!()
+    };
     let settings = Settings {
         passes: workers,
         limits: Limits::PROFILE,
-        capacity: CAPACITY,
+        capacity,
     };
     match Ingester::open(rt, *rt, alloc, slots, settings) {
         Ok(opened) => Ok(opened),

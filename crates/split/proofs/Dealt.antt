@@ -12,7 +12,7 @@ use Rattle.labels.specs.Keys.{key_cmp, same_key}
 use Rattle.labels.specs.Shards.{shard, max_shards}
 use Rattle.labels.specs.declared.key.StreamKey.{StreamKey}
 use Rattle.accept.specs.declared.image.StreamImage.{StreamImage}
-use Rattle.accept.specs.Rooms.{Streams, stream_room, room}
+use Rattle.accept.specs.Rooms.{Streams, segment_bytes, stream_room, room}
 use Rattle.accept.specs.Histories.{set_stream}
 use Rattle.accept.proofs.KeyOrder.{same_key-is}
 use Rattle.accept.proofs.Meanings.{get-set_stream}
@@ -189,10 +189,10 @@ module _ (m : ℕ) where
   all_more (old ∷ olds) maps s bound some len small =
       omega (arith, all_more olds (dealt m maps old) s bound some (length-given_all m (finite.entries old) maps ∙ len) (λ t lt. small (suc t) (omega (arith, lt))), some_more (finite.entries old) maps s some len, small 0 (omega arith))
 
-  pub rooms_within : (olds news : List Streams) → 0 < m → length olds ≤ max_shards → HaveRoomWithin (2 ^ 31 + 27) (length olds) olds → news ≡ all_dealt m (replicate m finite.empty) olds → HaveRoomWithin (2 ^ 40) m news
+  pub rooms_within : (olds news : List Streams) → 0 < m → length olds ≤ max_shards → HaveRoomWithin (2 ^ 31 + segment_bytes) (length olds) olds → news ≡ all_dealt m (replicate m finite.empty) olds → HaveRoomWithin (2 ^ 40) m news
   rooms_within olds news some few small is s lt =
-      let more = all_more olds (replicate m finite.empty) s (2 ^ 31 + 27) some (length-replicate m finite.empty) small in
-      let none : room (map_at (replicate m finite.empty) s) ≡ 27 = ap room (get_or-replicate m s finite.empty finite.empty lt) ∙ room-empty in
+      let more = all_more olds (replicate m finite.empty) s (2 ^ 31 + segment_bytes) some (length-replicate m finite.empty) small in
+      let none : room (map_at (replicate m finite.empty) s) ≡ segment_bytes = ap room (get_or-replicate m s finite.empty finite.empty lt) ∙ room-empty in
       let here : room (map_at news s) ≡ room (map_at (all_dealt m (replicate m finite.empty) olds) s) = ap (λ (l : List Streams). room (map_at l s)) is in
       omega (arith, more, none, here, few)
 

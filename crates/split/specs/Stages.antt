@@ -1,6 +1,6 @@
 -- What the stages of a split make of the slots, pair by pair.
 use Rattle.std.specs.Prelude.{◌≡◌, ◌≢◌, ◌≤◌, ◌<◌, ◌+◌, ◌^◌, ℕ, List, length}
-use Rattle.accept.specs.Rooms.{Streams, room}
+use Rattle.accept.specs.Rooms.{Streams, segment_bytes, room}
 use Rattle.disk.specs.Sight.{Sight}
 use Rattle.segment.specs.declared.owner.Owner.{Owner}
 use Rattle.segment.specs.Versions.{latest}
@@ -26,7 +26,7 @@ module _ {D : Type 0} (sight : D → Sight) (follows : D → Type 0) where
     pub rests : IsAtRest sight follows given back
     pub read : IsOldShardRead sight follows owner given back m
     pub fit : FitStreams owner m
-    pub small : room m ≤ 2 ^ 31 + 27
+    pub small : room m ≤ 2 ^ 31 + segment_bytes
 
   -- a new shard's slots were measured, and are empty
   pub record IsTested (given back : List D) : Type 0 where
@@ -82,9 +82,9 @@ pub record HasBegun {D : Type 0} (sight : D → Sight) (follows : D → Type 0) 
 -- why a log has no first generation of these streams
 pub data IsBeginFault {D : Type 0} (sight : D → Sight) (old new : Wal D)
     (fault : SplitFault) : Type 0 where
-  in_use : (slot : ℕ) → fault ≡ NotEmpty old.shard slot → 0 < old.generation
+  in_use : (slot : ℕ) → fault ≡ NotEmpty old.owner.shard slot → 0 < old.generation
       → IsBeginFault sight old new fault
-  unwritten : fault ≡ Device old.shard → HasFailed (slots sight old) (slots sight new)
+  unwritten : fault ≡ Device old.owner.shard → HasFailed (slots sight old) (slots sight new)
       → IsBeginFault sight old new fault
   no_memory : fault ≡ Memory → HasNoFailure (slots sight old) (slots sight new)
       → IsBeginFault sight old new fault

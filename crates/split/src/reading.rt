@@ -1,6 +1,7 @@
 //! The streams that the slots of old shards hold.
 ghost use Rattle.std.specs.Prelude.{◌≡◌, ◌<◌, ◌≤◌, ◌+◌, ◌^◌, List, set, IfOk, IfErr, vec_len};
 ghost use Rattle.labels.specs.Shards.{max_shards};
+ghost use Rattle.accept.specs.Rooms.{segment_bytes};
 ghost use Rattle.segment.specs.Segments.{owner_of};
 ghost use Rattle.split.specs.Maps.{map_at, AreFit, HaveRoomWithin};
 ghost use Rattle.split.specs.Splits.{pair_at, EachPair, IsAtRest, IsOldShardRead, IsOldShardRefused, IsCause};
@@ -10,26 +11,25 @@ use crate::fault::SplitFault;
 use crate::moving::{put, take};
 use accept::Image;
 use disk::Disk;
+use segment::Owner;
 use std::alloc::Global;
-use wal::{OpenFault, Wal};
+use wal::{Capacity, OpenFault, Wal};
 
 /// Opens the log of a shard, and gives its slots back with what they hold.
 fn read_pair<D: Disk>(
     alloc: Global,
     given: [D; 2],
-    shard: u32,
-    count: u32,
-    cap: u64,
+    owner: Owner,
+    cap: Capacity,
 ) -> (Result<Image, OpenFault>, [D; 2])
-    requires shard { (shard < count) × (count ≤ max_shards) }
-    requires cap { cap ≤ 2 ^ 30 }
+    requires shard { (owner.shard < owner.count) × (owner.count ≤ max_shards) }
     ensures rests { IsAtRest D.sight D.follows given result.1 }
     ensures read { IfOk result.0
-        (λ m. IsOldShardOpened D.sight D.follows (owner_of shard count) given result.1 m) }
+        (λ m. IsOldShardOpened D.sight D.follows owner given result.1 m) }
     ensures refused { IfErr result.0 (λ fault.
-        IsOldShardRefused D.sight D.follows (owner_of shard count) given result.1 fault) }
+        IsOldShardRefused D.sight D.follows owner given result.1 fault) }
 {
-    match Wal::open(alloc, given, shard, count, cap) {
+    match Wal::open(alloc, given, owner.shard, owner.count, cap) {
         Ok((log, image)) => {
             let back = log.into_slots();
             (Ok(image), back)
@@ -46,10 +46,9 @@ fn read_at<D: Disk>(
     alloc: Global,
     old: &mut Vec<[D; 2]>,
     shard: u32,
-    cap: u64,
+    cap: Capacity,
 ) -> Result<Image, OpenFault>
     requires shard { (shard < vec_len old.old) × (vec_len old.old ≤ max_shards) }
-    requires cap { cap ≤ 2 ^ 30 }
     ensures set { old.new.items ≡ set old.old.items shard (pair_at old.new.items shard) }
     ensures len { vec_len old.new ≡ vec_len old.old }
     ensures rests { IsAtRest D.sight D.follows (pair_at old.old.items shard)
@@ -63,9 +62,12 @@ fn read_at<D: Disk>(
         (pair_at old.old.items shard)
         (pair_at old.new.items shard) fault) }
 {
-    let count = old.len() as u32;
+    let owner = Owner {
+        shard,
+        count: old.len() as u32,
+    };
     let given = take(old, shard as usize);
-    let (read, back) = read_pair(alloc, given, shard, count, cap);
+    let (read, back) = read_pair(alloc, given, owner, cap);
     put(old, shard as usize, back);
     read
 }
@@ -78,10 +80,9 @@ fn read_at<D: Disk>(
 pub(crate) fn read_all<D: Disk>(
     alloc: Global,
     old: &mut Vec<[D; 2]>,
-    cap: u64,
+    cap: Capacity,
 ) -> Result<Vec<Image>, SplitFault>
     requires few { vec_len old.old ≤ max_shards }
-    requires cap { cap ≤ 2 ^ 30 }
     ensures len { vec_len old.new ≡ vec_len old.old }
     ensures rests { EachPair (λ _. IsAtRest D.sight D.follows) old.old.items old.new.items }
     ensures images { IfOk result (λ maps. vec_len maps ≡ vec_len old.old) }
@@ -91,7 +92,7 @@ pub(crate) fn read_all<D: Disk>(
         old.old.items old.new.items) }
     ensures fit { IfOk result (λ maps. AreFit (vec_len old.old) maps.items) }
     ensures small { IfOk result
-        (λ maps. HaveRoomWithin (2 ^ 31 + 27) (vec_len old.old) maps.items) }
+        (λ maps. HaveRoomWithin (2 ^ 31 + segment_bytes) (vec_len old.old) maps.items) }
     ensures refused { IfErr result (λ fault. (new : List (List D))
         → IsCause D.sight D.follows fault cap old.old.items old.new.items new new) }
 {

@@ -1,5 +1,5 @@
 //! Shards split into another number of shards.
-ghost use Rattle.std.specs.Prelude.{◌≡◌, ◌<◌, ◌≤◌, ◌^◌, IfOk, IfErr, OnOk, vec_len};
+ghost use Rattle.std.specs.Prelude.{◌≡◌, ◌<◌, ◌≤◌, IfOk, IfErr, OnOk, vec_len};
 ghost use Rattle.labels.specs.Shards.{max_shards};
 ghost use Rattle.split.specs.Splits.{back, EachPair, HaveFollowed, IsAtRest, AreSplit, IsCause};
 
@@ -10,6 +10,7 @@ use crate::starting::start_all;
 use crate::testing::test_all;
 use disk::Disk;
 use std::alloc::Global;
+use wal::Capacity;
 
 /// Pairs of slots, one for each shard in order, slot 0 first.
 #[derive(Drop)]
@@ -21,7 +22,7 @@ pub struct Slots<D> {
 }
 
 /// Splits the streams of old shards among new shards: each goes to the shard of its key under the new number. There are
-/// 1 to `MAX_SHARDS` of `labels` old shards, and 1 to as many new ones. A segment may have `cap` bytes, at most 2^30.
+/// 1 to `MAX_SHARDS` of `labels` old shards, and 1 to as many new ones. A segment may have `cap` bytes.
 ///
 /// The old slots are synced and read, shard 0 first, and never written. The new slots have to be empty. Once the
 /// streams of each new shard are known to have room, generation 1 is started in slot 1 of each, shard 0 first, even for
@@ -39,11 +40,10 @@ pub fn split<D: Disk>(
     alloc: Global,
     old: Vec<[D; 2]>,
     new: Vec<[D; 2]>,
-    cap: u64,
+    cap: Capacity,
 ) -> Result<Slots<D>, (SplitFault, Slots<D>)>
     requires old { (0 < vec_len old) × (vec_len old ≤ max_shards) }
     requires new { (0 < vec_len new) × (vec_len new ≤ max_shards) }
-    requires cap { cap ≤ 2 ^ 30 }
     ensures lengths { (vec_len (back result).old ≡ vec_len old)
         × (vec_len (back result).new ≡ vec_len new) }
     // A crash at any moment leaves of the old slots only what it could have left at the start.
@@ -70,11 +70,10 @@ fn split_over<D: Disk>(
     alloc: Global,
     old: &mut Vec<[D; 2]>,
     new: &mut Vec<[D; 2]>,
-    cap: u64,
+    cap: Capacity,
 ) -> Result<(), SplitFault>
     requires old { (0 < vec_len old.old) × (vec_len old.old ≤ max_shards) }
     requires new { (0 < vec_len new.old) × (vec_len new.old ≤ max_shards) }
-    requires cap { cap ≤ 2 ^ 30 }
     ensures lengths { (vec_len old.new ≡ vec_len old.old) × (vec_len new.new ≡ vec_len new.old) }
     ensures old_rests { EachPair (λ _. IsAtRest D.sight D.follows) old.old.items old.new.items }
     ensures new_before { EachPair

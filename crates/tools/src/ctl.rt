@@ -1,5 +1,5 @@
 //! The program `ingestctl`: one request on the slots of a folder.
-ghost use Rattle.std.specs.Prelude.{◌≡◌, ◌⊎◌, ◌↔◌, ◌≤◌, ◌^◌, ℕ, List, IfOk, IfErr, IsSome, option_map, string_bytes};
+ghost use Rattle.std.specs.Prelude.{◌≡◌, ◌⊎◌, ◌↔◌, ◌≤◌, ℕ, List, IfOk, IfErr, IsSome, option_map, string_bytes};
 ghost use Rattle.std.specs.Io.KnownBytes.{Appends};
 ghost use Rattle.requests.specs.declared.answer.Answer.{Answer};
 ghost use Rattle.disk.specs.declared.file.FileDisk.{FileDisk};
@@ -20,6 +20,7 @@ use std::fs::{File, Files};
 use std::io::{Read, Write};
 use std::sync::Wait;
 use std::thread::Threads;
+use wal::Capacity;
 
 /// Runs `ingestctl push|read|trim DIR SHARDS TENANT NOW` on the body that is read from `input`, and gives its exit
 /// status.
@@ -73,14 +74,13 @@ fn call_and_print<R, I: Read, W: Write>(
     alloc: Global,
     words: CallWords<'_>,
     limits: Limits,
-    capacity: u64,
+    capacity: Capacity,
     input: &mut I,
     output: &mut W,
 ) -> Result<u8, ProgramFault>
 where
     R: Files<File = File> + Threads + Wait + Copy + Send + Sync + 'static,
     requires limits { AreLimits limits }
-    requires capacity { capacity ≤ 2 ^ 30 }
     ensures few { IfOk result (λ status. status ≤ 1) }
     ensures answered { IfOk result (λ status. (answer : Answer) × (body : List ℕ)
         × IsBodyOf (I.remaining input.old) body
@@ -112,13 +112,12 @@ fn call_folder<R, I: Read>(
     alloc: Global,
     words: CallWords<'_>,
     limits: Limits,
-    capacity: u64,
+    capacity: Capacity,
     input: &mut I,
 ) -> Result<Answer, ProgramFault>
 where
     R: Files<File = File> + Threads + Wait + Copy + Send + Sync + 'static,
     requires limits { AreLimits limits }
-    requires capacity { capacity ≤ 2 ^ 30 }
     ensures { IfOk result (λ answer. (body : List ℕ) × IsBodyOf (I.remaining input.old) body
         × IsDueToCall (Watched FileDisk) words.entry limits capacity body answer) }
 {

@@ -23,7 +23,7 @@ use front::{Answer, ProgramFault, Route, Status, answer, answer_of_read, limits_
 use ingester::{Ingester, Pass};
 use labels::{LabelFault, LabelSet, StreamKey, Tenant};
 use memory_disk::MemDisk;
-use programs::{CAPACITY, Environment, clock_in};
+use programs::{Environment, clock_in, unset_capacity};
 use pushjson::{PushFault, RawBatch, read_push};
 use std::alloc::Global;
 use std::io::{Read, Write};
@@ -98,7 +98,8 @@ where
         → W.contents output.new ≡ W.contents output.old) }
 {
     let body = read_body(alloc, input)?;
-    let (ingester, mut pass) = open_for_one(rt, alloc, empty_slots(alloc)?, limits, CAPACITY)?;
+    let capacity = unset_capacity();
+    let (ingester, mut pass) = open_for_one(rt, alloc, empty_slots(alloc)?, limits, capacity)?;
     let done = push_body(rt, alloc, &ingester, &mut pass, now, &body, output);
     close_for_one(rt, alloc, ingester, pass);
     done
@@ -230,7 +231,7 @@ fn read_stream<D: Disk + Drop, R: Wait, W: Write>(
         Ok(reply) => reply,
         Err(fault) => return Err(ProgramFault::Call(fault)),
     };
-    let Ok(read) = answer_of_read(alloc, &reply) else {
+    let Ok(read) = answer_of_read(alloc, reply) else {
         return Err(ProgramFault::Memory);
     };
     write_bytes(output, read.body.as_slice())?;

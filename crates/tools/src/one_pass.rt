@@ -1,5 +1,5 @@
 //! Shards that are opened and closed by one pass.
-ghost use Rattle.std.specs.Prelude.{◌≡◌, ◌<◌, ◌≤◌, ◌^◌, ◌∷◌, [], List, vec_len, IfOk, IfErr};
+ghost use Rattle.std.specs.Prelude.{◌≡◌, ◌<◌, ◌≤◌, ◌∷◌, [], List, vec_len, IfOk, IfErr};
 ghost use Rattle.labels.specs.Shards.{max_shards};
 ghost use Rattle.accept.specs.OneStream.{AreLimits};
 ghost use Rattle.openings.specs.Findings.{AreOpenedFrom};
@@ -16,6 +16,7 @@ use openings::Unobserved;
 use std::alloc::Global;
 use std::sync::Wait;
 use std::thread::Threads;
+use wal::Capacity;
 
 /// Opens shards over these slots under these limits, with one pass.
 pub fn open_for_one<D, R>(
@@ -23,14 +24,13 @@ pub fn open_for_one<D, R>(
     alloc: Global,
     slots: Vec<[D; 2]>,
     limits: Limits,
-    capacity: u64,
+    capacity: Capacity,
 ) -> Result<(Ingester<D>, Pass), ProgramFault>
 where
     D: Disk + Drop + Send + 'static,
     R: Threads + Wait + Copy + Send + Sync + 'static,
     requires slots { (0 < vec_len slots) × (vec_len slots ≤ max_shards) }
     requires limits { AreLimits limits }
-    requires capacity { capacity ≤ 2 ^ 30 }
     ensures opened { IfOk result
         (λ it. IsOpenedUnder limits (vec_len slots) 1 capacity it.0 (it.1 ∷ [])) }
     ensures found { IfOk result (λ it.

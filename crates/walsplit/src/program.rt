@@ -1,5 +1,5 @@
 //! The program `walsplit`: the slots of a folder under another number of shards.
-ghost use Rattle.std.specs.Prelude.{◌≡◌, ◌⊎◌, ◌↔◌, ◌<◌, ◌≤◌, ◌^◌, ℕ, List, IfOk, IfErr, OnOk, option_map, vec_len};
+ghost use Rattle.std.specs.Prelude.{◌≡◌, ◌⊎◌, ◌↔◌, ◌<◌, ◌≤◌, ℕ, List, IfOk, IfErr, OnOk, option_map, vec_len};
 ghost use Rattle.std.specs.Io.KnownBytes.{Appends};
 ghost use Rattle.labels.specs.Shards.{max_shards};
 ghost use Rattle.disk.specs.declared.file.FileDisk.{FileDisk};
@@ -23,6 +23,7 @@ use split::split;
 use std::alloc::Global;
 use std::fs::{File, Files};
 use std::io::{Stderr, Write};
+use wal::Capacity;
 
 /// A slot of a folder.
 type Slot = Watched<FileDisk>;
@@ -80,11 +81,10 @@ fn split_and_print<R: Files<File = File>, W: Write>(
     rt: &R,
     alloc: Global,
     words: SplitWords<'_>,
-    capacity: u64,
+    capacity: Capacity,
     output: &mut W,
     marks: Option<Stderr>,
 ) -> Result<(), WalsplitFault>
-    requires { capacity ≤ 2 ^ 30 }
     ensures said { OnOk result ((shards : ℕ) × (1 ≤ shards) × (shards ≤ max_shards)
         × IsDivided ⟦<Slot as Disk>⟧.sight ⟦<Slot as Disk>⟧.follows capacity shards
         words.entry.shards
@@ -109,10 +109,9 @@ fn split_folder<R: Files<File = File>>(
     rt: &R,
     alloc: Global,
     words: SplitWords<'_>,
-    capacity: u64,
+    capacity: Capacity,
     marks: Option<Stderr>,
 ) -> Result<u32, WalsplitFault>
-    requires { capacity ≤ 2 ^ 30 }
     ensures some { IfOk result (λ shards. (1 ≤ shards) × (shards ≤ max_shards)) }
     ensures divided { IfOk result (λ shards. IsDivided ⟦<Slot as Disk>⟧.sight
         ⟦<Slot as Disk>⟧.follows capacity shards words.entry.shards) }
@@ -152,12 +151,11 @@ fn split_opened(
     alloc: Global,
     old: Vec<[Slot; 2]>,
     new: Vec<[Slot; 2]>,
-    capacity: u64,
+    capacity: Capacity,
     terminal: Option<Stderr>,
 ) -> Result<(), WalsplitFault>
     requires old { (0 < vec_len old) × (vec_len old ≤ max_shards) }
     requires new { (0 < vec_len new) × (vec_len new ≤ max_shards) }
-    requires capacity { capacity ≤ 2 ^ 30 }
     ensures { OnOk result ((old_back : List (List (Watched FileDisk)))
         × (new_back : List (List (Watched FileDisk)))
         × AreSplit ⟦<Slot as Disk>⟧.sight ⟦<Slot as Disk>⟧.follows capacity old.items old_back
@@ -173,11 +171,10 @@ fn split_slots<D: Disk + Drop>(
     alloc: Global,
     old: Vec<[D; 2]>,
     new: Vec<[D; 2]>,
-    capacity: u64,
+    capacity: Capacity,
 ) -> Result<(), WalsplitFault>
     requires old { (0 < vec_len old) × (vec_len old ≤ max_shards) }
     requires new { (0 < vec_len new) × (vec_len new ≤ max_shards) }
-    requires capacity { capacity ≤ 2 ^ 30 }
     ensures done { OnOk result ((backs : Slots D)
         × AreSplit D.sight D.follows capacity old.items backs.old.items new.items backs.new.items) }
     ensures cause { IfErr result (λ stop. (fault : SplitFault) × (backs : Slots D)

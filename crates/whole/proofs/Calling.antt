@@ -1,36 +1,15 @@
 -- A call of a pass, made by a turn of its shard.
 use Rattle.std.proofs.Common.{◌≡◌, ℕ, suc, ◌+◌, ◌<◌, true, false, List, [], ◌∷◌, ◌++◌, length, All, Bool, Result, Err, refl, sym, ap, ◌∙◌, subst, inl, ⊎_elim, arith}
 use Rattle.atomic_table.specs.Seated.{TableId}
-use Rattle.accept.specs.Calls.{AreNumbers}
-use Rattle.accept.specs.declared.call.Call.{Call}
-use Rattle.accept.specs.declared.call.Reply.{Reply}
-use Rattle.accept.specs.declared.history.Ask.{Ask}
-use Rattle.accept.specs.declared.history.Item.{Item}
-use Rattle.accept.specs.declared.history.Step.{Step}
-use Rattle.accept.specs.declared.fault.CallFault.{CallFault}
-use Rattle.accept.specs.Histories.{key_of}
-use Rattle.disk.specs.Sight.{Sight}
-use Rattle.history.specs.declared.views.About.{About}
-use Rattle.history.specs.Histories.{IsFirst, IsFirstIfAmong, asks_on, behind_first, shard_in}
-use Rattle.history.specs.Plays.{ask_of, before_of, collect_to, withdraw_to}
-use Rattle.history.specs.Handles.{Announced, Booked, Passed, is_closed_pass}
-use Rattle.history.specs.Shards.{shard_of}
+use Rattle.headline.proofs.Common.{AreNumbers, Call, Reply, CallFault, Ask, Step, Item, About, Sight, Sharded, Opening, key_of, IsFirst, IsFirstIfAmong, asks_on, behind_first, shard_in, ask_of, collect_to, withdraw_to, Announced, Booked, Passed, ticket_for, is_closed_pass, shard_of, IsMade, Lead, Turn, AreReady, IsOf, IsGiven, shard_for, with_next}
 use Rattle.shard.specs.declared.fault.ApplyFault.{ApplyFault}
-use Rattle.shard.specs.Leads.{IsMade, Lead}
-use Rattle.shard.specs.Shards.{Sharded}
-use Rattle.shard.specs.Turns.{Turn, AreReady}
-use Rattle.owners.specs.Openings.{Opening}
-use Rattle.owners.specs.Places.{IsOf}
 use Rattle.owners.proofs.Turning.{turn_of}
-use Rattle.ingester.specs.Calls.{IsGiven, shard_for, with_next}
 use Rattle.ingester.specs.Faults.{fault_of}
 use Rattle.ingester.specs.Batches.{IsTaken}
 use Rattle.ingester.proofs.Passing.{settled_call}
-use Rattle.one_life.specs.declared.opening.Two.{Two}
-use Rattle.one_life.specs.Cut.{IsOn, IsBookOf, IsIdle}
+use Rattle.whole.proofs.Common.{Two, IsOn, IsBookOf, IsIdle, HasTurned, AreServing, FirstGives}
 use Rattle.one_life.proofs.Cutting.{ready_one}
 use Rattle.one_life.proofs.Staying.{here_for}
-use Rattle.whole.specs.ServedOnce.{HasTurned, AreServing, FirstGives}
 
 -- ---- turns
 
@@ -55,12 +34,7 @@ module _ {D : Type 0} (sight : D → Sight) (follows : D → Type 0) where
 module _ (table : TableId) (about : About) (was : Passed) (idle : IsIdle table about was) (call : Call) where
   -- the call has been announced
   pub record IsJustAnnounced (ticket : Announced) (now : Passed) : Type 0 where
-    pub ticket_is : ticket ≡ record {
-      table = table;
-      ask = ask_of was.caller (was.caller.last + 1) call;
-      doubted = false;
-      before = before_of was.caller (was.caller.last + 1) call;
-    }
+    pub ticket_is : ticket ≡ ticket_for table was.caller (was.caller.last + 1) call
     pub pass : now ≡ with_next was call
 
   module _ (ticket : Announced) (now : Passed) (is : IsJustAnnounced ticket now) where

@@ -1,37 +1,29 @@
 -- What the calls of requests leave happens to their pass.
-use Rattle.std.proofs.Common.{◌≡◌, ◌⊎◌, ℕ, Bool, true, false, List, [], ◌∷◌, ◌++◌, map, Result, Ok, Err, refl, sym, ap, ◌∙◌, subst, inl, inr, append_assoc}
+use Rattle.std.proofs.Common.{◌≡◌, ℕ, Bool, true, false, List, [], ◌∷◌, ◌++◌, map, Result, Ok, Err, refl, sym, ap, ◌∙◌, subst, inl, inr, ◌⊎◌, append_assoc}
 use Rattle.std.proofs.lemmas.List.{map-append}
 use Rattle.std.proofs.lemmas.List.Concat.{flat_map-append}
 use Rattle.accept.specs.declared.call.Call.{Call as Asking}
-use Rattle.accept.specs.declared.call.Reply.{Reply}
-use Rattle.accept.specs.declared.history.Step.{Step}
-use Rattle.accept.specs.declared.fault.CallFault.{CallFault}
+use Rattle.headline.proofs.Common.{Reply, CallFault, Step, Passed, Opening, IsGivenAfter, What, Called, Happening, Happens, HappenAfter, answers_by, IsOneOf, among_left, among_right, among_split}
 use Rattle.accept.specs.Doubts.{is_doubt}
 use Rattle.pushjson.specs.declared.fault.PushFault.{PushFault}
 use Rattle.requests.specs.declared.route.Route.{Route}
-use Rattle.requests.specs.declared.verdict.Verdict.{Verdict}
+use Rattle.whole.proofs.Common.{Verdict, Asked, AsksFor, IsCallOf, Came, Refused, Replied, Failed, Course, Unread, Whole, Broken, said_of, StreamsGiveAfter, BodyGives, BodyIsLeft, Known, MayGoOn, among, known, Exchange, World, VerdictGives, VerdictIsLeft, ConnectionGives, IsExchange, IsAbandoned, AreSteps, AreStepsOf, AreStepsBy, CallGives, its_step, answered_among, steps_among, IsAskedIn}
 use Rattle.requests.specs.declared.verdict.Verdict.TheVariants.{Fixed, Call, NoMemory}
 use Rattle.requests.specs.Fields.{fields_of}
 use Rattle.requests.specs.Streams.{Request, ReadsMessage}
 use Rattle.requests.specs.Verdicts.{IsVerdict}
-use Rattle.history.specs.Handles.{Passed}
-use Rattle.owners.specs.Openings.{Opening}
-use Rattle.ingester.specs.Calls.{IsGivenAfter}
-use Rattle.headline.specs.Threads.{What, Called, Looked, Met, Closed, Happening, Happens, HappenAfter, answers_by}
-use Rattle.headline.specs.Headline.{IsOneOf}
-use Rattle.headline.proofs.Among.{among_left}
-use Rattle.answering.specs.Asking.{Asked, AsksFor, IsCallOf}
-use Rattle.answering.specs.Calls.{Came, Refused, Replied, Failed}
-use Rattle.answering.specs.Courses.{Course, Unread, Whole, Broken, said_of, StreamsGiveAfter, BodyGives, BodyIsLeft}
-use Rattle.answering.specs.Gathering.{Known, MayGoOn, among, known}
-use Rattle.answering.specs.Serving.{Exchange, World, VerdictGives, VerdictIsLeft, ConnectionGives, IsExchange, IsAbandoned}
-use Rattle.answering.specs.Steps.{AreSteps, AreStepsOf, AreStepsBy, AreTheirSteps}
-use Rattle.front.specs.Calls.{CallGives}
-use Rattle.whole.specs.Visits.{its_step, answered_among, steps_among}
-use Rattle.whole.specs.Whole.{IsAskedIn}
 
-pub steps-append : (first others : List Happening) → steps_among (first ++ others) ≡ steps_among first ++ steps_among others
+steps-append : (first others : List Happening) → steps_among (first ++ others) ≡ steps_among first ++ steps_among others
 steps-append first others = ap (map its_step) (flat_map-append (λ h. answers_by h.before.caller h.what) first others) ∙ map-append its_step (answered_among first) (answered_among others)
+
+pub into_left : (first more : List Happening) (s : Step) → IsOneOf s (steps_among first) → IsOneOf s (steps_among (first ++ more))
+into_left first more s one = subst (IsOneOf s) (sym (steps-append first more)) (among_left s (steps_among first) (steps_among more) one)
+
+pub into_right : (first more : List Happening) (s : Step) → IsOneOf s (steps_among more) → IsOneOf s (steps_among (first ++ more))
+into_right first more s one = subst (IsOneOf s) (sym (steps-append first more)) (among_right s (steps_among first) (steps_among more) one)
+
+pub one_of_both : (first more : List Happening) (s : Step) → IsOneOf s (steps_among (first ++ more)) → IsOneOf s (steps_among first) ⊎ IsOneOf s (steps_among more)
+one_of_both first more s one = among_split s (steps_among first) (steps_among more) (subst (IsOneOf s) (steps-append first more) one)
 
 -- a stream that was asked for has this call
 abbrev pub IsAskedOn : List ℕ → Result (List Asked) PushFault → Asking → Type 0
@@ -70,9 +62,7 @@ module _ {D : Type 0} (opening : Opening D) where
 
   weaker : (lost : Bool) (old new : Passed) (what : What) → Happens false opening old what new → Happens lost opening old what new
   weaker lost old new (Called call outcome) is = given_weaker lost old new call outcome is
-  weaker lost old new (Looked k) is = is
-  weaker lost old new (Met other theirs) is = is
-  weaker lost old new Closed is = is
+  weaker lost old new what is = is
 
   -- what happens where no call before is in doubt may happen behind any
   behind_any : (lost : Bool) (start end : Passed) (hs : List Happening) → HappenAfter false opening start hs end → HappenAfter lost opening start hs end

@@ -1,21 +1,13 @@
 -- The visits of a connection join: what they put to be sent answers the requests in all its bytes.
-use Rattle.std.proofs.Common.{◌≡◌, ◌⊎◌, ℕ, zero, suc, Bool, List, [], ◌∷◌, ◌++◌, take, Result, Ok, Err, refl, sym, ap, ◌∙◌, subst, inl, inr, ⊎_elim, append_assoc, append-nil}
+use Rattle.std.proofs.Common.{◌≡◌, ◌⊎◌, ℕ, List, [], ◌∷◌, ◌++◌, take, Result, Ok, Err, refl, sym, ap, ◌∙◌, subst, inl, inr, ⊎_elim, append_assoc, append-nil}
+use Rattle.std.proofs.Math.Seq.{take-nil}
 use Rattle.std.proofs.lemmas.List.Concat.{flat_map-append}
 use Rattle.std.specs.List.{flat_map}
-use Rattle.accept.specs.declared.history.Step.{Step}
+use Rattle.headline.proofs.Common.{Step, IsOneOf, among_left, among_right, among_split}
 use Rattle.requests.proofs.Unique.{keeps_request}
-use Rattle.requests.specs.declared.fault.ServeFault.{ServeFault}
-use Rattle.headline.specs.Headline.{IsOneOf}
-use Rattle.headline.proofs.Among.{among_left, among_right, among_split}
-use Rattle.answering.specs.Gathering.{among}
+use Rattle.whole.proofs.Common.{ServeFault, among, Exchange, response, Visited, Closed, CallGives, Visit, IsKeptOrNot, AreJoined, IsNextOf}
 use Rattle.answering.specs.Joining.{AnswersApart}
-use Rattle.answering.specs.Serving.{Exchange, response}
-use Rattle.answering.specs.declared.visiting.Visited.{Visited}
-use Rattle.answering.specs.declared.visiting.Visited.TheVariants.{More, Unfinished, Closed}
 use Rattle.answering.proofs.Joining.{apart}
-use Rattle.front.specs.Calls.{CallGives}
-use Rattle.front.specs.Visits.{Visit, IsKeptOrNot, AreJoined}
-use Rattle.whole.specs.Whole.{IsNextOf}
 use Rattle.whole.proofs.Visiting.{IsCalledBy, Answers}
 
 -- whether a visit keeps its connection
@@ -23,23 +15,17 @@ abbrev IsKept : Result Visited ServeFault → Type 0
 IsKept r = IsKeptOrNot r (Unit {0}) ⊥
 
 kept_or_not : (r : Result Visited ServeFault) (A B : Type 0) → IsKeptOrNot r A B → (A × IsKept r) ⊎ B
-kept_or_not (Ok More) A B is = inl (is, tt)
-kept_or_not (Ok (Unfinished n)) A B is = inl (is, tt)
 kept_or_not (Ok Closed) A B is = inr is
 kept_or_not (Err fault) A B is = inr is
+kept_or_not r A B is = inl (is, tt)
 
 when_kept : (r : Result Visited ServeFault) (A : Type 0) → IsKept r → IsKeptOrNot r A (Unit {0}) → A
-when_kept (Ok More) A k is = is
-when_kept (Ok (Unfinished n)) A k is = is
 when_kept (Ok Closed) A k is = absurd k
 when_kept (Err fault) A k is = absurd k
+when_kept r A k is = is
 
 taken_none : (some : ℕ) (es : List Exchange) (text : List ℕ) → es ≡ [] → text ≡ [] → take some (flat_map response es ++ text) ≡ []
-taken_none some es text e f = ap (λ l. take some (flat_map response l ++ text)) e ∙ ap (take some) f ∙ none some
-  where
-    none : (n : ℕ) → take {A = ℕ} n [] ≡ []
-    none zero = refl
-    none (suc n) = refl
+taken_none some es text e f = ap (λ l. take some (flat_map response l ++ text)) e ∙ ap (take some) f ∙ take-nil some
 
 module _ {C : Type 0} (ticks : C → ℕ → C → Type 0) where
   more_apart : (bytes more : List ℕ) (es : List Exchange) (rest : List ℕ) → AnswersApart (among CallGives) ticks bytes es rest → AnswersApart (among CallGives) ticks (bytes ++ more) es (rest ++ more)

@@ -1,41 +1,18 @@
 -- A line that a push stored, or that repeats the last one of its stream, stays in the stream until it is trimmed.
-use Rattle.std.proofs.Common.{◌≡◌, ◌⊎◌, ℕ, ◌<◌, ◌≤◌, Bool, true, false, cond, not, max, List, [], ◌∷◌, ◌++◌, filter, Option, None, Some, option_map, refl, sym, ap, ◌∙◌, subst, inl, inr, ⊎_elim, append_assoc, append-nil, arith}
-use Rattle.std.specs.Prelude.{nat_le}
+use Rattle.std.proofs.Common.{◌≡◌, ◌⊎◌, ℕ, ◌<◌, ◌≤◌, Bool, true, false, cond, not, max, List, [], ◌∷◌, ◌++◌, filter, Option, None, Some, option_map, refl, sym, ap, ◌∙◌, subst, inl, inr, ⊎_elim, append_assoc, append-nil, arith, nat_le}
 use Rattle.std.specs.FinMap as finite
-use Rattle.std.proofs.lemmas.Bool.{false≢true, cases_lt, leb-false}
 use Rattle.labels.specs.Keys.{same_key}
-use Rattle.labels.specs.declared.key.StreamKey.{StreamKey}
+use Rattle.headline.proofs.Common.{StreamKey, Limits, Call, Push, Trim, Reply, Verdict, Trimmed, Ask, Step, Item, Answered, Failed, History, About, stored_of, last_or, base_last, base_kept, highest_of, last_of, kept_of, image_of, same_entry, outcome, outcomes, stored_by, bound_by, stored_in, bound_in, stored, greatest_bound, base_of, answer, then_step, answered_to, MayFollow, IsLegalAt, base_at, terms_of, history_of, IsOneOf, is_refusal, false≢true, cases_lt, cases_Bool, leb-false, legal_front, among_left, among_right, cond_both}
 use Rattle.entries.specs.declared.entry.Entry.{Entry}
-use Rattle.accept.specs.declared.call.Call.{Call}
-use Rattle.accept.specs.declared.call.Call.TheVariants.{Push, Read, Trim}
-use Rattle.accept.specs.declared.call.Reply.{Reply}
-use Rattle.accept.specs.declared.call.Reply.TheVariants.{Verdict, Entries, Trimmed, TrimTooNew, NoStream, NoRoom, Unavailable}
 use Rattle.accept.specs.declared.outcome.Outcome.{Outcome}
 use Rattle.accept.specs.declared.outcome.Outcome.TheVariants.{Repeat, Stored}
-use Rattle.accept.specs.declared.history.Ask.{Ask}
-use Rattle.accept.specs.declared.history.Step.{Step}
-use Rattle.accept.specs.declared.history.Item.{Item}
-use Rattle.accept.specs.declared.history.Item.TheVariants.{Answered, Failed}
-use Rattle.accept.specs.declared.history.History.{History}
 use Rattle.accept.specs.declared.image.StreamImage.{StreamImage}
-use Rattle.accept.specs.declared.limits.Limits.{Limits}
-use Rattle.accept.specs.OneStream.{stored_of, last_or, base_last, base_kept, highest_of, last_of, oldest_of, kept_of, image_of, same_entry, outcome, outcomes}
-use Rattle.accept.specs.Histories.{stored_by, bound_by, stored_in, bound_in, stored, greatest_bound, base_of, answer, then_step, answered_to, MayFollow}
 use Rattle.accept.proofs.Growing.{stored-append}
 use Rattle.accept.proofs.KeyOrder.{same_key_itself, same_key-is}
 use Rattle.accept.proofs.Legal.{legal-last}
 use Rattle.accept.proofs.Outcomes.{outcome_at-Repeat}
-use Rattle.history.specs.declared.views.About.{About}
-use Rattle.history.specs.Histories.{IsBeginning, IsLegalAt, base_at, terms_of, history_of}
-use Rattle.history.proofs.Past.{legal_front}
-use Rattle.headline.specs.Headline.{IsOneOf, is_refusal}
-use Rattle.headline.proofs.Among.{among_left, among_right, among_split}
 use Rattle.headline.proofs.Saying.{not_refused}
 use Rattle.whole.specs.Whole.{IsTrimAbove, IsSameLine}
-
-either : (b : Bool) → (b ≡ true) ⊎ (b ≡ false)
-either true = inl refl
-either false = inr refl
 
 -- Of one stream.
 
@@ -57,11 +34,7 @@ last_within before (x ∷ es) y e = ⊎_elim
 one_filtered : (p : Entry → Bool) (xs : List Entry) (x : Entry) → IsOneOf x xs → p x ≡ true → IsOneOf x (filter p xs)
 one_filtered p [] x one holds = absurd one
 one_filtered p (y ∷ ys) x (inl e) holds = subst (λ (b : Bool). IsOneOf x (cond b (y ∷ filter p ys) (filter p ys))) (sym (ap p (sym e) ∙ holds)) (inl e)
-one_filtered p (y ∷ ys) x (inr t) holds = later (p y) (one_filtered p ys x t holds)
-  where
-    later : (b : Bool) → IsOneOf x (filter p ys) → IsOneOf x (cond b (y ∷ filter p ys) (filter p ys))
-    later true one = inr one
-    later false one = one
+one_filtered p (y ∷ ys) x (inr t) holds = cond_both (p y) (y ∷ filter p ys) (filter p ys) (IsOneOf x) (λ f. inr (one_filtered p ys x t holds)) (λ f. one_filtered p ys x t holds)
 
 -- what was stored is kept, or below a bound
 pub kept_or_below : (base : Option StreamImage) (all : List Entry) (bound : ℕ) (x : Entry) → IsOneOf x all → IsOneOf x (base_kept (image_of base all bound)) ⊎ (x.time < bound)
@@ -73,7 +46,7 @@ kept_or_below base all bound x one =
     (sym last.1)
     (one_filtered (λ e. nat_le bound e.time) (base_kept base ++ all) x (among_right x (base_kept base) all one) holds)))
     (λ (fails : nat_le bound x.time ≡ false). inr (leb-false bound x.time fails))
-    (either (nat_le bound x.time))
+    (cases_Bool (nat_le bound x.time))
 
 -- each entry of a batch was stored, or repeated the last one
 abbrev pub IsTaken : Outcome → Type 0
@@ -127,15 +100,8 @@ module _ (key : StreamKey) (n : ℕ) where
   by_key k bound false e l = absurd (omega arith)
 
   by_call : (call : Call) (r : Reply) → n < bound_by key call r → IsTrimAbove key n call
-  by_call (Push k now entries) r l = absurd (omega arith)
-  by_call (Read k from to) r l = absurd (omega arith)
   by_call (Trim k bound) (Trimmed m) l = by_key k bound (same_key key k) refl l
-  by_call (Trim k bound) (Verdict os) l = absurd (omega arith)
-  by_call (Trim k bound) (Entries es) l = absurd (omega arith)
-  by_call (Trim k bound) TrimTooNew l = absurd (omega arith)
-  by_call (Trim k bound) NoStream l = absurd (omega arith)
-  by_call (Trim k bound) NoRoom l = absurd (omega arith)
-  by_call (Trim k bound) Unavailable l = absurd (omega arith)
+  by_call call r l = absurd (omega arith)
 
   by_item : (i : Item) → n < bound_in key i → (s : Step) × (Answered s ≡ i) × IsTrimAbove key n s.ask.call
   by_item (Failed doubt) l = absurd (omega arith)

@@ -1,3 +1,4 @@
+pub mod Common
 pub mod Happening
 pub mod Visiting
 pub mod Joining

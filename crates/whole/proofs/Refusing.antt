@@ -1,22 +1,9 @@
 -- A wrong server: the record does not hold of it, and one field refuses it.
-use Rattle.std.proofs.Common.{◌≡◌, ℕ, List, [], ◌∷◌, ◌++◌, refl, inl, subst, Result, Ok}
-use Rattle.accept.specs.declared.call.Reply.{Reply}
-use Rattle.accept.specs.declared.history.Step.{Step}
-use Rattle.accept.specs.declared.history.Item.{Item}
-use Rattle.accept.specs.declared.history.Item.TheVariants.{Answered}
-use Rattle.disk.specs.Sight.{Sight}
+use Rattle.std.proofs.Common.{◌≡◌, ℕ, List, [], ◌∷◌, ◌++◌, refl, inl, subst}
+use Rattle.headline.proofs.Common.{Reply, Step, Item, Answered, Sight, IsOneOf, Life}
 use Rattle.requests.specs.declared.route.Route.{Route}
-use Rattle.requests.specs.declared.verdict.Verdict.{Verdict}
+use Rattle.whole.proofs.Common.{Verdict, Asked, Came, Replied, Course, Whole, Exchange, AreSteps, AreStepsBy, Line, HasItsSteps, IsLineAnswered}
 use Rattle.requests.specs.declared.verdict.Verdict.TheVariants as verdicts
-use Rattle.answering.specs.Asking.{Asked}
-use Rattle.answering.specs.Calls.{Came, Replied}
-use Rattle.answering.specs.Courses.{Course, Whole}
-use Rattle.answering.specs.Serving.{Exchange}
-use Rattle.answering.specs.Steps.{AreSteps, AreStepsBy}
-use Rattle.headline.specs.Headline.{IsOneOf}
-use Rattle.headline.specs.Lives.{Life}
-use Rattle.front.specs.Visits.{Line}
-use Rattle.whole.specs.Whole.{HasItsSteps, IsLineAnswered}
 
 some_step : (tenant : List ℕ) (all : List Asked) (reply : Reply) (cames : List Came) (steps : List Step) → AreSteps tenant all (Replied reply ∷ cames) steps → (s : Step) × IsOneOf s steps
 some_step tenant [] reply cames steps h = absurd h

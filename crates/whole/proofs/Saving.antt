@@ -1,26 +1,15 @@
 -- The lines of a push that is answered with 204 are in what is replayed.
-use Rattle.std.proofs.Common.{◌≡◌, ◌⊎◌, ℕ, ◌+◌, ◌<◌, Bool, true, false, cond, eqb, ◌&&◌, List, [], ◌∷◌, ◌++◌, map, length, Option, None, Some, Result, Ok, Err, Vec, refl, sym, ap, ◌∙◌, subst, inl, inr, ⊎_elim, arith}
+use Rattle.std.proofs.Common.{◌≡◌, ◌⊎◌, ℕ, ◌<◌, Bool, true, false, cond, nat_lt, ◌&&◌, List, [], ◌∷◌, map, None, Some, Result, Ok, Err, Vec, refl, sym, ap, ◌∙◌, subst, inl, inr, ⊎_elim, arith}
 use Rattle.std.specs.declared.alloc.Global.{Global}
 use Rattle.std.specs.FinMap as finite
-use Rattle.std.specs.List.{list_any}
-use Rattle.std.proofs.lemmas.Bool.{false≢true, eqb-true}
+use Rattle.std.specs.List.{fold, list_all}
+use Rattle.std.proofs.lemmas.Bool.{false≢true, ltb-true, ltb-false}
 use Rattle.labels.specs.Canonical.{IsTextOf}
-use Rattle.labels.specs.declared.key.StreamKey.{StreamKey}
+use Rattle.headline.proofs.Common.{StreamKey, Streams, Call, Reply, NoRoom, Unavailable, Ask, Step, Item, Answered, History, About, base_last, base_kept, key_of, stored, greatest_bound, base_of, stream_of, answered_to, IsBeginning, IsLegalAt, base_at, history_of, shard_in, shard_of, Thread, happened_to, IsOneOf, IsHeadline, IsReplay, RefusedShard, is_refusal, eqb-true, legal_front, shard_below, among_left, among_split, and_parts}
 use Rattle.entries.specs.declared.entry.Entry.{Entry}
-use Rattle.accept.specs.declared.call.Call.{Call}
 use Rattle.accept.specs.declared.call.Call.TheVariants as calls
-use Rattle.accept.specs.declared.call.Reply.{Reply}
-use Rattle.accept.specs.declared.call.Reply.TheVariants.{Verdict, Entries, Trimmed, TrimTooNew, NoStream, NoRoom, Unavailable}
 use Rattle.accept.specs.declared.outcome.Outcome.{Outcome}
 use Rattle.accept.specs.declared.outcome.Outcome.TheVariants.{Repeat, Stored}
-use Rattle.accept.specs.declared.history.Ask.{Ask}
-use Rattle.accept.specs.declared.history.Step.{Step}
-use Rattle.accept.specs.declared.history.Item.{Item}
-use Rattle.accept.specs.declared.history.Item.TheVariants.{Answered}
-use Rattle.accept.specs.declared.history.History.{History}
-use Rattle.accept.specs.Rooms.{Streams}
-use Rattle.accept.specs.OneStream.{same_entry, base_last, base_kept}
-use Rattle.accept.specs.Histories.{key_of, stored, greatest_bound, base_of, stream_of, meaning, answered_to}
 use Rattle.accept.proofs.Growing.{stored-append}
 use Rattle.accept.proofs.Meanings.{get-meaning}
 use Rattle.pushjson.specs.Reads.{ReadsPush, IsPushAnswer}
@@ -30,99 +19,78 @@ use Rattle.pushjson.specs.declared.fault.PushFault.TheVariants.{Memory}
 use Rattle.pushjson.proofs.Existence.{one_answer}
 use Rattle.requests.specs.declared.route.Route.TheVariants.{Push}
 use Rattle.requests.specs.declared.status.Status.{Status}
-use Rattle.requests.specs.declared.status.Status.TheVariants.{NoContent, BadRequest, InsufficientStorage, ServiceUnavailable}
+use Rattle.requests.specs.declared.status.Status.TheVariants.{NoContent, BadRequest}
 use Rattle.requests.specs.declared.verdict.Verdict.TheVariants as verdicts
-use Rattle.history.specs.declared.views.About.{About}
-use Rattle.history.specs.Histories.{IsBeginning, IsLegalAt, base_at, history_of, shard_in}
-use Rattle.history.specs.Shards.{shard_of}
-use Rattle.history.proofs.Past.{legal_front}
-use Rattle.history.proofs.Sharding.{shard_below}
-use Rattle.headline.specs.Threads.{Thread, AnsweredCall, happened_to}
-use Rattle.headline.specs.Headline.{IsOneOf, IsHeadline, IsReplay, RefusedShard, WasAnswered, ask_for, shard_at, step_for, is_refusal}
-use Rattle.headline.proofs.Among.{among_left, among_right, among_split}
-use Rattle.answering.specs.Asking.{Asked, AsksFor, IsCallOf, asked_push, pushes_of}
-use Rattle.answering.specs.Calls.{Came, Refused, Replied, Failed}
-use Rattle.answering.specs.Courses.{Course, Whole, first_failure}
-use Rattle.answering.specs.Lines.{newline, stream_line, outcome_line, outcome_lines, reply_lines, came_lines, lines_from, has_no_room, is_unavailable, push_status}
-use Rattle.answering.specs.Serving.{Exchange}
-use Rattle.answering.specs.Steps.{AreSteps, AreStepsBy}
-use Rattle.whole.specs.Visits.{its_step, answered_among, steps_among}
-use Rattle.whole.specs.Whole.{IsAcknowledged, IsTrimAbove, MayBeTrimmed, IsSameLine, IsLineKept}
+use Rattle.whole.proofs.Common.{Asked, AsksFor, IsCallOf, asked_push, pushes_of, Came, Refused, Replied, Failed, Whole, first_failure, Exchange, AreSteps, AreStepsBy, answered_among, steps_among, IsAcknowledged, MayBeTrimmed, IsSameLine, IsLineKept}
+use Rattle.answering.specs.Lines.{severity, worse_of, is_taken, came_status}
 use Rattle.whole.proofs.Lasting.{IsTaken, AreTaken, IsLonger, answered_longer, kept_or_below, trimmed_by, line_stored}
 use Rattle.whole.proofs.Standing.{step_answered}
 use Rattle.whole.proofs.Visiting.{IsCalledBy}
 
--- An answer without a line.
+-- An answer of status 204.
 
-both_none : (xs ys : List ℕ) → xs ++ ys ≡ [] → (xs ≡ []) × (ys ≡ [])
-both_none [] ys none = (refl, none)
-both_none (x ∷ xs) ys none = absurd (cc)
+is_best : (s : Status) → severity s ≡ 0 → s ≡ NoContent
+is_best NoContent e = refl
+is_best s e = absurd (omega (arith, e))
 
-stream_said : (i : ℕ) (words : List ℕ) → stream_line i words ≡ [] → ⊥
-unfolding stream_line
-stream_said i words e = absurd (cc)
+-- where the worse of two is 204, both are
+both_best : (a b : Status) (less : Bool) → nat_lt (severity a) (severity b) ≡ less → cond less b a ≡ NoContent → (a ≡ NoContent) × (b ≡ NoContent)
+both_best a b true lt e = absurd (omega (arith, ltb-true (severity a) (severity b) lt, ap severity e))
+both_best a b false lt e = (e, is_best b (omega (arith, ltb-false (severity a) (severity b) lt, ap severity e)))
 
--- each line ends so
-end_said : newline ≡ [] → ⊥
-end_said e = absurd (cc)
+abbrev AreBest : List Came → Type 0
+AreBest [] = Unit {0}
+AreBest (c ∷ cs) = (came_status c ≡ NoContent) × AreBest cs
 
-one_quiet : (i j : ℕ) (o : Outcome) → outcome_line i j o ≡ [] → IsTaken o
-one_quiet i j Stored e = inl refl
-one_quiet i j Repeat e = inr refl
-one_quiet i j o e = absurd (end_said (both_none _ _ e).1)
+all_best : (worst : Status) (cames : List Came) → fold (λ w came. worse_of w (came_status came)) worst cames ≡ NoContent → (worst ≡ NoContent) × AreBest cames
+all_best worst [] e = (e, tt)
+all_best worst (c ∷ cs) e =
+    let (here, others) = all_best (worse_of worst (came_status c)) cs e in
+    let (before, best) = both_best worst (came_status c) (nat_lt (severity worst) (severity (came_status c))) refl here in
+    (before, (best, others))
 
-all_quiet : (i j : ℕ) (os : List Outcome) → outcome_lines i j os ≡ [] → AreTaken os
-all_quiet i j [] e = tt
-all_quiet i j (o ∷ os) e = let b = both_none (outcome_line i j o) (outcome_lines i (j + 1) os) e in (one_quiet i j o b.0, all_quiet i (j + 1) os b.1)
+one_taken : (o : Outcome) → is_taken o ≡ true → IsTaken o
+one_taken Stored e = inl refl
+one_taken Repeat e = inr refl
+one_taken o e = absurd (false≢true e)
 
-not_refusal : (i : ℕ) (r : Reply) → reply_lines i r ≡ [] → is_refusal r ≡ false
-not_refusal i (Verdict os) e = refl
-not_refusal i (Entries es) e = refl
-not_refusal i (Trimmed n) e = refl
-not_refusal i TrimTooNew e = refl
-not_refusal i NoStream e = refl
-not_refusal i NoRoom e = absurd (stream_said i _ e)
-not_refusal i Unavailable e = absurd (stream_said i _ e)
+all_taken : (os : List Outcome) → list_all is_taken os ≡ true → AreTaken os
+all_taken [] e = tt
+all_taken (o ∷ os) e = let (here, others) = and_parts (is_taken o) (list_all is_taken os) e in (one_taken o here, all_taken os others)
 
-status_by : (unavailable no_room none : Bool) → cond unavailable ServiceUnavailable (cond no_room InsufficientStorage (cond none NoContent BadRequest)) ≡ NoContent → none ≡ true
-status_by true no_room none e = absurd (cc)
-status_by false true none e = absurd (cc)
-status_by false false true e = refl
-status_by false false false e = absurd (cc)
+taken_by : (os : List Outcome) (all : Bool) → list_all is_taken os ≡ all → cond all NoContent BadRequest ≡ NoContent → AreTaken os
+taken_by os true is e = all_taken os is
+taken_by os false is e = absurd (cc)
 
-empty_of : (xs : List ℕ) → eqb (length xs) 0 ≡ true → xs ≡ []
-empty_of [] e = refl
-empty_of (x ∷ xs) e = absurd (let n : length (x ∷ xs) ≡ 0 = eqb-true (length (x ∷ xs)) 0 e in omega arith)
+not_refusal : (r : Reply) → came_status (Replied r) ≡ NoContent → is_refusal r ≡ false
+not_refusal NoRoom e = absurd (cc)
+not_refusal Unavailable e = absurd (cc)
+not_refusal r e = refl
 
-no_lines : (cames : List Came) → push_status cames ≡ NoContent → lines_from 0 cames ≡ []
-no_lines cames e = empty_of (lines_from 0 cames) (status_by (list_any is_unavailable cames) (list_any has_no_room cames) (eqb (length (lines_from 0 cames)) 0) e)
-
--- what came of the stream of a batch, where no stream has a line and none failed: a step of its call, with such a reply
+-- what came of the stream of a batch, where the status is 204 and none failed: a step of its call, with such a reply
 record HasStepOf (tenant : List ℕ) (now : ℕ) (b : RawBatch) (steps : List Step) : Type 0 where
   pub step : Step
   pub one : IsOneOf step steps
   pub call : IsCallOf tenant (asked_push now b) step.ask.call
-  pub place : ℕ
-  pub quiet : reply_lines place step.reply ≡ []
+  pub best : came_status (Replied step.reply) ≡ NoContent
 
 more_steps : (tenant : List ℕ) (now : ℕ) (b : RawBatch) (s : Step) (steps : List Step) → HasStepOf tenant now b steps → HasStepOf tenant now b (s ∷ steps)
-more_steps tenant now b s steps h = record { step = h.step; one = inr h.one; call = h.call; place = h.place; quiet = h.quiet }
+more_steps tenant now b s steps h = record { step = h.step; one = inr h.one; call = h.call; best = h.best }
 
-batch_step : (tenant : List ℕ) (now i : ℕ) (bs : List RawBatch) (cames : List Came) (steps : List Step) → AreSteps tenant (map (asked_push now) bs) cames steps → lines_from i cames ≡ [] → first_failure cames ≡ None → (b : RawBatch) → IsOneOf b bs → HasStepOf tenant now b steps
-batch_step tenant now i [] cames steps are quiet whole b one = absurd one
-batch_step tenant now i (c ∷ bs) [] steps are quiet whole b one = absurd are
-batch_step tenant now i (c ∷ bs) (Refused fault ∷ cs) steps are quiet whole b one = absurd (stream_said i _ (both_none (came_lines i (Refused fault)) (lines_from (i + 1) cs) quiet).0)
-batch_step tenant now i (c ∷ bs) (Failed fault ∷ cs) steps are quiet whole b one = absurd (let never : Some fault ≡ None = whole in cc)
-batch_step tenant now i (c ∷ bs) (Replied reply ∷ cs) [] are quiet whole b one = absurd are
-batch_step tenant now i (c ∷ bs) (Replied reply ∷ cs) (s ∷ steps) are quiet whole b (inl e) = record {
+batch_step : (tenant : List ℕ) (now : ℕ) (bs : List RawBatch) (cames : List Came) (steps : List Step) → AreSteps tenant (map (asked_push now) bs) cames steps → AreBest cames → first_failure cames ≡ None → (b : RawBatch) → IsOneOf b bs → HasStepOf tenant now b steps
+batch_step tenant now [] cames steps are best whole b one = absurd one
+batch_step tenant now (c ∷ bs) [] steps are best whole b one = absurd are
+batch_step tenant now (c ∷ bs) (Refused fault ∷ cs) steps are best whole b one = absurd (let never : BadRequest ≡ NoContent = best.0 in cc)
+batch_step tenant now (c ∷ bs) (Failed fault ∷ cs) steps are best whole b one = absurd (let never : Some fault ≡ None = whole in cc)
+batch_step tenant now (c ∷ bs) (Replied reply ∷ cs) [] are best whole b one = absurd are
+batch_step tenant now (c ∷ bs) (Replied reply ∷ cs) (s ∷ steps) are best whole b (inl e) = record {
   step = s;
   one = inl refl;
   call = subst (λ (x : RawBatch). IsCallOf tenant (asked_push now x) s.ask.call) (sym e) are.0;
-  place = i;
-  quiet = ap (reply_lines i) are.1 ∙ (both_none (reply_lines i reply) (lines_from (i + 1) cs) quiet).0;
+  best = ap (λ r. came_status (Replied r)) are.1 ∙ best.0;
 }
-batch_step tenant now i (c ∷ bs) (Replied reply ∷ cs) (s ∷ steps) are quiet whole b (inr one) =
-    more_steps tenant now b s steps (batch_step tenant now (i + 1) bs cs steps are.2 (both_none (reply_lines i reply) (lines_from (i + 1) cs) quiet).1 whole b one)
+batch_step tenant now (c ∷ bs) (Replied reply ∷ cs) (s ∷ steps) are best whole b (inr one) =
+    more_steps tenant now b s steps (batch_step tenant now bs cs steps are.2 best.1 whole b one)
 
 abbrev answered_so : List RawBatch → Result (List RawBatch) PushFault
 answered_so batches = Ok batches
@@ -151,21 +119,17 @@ acknowledged steps e tenant batches c ack b one =
         of_read (Ok v) reads f =
             let same : all ≡ map (asked_push e.now) v.items = cc in
             let one_read : ack.read.items ≡ v.items = read_once e.request.body ack.read.items v.items ack.read_as reads in
-            batch_step tenant e.now 0 v.items ack.cames c.its (subst (λ l. AreSteps tenant l ack.cames c.its) same are) (no_lines ack.cames ack.no_content) (c.whole ack.cames ack.went) b
+            batch_step tenant e.now v.items ack.cames c.its (subst (λ l. AreSteps tenant l ack.cames c.its) same are) (all_best NoContent ack.cames ack.no_content).1 (c.whole ack.cames ack.went) b
             (subst (IsOneOf b) (ack.streams ∙ one_read) one)
 
 -- In what is replayed.
-
-both_of : (a b : Bool) → (a && b) ≡ true → (a ≡ true) × (b ≡ true)
-both_of true b e = (refl, e)
-both_of false b e = absurd (false≢true e)
 
 same_time : (x y : Entry) → IsSameLine x y → x.time ≡ y.time
 same_time x y (inl e) = ap (λ (z : Entry). z.time) e
 same_time x y (inr e) = eqb-true x.time y.time (first_of _ _ _ e)
   where
     first_of : (a b c : Bool) → ((a && b) && c) ≡ true → a ≡ true
-    first_of a b c f = (both_of a b (both_of (a && b) c f).0).0
+    first_of a b c f = (and_parts a b (and_parts (a && b) c f).0).0
 
 one_of_front : {A : Type 0} (x : A) (front all : List A) → IsBeginning front all → IsOneOf x front → IsOneOf x all
 one_of_front x front all h one = subst (IsOneOf x) (sym h.is) (among_left x front h.rest one)
@@ -192,10 +156,10 @@ module _ (about : About) (threads : List Thread) (k : ℕ) (history : List Item)
       (λ (below : y.time < greatest_bound h.items key). inr (inl (trimmed key x.time (subst (λ n. n < greatest_bound h.items key) (sym (same_time x y same)) below))))
       (kept_or_below (base_of h key) (stored h.items key) (greatest_bound h.items key) y all)
 
-  pub line_kept : (s : Step) (key : StreamKey) (now place : ℕ) (entries : List Entry) → IsOneOf (Answered s) r.beginning → s.ask.call ≡ calls.Push key now entries → reply_lines place s.reply ≡ [] → (x : Entry) → IsOneOf x entries → IsLineKept about k history writing state key x
-  line_kept s key now place entries one call quiet x of =
+  pub line_kept : (s : Step) (key : StreamKey) (now : ℕ) (entries : List Entry) → IsOneOf (Answered s) r.beginning → s.ask.call ≡ calls.Push key now entries → came_status (Replied s.reply) ≡ NoContent → (x : Entry) → IsOneOf x entries → IsLineKept about k history writing state key x
+  line_kept s key now entries one call best x of =
       let front : IsLegalAt about k r.beginning = legal_front about k r.beginning history r.a_beginning_of_that_history legal in
-      let it = line_stored about k r.beginning s key now entries front one call (not_refusal place s.reply quiet) (λ os e. all_quiet place 0 os (sym (ap (reply_lines place) e) ∙ quiet)) x of in
+      let it = line_stored about k r.beginning s key now entries front one call (not_refusal s.reply best) (λ os e. taken_by os (list_all is_taken os) refl (sym (ap (λ r. came_status (Replied r)) e) ∙ best)) x of in
       ⊎_elim
       (λ (l : IsOneOf it.0 (stored r.beginning key)). stored_kept key x it.0 it.1 l)
       (λ (e : base_last (finite.get (base_at about k) key) ≡ Some it.0). inr (inr (it.0, it.1, e)))
@@ -203,16 +167,16 @@ module _ (about : About) (threads : List Thread) (k : ℕ) (history : List Item)
 
 module _ (about : About) (threads : List Thread) (history : ℕ → List Item) (writing : ℕ → List Ask) (read : ℕ → Streams → Type 0) (failed : ℕ → Type 0) (replay : ℕ → Streams → Type 0) (refusal : ℕ → RefusedShard → Type 0)
     (headline : IsHeadline about threads history writing read failed replay refusal) (some_shard : 0 < about.shards) where
-  -- a line of a push that was answered with no line of its own
-  step_kept : (s : Step) (key : StreamKey) (now place : ℕ) (entries : List Entry) → IsOneOf s (steps_among (happened_to threads)) → s.ask.call ≡ calls.Push key now entries → reply_lines place s.reply ≡ [] → (x : Entry) → IsOneOf x entries
+  -- a line of a push of status 204
+  step_kept : (s : Step) (key : StreamKey) (now : ℕ) (entries : List Entry) → IsOneOf s (steps_among (happened_to threads)) → s.ask.call ≡ calls.Push key now entries → came_status (Replied s.reply) ≡ NoContent → (x : Entry) → IsOneOf x entries
       → (k : ℕ) → k ≡ shard_of key about.shards → (state : Streams) → replay k state → IsLineKept about k (history k) (writing k) state key x
-  step_kept s key now place entries one call quiet x of k here state replayed =
+  step_kept s key now entries one call best x of k here state replayed =
       let it = step_answered s (answered_among (happened_to threads)) one in
       let its : shard_in about s.ask ≡ k = ap (λ (c : Call). shard_of (key_of c) about.shards) call ∙ sym here in
       let lt : k < about.shards = subst (λ j. j < about.shards) its (shard_below about s.ask some_shard) in
       let r : IsReplay about threads k (history k) (writing k) state = headline.whatever_crash_comes k lt state replayed in
       let there : IsOneOf (Answered s) r.beginning = subst (λ t. IsOneOf (Answered t) r.beginning) (sym it.2) (r.holds_every_answered_call it.0 it.1 (sym (ap (λ t. shard_in about t.ask) it.2) ∙ its)) in
-      line_kept about threads k (history k) (writing k) state r (headline.each_shards_calls k lt).0 s key now place entries there call quiet x of
+      line_kept about threads k (history k) (writing k) state r (headline.each_shards_calls k lt).0 s key now entries there call best x of
 
   pub lines_safe : (e : Exchange) → IsCalledBy (steps_among (happened_to threads)) e → (tenant : List ℕ) (batches : List RawBatch) → IsAcknowledged e tenant batches → (b : RawBatch) → IsOneOf b batches
       → (labels : List ℕ) × IsTextOf labels b.pairs
@@ -223,5 +187,5 @@ module _ (about : About) (threads : List Thread) (history : ℕ → List Item) (
         its.call.labels,
         its.call.text,
         λ x of k here state replayed.
-            step_kept its.step (record { tenant = tenant; labels = its.call.labels }) e.now its.place b.entries (c.among its.step its.one) its.call.is its.quiet x of k here state replayed,
+            step_kept its.step (record { tenant = tenant; labels = its.call.labels }) e.now b.entries (c.among its.step its.one) its.call.is its.best x of k here state replayed,
       )

@@ -1,41 +1,12 @@
 -- What was promised of one connection and of two shards, up to a turn that a crash cuts, is what the law asks for.
-use Rattle.std.proofs.Common.{◌≡◌, ℕ, zero, suc, Bool, false, List, [], ◌∷◌, Result, Ok, Err, Some, None, refl, sym, ap, ◌∙◌, subst, inl, inr, ⊎_elim, append-nil, arith}
-use Rattle.std.specs.Prelude.{slice_get}
+use Rattle.std.proofs.Common.{◌≡◌, ℕ, zero, suc, Bool, false, List, [], ◌∷◌, Result, Ok, Err, Some, None, refl, sym, ap, ◌∙◌, subst, inl, inr, ⊎_elim, append-nil, arith, slice_get}
 use Rattle.atomic_table.specs.Seated.{TableId}
-use Rattle.accept.specs.declared.call.Call.{Call}
-use Rattle.accept.specs.declared.fault.CallFault.TheVariants.{InDoubt}
-use Rattle.accept.specs.declared.limits.Limits.{Limits}
-use Rattle.disk.specs.Sight.{Sight}
-use Rattle.requests.specs.declared.fault.ServeFault.{ServeFault}
-use Rattle.wal.specs.Logs.{Follow}
-use Rattle.history.specs.declared.views.About.{About}
-use Rattle.history.specs.Histories.{IsBeginning}
-use Rattle.history.specs.Handles.{Passed, HaveMet, with_seen}
-use Rattle.shard.specs.Leads.{Lead}
-use Rattle.shard.specs.Shards.{Sharded}
-use Rattle.owners.specs.Openings.{Opening}
-use Rattle.owners.specs.Places.{opened_shard}
-use Rattle.ingester.specs.Calls.{with_next, closed_now}
-use Rattle.ingester.specs.Closings.{IsTold}
+use Rattle.headline.proofs.Common.{Limits, Call, InDoubt, About, Sight, Follow, Sharded, Lead, Opening, IsBeginning, Passed, HaveMet, with_seen, opened_shard, with_next, closed_now, IsTold, Called, Met, Happening, Thread, IsThread, IsMet, IsOneOf, Between, Within, IsInTime, Stretch, IsStretch, Life, ShardEnd, CutAt, IsEnd, IsLife}
+use Rattle.whole.proofs.Common.{ServeFault, Known, IsVisitedSo, AreVisitedSo, among, any_text, known, World, world, Visited, Closed, CallGives, Visit, Line, IsKeptOrNot, IsVisited, Two, IsIdle, AreOfOpening, AreOpened, HaveMetIn, IsCutTurn, opening_with, Worker, IsWorker, IsLine, AreThreadsOf, AreServing, FirstGives, IsFirstVisited, IsServedOnce, first_visit, line_sent}
 use Rattle.answering.specs.Connections.{Unended}
-use Rattle.answering.specs.Gathering.{Known, IsVisitedSo, AreVisitedSo, among, any_text, known}
-use Rattle.answering.specs.Serving.{World, world}
 use Rattle.answering.specs.Visits.{IsVisit}
-use Rattle.answering.specs.declared.visiting.Visited.{Visited}
-use Rattle.answering.specs.declared.visiting.Visited.TheVariants.{More, Unfinished, Closed}
-use Rattle.headline.specs.Threads.{Called, Met, Happening, Thread, IsThread, IsMet}
-use Rattle.headline.specs.Headline.{IsOneOf}
-use Rattle.headline.specs.Turns.{Between, Within, IsInTime, Stretch, IsStretch}
-use Rattle.headline.specs.Lives.{Life, ShardEnd, CutAt, IsEnd, IsLife}
-use Rattle.headline.proofs.Owning.{in_time_told}
-use Rattle.front.specs.Calls.{CallGives}
-use Rattle.front.specs.Visits.{Visit, Line, IsKeptOrNot, IsVisited}
-use Rattle.one_life.specs.declared.opening.Two.{Two}
-use Rattle.one_life.specs.Cut.{AreOfOpening, AreOpened, HaveMetIn, IsCutTurn, opening_with}
-use Rattle.one_life.proofs.Ending.{in_doubt, of_start, told_closed}
-use Rattle.one_life.proofs.Staying.{met_of, own_of}
-use Rattle.whole.specs.Visits.{Worker, IsWorker, IsLine, AreThreadsOf}
-use Rattle.whole.specs.ServedOnce.{AreServing, FirstGives, IsFirstVisited, IsServedOnce, first_visit, line_sent}
+use Rattle.one_life.proofs.Ending.{in_doubt, of_start, told_closed, time}
+use Rattle.one_life.proofs.Staying.{idle_as, met_of, own_of}
 use Rattle.whole.proofs.Calling.{first_book, second_book, one_idle}
 use Rattle.answering.proofs.Seeing.{visit_seen}
 use Rattle.whole.proofs.Working.{Crew, crew}
@@ -80,11 +51,7 @@ module _ {D : Type 0} (sight : D → Sight) (follows : D → Type 0) (table : Ta
     two_shards = opened.shards ∙ opened.two_shards;
     first = of_start sight follows (opening_with it) 0 it.first refl opened.first;
     second = of_start sight follows (opening_with it) 1 it.second refl opened.second;
-    one = record {
-      same_table = ap (λ (p : Passed). p.table) opened.one;
-      same_about = ap (λ (p : Passed). p.caller.about) opened.one;
-      idle = ap (λ (p : Passed). p.caller.pending) opened.one;
-    };
+    one = idle_as (opening_with it) 0 it.one opened.one;
     two = opened.two;
   }
 
@@ -95,11 +62,7 @@ module _ {D : Type 0} (sight : D → Sight) (follows : D → Type 0) (table : Ta
     first = first_book sight follows table opening it are;
     second = second_book sight follows table opening it are;
     one = one_idle sight follows table opening it are;
-    two = record {
-      same_table = ap (λ (p : Passed). p.table) are.two ∙ are.same_table;
-      same_about = ap (λ (p : Passed). p.caller.about) are.two;
-      idle = ap (λ (p : Passed). p.caller.pending) are.two;
-    };
+    two = subst (λ (t : TableId). IsIdle t opening.about it.two) are.same_table (idle_as opening 1 it.two are.two);
   }
 
   -- also once their passes have met
@@ -119,16 +82,14 @@ module _ {D : Type 0} (sight : D → Sight) (follows : D → Type 0) (table : Ta
 -- what is so of the end of each worker's pass is so of the end of its thread
 each_end : {C : Type 0} (P : Passed → Type 0) (ws : List (Worker C)) (ts : List Thread) → AreThreadsOf ws ts → ((w : Worker C) → IsOneOf w ws → P w.end) → (t : Thread) → IsOneOf t ts → P t.end
 each_end P [] [] are all t one = absurd one
-each_end P [] (u ∷ ts) never all t one = absurd never
-each_end P (w ∷ ws) [] never all t one = absurd never
 each_end P (w ∷ ws) (u ∷ ts) (is, more) all t (inl e) = subst P (sym (ap (λ (x : Thread). x.end) e ∙ is.end)) (all w (inl refl))
 each_end P (w ∷ ws) (u ∷ ts) (is, more) all t (inr one) = each_end P ws ts more (λ v of. all v (inr of)) t one
+each_end P ws ts never all t one = absurd never
 
 kept_or_not : (P Q : Type 0) (result : Result Visited ServeFault) → P → Q → IsKeptOrNot result P Q
-kept_or_not P Q (Ok More) p q = p
-kept_or_not P Q (Ok (Unfinished n)) p q = p
 kept_or_not P Q (Ok Closed) p q = q
 kept_or_not P Q (Err fault) p q = q
+kept_or_not P Q result p q = p
 
 module _ {D : Type 0} (sight : D → Sight) (follows : D → Type 0) (only_now : (d : D) (c : List ℕ) → follows d → (sight d).left_since (sight d).moment c → (sight d).may_leave c) {C : Type 0} (ticks : C → ℕ → C → Type 0) (limits : Limits) (capacity : ℕ) (slots : List (List D)) (table : TableId)
     (start mid end : Two D) (one two : Passed) (opened : AreOpened sight follows limits capacity slots (opening_with start) start) (serving : AreServing sight follows table (opening_with start) mid) (bytes : List ℕ) (left : Unended) (clock clock' : C) (doubt : Bool) (result : Result Visited ServeFault)
@@ -208,10 +169,6 @@ module _ {D : Type 0} (sight : D → Sight) (follows : D → Type 0) (only_now :
 
   told_two : (s : Sharded D) → IsTold s.book.shard s.book.items end.two → IsTold s.book.shard s.book.items two
   told_two s t = subst (IsTold s.book.shard s.book.items) cut.two t
-
-  -- a pass that was compared with a shard is in time with it
-  time : (k : ℕ) (s t : Sharded D) (pass : Passed) → s.book.shard ≡ k → t ≡ s → IsTold s.book.shard s.book.items pass → IsInTime k t.book.items pass
-  time k s t pass number same told = in_time_told pass k t.book.items (subst (λ (x : Sharded D). IsTold k x.book.items pass) (sym same) (subst (λ (j : ℕ). IsTold j s.book.items pass) number told))
 
   abbrev first_end : Stretch D
   first_end = record { turns = serving.first.turns; moment = Within cut.turn }

@@ -1,24 +1,9 @@
 -- The step of an answered call stands once, with the reply that is due there, and there are no others.
-use Rattle.std.proofs.Common.{◌≡◌, ◌≢◌, ◌⊎◌, ℕ, ◌<◌, Bool, true, false, cond, eqb, List, [], ◌∷◌, ◌++◌, map, refl, sym, ap, ◌∙◌, subst, inl, inr, ⊎_elim, eq-eqb, ne_eqb}
-use Rattle.std.proofs.lemmas.Bool.{false≢true}
-use Rattle.accept.specs.declared.history.Ask.{Ask}
-use Rattle.accept.specs.declared.history.Step.{Step}
-use Rattle.accept.specs.declared.history.Item.{Item}
-use Rattle.accept.specs.declared.history.Item.TheVariants.{Answered}
-use Rattle.accept.specs.Rooms.{Streams}
-use Rattle.history.specs.declared.views.About.{About}
-use Rattle.history.specs.Histories.{IsAmong, AreAmong, shard_in, steps_on}
-use Rattle.history.specs.Plays.{HasStepsOf}
-use Rattle.history.specs.Handles.{Passed, fresh_pass}
-use Rattle.history.proofs.Sharding.{shard_below}
-use Rattle.owners.specs.Openings.{Opening}
-use Rattle.headline.specs.Threads.{Thread, IsThread, AnsweredCall, happened_to}
-use Rattle.headline.specs.Headline.{IsOneOf, IsHeadline, RefusedShard, WasAnswered, ask_for, shard_at, step_for}
-use Rattle.headline.proofs.Among.{among_split}
-use Rattle.headline.proofs.Calling.{step_by, step_on}
+use Rattle.std.proofs.Common.{◌≡◌, ◌≢◌, ◌⊎◌, ℕ, ◌<◌, false, cond, List, [], ◌∷◌, map, refl, sym, ap, ◌∙◌, subst, inl, inr, ⊎_elim, eq-eqb, ne_eqb}
+use Rattle.headline.proofs.Common.{Streams, Ask, Step, Item, Answered, About, Opening, IsAmong, steps_on, HasStepsOf, Passed, fresh_pass, Thread, AnsweredCall, happened_to, IsOneOf, IsHeadline, RefusedShard, WasAnswered, ask_for, shard_at, step_for, false≢true, shard_below, among_split}
+use Rattle.headline.proofs.Calling.{step_by, step_on, open_one}
 use Rattle.headline.proofs.Living.{grows_on, fresh_sound}
-use Rattle.whole.specs.Visits.{Worker, IsThreadOf, its_step, answered_among, steps_among}
-use Rattle.whole.specs.Whole.{StandsOnce, IsOfRequest}
+use Rattle.whole.proofs.Common.{Worker, its_step, answered_among, steps_among, StandsOnce, IsOfRequest}
 use Rattle.whole.proofs.Working.{Threaded, IsAskedAmong, made_of}
 
 -- a step among these is of an answered call
@@ -45,13 +30,6 @@ module _ (about : About) (threads : List Thread) (history : ℕ → List Item) (
   stands_once s one =
       let it = step_answered s (answered_among (happened_to threads)) one in
       subst (StandsOnce about history) (sym it.2) (stands it.0 it.1)
-
-open_one : (s : Step) (steps : List Step) (asks : List Ask) → AreAmong steps asks → IsOneOf s steps → IsAmong s.ask asks
-open_one s [] asks i one = absurd one
-open_one s (r ∷ steps) asks i one = ⊎_elim
-    (λ (e : s ≡ r). subst (λ (t : Step). IsAmong t.ask asks) (sym e) i.0)
-    (λ (t : IsOneOf s steps). open_one s steps asks i.1 t)
-    one
 
 -- each step of a worker's pass is of a request, or of a call that is in doubt
 pub of_request : {D C : Type 0} (ticks : C → ℕ → C → Type 0) (opening : Opening D) (w : Worker C) (its : Threaded ticks opening w) (k : ℕ) (items : List Item) → HasStepsOf its.thread.end.caller k items → (s : Step) → IsOneOf (Answered s) items → s.ask.pass ≡ w.number → IsOfRequest w s

@@ -1,34 +1,17 @@
 -- What a visit answered, and the steps behind it.
-use Rattle.std.proofs.Common.{◌≡◌, ◌⊎◌, ℕ, Bool, List, [], ◌∷◌, ◌++◌, take, length, Option, None, Some, Result, Ok, Err, refl, sym, ap, ◌∙◌, subst, inl, inr, ⊎_elim, append-nil}
+use Rattle.std.proofs.Common.{◌≡◌, ◌⊎◌, ℕ, List, [], ◌∷◌, ◌++◌, take, length, Option, None, Some, Result, Ok, Err, refl, sym, ap, ◌∙◌, subst, inl, inr, ⊎_elim, append-nil}
 use Rattle.std.proofs.Math.Seq.{take-length}
 use Rattle.std.specs.List.{flat_map}
-use Rattle.accept.specs.declared.history.Step.{Step}
+use Rattle.headline.proofs.Common.{Step, Passed, Opening, Happening, IsOneOf, among_split}
 use Rattle.pushjson.specs.declared.fault.PushFault.TheVariants as bodies
-use Rattle.requests.specs.declared.fault.ServeFault.{ServeFault}
+use Rattle.whole.proofs.Common.{ServeFault, Verdict, Came, Course, Unread, Whole, Broken, first_failure, Known, among, any_text, Exchange, World, response, VerdictGives, IsSilent, IsNextResponse, ConnectionGives, ConnectionEnds, ConnectionIsAnswered, AreStepsBy, Visited, More, Unfinished, Closed, CallGives, Visit, IsKeptOrNot, IsVisited, steps_among, IsAskedIn, IsNextOf}
 use Rattle.requests.specs.declared.fault.ServeFault.TheVariants.{Read, Write, Memory, CutShort}
 use Rattle.requests.specs.declared.fault.Served.{Served}
 use Rattle.requests.specs.declared.fault.Served.TheVariants as served
-use Rattle.requests.specs.declared.verdict.Verdict.{Verdict}
 use Rattle.requests.specs.declared.verdict.Verdict.TheVariants.{Fixed, Call, NoMemory}
-use Rattle.history.specs.Handles.{Passed}
-use Rattle.history.proofs.Lists.{behind}
-use Rattle.owners.specs.Openings.{Opening}
-use Rattle.headline.specs.Threads.{Happening}
-use Rattle.headline.specs.Headline.{IsOneOf}
-use Rattle.headline.proofs.Among.{among_left, among_right, among_split}
-use Rattle.answering.specs.Calls.{Came}
-use Rattle.answering.specs.Courses.{Course, Unread, Whole, Broken, first_failure}
-use Rattle.answering.specs.Gathering.{Known, among, any_text}
-use Rattle.answering.specs.Serving.{Exchange, World, response, VerdictGives, IsSilent, IsNextResponse, ConnectionGives, ConnectionEnds, ConnectionIsAnswered}
-use Rattle.answering.specs.Steps.{AreStepsBy}
+use Rattle.std.proofs.lemmas.List.{append_cancel_left}
 use Rattle.answering.specs.Visits.{KeepsOn, IsOver}
-use Rattle.answering.specs.declared.visiting.Visited.{Visited}
-use Rattle.answering.specs.declared.visiting.Visited.TheVariants.{More, Unfinished, Closed}
-use Rattle.front.specs.Calls.{CallGives}
-use Rattle.front.specs.Visits.{Visit, IsKeptOrNot, IsVisited}
-use Rattle.whole.specs.Visits.{steps_among}
-use Rattle.whole.specs.Whole.{IsAskedIn, IsNextOf}
-use Rattle.whole.proofs.Happening.{HappenFrom, steps-append, both, nothing, asked_after, its_happenings, left_happenings}
+use Rattle.whole.proofs.Happening.{HappenFrom, into_left, into_right, one_of_both, both, nothing, asked_after, its_happenings, left_happenings}
 
 -- the steps of a request are among these, and where all its calls came back none failed
 pub record IsCalledBy (steps : List Step) (e : Exchange) : Type 0 where
@@ -76,15 +59,6 @@ module _ {D C : Type 0} (ticks : C → ℕ → C → Type 0) (opening : Opening 
     pub happen : HappenFrom opening w.knows happened w'.knows
     pub calls : (e : Exchange) → IsOneOf e es → IsCalledBy (steps_among happened) e
     pub asked : (s : Step) → IsOneOf s (steps_among happened) → IsAskedIn bytes s.ask.call
-
-  into_left : (first more : List Happening) (s : Step) → IsOneOf s (steps_among first) → IsOneOf s (steps_among (first ++ more))
-  into_left first more s one = subst (IsOneOf s) (sym (steps-append first more)) (among_left s (steps_among first) (steps_among more) one)
-
-  into_right : (first more : List Happening) (s : Step) → IsOneOf s (steps_among more) → IsOneOf s (steps_among (first ++ more))
-  into_right first more s one = subst (IsOneOf s) (sym (steps-append first more)) (among_right s (steps_among first) (steps_among more) one)
-
-  one_of_both : (first more : List Happening) (s : Step) → IsOneOf s (steps_among (first ++ more)) → IsOneOf s (steps_among first) ⊎ IsOneOf s (steps_among more)
-  one_of_both first more s one = among_split s (steps_among first) (steps_among more) (subst (IsOneOf s) (steps-append first more) one)
 
   went : (bytes : List ℕ) (w : World (Known Passed) C) (es : List Exchange) (rest : List ℕ) (w' : World (Known Passed) C) → ConnectionGives (among CallGives) ticks bytes w es rest w' → Went bytes w es w'
   went bytes w [] rest w' (same, still) = record { happened = []; happen = nothing opening w.knows w'.knows (ap (λ x. x.knows) still); calls = λ e one. absurd one; asked = λ s one. absurd one }
@@ -183,16 +157,14 @@ module _ {D C : Type 0} (ticks : C → ℕ → C → Type 0) (opening : Opening 
   no_text = []
 
   kept_left : (v : Visit C) (r : Result Visited ServeFault) → IsKeptOrNot r (Unit {0}) ⊥ → IsKeptOrNot r ((no_exchange ≡ []) × (no_text ≡ []) × (v.rest ≡ v.rest)) (Unit {0})
-  kept_left v (Ok More) u = (refl, refl, refl)
-  kept_left v (Ok (Unfinished n)) u = (refl, refl, refl)
   kept_left v (Ok Closed) never = tt
   kept_left v (Err fault) never = tt
+  kept_left v r u = (refl, refl, refl)
 
   over_left : (P : Type 0) (r : Result Visited ServeFault) → IsKeptOrNot r ⊥ (Unit {0}) → IsKeptOrNot r P (Unit {0})
-  over_left P (Ok More) never = absurd never
-  over_left P (Ok (Unfinished n)) never = absurd never
   over_left P (Ok Closed) u = tt
   over_left P (Err fault) u = tt
+  over_left P r never = absurd never
 
   -- A visit happened: it answered requests, and each step is of a call that one of its requests asks for.
   pub record Happened (v : Visit C) : Type 0 where
@@ -216,7 +188,7 @@ module _ {D C : Type 0} (ticks : C → ℕ → C → Type 0) (opening : Opening 
           refusal = [];
           some = 0;
           next = inl refl;
-          is = behind v.waiting v.text (flat_map response k.exchanges) k.appends ∙ sym (append-nil (flat_map response k.exchanges));
+          is = append_cancel_left v.waiting v.text (flat_map response k.exchanges) k.appends ∙ sym (append-nil (flat_map response k.exchanges));
           left = kept_left v v.result kept;
           calls = λ e one. its.calls e (subst (IsOneOf e) (append-nil k.exchanges) one);
         };
@@ -240,7 +212,7 @@ module _ {D C : Type 0} (ticks : C → ℕ → C → Type 0) (opening : Opening 
           refusal = tail.refusal;
           some = tail.some;
           next = tail.next;
-          is = behind v.waiting v.text o.text o.appends ∙ a.written ∙ ap (λ l. flat_map response a.exchanges ++ l) tail.is;
+          is = append_cancel_left v.waiting v.text o.text o.appends ∙ a.written ∙ ap (λ l. flat_map response a.exchanges ++ l) tail.is;
           left = over_left ((tail.last ≡ []) × (tail.refusal ≡ []) × (v.rest ≡ a.rest)) v.result over;
           calls = λ e one. ⊎_elim
               (λ (l : IsOneOf e a.exchanges). called_more (steps_among first.happened) (steps_among (first.happened ++ tail.happened)) e (into_left first.happened tail.happened) (first.calls e l))
@@ -261,8 +233,7 @@ module _ {D C : Type 0} (ticks : C → ℕ → C → Type 0) (opening : Opening 
   visit_happened held taken waiting text rest before after (Ok Closed) is = over_happened _ (Ok served.Closed) is tt
   visit_happened held taken waiting text rest before after (Err Write) is = over_happened _ (Err Write) is tt
   visit_happened held taken waiting text rest before after (Err Memory) is = over_happened _ (Err Memory) is tt
-  visit_happened held taken waiting text rest before after (Err Read) never = absurd never
-  visit_happened held taken waiting text rest before after (Err CutShort) never = absurd never
+  visit_happened held taken waiting text rest before after result never = absurd never
 
   pub happened_of : (v : Visit C) → IsVisited ticks v → Happened v
   happened_of v is = visit_happened v.held v.taken v.waiting v.text v.rest v.before v.after v.result is

@@ -1,23 +1,12 @@
 -- From the bytes of all connections to the disk.
-use Rattle.std.proofs.Common.{◌≡◌, ℕ, ◌<◌, ◌≤◌, List, [], ◌∷◌, ◌++◌, take, drop, length, refl, sym, ap, ◌∙◌, subst, inl, inr, append_assoc, arith, take-append-drop}
+use Rattle.std.proofs.Common.{ℕ, ◌<◌, List, ◌++◌, take, drop, sym, ap, ◌∙◌, append_assoc, arith, take-append-drop}
 use Rattle.std.proofs.lemmas.List.Concat.{flat_map-append}
 use Rattle.std.specs.List.{flat_map}
-use Rattle.accept.specs.declared.history.Item.{Item}
-use Rattle.accept.specs.declared.history.Step.{Step}
-use Rattle.disk.specs.Sight.{Sight}
-use Rattle.history.specs.Histories.{IsBeginning}
-use Rattle.history.proofs.Lists.{begins_trans}
-use Rattle.owners.specs.Openings.{Opening}
-use Rattle.answering.specs.Serving.{Exchange, response}
-use Rattle.headline.specs.Threads.{Thread, IsThread, happened_to}
-use Rattle.headline.specs.Headline.{IsOneOf}
-use Rattle.headline.specs.Lives.{Life, ShardEnd, IsLife, IsHeadlineOf, WereRead, HasFailedSince, MayBeReplayed, MayBeRefused, writing_in}
+use Rattle.headline.proofs.Common.{Item, Sight, Opening, IsBeginning, Thread, IsThread, happened_to, IsOneOf, Life, ShardEnd, IsLife, IsHeadlineOf, WereRead, HasFailedSince, MayBeReplayed, MayBeRefused, writing_in, begins_trans}
+use Rattle.whole.proofs.Common.{Exchange, response, Line, text_put, Worker, IsWorker, IsLine, AreThreadsOf, steps_among, HasItsSteps, IsLineAnswered, IsWhole}
 use Rattle.headline.proofs.Ending.{histories, says}
-use Rattle.front.specs.Visits.{Line, text_put}
-use Rattle.whole.specs.Visits.{Worker, IsWorker, IsLine, AreThreadsOf, steps_among}
-use Rattle.whole.specs.Whole.{HasItsSteps, IsLineAnswered, IsWhole}
 use Rattle.whole.proofs.Visiting.{IsCalledBy}
-use Rattle.whole.proofs.Joining.{Heard, heard_line}
+use Rattle.whole.proofs.Joining.{heard_line}
 use Rattle.whole.proofs.Working.{Crew, crew}
 use Rattle.whole.proofs.Standing.{stands_once, of_request}
 use Rattle.whole.proofs.Saving.{lines_safe}

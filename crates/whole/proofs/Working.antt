@@ -1,34 +1,17 @@
 -- What the visits of workers make happens to their passes.
 use Rattle.std.proofs.Common.{◌≡◌, ◌⊎◌, ℕ, Bool, true, false, List, [], ◌∷◌, ◌++◌, map, Result, Ok, Err, refl, sym, ap, ◌∙◌, subst, inl, inr, ⊎_elim, append_assoc, append-nil}
 use Rattle.std.proofs.lemmas.List.{map-append}
-use Rattle.std.specs.List.{flat_map}
-use Rattle.accept.specs.declared.call.Call.{Call}
-use Rattle.accept.specs.declared.call.Reply.{Reply}
-use Rattle.accept.specs.declared.fault.CallFault.{CallFault}
-use Rattle.accept.specs.declared.fault.CallFault.TheVariants.{Memory, PassClosed, LogSpent, InDoubt}
-use Rattle.accept.specs.declared.history.Step.{Step}
-use Rattle.history.specs.Handles.{Passed, fresh_pass}
-use Rattle.owners.specs.Openings.{Opening}
-use Rattle.ingester.specs.Calls.{IsGiven, IsGivenAfter, IsRefused}
-use Rattle.headline.specs.Threads.{What, Called, Looked, Met, Closed, Happening, Happens, HappenAfter, Thread, IsThread, leaves_call_in_doubt, answers_by, happened_to}
-use Rattle.headline.specs.Headline.{IsOneOf}
-use Rattle.headline.proofs.Among.{among_left, among_right, among_split}
-use Rattle.answering.specs.Gathering.{Known, known}
-use Rattle.answering.specs.Serving.{Exchange, World}
-use Rattle.front.specs.Visits.{Visit, AreVisits}
-use Rattle.whole.specs.Visits.{Worker, IsWorker, IsThreadOf, AreThreadsOf, visits_by, its_step, steps_among}
-use Rattle.whole.specs.Whole.{IsAskedIn}
-use Rattle.whole.proofs.Happening.{HappenFrom, steps-append, both, nothing, went_on}
-use Rattle.whole.proofs.Visiting.{IsCalledBy, Answers, Happened, called_more, happened_of}
+use Rattle.headline.proofs.Common.{Call, Reply, CallFault, InDoubt, Step, Opening, Passed, fresh_pass, IsGiven, IsGivenAfter, IsRefused, What, Called, Looked, Met, Closed, Happening, Happens, HappenAfter, Thread, IsThread, leaves_call_in_doubt, answers_by, happened_to, IsOneOf, among_split}
+use Rattle.whole.proofs.Common.{Known, known, Visit, AreVisits, Worker, IsWorker, IsThreadOf, AreThreadsOf, visits_by, its_step, steps_among, IsAskedIn}
+use Rattle.whole.proofs.Happening.{HappenFrom, into_left, into_right, one_of_both, both, nothing, went_on}
+use Rattle.whole.proofs.Visiting.{Answers, Happened, called_more, happened_of}
 
 -- what a pass has made is what was answered to it
 module _ {D : Type 0} (opening : Opening D) where
   refused_made : (old new : Passed) (call : Call) (fault : CallFault) → IsRefused old call new fault → new.caller.made ≡ old.caller.made
-  refused_made old new call Memory is = ap (λ p. p.caller.made) is
-  refused_made old new call PassClosed is = ap (λ p. p.caller.made) is
-  refused_made old new call LogSpent is = ap (λ p. p.caller.made) is
   refused_made old new call InDoubt (inl withdrawn) = ap (λ p. p.caller.made) withdrawn
   refused_made old new call InDoubt (inr stays) = ap (λ p. p.caller.made) stays
+  refused_made old new call fault is = ap (λ p. p.caller.made) is
 
   given_made : (old new : Passed) (call : Call) (outcome : Result Reply CallFault) → IsGiven old call outcome new → new.caller.made ≡ old.caller.made ++ map its_step (answers_by old.caller (Called call outcome))
   given_made old new call (Ok reply) is = ap (λ p. p.caller.made) is.answered.pass
@@ -69,15 +52,6 @@ module _ {C : Type 0} (ticks : C → ℕ → C → Type 0) where
     left = a.left;
     calls = λ e one. called_more steps more e into (a.calls e one);
   }
-
-  into_left : (first more : List Happening) (s : Step) → IsOneOf s (steps_among first) → IsOneOf s (steps_among (first ++ more))
-  into_left first more s one = subst (IsOneOf s) (sym (steps-append first more)) (among_left s (steps_among first) (steps_among more) one)
-
-  into_right : (first more : List Happening) (s : Step) → IsOneOf s (steps_among more) → IsOneOf s (steps_among (first ++ more))
-  into_right first more s one = subst (IsOneOf s) (sym (steps-append first more)) (among_right s (steps_among first) (steps_among more) one)
-
-  one_of_both : (first more : List Happening) (s : Step) → IsOneOf s (steps_among (first ++ more)) → IsOneOf s (steps_among first) ⊎ IsOneOf s (steps_among more)
-  one_of_both first more s one = among_split s (steps_among first) (steps_among more) (subst (IsOneOf s) (steps-append first more) one)
 
   -- one of these visits has a request that asks for the call of a step
   abbrev pub IsAskedAmong : List (Visit C) → Step → Type 0

@@ -1,19 +1,10 @@
 -- One connection, served by two shards of an opening without threads, until a crash cuts a turn.
 use Rattle.std.specs.Prelude.{◌≡◌, ℕ, List, [], ◌∷◌, map, Result, Err}
 use Rattle.atomic_table.specs.Seated.{TableId}
-use Rattle.accept.specs.declared.call.Call.{Call}
-use Rattle.accept.specs.declared.history.Item.{Item}
-use Rattle.accept.specs.declared.fault.CallFault.TheVariants.{InDoubt}
-use Rattle.disk.specs.Sight.{Sight}
-use Rattle.wal.specs.Logs.{Follow}
+use Rattle.headline.specs.Types.{Call, InDoubt, Item, Caller, Sight, Follow, Sharded, Turn, Lead, Opening}
 use Rattle.requests.specs.declared.fault.ServeFault.{ServeFault}
-use Rattle.history.specs.declared.views.Caller.{Caller}
 use Rattle.history.specs.Handles.{Passed, fresh_pass}
 use Rattle.history.specs.Histories.{IsBeginning}
-use Rattle.shard.specs.Leads.{Lead}
-use Rattle.shard.specs.Shards.{Sharded}
-use Rattle.shard.specs.Turns.{Turn}
-use Rattle.owners.specs.Openings.{Opening}
 use Rattle.owners.specs.Places.{IsOf}
 use Rattle.answering.specs.Calls.{Giving}
 use Rattle.answering.specs.Connections.{Unended}

@@ -1,10 +1,9 @@
 -- Connections, the workers that visit them, and what happens to the passes of the workers meanwhile.
 use Rattle.std.specs.Prelude.{◌≡◌, ℕ, Bool, false, List, [], ◌∷◌, ◌++◌, map}
 use Rattle.std.specs.List.{flat_map}
-use Rattle.accept.specs.declared.history.Step.{Step}
+use Rattle.headline.specs.Types.{Step, Opening}
 use Rattle.history.specs.Handles.{Passed, fresh_pass}
 use Rattle.history.specs.Histories.{IsBeginning, step_of}
-use Rattle.owners.specs.Openings.{Opening}
 use Rattle.answering.specs.Gathering.{Known, known}
 use Rattle.front.specs.Visits.{Visit, Line, AreVisits, AreJoined, text_put}
 use Rattle.headline.specs.Threads.{Happening, HappenAfter, Thread, AnsweredCall, answers_by}

@@ -1,26 +1,17 @@
 -- The front page's sentence, of the bytes of all connections.
-use Rattle.std.specs.Prelude.{◌≡◌, ◌≢◌, ◌⊎◌, ℕ, ◌<◌, Bool, true, List, [], ◌∷◌, ◌++◌, filter, Option, None, Some, Result, Ok, Err, Vec}
+use Rattle.std.specs.Prelude.{◌≡◌, ◌≢◌, ◌⊎◌, ℕ, ◌<◌, true, List, [], ◌∷◌, ◌++◌, filter, Some, Ok, Vec}
 use Rattle.std.specs.declared.alloc.Global.{Global}
 use Rattle.std.specs.List.{flat_map}
 use Rattle.std.specs.FinMap as finite
 use Rattle.labels.specs.Canonical.{IsTextOf}
-use Rattle.labels.specs.declared.key.StreamKey.{StreamKey}
+use Rattle.headline.specs.Types.{StreamKey, Streams, Call, Ask, Step, Item, Answered, About, Sight, Passed}
 use Rattle.entries.specs.declared.entry.Entry.{Entry}
 use Rattle.accept.specs.OneStream.{same_entry, base_last, base_kept}
-use Rattle.accept.specs.Rooms.{Streams}
 use Rattle.accept.specs.Histories.{is_step_of, reply_to}
-use Rattle.accept.specs.declared.call.Call.{Call}
 use Rattle.accept.specs.declared.call.Call.TheVariants as calls
-use Rattle.accept.specs.declared.history.Ask.{Ask}
-use Rattle.accept.specs.declared.history.Step.{Step}
-use Rattle.accept.specs.declared.history.Item.{Item}
-use Rattle.accept.specs.declared.history.Item.TheVariants.{Answered}
-use Rattle.disk.specs.Sight.{Sight}
 use Rattle.pushjson.specs.Reads.{ReadsPush}
 use Rattle.pushjson.specs.declared.push.RawBatch.{RawBatch}
-use Rattle.history.specs.declared.views.About.{About}
 use Rattle.history.specs.Histories.{IsAmong, IsBeginning, base_at, terms_of, history_of, shard_in}
-use Rattle.history.specs.Handles.{Passed}
 use Rattle.history.specs.Shards.{shard_of}
 use Rattle.requests.specs.Answers.{fixed_text}
 use Rattle.requests.specs.Fields.{fields_of}

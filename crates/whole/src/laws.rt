@@ -3,7 +3,7 @@ ghost use Rattle.std.specs.Prelude.{List};
 ghost use Rattle.owners.specs.Openings.{Opening};
 ghost use Rattle.headline.specs.Threads.{Thread, IsThread};
 ghost use Rattle.headline.specs.Headline.{IsOneOf};
-ghost use Rattle.headline.specs.Lives.{Life, ShardEnd, IsLife};
+ghost use Rattle.headline.specs.Lives.{ShardEnd, IsLife};
 ghost use Rattle.front.specs.Visits.{Line};
 ghost use Rattle.whole.specs.Visits.{Worker, IsWorker, IsLine, AreThreadsOf};
 ghost use Rattle.whole.specs.Whole.{IsWhole};

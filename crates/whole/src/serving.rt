@@ -1,5 +1,5 @@
 //! One connection, served without threads, until a crash cuts a turn.
-ghost use Rattle.std.specs.Prelude.{◌≡◌, ◌≤◌, ◌^◌, [], ◌∷◌, Bool, false, IfSome};
+ghost use Rattle.std.specs.Prelude.{◌≡◌, [], ◌∷◌, Bool, false, IfSome};
 ghost use Rattle.accept.specs.OneStream.{AreLimits};
 ghost use Rattle.accept.specs.Calls.{AreNumbers};
 ghost use Rattle.answering.specs.Gathering.{known};
@@ -17,6 +17,7 @@ use std::alloc::Global;
 use std::collections::VecDeque;
 use std::snapshot::Snapshot;
 use std::sync::Wait;
+use wal::Capacity;
 
 /// What two shards are opened over, and how.
 #[derive(Drop)]
@@ -26,7 +27,7 @@ pub struct Beginning<D: Disk> {
     /// What streams take.
     pub limits: Limits,
     /// How many bytes a segment has at most.
-    pub capacity: u64,
+    pub capacity: Capacity,
 }
 
 // A connection that is served for itself.
@@ -105,7 +106,6 @@ pub fn serve_once<D: Disk + Drop, R: Wait, C: Clock>(
     last: Call,
 ) -> Option<(Two<D>, Connection<Two<D>>)>
     requires limits { AreLimits beginning.limits }
-    requires capacity { beginning.capacity ≤ 2 ^ 30 }
     requires shard { IsOn 0 last }
     requires numbers { AreNumbers last }
     ensures { IfSome result (λ it. IsServedOnce D.sight D.follows C.ticks

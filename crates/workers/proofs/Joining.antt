@@ -21,9 +21,8 @@ module _ {I S P T : Type 0} (visits : I → S → P → List (T × T) → S → 
 
   one_more : (ps qs : List P) (p q : P) → ArePassesLeft visits service ps qs → IsPassLeft visits service p q → ArePassesLeft visits service (ps ++ p ∷ []) (qs ++ q ∷ [])
   one_more [] [] p q all this = (this, tt)
-  one_more [] (y ∷ ys) p q all this = absurd all
-  one_more (x ∷ xs) [] p q all this = absurd all
   one_more (x ∷ xs) (y ∷ ys) p q all this = (all.0, one_more xs ys p q all.1 this)
+  one_more ps qs p q all this = absurd all
 
   module _ {H : Type 0} (start : H → P) where
     -- of all passes these threads have theirs, and the others are back, each as it was left

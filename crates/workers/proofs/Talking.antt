@@ -75,9 +75,6 @@ module _ {T : Type 0} (seen : T → Seen) (visited : T → T → Type 0) where
       subst (λ cs. ∥ Of t' over cs ∥₁) (sym (said ∙ ap (λ x. Said (take n x) ∷ calls) that)) (∥∥₁_map h (went t t' over calls n (subst (λ x. n ≤ length x) that few) is))
 
 module _ {I S P T : Type 0} (visits : I → S → P → List (T × T) → S → P → Type 0) (service : I) where
-  pub no_visit : (server : S) (pass : P) → Visits visits service server pass server pass
-  no_visit server pass = ([], (refl, refl))
-
   pub one_batch : (server : S) (pass : P) (batch : List (T × T)) (server' : S) (pass' : P) → visits service server pass batch server' pass' → Visits visits service server pass server' pass'
   one_batch server pass batch server' pass' is = (batch ∷ [], (server', pass', is, (refl, refl)))
 
@@ -88,5 +85,7 @@ module _ {I S P T : Type 0} (visits : I → S → P → List (T × T) → S → 
   join server pass (batch ∷ batches) more_batches mid between server' pass' (next, after, first, others) more =
       (next, after, first, join next after batches more_batches mid between server' pass' others more)
 
-  pub visits_join : (server : S) (pass : P) (mid : S) (between : P) (server' : S) (pass' : P) → Visits visits service server pass mid between → Visits visits service mid between server' pass' → Visits visits service server pass server' pass'
-  visits_join server pass mid between server' pass' (batches, some) (more_batches, more) = (batches ++ more_batches, join server pass batches more_batches mid between server' pass' some more)
+  pub visits_join : (server : S) (pass : P) (mid : S) (between : P) (server' : S) (pass' : P) → Visits visits service server pass mid between → (service' : I) → service' ≡ service → Visits visits service' mid between server' pass'
+      → Visits visits service server pass server' pass'
+  visits_join server pass mid between server' pass' (batches, some) service' same (more_batches, more) =
+      (batches ++ more_batches, join server pass batches more_batches mid between server' pass' some (subst (λ s. HaveVisited visits s mid between more_batches server' pass') same more))

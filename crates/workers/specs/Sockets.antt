@@ -23,14 +23,10 @@ socket_call_of numbers bytes =
 abbrev pub heard_in : List SocketCall → List ℕ
 heard_in [] = []
 heard_in (Heard bytes ∷ calls) = heard_in calls ++ bytes
-heard_in (Said bytes ∷ calls) = heard_in calls
-heard_in (NoDelay ∷ calls) = heard_in calls
-heard_in (NoWaiting ∷ calls) = heard_in calls
+heard_in (call ∷ calls) = heard_in calls
 
 -- all that it took
 abbrev pub said_in : List SocketCall → List ℕ
 said_in [] = []
-said_in (Heard bytes ∷ calls) = said_in calls
 said_in (Said bytes ∷ calls) = said_in calls ++ bytes
-said_in (NoDelay ∷ calls) = said_in calls
-said_in (NoWaiting ∷ calls) = said_in calls
+said_in (call ∷ calls) = said_in calls

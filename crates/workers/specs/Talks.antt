@@ -90,8 +90,7 @@ module _ {I S P T : Type 0} (visits : I → S → P → List (T × T) → S → 
 
 -- A socket did this for a session: what came was taken in, but what came once it was over; and it took what the session
 -- had to say.
-abbrev pub IsOfTalk : {T : Type 0} → (T → Seen) → (T → T → Type 0) → T → Bool → List SocketCall
-    → Type 0
+abbrev pub IsOfTalk : {T : Type 0} → (T → Seen) → (T → T → Type 0) → T → Bool → List SocketCall → Type 0
 IsOfTalk seen visited t over calls = (heard : List ℕ) × (dropped : List ℕ)
     × HasTalked seen visited t heard (said_in calls) × (heard_in calls ≡ heard ++ dropped)
     × (over ≡ false → dropped ≡ [])

@@ -97,15 +97,13 @@ where
     S::Session: Send,
     R: Threads + Wait + Clock + Net + Sync,
     requires pass { S.is_pass_of worker.clerk.service.now worker.clerk.pass }
-    ensures service { IfOk result (λ thread. thread.promise.service.value
-        ≡ worker.entry.clerk.service.now) }
+    ensures service { IfOk result (λ thread. thread.promise.service.value ≡ worker.entry.clerk.service.now) }
     ensures start { IfOk result (λ thread. thread.promise.start.value ≡ worker.entry.clerk.pass) }
 {
     let promise = OfService::of(&worker);
     let run = move || -> WorkerEnd<P>
         requires { S.is_pass_of worker.clerk.service.now worker.clerk.pass }
-        ensures { S.is_pass_of worker.entry.clerk.service.now result.pass
-            × HasEnded S.may_go_on result.why result.pass
+        ensures { S.is_pass_of worker.entry.clerk.service.now result.pass × HasEnded S.may_go_on result.why result.pass
             × WasServed S.visits worker.entry.clerk.service.now worker.entry.clerk.server
             worker.entry.clerk.pass result.pass }
     { work(worker) };
@@ -131,11 +129,9 @@ where
     S::Session: Send,
     R: Threads + Wait + Clock + Net + Sync,
     requires passes { All (S.is_pass_of site.now.service.now) crew.old.passes.items }
-    requires threads { All (λ thread. thread.promise.service.value
-        ≡ site.now.service.now) crew.old.threads.items }
+    requires threads { All (λ thread. thread.promise.service.value ≡ site.now.service.now) crew.old.threads.items }
     ensures passes { All (S.is_pass_of site.now.service.now) crew.new.passes.items }
-    ensures threads { All (λ thread. thread.promise.service.value
-        ≡ site.now.service.now) crew.new.threads.items }
+    ensures threads { All (λ thread. thread.promise.service.value ≡ site.now.service.now) crew.new.threads.items }
     ensures order { OnOk result (with_starts (λ thread. thread.promise.start.value) crew.new.passes.items
         crew.new.threads.items ≡ with_starts (λ thread. thread.promise.start.value)
         crew.old.passes.items crew.old.threads.items) }
@@ -182,11 +178,9 @@ where
     S::Session: Send,
     R: Threads + Wait + Clock + Net + Sync,
     requires passes { All (S.is_pass_of site.now.service.now) crew.old.passes.items }
-    requires threads { All (λ thread. thread.promise.service.value
-        ≡ site.now.service.now) crew.old.threads.items }
+    requires threads { All (λ thread. thread.promise.service.value ≡ site.now.service.now) crew.old.threads.items }
     ensures passes { All (S.is_pass_of site.now.service.now) crew.new.passes.items }
-    ensures threads { All (λ thread. thread.promise.service.value
-        ≡ site.now.service.now) crew.new.threads.items }
+    ensures threads { All (λ thread. thread.promise.service.value ≡ site.now.service.now) crew.new.threads.items }
     ensures order { OnOk result (with_starts (λ thread. thread.promise.start.value) crew.new.passes.items
         crew.new.threads.items ≡ with_starts (λ thread. thread.promise.start.value)
         crew.old.passes.items crew.old.threads.items) }
@@ -213,12 +207,10 @@ fn join_all<I, P: Drop, S: Serve<I, P>, R: Threads>(
     crew: Crew<I, P, S>,
 ) -> (Vec<P>, Result<(), WorkersFault>)
     requires passes { All (S.is_pass_of service.now) crew.passes.items }
-    requires threads { All (λ thread. thread.promise.service.value
-        ≡ service.now) crew.threads.items }
+    requires threads { All (λ thread. thread.promise.service.value ≡ service.now) crew.threads.items }
     ensures passes { All (S.is_pass_of service.now) result.0.items }
     ensures left { OnOk result.1 (ArePassesLeft S.visits service.now
-        (with_starts (λ thread. thread.promise.start.value) crew.passes.items crew.threads.items)
-        result.0.items) }
+        (with_starts (λ thread. thread.promise.start.value) crew.passes.items crew.threads.items) result.0.items) }
 {
     let _ = service;
     let Crew {
@@ -253,12 +245,10 @@ where
     S::Session: Send,
     R: Threads + Wait + Clock + Net + Sync,
     requires passes { All (S.is_pass_of site.now.service.now) crew.passes.items }
-    requires threads { All (λ thread. thread.promise.service.value
-        ≡ site.now.service.now) crew.threads.items }
+    requires threads { All (λ thread. thread.promise.service.value ≡ site.now.service.now) crew.threads.items }
     ensures passes { All (S.is_pass_of site.now.service.now) result.0.items }
     ensures left { OnOk result.1 (ArePassesLeft S.visits site.now.service.now
-        (with_starts (λ thread. thread.promise.start.value) crew.passes.items
-        crew.threads.items) result.0.items) }
+        (with_starts (λ thread. thread.promise.start.value) crew.passes.items crew.threads.items) result.0.items) }
     ensures served { IfOk result.1 (IsServedFor bounds.now.connections) }
 {
     let mut crew = crew;
@@ -313,12 +303,9 @@ where
     S: Serve<I, P> + Drop + Send,
     S::Session: Send,
     R: Threads + Wait + Clock + Net + Sync,
-    requires passes { (i : ℕ) (pass : P) → slice_get passes.items i ≡ Some pass
-        → S.is_pass_of service.now pass }
-    ensures passes { (i : ℕ) (pass : P) → slice_get result.0.items i ≡ Some pass
-        → S.is_pass_of service.now pass }
-    ensures left { OnOk result.1
-        (ArePassesLeft S.visits service.now passes.items result.0.items) }
+    requires passes { (i : ℕ) (pass : P) → slice_get passes.items i ≡ Some pass → S.is_pass_of service.now pass }
+    ensures passes { (i : ℕ) (pass : P) → slice_get result.0.items i ≡ Some pass → S.is_pass_of service.now pass }
+    ensures left { OnOk result.1 (ArePassesLeft S.visits service.now passes.items result.0.items) }
     ensures served { IfOk result.1 (IsServedFor bounds.now.connections) }
 {
     let count = passes.len().min(servers.len());
@@ -341,8 +328,7 @@ where
         |scope| -> (Vec<P>, Result<AcceptEnd, WorkersFault>)
             requires { All (S.is_pass_of site.service.now) passes.items }
             ensures { All (S.is_pass_of site.entry.service.now) result.0.items
-                × OnOk result.1 (ArePassesLeft S.visits site.entry.service.now passes.items
-                result.0.items)
+                × OnOk result.1 (ArePassesLeft S.visits site.entry.service.now passes.items result.0.items)
                 × IfOk result.1 (IsServedFor bounds.entry.now.connections) }
         {
             let crew = Crew {

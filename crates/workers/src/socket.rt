@@ -102,8 +102,7 @@ impl Socket {
     /// Reads what has come, as much as there is space for. It gives nothing only at the end.
     pub(crate) fn read_some(&mut self, space: &mut [u8]) -> Result<usize, Stalled>
         ensures within { IfOk result (λ n. n ≤ length space.new) }
-        ensures heard { IfOk result (λ n.
-            self.new.noted.calls ≡ Heard (take n space.new) ∷ self.old.noted.calls) }
+        ensures heard { IfOk result (λ n. self.new.noted.calls ≡ Heard (take n space.new) ∷ self.old.noted.calls) }
         ensures err { OnErr result (self.new.noted.calls ≡ self.old.noted.calls) }
         ensures len { length space.new ≡ length space.old }
     {
@@ -119,8 +118,7 @@ impl Socket {
     /// Sends a beginning of a text.
     pub(crate) fn write_some(&mut self, text: &[u8]) -> Result<usize, Stalled>
         ensures within { IfOk result (λ n. n ≤ length text.now) }
-        ensures said { IfOk result (λ n.
-            self.new.noted.calls ≡ Said (take n text.now) ∷ self.old.noted.calls) }
+        ensures said { IfOk result (λ n. self.new.noted.calls ≡ Said (take n text.now) ∷ self.old.noted.calls) }
         ensures err { OnErr result (self.new.noted.calls ≡ self.old.noted.calls) }
     {
         match self.stream.write(text) {

@@ -3,7 +3,6 @@ use Rattle.std.proofs.lemmas.Result.{err_from_is_err_and}
 use Rattle.requests.specs.Streams.{IsNext}
 use Rattle.requests.specs.Writing.{Dues}
 use Rattle.answering.specs.Beginning.{NoCalls}
-use Rattle.answering.specs.Gathering.{any_text}
 use Rattle.answering.specs.Serving.{world}
 use Rattle.answering.proofs.Turning.{message_due, refusal_due, turned_away, turned_away_err}
 use Rattle.answering.proofs.visiting.begin_turn.Goals as goal
@@ -22,14 +21,16 @@ begin_message-requires-clause-due g c =
 pub returns-in_err-fixed-in-Refused-clause-begins : goal.returns-in_err-fixed-in-Refused-clause-begins
 returns-in_err-fixed-in-Refused-clause-begins g c =
     let p = err_from_is_err_and c.from_residual.result c.from_residual.ensures.1 in
+    let old = c.args.end.now.writer.now in
+    let new = c.fixed.new.self.writer.now in
     let refused = subst (IsNext c.args.incoming.now) c.in-Refused.is c.next.ensures.next in
-    let t = turned_away_err NoCalls g.C.Clock.ticks any_text any_text c.args.incoming.now c.args.incoming.now (g.O.Answers.contents c.args.end.now.writer.now) (g.O.Answers.contents c.fixed.new.self.writer.now) (world tt c.args.clock.now)
-    c.in-Refused.why c.in_err-fixed-in-Refused.field-0.0 refused c.in_err-fixed-in-Refused.ensures.writes in
-    rw (p.1, p.2) (record { text = t.text; appends = t.appends; gives_next = t.gives_next; follows = tt })
+    rw (p.1, p.2) (turned_away_err NoCalls g.C.Clock.ticks (g.O.Answers.due old) (g.O.Answers.due new) c.args.incoming.now c.args.incoming.now (g.O.Answers.contents old) (g.O.Answers.contents new) (world tt c.args.clock.now)
+    c.in-Refused.why c.in_err-fixed-in-Refused.field-0.0 refused c.in_err-fixed-in-Refused.ensures.writes)
 
 pub returns-in_ok-fixed-in-Refused-clause-begins : goal.returns-in_ok-fixed-in-Refused-clause-begins
 returns-in_ok-fixed-in-Refused-clause-begins g c =
+    let old = c.args.end.now.writer.now in
+    let new = c.fixed.new.self.writer.now in
     let refused = subst (IsNext c.args.incoming.now) c.in-Refused.is c.next.ensures.next in
-    let t = turned_away NoCalls g.C.Clock.ticks any_text any_text c.args.incoming.now c.args.incoming.now (g.O.Answers.contents c.args.end.now.writer.now) (g.O.Answers.contents c.fixed.new.self.writer.now) (world tt c.args.clock.now)
-    c.in-Refused.why tt refused c.in_ok-fixed-in-Refused.ensures.writes in
-    record { text = t.text; appends = t.appends; gives_next = t.gives_next; follows = tt }
+    turned_away NoCalls g.C.Clock.ticks (g.O.Answers.due old) (g.O.Answers.due new) c.args.incoming.now c.args.incoming.now (g.O.Answers.contents old) (g.O.Answers.contents new) (world tt c.args.clock.now)
+    c.in-Refused.why tt refused c.in_ok-fixed-in-Refused.ensures.writes

@@ -18,7 +18,7 @@ serve_listener-passes-requires-sync-I g c κs within =
 pub returns-clause-over : goal.returns-clause-over
 returns-clause-over g c =
     let R = g.row.R.Denot in
-    let asked = c.args.asked in
+    let asked = c.args.asked.now in
     let served = c.serve_listener-passes in
     let all : OnOk served.result.1 (HasServedAsAsked (IsTick {R = R}) asked.environment.now asked.words) =
     as_asked (IsTick {R = R}) (λ (s : Connections (SystemClock R) (FullShardLines R)). s.clock) (λ (k : KeptConnection (SystemClock R)). k.connection) c.args.ingester.now

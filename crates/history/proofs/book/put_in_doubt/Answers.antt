@@ -1,13 +1,6 @@
-use Rattle.std.proofs.Common.{◌≡◌, ◌+◌, ◌++◌, ◌∷◌, [], length, take, true, refl, sym, ap, ◌∙◌, arith, append_assoc, append-nil}
-use Rattle.std.specs.Prelude.{slice_index_or, slice_set}
+use Rattle.std.proofs.Common.{◌≡◌, ◌+◌, ◌++◌, ◌∷◌, [], length, take, true, refl, sym, ap, ◌∙◌, arith, append_assoc, append-nil, slice_index_or, slice_set}
 use Rattle.std.proofs.Math.Seq.{take-length}
-use Rattle.history.specs.declared.views.Shelf.{Shelf}
-use Rattle.history.specs.declared.views.Role.TheVariants.{Nobody, Keeps}
-use Rattle.history.specs.declared.views.Token.TheVariants.{Nothing}
-use Rattle.history.specs.Rule.{alone}
-use Rattle.history.specs.Histories.{shard_in}
-use Rattle.history.specs.Plays.{kept_back, seat_alone, in_doubt}
-use Rattle.history.specs.Handles.{announced, doubted, asks_of, doubted_to, shelf_in, booked, with_doubt, ask_in, doubt_in, before_in}
+use Rattle.history.proofs.Common.{Shelf, Nobody, Keeps, Nothing, alone, shard_in, kept_back, seat_alone, in_doubt, announced, doubted, asks_of, doubted_to, shelf_in, booked, with_doubt, ask_in, doubt_in, before_in}
 use Rattle.history.proofs.HandOvers.{gives}
 use Rattle.history.proofs.Marks.{doubts_as}
 use Rattle.history.proofs.Tickets.{doubted_at, doubted_set, asks_more, of_at}

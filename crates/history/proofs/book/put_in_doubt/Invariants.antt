@@ -1,8 +1,5 @@
 use Rattle.std.proofs.Common.{◌≡◌, ◌++◌, [], take}
-use Rattle.history.specs.declared.views.Role.TheVariants.{Keeps}
-use Rattle.history.specs.declared.views.Token.TheVariants.{Nothing}
-use Rattle.history.specs.Rule.{alone}
-use Rattle.history.specs.Handles.{asks_of, doubted_to, shelf_in, with_doubt}
+use Rattle.history.proofs.Common.{Keeps, Nothing, alone, asks_of, doubted_to, shelf_in, with_doubt}
 use Rattle.history.proofs.book.put_in_doubt.Given as goal
 
 abbrev pub invariant-loop-ticket : goal.invariant-loop-ticket

@@ -1,11 +1,5 @@
 use Rattle.std.proofs.Common.{◌≡◌, ◌+◌, List, [], ◌∷◌, ◌++◌, sym, ap, ◌∙◌, subst}
-use Rattle.accept.specs.declared.call.Reply.TheVariants.{Unavailable}
-use Rattle.accept.specs.declared.history.Ask.{Ask}
-use Rattle.accept.specs.declared.history.Item.{Item}
-use Rattle.accept.specs.declared.history.Item.TheVariants.{Answered}
-use Rattle.history.specs.Histories.{HaveSteps, doubt_of, step_of}
-use Rattle.history.specs.Plays.{ask_of, before_of}
-use Rattle.history.specs.Handles.{Booked, longer, refused_by}
+use Rattle.history.proofs.Common.{Unavailable, Ask, Item, Answered, HaveSteps, doubt_of, step_of, ask_of, before_of, Booked, longer, refused_by}
 use Rattle.history.proofs.Past.{made_now}
 use Rattle.history.proofs.Lines.{one_before}
 use Rattle.history.proofs.laws.refuse_both.Goals as goal

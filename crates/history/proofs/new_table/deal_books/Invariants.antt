@@ -1,6 +1,5 @@
 use Rattle.std.proofs.Common.{◌≡◌, []}
-use Rattle.history.specs.Rule.{opener}
-use Rattle.history.specs.Handles.{about_in, fresh_books}
+use Rattle.history.proofs.Common.{opener, about_in, fresh_books}
 use Rattle.history.proofs.new_table.deal_books.Given as goal
 
 abbrev pub invariant-loop-shard : goal.invariant-loop-shard

@@ -43,7 +43,7 @@ make_shards-requires g c =
     let room = all_fit _ _ _ _ _ sized.0 sized.2 c.in_ok-logs.ensures.room c.requires.slots.2 in (
       search rules,
       (
-        grounded g.D.Disk.sight g.D.Disk.follows c.in-Ok.planned.history c.args.settings.now.passes c.args.settings.now.limits (deque_len c.args.slots.now) c.args.settings.now.capacity c.args.slots.now.items c.in_ok-logs.logs.items images.items c.in-Ok.planned.books.items c.in_ok-logs.ensures.opened.0 counted settings.limits settings.capacity planned.books,
+        grounded g.D.Disk.sight g.D.Disk.follows c.in-Ok.planned.history c.args.settings.now.passes c.args.settings.now.limits (deque_len c.args.slots.now) c.args.settings.now.capacity c.args.slots.now.items c.in_ok-logs.logs.items images.items c.in-Ok.planned.books.items c.in_ok-logs.ensures.opened.0 counted settings.limits planned.books,
         (
           books_in c.in-Ok.planned.history (about_of c.in_ok-logs.images.items c.args.settings.now.passes c.args.settings.now.limits c.args.settings.now.capacity) (length images.items) c.in-Ok.planned.books.items planned.books,
           ((alike, c.in-Ok.planned.books.ok.0 ∙ (many ∙ (sym images.ok.0 ∙ alike))), ((shards.items, shards.len, place), room)),

@@ -1,4 +1,4 @@
-use Rattle.std.proofs.Common.{◌≡◌, ◌<◌, length, sym, ap, ◌∙◌, subst}
+use Rattle.std.proofs.Common.{◌≡◌, ℕ, ◌<◌, length, sym, ap, ◌∙◌, subst}
 use Rattle.history.specs.Handles.{Booked, about_of, fresh_books, fresh_passes}
 use Rattle.owners.specs.Openings.{opening_of}
 use Rattle.owners.specs.Plans.{IsPlan}
@@ -9,7 +9,7 @@ pub index-requires : goal.index-requires
 index-requires g c =
     let about = about_of c.args.images.now.items c.args.settings.now.passes c.args.settings.now.limits c.args.settings.now.capacity in
     let history = c.in_ok-history.history in
-    let are = c.in_ok-history.ensures.books ∙ ap (λ m. fresh_books history (about_of m c.args.settings.now.passes c.args.settings.now.limits c.args.settings.now.capacity) (length m)) c.deref.ensures.value in
+    let are = c.in_ok-history.ensures.books ∙ (ap (λ m. fresh_books history (about_of m c.args.settings.now.passes c.args.settings.now.limits c.bytes.result) (length m)) c.deref.ensures.value ∙ ap (λ (n : ℕ). fresh_books history (about_of c.args.images.now.items c.args.settings.now.passes c.args.settings.now.limits n) (length c.args.images.now.items)) c.bytes.ensures.bytes) in
     let many : length c.in_ok-history.books.items ≡ length c.args.images.now.items = ap length are ∙ length-fresh_books history about (length c.args.images.now.items) in
     subst (λ n. 0 < n) (sym (c.in_ok-history.books.ok.0 ∙ (many ∙ (sym c.args.images.now.ok.0 ∙ c.requires.same)))) c.requires.some.0
 
@@ -17,7 +17,7 @@ pub make_plan-requires-clause-shards : goal.make_plan-requires-clause-shards
 make_plan-requires-clause-shards g c =
     let about = about_of c.args.images.now.items c.args.settings.now.passes c.args.settings.now.limits c.args.settings.now.capacity in
     let history = c.in_ok-history.history in
-    let are = c.in_ok-history.ensures.books ∙ ap (λ m. fresh_books history (about_of m c.args.settings.now.passes c.args.settings.now.limits c.args.settings.now.capacity) (length m)) c.deref.ensures.value in
+    let are = c.in_ok-history.ensures.books ∙ (ap (λ m. fresh_books history (about_of m c.args.settings.now.passes c.args.settings.now.limits c.bytes.result) (length m)) c.deref.ensures.value ∙ ap (λ (n : ℕ). fresh_books history (about_of c.args.images.now.items c.args.settings.now.passes c.args.settings.now.limits n) (length c.args.images.now.items)) c.bytes.ensures.bytes) in
     let counted = sym c.args.images.now.ok.0 ∙ c.requires.same in
     let first = first_fresh history about (length c.args.images.now.items) c.in_ok-history.books.items c.index.result.now are (subst (λ n. 0 < n) (sym counted) c.requires.some.0) c.index.ensures in
     ap (λ (b : Booked). b.about.shards) first ∙ counted
@@ -26,7 +26,7 @@ pub make_plan-requires-clause-passes : goal.make_plan-requires-clause-passes
 make_plan-requires-clause-passes g c =
     let about = about_of c.args.images.now.items c.args.settings.now.passes c.args.settings.now.limits c.args.settings.now.capacity in
     let history = c.in_ok-history.history in
-    let are = c.in_ok-history.ensures.books ∙ ap (λ m. fresh_books history (about_of m c.args.settings.now.passes c.args.settings.now.limits c.args.settings.now.capacity) (length m)) c.deref.ensures.value in
+    let are = c.in_ok-history.ensures.books ∙ (ap (λ m. fresh_books history (about_of m c.args.settings.now.passes c.args.settings.now.limits c.bytes.result) (length m)) c.deref.ensures.value ∙ ap (λ (n : ℕ). fresh_books history (about_of c.args.images.now.items c.args.settings.now.passes c.args.settings.now.limits n) (length c.args.images.now.items)) c.bytes.ensures.bytes) in
     let counted = sym c.args.images.now.ok.0 ∙ c.requires.same in
     let first = first_fresh history about (length c.args.images.now.items) c.in_ok-history.books.items c.index.result.now are (subst (λ n. 0 < n) (sym counted) c.requires.some.0) c.index.ensures in
     ap (λ (b : Booked). b.about.passes) first
@@ -35,11 +35,11 @@ pub returns : goal.returns
 returns g c =
     let about = about_of c.args.images.now.items c.args.settings.now.passes c.args.settings.now.limits c.args.settings.now.capacity in
     let history = c.in_ok-history.history in
-    let are = c.in_ok-history.ensures.books ∙ ap (λ m. fresh_books history (about_of m c.args.settings.now.passes c.args.settings.now.limits c.args.settings.now.capacity) (length m)) c.deref.ensures.value in
+    let are = c.in_ok-history.ensures.books ∙ (ap (λ m. fresh_books history (about_of m c.args.settings.now.passes c.args.settings.now.limits c.bytes.result) (length m)) c.deref.ensures.value ∙ ap (λ (n : ℕ). fresh_books history (about_of c.args.images.now.items c.args.settings.now.passes c.args.settings.now.limits n) (length c.args.images.now.items)) c.bytes.ensures.bytes) in
     let counted = sym c.args.images.now.ok.0 ∙ c.requires.same in
     let first = first_fresh history about (length c.args.images.now.items) c.in_ok-history.books.items c.index.result.now are (subst (λ n. 0 < n) (sym counted) c.requires.some.0) c.index.ensures in
     record {
       books = are;
-      seats = c.in_ok-history.ensures.passes ∙ ap (λ m. fresh_passes history (about_of m c.args.settings.now.passes c.args.settings.now.limits c.args.settings.now.capacity) c.args.settings.now.passes) c.deref.ensures.value;
+      seats = c.in_ok-history.ensures.passes ∙ (ap (λ m. fresh_passes history (about_of m c.args.settings.now.passes c.args.settings.now.limits c.bytes.result) c.args.settings.now.passes) c.deref.ensures.value ∙ ap (λ (n : ℕ). fresh_passes history (about_of c.args.images.now.items c.args.settings.now.passes c.args.settings.now.limits n) c.args.settings.now.passes) c.bytes.ensures.bytes);
       plan = subst (λ (b : Booked). IsPlan (opening_of b c.args.logs.now.items) c.in_ok-plan.plan) first c.in_ok-plan.ensures;
     }

@@ -1,27 +1,13 @@
 use Rattle.std.proofs.Common.{◌≡◌, ◌+◌, [], ◌∷◌, ◌++◌, refl, sym, ap, ◌∙◌, subst}
-use Rattle.accept.specs.declared.history.Step.{Step}
-use Rattle.history.specs.Histories.{IsFirst, step_of}
-use Rattle.history.specs.Plays.{HasSeenStep, collect_to}
-use Rattle.history.specs.Handles.{Announced, Passed}
-use Rattle.shard.specs.declared.first_jobs.Job.{Job}
-use Rattle.shard.specs.Turns.{Turn}
-use Rattle.owners.specs.Openings.{opening_of}
-use Rattle.ingester.specs.Calls.{with_next}
+use Rattle.headline.proofs.Common.{Step, Turn, IsFirst, step_of, HasSeenStep, collect_to, Announced, Passed, Job, opening_of, with_next}
 use Rattle.one_life.specs.Cut.{IsOfTicket}
-use Rattle.one_life.proofs.Cutting.{came_of, popped, given_by}
+use Rattle.one_life.proofs.Cutting.{turn_by, came_of, popped, given_by}
 use Rattle.one_life.proofs.called.call_once.Goals as goal
 
 pub collect-requires-clause-table : goal.collect-requires-clause-table
 collect-requires-clause-table g c =
-    let turn : Turn g.row.D.Denot = record {
-      old = c.args.shard.now;
-      new = c.apply_group.new.self;
-      jobs = c.push_back_reserved.new.self.items;
-      rest = c.apply_group.new.jobs.items;
-      was = c.args.tray.now.settled.items;
-      now = c.apply_group.new.settled.items;
-      ended = c.apply_group.result;
-    } in
+    let made = c.apply_group in
+    let turn : Turn g.row.D.Denot = turn_by c.args.shard.now made.new.self c.push_back_reserved.new.self.items made.new.jobs.items c.args.tray.now.settled.items made.new.settled.items made.result in
     let j : Job = record { ticket = c.in-Ok.ticket; call = c.args.call } in
     let jobs : turn.jobs ≡ j ∷ [] = c.push_back_reserved.ensures.items ∙ ap (λ l. l ++ j ∷ []) c.requires.jobs.0 in
     let came = came_of g.D.Disk.sight g.D.Disk.follows turn j jobs c.requires.settled.0 c.apply_group.ensures.turn in
@@ -32,15 +18,8 @@ collect-requires-clause-table g c =
 
 pub collect-requires-clause-pass : goal.collect-requires-clause-pass
 collect-requires-clause-pass g c =
-    let turn : Turn g.row.D.Denot = record {
-      old = c.args.shard.now;
-      new = c.apply_group.new.self;
-      jobs = c.push_back_reserved.new.self.items;
-      rest = c.apply_group.new.jobs.items;
-      was = c.args.tray.now.settled.items;
-      now = c.apply_group.new.settled.items;
-      ended = c.apply_group.result;
-    } in
+    let made = c.apply_group in
+    let turn : Turn g.row.D.Denot = turn_by c.args.shard.now made.new.self c.push_back_reserved.new.self.items made.new.jobs.items c.args.tray.now.settled.items made.new.settled.items made.result in
     let j : Job = record { ticket = c.in-Ok.ticket; call = c.args.call } in
     let jobs : turn.jobs ≡ j ∷ [] = c.push_back_reserved.ensures.items ∙ ap (λ l. l ++ j ∷ []) c.requires.jobs.0 in
     let came = came_of g.D.Disk.sight g.D.Disk.follows turn j jobs c.requires.settled.0 c.apply_group.ensures.turn in
@@ -49,15 +28,8 @@ collect-requires-clause-pass g c =
 
 pub returns : goal.returns
 returns g c =
-    let turn : Turn g.row.D.Denot = record {
-      old = c.args.shard.now;
-      new = c.apply_group.new.self;
-      jobs = c.push_back_reserved.new.self.items;
-      rest = c.apply_group.new.jobs.items;
-      was = c.args.tray.now.settled.items;
-      now = c.apply_group.new.settled.items;
-      ended = c.apply_group.result;
-    } in
+    let made = c.apply_group in
+    let turn : Turn g.row.D.Denot = turn_by c.args.shard.now made.new.self c.push_back_reserved.new.self.items made.new.jobs.items c.args.tray.now.settled.items made.new.settled.items made.result in
     let j : Job = record { ticket = c.in-Ok.ticket; call = c.args.call } in
     let jobs : turn.jobs ≡ j ∷ [] = c.push_back_reserved.ensures.items ∙ ap (λ l. l ++ j ∷ []) c.requires.jobs.0 in
     let reply = c.in-Some-Answered.reply in

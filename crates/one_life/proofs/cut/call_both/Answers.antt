@@ -1,4 +1,4 @@
-use Rattle.std.proofs.Common.{◌≡◌, ◌∙◌, sym}
+use Rattle.std.proofs.Common.{◌∙◌, sym}
 use Rattle.one_life.proofs.Staying.{here_for}
 use Rattle.one_life.proofs.cut.call_both.Goals as goal
 

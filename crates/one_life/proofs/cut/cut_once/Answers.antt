@@ -1,4 +1,4 @@
-use Rattle.std.proofs.Common.{◌≡◌, ◌∷◌, [], refl, sym, ap, ◌∙◌}
+use Rattle.std.proofs.Common.{◌∷◌, []}
 use Rattle.one_life.specs.Cut.{opening_with}
 use Rattle.one_life.proofs.Staying.{opened_of, called_of, met_of, own_of, cut_of}
 use Rattle.one_life.proofs.cut.cut_once.Goals as goal

@@ -1,13 +1,6 @@
-use Rattle.std.proofs.Common.{◌≡◌, ◌+◌, [], ◌∷◌, ◌++◌, refl, sym, ap, ◌∙◌, subst}
-use Rattle.accept.specs.Histories.{key_of}
-use Rattle.history.specs.Histories.{shard_in, asks_on}
-use Rattle.history.specs.Plays.{ask_of}
-use Rattle.history.specs.Handles.{Announced, Passed}
-use Rattle.history.specs.Shards.{shard_of}
-use Rattle.shard.specs.declared.first_jobs.Job.{Job}
-use Rattle.shard.specs.Shards.{Sharded}
-use Rattle.shard.specs.Turns.{Turn, AreReady}
-use Rattle.one_life.proofs.Cutting.{ready_one}
+use Rattle.std.proofs.Common.{◌+◌, [], ◌∷◌, ◌++◌, refl, sym, ap, ◌∙◌, subst}
+use Rattle.headline.proofs.Common.{key_of, shard_in, asks_on, ask_of, Announced, Passed, shard_of, Job, Sharded, Turn, AreReady}
+use Rattle.one_life.proofs.Cutting.{turn_by, ready_one}
 use Rattle.one_life.proofs.Turning.{compared}
 use Rattle.one_life.proofs.cut.cut_turn.Goals as goal
 
@@ -36,15 +29,8 @@ pub returns : goal.returns
 returns g c =
     let old = c.args.it.now in
     let said : Passed = c.announce.new.pass in
-    let turn : Turn g.row.D.Denot = record {
-      old = c.settle-2.new.self;
-      new = c.apply_group.new.self;
-      jobs = c.push_back_reserved.new.self.items;
-      rest = c.apply_group.new.jobs.items;
-      was = c.in_ok-tray.tray.settled.items;
-      now = c.apply_group.new.settled.items;
-      ended = c.apply_group.result;
-    } in
+    let made = c.apply_group in
+    let turn : Turn g.row.D.Denot = turn_by c.settle-2.new.self made.new.self c.push_back_reserved.new.self.items made.new.jobs.items c.in_ok-tray.tray.settled.items made.new.settled.items made.result in
     let first_same = c.settle-2.ensures.shard ∙ c.settle.ensures.shard in
     let second_same = c.settle-4.ensures.shard ∙ c.settle-3.ensures.shard in
     let one_same = c.settle-3.ensures.pass ∙ c.settle.ensures.pass in

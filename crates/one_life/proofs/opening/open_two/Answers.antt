@@ -1,7 +1,5 @@
 use Rattle.std.proofs.Common.{List, ◌≡◌, ◌∙◌, [], ◌∷◌, refl, sym, ap, subst}
-use Rattle.accept.specs.Rooms.{Streams}
-use Rattle.history.specs.Handles.{Booked, Passed, about_of}
-use Rattle.shard.specs.Shards.{Sharded, IsGround}
+use Rattle.headline.proofs.Common.{Streams, Booked, Passed, about_of, Sharded, IsGround}
 use Rattle.one_life.specs.Cut.{HaveBegun}
 use Rattle.one_life.proofs.Starting.{ground_two, opened_two}
 use Rattle.one_life.proofs.opening.open_two.Goals as goal
@@ -15,7 +13,7 @@ open_shards-requires-clause-first g c =
     let left : m ∷ n ∷ [] ≡ c.take_both-found.result.0 ∷ c.take_both-found.result.1 ∷ [] = sym c.in-Ok.ensures.items ∙ c.take_both-found.ensures in
     let same : m ≡ c.take_both-found.result.0 = cc in
     subst (λ (x : Streams). IsGround g.D.Disk.sight g.D.Disk.follows c.args.limits c.in_ok-first.first.0 x c.in_ok-begun.begun.books.0) same
-    (ground_two g.D.Disk.sight g.D.Disk.follows c.args.limits c.args.capacity m n 0 c.args.slots.0 c.in_ok-first.first.0 m c.in_ok-begun.begun.history c.in_ok-begun.begun.books.0 c.in_ok-first.ensures.first refl c.requires.limits c.requires.capacity
+    (ground_two g.D.Disk.sight g.D.Disk.follows c.args.limits c.args.capacity m n 0 c.args.slots.0 c.in_ok-first.first.0 m c.in_ok-begun.begun.history c.in_ok-begun.begun.books.0 c.in_ok-first.ensures.first refl c.requires.limits
     (ap (λ (b : Booked × Booked). b.0) begun.books))
 
 pub open_shards-requires-clause-second : goal.open_shards-requires-clause-second
@@ -27,7 +25,7 @@ open_shards-requires-clause-second g c =
     let left : m ∷ n ∷ [] ≡ c.take_both-found.result.0 ∷ c.take_both-found.result.1 ∷ [] = sym c.in-Ok.ensures.items ∙ c.take_both-found.ensures in
     let same : n ≡ c.take_both-found.result.1 = cc in
     subst (λ (x : Streams). IsGround g.D.Disk.sight g.D.Disk.follows c.args.limits c.in_ok-first.second.0 x c.in_ok-begun.begun.books.1) same
-    (ground_two g.D.Disk.sight g.D.Disk.follows c.args.limits c.args.capacity m n 1 c.args.slots.1 c.in_ok-first.second.0 n c.in_ok-begun.begun.history c.in_ok-begun.begun.books.1 c.in_ok-first.ensures.second refl c.requires.limits c.requires.capacity
+    (ground_two g.D.Disk.sight g.D.Disk.follows c.args.limits c.args.capacity m n 1 c.args.slots.1 c.in_ok-first.second.0 n c.in_ok-begun.begun.history c.in_ok-begun.begun.books.1 c.in_ok-first.ensures.second refl c.requires.limits
     (ap (λ (b : Booked × Booked). b.1) begun.books))
 
 pub returns-in-Some-clause-opened : goal.returns-in-Some-clause-opened

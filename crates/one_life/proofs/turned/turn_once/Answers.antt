@@ -1,9 +1,7 @@
 use Rattle.std.proofs.Common.{[], ◌∷◌, refl, sym, ◌∙◌, subst}
-use Rattle.history.specs.Handles.{Passed}
-use Rattle.shard.specs.Shards.{Sharded}
-use Rattle.shard.specs.Turns.{Turn}
-use Rattle.owners.specs.Openings.{Opening, opening_of}
+use Rattle.headline.proofs.Common.{Passed, Sharded, Turn, Opening, opening_of}
 use Rattle.one_life.specs.Turned.{IsTurnedOnce}
+use Rattle.one_life.proofs.Cutting.{turn_by}
 use Rattle.one_life.proofs.Turning.{compared, turns_once}
 use Rattle.one_life.proofs.turned.turn_once.Goals as goal
 
@@ -15,15 +13,7 @@ returns g c =
     let one = c.settle.ensures in
     let two = c.settle-2.ensures in
     let made = c.apply_group-ended in
-    let turn : Sharded g.row.D.Denot → Sharded g.row.D.Denot → Turn g.row.D.Denot = λ old new. record {
-      old = old;
-      new = new;
-      jobs = c.args.jobs.now.items;
-      rest = made.new.jobs.items;
-      was = c.args.settled.now.items;
-      now = made.new.settled.items;
-      ended = made.result;
-    } in
+    let turn : Sharded g.row.D.Denot → Sharded g.row.D.Denot → Turn g.row.D.Denot = λ old new. turn_by old new c.args.jobs.now.items made.new.jobs.items c.args.settled.now.items made.new.settled.items made.result in
     let old = one.shard ∙ c.in-Ok.ensures.ok in
     let before = compared c.in-Ok.shard c.settle.new.self c.args.pass.now pass one.shard one.pass one.begins one.steps in
     let after = compared made.new.self made.new.self pass pass refl refl two.begins two.steps in

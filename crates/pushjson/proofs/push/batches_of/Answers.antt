@@ -2,7 +2,7 @@ use Rattle.std.proofs.Common.{◌≡◌, suc, ◌∷◌, map, vec_len, drop, tak
 use Rattle.std.proofs.lemmas.Grind.{common_steps}
 use Rattle.pushjson.specs.Shape.{stream_texts_of}
 use Rattle.pushjson.specs.Bodies.{AreTimed, batch_of}
-use Rattle.pushjson.proofs.Beginnings.{left, whole, all_more, map_more}
+use Rattle.pushjson.proofs.Beginnings.{parted, whole, all_more, map_more}
 use Rattle.pushjson.proofs.push.batches_of.Goals as goal
 
 pub loop-pairs-preserved : goal.loop-pairs-preserved
@@ -14,7 +14,7 @@ loop-pairs-preserved c =
     record {
       read = rw len (map_more batch_of streams n _ _ _ _ step c.loop-pairs.invariant.read (grind (arith, common_steps)));
       times = rw len (all_more (λ s. AreTimed s.values) streams n _ _ step c.loop-pairs.invariant.times c.in_ok-entries.ensures.0);
-      left = rw len (left streams n _ _ step);
+      left = rw len (parted streams n _ _ step).1;
     }
 
 pub returns : goal.returns

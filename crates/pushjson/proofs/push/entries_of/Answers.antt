@@ -3,7 +3,7 @@ use Rattle.std.proofs.lemmas.Grind.{common_steps}
 use Rattle.pushjson.specs.Times.{IsTime}
 use Rattle.pushjson.specs.Bodies.{entry_of_line}
 use Rattle.pushjson.specs.Shape.{value_texts_of}
-use Rattle.pushjson.proofs.Beginnings.{left, whole, all_more, map_more}
+use Rattle.pushjson.proofs.Beginnings.{parted, whole, all_more, map_more}
 use Rattle.pushjson.proofs.push.entries_of.Goals as goal
 
 pub loop-time-preserved : goal.loop-time-preserved
@@ -15,7 +15,7 @@ loop-time-preserved c =
     record {
       read = rw len (map_more entry_of_line values n _ _ _ _ step c.loop-time.invariant.read (grind (arith, common_steps)));
       times = rw len (all_more (λ v. IsTime v.time) values n _ _ step c.loop-time.invariant.times (rw (← c.as_str.ensures.value) c.in-Some-time_of.ensures.0));
-      left = rw len (left values n _ _ step);
+      left = rw len (parted values n _ _ step).1;
     }
 
 pub returns : goal.returns

@@ -2,7 +2,7 @@ use Rattle.std.proofs.Common.{◌≡◌, sym, ap, ◌∙◌}
 use Rattle.serde_json.proofs.Views.{view-Object}
 use Rattle.serde_json.specs.Data.{object, member, no_members}
 use Rattle.serde_json.specs.View.{view, members_view}
-use Rattle.pushjson.proofs.Members.{other_member, none_came, more_came}
+use Rattle.pushjson.proofs.Trees.{other_member, none_came, more_came}
 use Rattle.pushjson.proofs.shape.two_members.Goals as goal
 
 pub returns-in_default-next_value : goal.returns-in_default-next_value

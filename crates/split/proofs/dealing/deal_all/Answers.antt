@@ -1,7 +1,7 @@
 use Rattle.std.proofs.Common.{◌≡◌, ℕ, ◌+◌, ◌^◌, List, length, replicate, sym, ap, ◌∙◌, subst, arith}
 use Rattle.std.proofs.lemmas.List.{nil_from_length}
 use Rattle.std.specs.FinMap as finite
-use Rattle.accept.specs.Rooms.{Streams}
+use Rattle.accept.specs.Rooms.{Streams, segment_bytes}
 use Rattle.split.specs.Maps.{map_at, IsSplit, all_dealt, AreFit, HaveRoomWithin}
 use Rattle.split.proofs.Dealt.{is_split, rooms_within, apart_by_fit, fit_by_split}
 use Rattle.split.proofs.dealing.deal_all.Goals as goal
@@ -31,4 +31,4 @@ returns-clause-small c =
     let olds = c.args.olds.items in
     let m = c.args.count in
     let done : c.loop-old.news.items ≡ all_dealt m (replicate m finite.empty) olds = ended c.args.count c.loop-old.news.items olds _ _ c.loop-old.invariant.left c.in-None.ensures.steps.0 c.loop-old.invariant.dealt in
-    rooms_within m olds c.loop-old.news.items (omega (arith, c.requires.count)) (omega (arith, c.requires.olds, c.args.olds.ok.0)) (subst (λ (n : ℕ). HaveRoomWithin (2 ^ 31 + 27) n olds) c.args.olds.ok.0 c.requires.small) done
+    rooms_within m olds c.loop-old.news.items (omega (arith, c.requires.count)) (omega (arith, c.requires.olds, c.args.olds.ok.0)) (subst (λ (n : ℕ). HaveRoomWithin (2 ^ 31 + segment_bytes) n olds) c.args.olds.ok.0 c.requires.small) done

@@ -1,9 +1,5 @@
 use Rattle.std.proofs.Common.{◌≡◌, [], refl, sym, ap, ◌∙◌, subst}
-use Rattle.accept.specs.declared.history.Step.{Step}
-use Rattle.history.specs.Histories.{IsFirst, step_of}
-use Rattle.history.specs.Plays.{HasSeenStep, IsRested, collect_to, withdraw_to}
-use Rattle.history.specs.Handles.{Announced, Passed}
-use Rattle.owners.specs.Openings.{opening_of}
+use Rattle.headline.proofs.Common.{Step, IsFirst, step_of, HasSeenStep, IsRested, collect_to, withdraw_to, Announced, Passed, opening_of}
 use Rattle.one_life.proofs.Cutting.{given_by}
 use Rattle.whole.proofs.Calling.{IsJustAnnounced, ready, same_table, ticket_table, same_pass, first_if, taken_back, idle_collected, idle_withdrawn}
 use Rattle.whole.proofs.by_turns.call_by_turn.Goals as goal

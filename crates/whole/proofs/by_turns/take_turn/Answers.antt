@@ -1,7 +1,6 @@
 use Rattle.std.proofs.Common.{◌≡◌, [], ◌∷◌, ◌++◌, length, refl, sym, ap, ◌∙◌, subst, arith}
-use Rattle.shard.specs.declared.first_jobs.Job.{Job}
-use Rattle.shard.specs.Turns.{Turn, AreReady}
-use Rattle.one_life.proofs.Cutting.{came_of, popped}
+use Rattle.headline.proofs.Common.{Job, Turn, AreReady}
+use Rattle.one_life.proofs.Cutting.{turn_by, came_of, popped}
 use Rattle.whole.proofs.Calling.{no_turn, one_turn}
 use Rattle.whole.proofs.by_turns.take_turn.Goals as goal
 
@@ -16,15 +15,8 @@ returns-in_default-clause-turned g c = no_turn g.D.Disk.sight g.D.Disk.follows c
 
 pub unreachable-requires : goal.unreachable-requires
 unreachable-requires g c =
-    let turn : Turn g.row.D.Denot = record {
-      old = c.args.shard.now;
-      new = c.apply_group.new.self;
-      jobs = c.push_back_reserved.new.self.items;
-      rest = c.apply_group.new.jobs.items;
-      was = c.in-Some.tray.settled.items;
-      now = c.apply_group.new.settled.items;
-      ended = c.apply_group.result;
-    } in
+    let made = c.apply_group in
+    let turn : Turn g.row.D.Denot = turn_by c.args.shard.now made.new.self c.push_back_reserved.new.self.items made.new.jobs.items c.in-Some.tray.settled.items made.new.settled.items made.result in
     let j : Job = record { ticket = c.args.ticket; call = c.args.call } in
     let jobs : turn.jobs ≡ j ∷ [] = c.push_back_reserved.ensures.items ∙ ap (λ l. l ++ j ∷ []) c.in-Some.ensures.jobs.0 in
     let came = came_of g.D.Disk.sight g.D.Disk.follows turn j jobs c.in-Some.ensures.settled.0 c.apply_group.ensures.turn in
@@ -34,15 +26,8 @@ unreachable-requires g c =
 
 pub returns : goal.returns
 returns g c =
-    let turn : Turn g.row.D.Denot = record {
-      old = c.args.shard.now;
-      new = c.apply_group.new.self;
-      jobs = c.push_back_reserved.new.self.items;
-      rest = c.apply_group.new.jobs.items;
-      was = c.in-Some.tray.settled.items;
-      now = c.apply_group.new.settled.items;
-      ended = c.apply_group.result;
-    } in
+    let made = c.apply_group in
+    let turn : Turn g.row.D.Denot = turn_by c.args.shard.now made.new.self c.push_back_reserved.new.self.items made.new.jobs.items c.in-Some.tray.settled.items made.new.settled.items made.result in
     let j : Job = record { ticket = c.args.ticket; call = c.args.call } in
     let jobs : turn.jobs ≡ j ∷ [] = c.push_back_reserved.ensures.items ∙ ap (λ l. l ++ j ∷ []) c.in-Some.ensures.jobs.0 in
     let came = came_of g.D.Disk.sight g.D.Disk.follows turn j jobs c.in-Some.ensures.settled.0 c.apply_group.ensures.turn in

@@ -1,7 +1,5 @@
 use Rattle.std.proofs.Common.{◌∷◌, [], sym, subst}
-use Rattle.one_life.specs.declared.opening.Two.{Two}
-use Rattle.one_life.specs.Cut.{opening_with}
-use Rattle.whole.specs.ServedOnce.{AreServing}
+use Rattle.whole.proofs.Common.{Two, opening_with, AreServing}
 use Rattle.whole.proofs.ServedOnce.{serving_from, ready_to_cut, met_in, served}
 use Rattle.whole.proofs.serving.serve_once.Goals as goal
 

@@ -1,5 +1,4 @@
-use Rattle.std.proofs.Common.{◌∙◌, subst}
-use Rattle.workers.specs.Talks.{Visits}
+use Rattle.std.proofs.Common.{◌∙◌}
 use Rattle.workers.proofs.Talking.{visits_join}
 use Rattle.workers.proofs.worker.serve_all.Goals as goal
 
@@ -10,8 +9,7 @@ loop-turn-preserved g c =
     let mid = c.loop-turn.clerk in
     let new = c.visit_ready-batch.new.self in
     let (is, same, some) = c.loop-turn.invariant in
-    let more = subst (λ s. Visits visits s mid.server mid.pass new.server new.pass) same c.visit_ready-batch.ensures.visits in
-    (c.visit_ready-batch.ensures.pass, c.visit_ready-batch.ensures.same ∙ same, visits_join visits old.service.now old.server old.pass mid.server mid.pass new.server new.pass some more)
+    (c.visit_ready-batch.ensures.pass, c.visit_ready-batch.ensures.same ∙ same, visits_join visits old.service.now old.server old.pass mid.server mid.pass new.server new.pass some _ same c.visit_ready-batch.ensures.visits)
 
 pub returns-in-Some-done-clause-visits : goal.returns-in-Some-done-clause-visits
 returns-in-Some-done-clause-visits g c =
@@ -20,8 +18,7 @@ returns-in-Some-done-clause-visits g c =
     let mid = c.loop-turn.clerk in
     let new = c.visit_ready-batch.new.self in
     let (is, same, some) = c.loop-turn.invariant in
-    let more = subst (λ s. Visits visits s mid.server mid.pass new.server new.pass) same c.visit_ready-batch.ensures.visits in
-    visits_join visits old.service.now old.server old.pass mid.server mid.pass new.server new.pass some more
+    visits_join visits old.service.now old.server old.pass mid.server mid.pass new.server new.pass some _ same c.visit_ready-batch.ensures.visits
 
 pub returns-then-not-may_go_on-clause-visits : goal.returns-then-not-may_go_on-clause-visits
 returns-then-not-may_go_on-clause-visits g c =
@@ -30,5 +27,4 @@ returns-then-not-may_go_on-clause-visits g c =
     let mid = c.loop-turn.clerk in
     let new = c.visit_ready-batch.new.self in
     let (is, same, some) = c.loop-turn.invariant in
-    let more = subst (λ s. Visits visits s mid.server mid.pass new.server new.pass) same c.visit_ready-batch.ensures.visits in
-    visits_join visits old.service.now old.server old.pass mid.server mid.pass new.server new.pass some more
+    visits_join visits old.service.now old.server old.pass mid.server mid.pass new.server new.pass some _ same c.visit_ready-batch.ensures.visits

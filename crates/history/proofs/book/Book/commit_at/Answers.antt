@@ -1,9 +1,5 @@
 use Rattle.std.proofs.Common.{◌<◌, sym, ap, ◌∙◌, subst}
-use Rattle.atomic_table.specs.Table.{Me}
-use Rattle.history.specs.declared.views.View.{View}
-use Rattle.history.specs.Histories.{shard_in, HaveSteps}
-use Rattle.history.specs.Plays.{taken}
-use Rattle.history.specs.Handles.{Booked, Announced, ask_in, doubt_in, before_in, shelf_in}
+use Rattle.history.proofs.Common.{Me, View, shard_in, HaveSteps, taken, Booked, Announced, ask_in, doubt_in, before_in, shelf_in}
 use Rattle.history.proofs.HandOvers.{gives, takes}
 use Rattle.history.proofs.Books.{commits_as}
 use Rattle.history.proofs.Fits.{book_fits}

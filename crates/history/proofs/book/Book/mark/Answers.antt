@@ -1,6 +1,5 @@
 use Rattle.std.proofs.Common.{◌<◌, ◌++◌, sym, ap, ◌∙◌, subst}
-use Rattle.accept.specs.Histories.{is_marked}
-use Rattle.history.specs.Handles.{asks_of, shelf_in, with_doubt}
+use Rattle.history.proofs.Common.{is_marked, asks_of, shelf_in, with_doubt}
 use Rattle.history.proofs.Marks.{marks_as}
 use Rattle.history.proofs.Fits.{book_fits}
 use Rattle.history.proofs.book.Book.mark.Goals as goal

@@ -1,9 +1,5 @@
 use Rattle.std.proofs.Common.{List, sym, subst}
-use Rattle.accept.specs.declared.call.Reply.TheVariants.{Unavailable}
-use Rattle.accept.specs.declared.history.Ask.{Ask}
-use Rattle.accept.specs.declared.history.Item.TheVariants.{Answered}
-use Rattle.history.specs.Histories.{step_of}
-use Rattle.history.specs.Handles.{longer}
+use Rattle.history.proofs.Common.{Unavailable, Ask, Answered, step_of, longer}
 use Rattle.history.proofs.Books.{refuses}
 use Rattle.history.proofs.Past.{doubt_marked}
 use Rattle.history.proofs.book.Book.refuse.Goals as goal

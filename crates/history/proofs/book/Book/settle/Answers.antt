@@ -1,6 +1,5 @@
 use Rattle.std.proofs.Common.{◌<◌, sym, ap, ◌∙◌, subst}
-use Rattle.history.specs.Plays.{kept_back, seated}
-use Rattle.history.specs.Handles.{shelf_in, caller_in}
+use Rattle.history.proofs.Common.{kept_back, seated, shelf_in, caller_in}
 use Rattle.history.proofs.HandOvers.{gives, sits_as, book_leaves}
 use Rattle.history.proofs.Looking.{settles_as}
 use Rattle.history.proofs.Fits.{book_fits}

@@ -1,8 +1,5 @@
 use Rattle.std.proofs.Common.{◌+◌, ◌<◌, sym, ap, ◌∙◌, subst}
-use Rattle.history.specs.Histories.{IsFirstIfAmong, behind_first}
-use Rattle.history.specs.Rule.{number_of}
-use Rattle.history.specs.Plays.{taken, IsRested}
-use Rattle.history.specs.Handles.{Passed, Received, caller_in, step_in, upto_in, moment_in}
+use Rattle.history.proofs.Common.{IsFirstIfAmong, behind_first, number_of, taken, IsRested, Passed, Received, caller_in, step_in, upto_in, moment_in}
 use Rattle.history.proofs.HandOvers.{takes}
 use Rattle.history.proofs.Calls.{collects_as}
 use Rattle.history.proofs.Fits.{pass_fits}

@@ -1,10 +1,5 @@
 use Rattle.std.proofs.Common.{◌+◌, ◌<◌, [], sym, ap, ◌∙◌, subst}
-use Rattle.history.specs.declared.views.Role.TheVariants.{Calls}
-use Rattle.history.specs.declared.views.Token.TheVariants.{Open}
-use Rattle.history.specs.Histories.{IsFirstIfAmong, behind_first}
-use Rattle.history.specs.Rule.{alone, number_of}
-use Rattle.history.specs.Plays.{taken}
-use Rattle.history.specs.Handles.{Passed, Announced, caller_in, ask_in, before_in}
+use Rattle.history.proofs.Common.{Calls, Open, IsFirstIfAmong, behind_first, alone, number_of, taken, Passed, Announced, caller_in, ask_in, before_in}
 use Rattle.history.proofs.HandOvers.{takes}
 use Rattle.history.proofs.Calls.{withdraws_as}
 use Rattle.history.proofs.Fits.{pass_fits}

@@ -1,10 +1,8 @@
-use Rattle.std.proofs.Common.{◌≡◌, false, [], ◌∷◌, ◌++◌, length, refl, sym, ap, ◌∙◌, subst, append_assoc, arith}
+use Rattle.std.proofs.Common.{◌≡◌, false, [], ◌∷◌, ◌++◌, length, refl, sym, ap, ◌∙◌, subst, append_assoc, arith, append-nil}
 use Rattle.std.proofs.lemmas.Grind.{common_steps}
-use Rattle.std.proofs.lemmas.List.{append-nil}
 use Rattle.accept.specs.Doubts.{is_doubt}
 use Rattle.accept.specs.Calls.{AreNumbers}
-use Rattle.answering.specs.Calls.{CallsGiveAfter}
-use Rattle.whole.specs.ServedOnce.{FirstGives}
+use Rattle.whole.proofs.Common.{CallsGiveAfter, FirstGives}
 use Rattle.whole.proofs.Calling.{by_itself, all_first, all_behind}
 use Rattle.whole.proofs.by_turns.ByTurnsCalls.call_all.Goals as goal
 

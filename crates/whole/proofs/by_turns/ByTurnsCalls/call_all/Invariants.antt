@@ -1,12 +1,7 @@
 use Rattle.std.proofs.Common.{◌≡◌, ◌+◌, ◌≤◌, ◌++◌, Bool, List, All, Result}
 use Rattle.std.specs.VecDeque.{deque_len, deque_capacity}
-use Rattle.accept.specs.Calls.{AreNumbers}
-use Rattle.accept.specs.declared.call.Reply.{Reply}
-use Rattle.accept.specs.declared.fault.CallFault.{CallFault}
-use Rattle.answering.specs.Calls.{CallsGive, CallsGiveAfter}
-use Rattle.one_life.specs.declared.opening.Two.{Two}
-use Rattle.one_life.specs.Cut.{opening_with}
-use Rattle.whole.specs.ServedOnce.{AreServing, FirstGives}
+use Rattle.headline.proofs.Common.{AreNumbers, Reply, CallFault}
+use Rattle.whole.proofs.Common.{CallsGive, CallsGiveAfter, Two, opening_with, AreServing, FirstGives}
 use Rattle.whole.proofs.by_turns.ByTurnsCalls.call_all.Given as goal
 
 abbrev pub invariant-loop-call : goal.invariant-loop-call

@@ -1,5 +1,4 @@
-use Rattle.std.proofs.Common.{◌∙◌, subst}
-use Rattle.workers.specs.Talks.{Visits}
+use Rattle.std.proofs.Common.{◌∙◌}
 use Rattle.workers.proofs.Talking.{visits_join}
 use Rattle.workers.proofs.clerk.Clerk.visit_ready.Goals as goal
 
@@ -10,5 +9,4 @@ loop-batch-preserved g c =
     let mid = c.loop-batch.self in
     let new = c.visit-batch.new.self in
     let (is, same, some) = c.loop-batch.invariant in
-    let more = subst (λ s. Visits visits s mid.server mid.pass new.server new.pass) same c.visit-batch.ensures.visits in
-    (c.visit-batch.ensures.pass, c.visit-batch.ensures.same ∙ same, visits_join visits old.service.now old.server old.pass mid.server mid.pass new.server new.pass some more)
+    (c.visit-batch.ensures.pass, c.visit-batch.ensures.same ∙ same, visits_join visits old.service.now old.server old.pass mid.server mid.pass new.server new.pass some _ same c.visit-batch.ensures.visits)
