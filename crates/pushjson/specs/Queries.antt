@@ -41,7 +41,8 @@ raw_trim_of t = record { pairs = t.pairs; bound = digits_value 10 t.bound }
 
 -- the answer to a query body of these bytes
 abbrev pub ReadsQuery : List ℕ → Result RawRead PushFault → Type 0
-ReadsQuery bytes (Ok r) = (q : Query) × IsJson bytes (query_tree q) × IsTime q.from × IsTime q.to × (r ≡ raw_read_of q)
+ReadsQuery bytes (Ok r) = (q : Query) × IsJson bytes (query_tree q) × IsTime q.from × IsTime q.to
+    × (r ≡ raw_read_of q)
 ReadsQuery bytes (Err NotJson) = (d : Data) → ¬ IsJson bytes d
 ReadsQuery bytes (Err WrongShape) = (d : Data) × IsJson bytes d × ((q : Query) → d ≢ query_tree q)
 ReadsQuery bytes (Err (BadTime i j)) = (q : Query) × IsJson bytes (query_tree q) × (¬ (IsTime q.from × IsTime q.to))
@@ -54,6 +55,7 @@ abbrev pub ReadsTrim : List ℕ → Result RawTrim PushFault → Type 0
 ReadsTrim bytes (Ok r) = (t : Trim) × IsJson bytes (trim_tree t) × IsTime t.bound × (r ≡ raw_trim_of t)
 ReadsTrim bytes (Err NotJson) = (d : Data) → ¬ IsJson bytes d
 ReadsTrim bytes (Err WrongShape) = (d : Data) × IsJson bytes d × ((t : Trim) → d ≢ trim_tree t)
-ReadsTrim bytes (Err (BadTime i j)) = (t : Trim) × IsJson bytes (trim_tree t) × (¬ IsTime t.bound) × (i ≡ 0) × (j ≡ 0)
+ReadsTrim bytes (Err (BadTime i j)) = (t : Trim) × IsJson bytes (trim_tree t) × (¬ IsTime t.bound)
+    × (i ≡ 0) × (j ≡ 0)
 ReadsTrim bytes (Err TooManyEntries) = ⊥
 ReadsTrim bytes (Err Memory) = ⊤

@@ -5,7 +5,8 @@ ghost use Rattle.serde_json.specs.Data.{Data, string, array, object, no_members,
 ghost use Rattle.serde_json.specs.View.{view, items_of};
 ghost use Rattle.pushjson.specs.Bodies.{labels_tree, value_tree, stream_tree, body_tree, HaveRisingNames};
 ghost use Rattle.pushjson.specs.Queries.{query_tree, trim_tree};
-ghost use Rattle.pushjson.specs.Shape.{ReadsTree, ReadsData, TakesValue, value_texts_of, stream_texts_of, query_texts_of, trim_texts_of};
+ghost use Rattle.pushjson.specs.Shape.{ReadsTree, ReadsData, TakesValue};
+ghost use Rattle.pushjson.specs.Shape.{value_texts_of, stream_texts_of, query_texts_of, trim_texts_of};
 
 use crate::fault::PushFault;
 use labels::Meta;

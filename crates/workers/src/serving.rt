@@ -303,8 +303,10 @@ where
     S: Serve<I, P> + Drop + Send,
     S::Session: Send,
     R: Threads + Wait + Clock + Net + Sync,
-    requires passes { (i : ℕ) (pass : P) → slice_get passes.items i ≡ Some pass → S.is_pass_of service.now pass }
-    ensures passes { (i : ℕ) (pass : P) → slice_get result.0.items i ≡ Some pass → S.is_pass_of service.now pass }
+    requires passes { (i : ℕ) (pass : P) → slice_get passes.items i ≡ Some pass
+        → S.is_pass_of service.now pass }
+    ensures passes { (i : ℕ) (pass : P) → slice_get result.0.items i ≡ Some pass
+        → S.is_pass_of service.now pass }
     ensures left { OnOk result.1 (ArePassesLeft S.visits service.now passes.items result.0.items) }
     ensures served { IfOk result.1 (IsServedFor bounds.now.connections) }
 {
