@@ -59,6 +59,16 @@ def test_a_start_over_a_block_above_100_mb(serve, folder):
         assert client.push(labels[0], [(now + count, "more", ())]) == (204, "")
 
 
+def test_a_shard_holds_64_mib(serve):
+    """254 lines of 262,140 bytes, and the last once more. The next one has no room."""
+    now, labels = time.time_ns(), {"a": "1"}
+    with servers.Client(serve("log", 1).port) as client:
+        for at in range(0, 252, 14):
+            assert client.push(labels, lines_from(now + at, 14, 262_140)) == (204, ""), at
+        assert client.push(labels, lines_from(now + 252, 2, 262_140)) == (204, "")
+        assert client.push(labels, lines_from(now + 254, 1, 262_140)) == (507, "stream 0: no room\n")
+
+
 def test_many_turns(serve):
     """2,100 calls of one pass, each a turn of the one owner."""
     with servers.Client(serve("log", 1, 1).port) as client:

@@ -2,7 +2,7 @@
 pub use Rattle.accept.specs.Calls.{AreNumbers}
 pub use Rattle.accept.specs.Histories.{is_step_of, is_marked, changes, meaning, answer, answered_to, MayFollow, is_new, stream_of, reply_to, Terms, IsLegal, IsWithin, then_step, key_of, stored_by, bound_by, stored_in, bound_in, stored, greatest_bound, base_of}
 pub use Rattle.accept.specs.OneStream.{AreLimits, stored_of, last_or, base_last, base_kept, highest_of, last_of, kept_of, image_of, same_entry, outcome, outcomes}
-pub use Rattle.segment.specs.Segments.{owner_of}
+pub use Rattle.segment.specs.ShardPlaces.{place_of}
 pub use Rattle.wal.specs.Covers.{Covers, IsAfter, Allows}
 pub use Rattle.wal.specs.Logs.{slots, owner, IsOnDisk}
 pub use Rattle.wal.specs.Moments.{Pair, HasFailed, HasNoFailure, pair}
@@ -29,7 +29,7 @@ pub use Rattle.headline.specs.Headline.{IsOneOf, HaveThreads, WasCalled, before_
 pub use Rattle.headline.specs.Lives.{Life, ShardEnd, HandedOut, CutAt, IsLife, IsEnd, WereRead, HasFailedSince, MayBeReplayed, MayBeRefused, IsHeadlineOf, failures_of, slots_then, LeftAt, AreLeftAt, writing_at, writing_in, LogsFollow, AreLeftBy, MadeNoTurn, WritesNothingBefore}
 pub use Rattle.headline.specs.Threads.{What, Called, Looked, Met, Closed, Happening, Happens, HappenAfter, Thread, IsThread, leaves_call_in_doubt, calls_by_what, happened_to, calls_made_by, last_passes, IsLooked, IsMet, AnsweredCall, answers_by, calls_with}
 pub use Rattle.headline.specs.Turns.{shard_then, Between, IsInTime, IsStretch, Moment, Within, IsMoment, FollowThen, calls_of_steps, calls_by, Stretch, calls_with_steps, made_in, writing_then, MayBeLeft, IsLeftThen}
-pub use Rattle.headline.specs.Types.{Call, Reply, CallFault, PassClosed, InDoubt, Ask, Step, Item, Answered, Failed, About, Opening, Passed, Booked, Received, Follow, Streams, Limits, History, Sight, Wal, Caller, Owner, Unavailable, NoRoom, Sharded, Lead, Turn, StreamKey, Push, Trim, Verdict, Trimmed, OpenFault}
+pub use Rattle.headline.specs.Types.{Call, Reply, CallFault, PassClosed, InDoubt, Ask, Step, Item, Answered, Failed, About, Opening, Passed, Booked, Received, Follow, Streams, Limits, History, Sight, Wal, Caller, ShardPlace, Unavailable, NoRoom, Sharded, Lead, Turn, StreamKey, Push, Trim, Verdict, Trimmed, OpenFault}
 pub use Rattle.std.proofs.lemmas.Bool.{false≢true, cases_Bool, cases_eq, cases_lt, ltb-true, eqb-true, leb-false, and_parts, or_parts, false_from_ne_true, cond_both}
 pub use Rattle.headline.proofs.Among.{among_left, among_right, among_split, among_part}
 pub use Rattle.history.proofs.Past.{on_append, below_on, legal_front, below_more, below_last, rising_last, marked_step, marked_mark, steps_append, made_left, not_made, rising_back, rising_front, steps_mark, steps_mine, steps_else, below_middle, doubt_marked, doubt_unmarked, legal_none}

@@ -1,7 +1,7 @@
 -- The headline of an opening, until it is closed or cut.
 use Rattle.std.proofs.Common.{◌≡◌, ℕ, suc, ◌+◌, ◌<◌, ◌≤◌, List, [], ◌∷◌, true, length, refl, inl, inr, ◌⊎◌, sym, ap, ◌∙◌, subst, ⊎_elim, arith, Option, Some, None, length-append, slice_get}
 use Rattle.std.proofs.lemmas.Option.{slice_get_cases}
-use Rattle.headline.proofs.Common.{Streams, Item, Sight, Wal, OpenFault, Owner, Opening, is_marked, owner_of, Device, Memory, Follow, slots, Pair, HasFailed, HasNoFailure, Recovers, Covers, IsAfter, slots_of, CountsCause, base_at, history_of, doubt_of, fresh_book, opened_shard, IsHandedOut, Thread, last_passes, RefusedShard, IsForDeviceOrMemory, IsReplay, shard_then, Life, ShardEnd, HandedOut, CutAt, IsLife, IsEnd, WereRead, HasFailedSince, MayBeReplayed, MayBeRefused, IsHeadlineOf, failures_of, slots_then, LeftAt, AreLeftAt, writing_at, writing_in}
+use Rattle.headline.proofs.Common.{Streams, Item, Sight, Wal, OpenFault, ShardPlace, Opening, is_marked, place_of, Device, Memory, Follow, slots, Pair, HasFailed, HasNoFailure, Recovers, Covers, IsAfter, slots_of, CountsCause, base_at, history_of, doubt_of, fresh_book, opened_shard, IsHandedOut, Thread, last_passes, RefusedShard, IsForDeviceOrMemory, IsReplay, shard_then, Life, ShardEnd, HandedOut, CutAt, IsLife, IsEnd, WereRead, HasFailedSince, MayBeReplayed, MayBeRefused, IsHeadlineOf, failures_of, slots_then, LeftAt, AreLeftAt, writing_at, writing_in}
 use Rattle.wal.proofs.OneImage.{settled_seen}
 use Rattle.headline.proofs.Leaving.{covered_left, found_at, left_length, left_at, opened_at, given_at}
 use Rattle.headline.proofs.Marking.{lead_marks, lead_follows, fresh_marks, follow_before}
@@ -40,7 +40,7 @@ module _ {D : Type 0} (sight : D → Sight) (follows : D → Type 0) (only_now :
   -- the history of a shard at its end
   pub record IsGood (k : ℕ) (end : ShardEnd D) (items : List Item) : Type 0 where
     pub known : IsKnown opening threads k items
-    pub covers : (left : List D) → LeftAt sight follows end left → Covers (owner_of k opening.about.shards) opening.about.limits (slots_of sight left) (history_of opening.about k items) (writing_at (Some end) items)
+    pub covers : (left : List D) → LeftAt sight follows end left → Covers (place_of k opening.about.shards) opening.about.limits (slots_of sight left) (history_of opening.about k items) (writing_at (Some end) items)
     pub opened : Wal D
     pub opened_as : slice_get opening.logs k ≡ Some opened
     pub follow : Follow follows opened
@@ -52,7 +52,7 @@ module _ {D : Type 0} (sight : D → Sight) (follows : D → Type 0) (only_now :
         out.items,
         record {
           known = record { legal = out.legal; by_passes = out.by_passes; told = λ t h. let i = end_among t threads h in out.told i.0 t.end i.1 };
-          covers = λ left l. covered_left sight follows (owner_of k opening.about.shards) opening.about.limits it.0 left (history_of opening.about k out.items) (doubt_of out.items) l (out.covers is.1);
+          covers = λ left l. covered_left sight follows (place_of k opening.about.shards) opening.about.limits it.0 left (history_of opening.about k out.items) (doubt_of out.items) l (out.covers is.1);
           opened = out.opened;
           opened_as = out.opened_as;
           follow = out.before is.1;
@@ -97,7 +97,7 @@ module _ {D : Type 0} (sight : D → Sight) (follows : D → Type 0) (only_now :
       let g = (history_at k).1 lt in
       let found = found_at sight follows (length r.left) r.capacity k ends r.left r.logs r.states g.end state r.crash r.found r.follow g.there r.there in
       let counted : opening.about.shards ≡ length r.left = life.shards ∙ sym life.ends_of_all ∙ sym (left_length sight follows ends r.left r.crash) in
-      let covers = subst (λ (n : ℕ). Covers (owner_of k n) opening.about.limits (slots_of sight found.left) (history_of opening.about k (histories k)) (writing_at (Some g.end) (histories k))) counted (g.good.covers found.left found.crash) in
+      let covers = subst (λ (n : ℕ). Covers (place_of k n) opening.about.limits (slots_of sight found.left) (history_of opening.about k (histories k)) (writing_at (Some g.end) (histories k))) counted (g.good.covers found.left found.crash) in
       subst (λ (o : Option (ShardEnd D)). IsAfter opening.about.limits (history_of opening.about k (histories k)) (writing_at o (histories k)) state) (sym g.there)
       (found.opened.covered found.follow opening.about.limits (history_of opening.about k (histories k)) (writing_at (Some g.end) (histories k)) covers)
 
@@ -112,10 +112,10 @@ module _ {D : Type 0} (sight : D → Sight) (follows : D → Type 0) (only_now :
       record {
         given = at.0;
         given_as = at.4;
-        stood = subst (Recovers (owner_of k (length given)) (slots_of sight at.0).first.seen (slots_of sight at.0).second.seen) base
-            (subst (λ (a : List ℕ). Recovers (owner_of k (length given)) a (slots_of sight at.0).second.seen at.1) rests.first.same
-            (subst (λ (b : List ℕ). Recovers (owner_of k (length given)) (slots sight g.opened).first.seen b at.1) rests.second.same
-            (subst (λ (w : Owner). Recovers w (slots sight g.opened).first.seen (slots sight g.opened).second.seen at.1) from.same_owner (settled_seen sight g.opened at.1 (from.settled g.follow)))));
+        stood = subst (Recovers (place_of k (length given)) (slots_of sight at.0).first.seen (slots_of sight at.0).second.seen) base
+            (subst (λ (a : List ℕ). Recovers (place_of k (length given)) a (slots_of sight at.0).second.seen at.1) rests.first.same
+            (subst (λ (b : List ℕ). Recovers (place_of k (length given)) (slots sight g.opened).first.seen b at.1) rests.second.same
+            (subst (λ (w : ShardPlace). Recovers w (slots sight g.opened).first.seen (slots sight g.opened).second.seen at.1) from.same_owner (settled_seen sight g.opened at.1 (from.settled g.follow)))));
       }
 
   marks : (k : ℕ) → k < opening.about.shards → is_marked (histories k) ≡ true → HasFailedSince sight follows lived k
@@ -132,7 +132,7 @@ module _ {D : Type 0} (sight : D → Sight) (follows : D → Type 0) (only_now :
       let number : length f.front ≡ k = f.number in
       let g = (history_at k).1 (omega arith) in
       let crash : LeftAt sight follows g.end f.given = left_at sight follows ends f.front f.behind f.given g.end (subst (AreLeftAt sight follows ends) f.all_are r.crash) (ap (slice_get ends) number ∙ g.there) in
-      let covers = subst (λ (n : ℕ). Covers (owner_of k n) opening.about.limits (slots_of sight f.given) (history_of opening.about k (histories k)) (writing_at (Some g.end) (histories k))) counted (g.good.covers f.given crash) in
+      let covers = subst (λ (n : ℕ). Covers (place_of k n) opening.about.limits (slots_of sight f.given) (history_of opening.about k (histories k)) (writing_at (Some g.end) (histories k))) counted (g.good.covers f.given crash) in
       for_device_or_memory shown (slots_of sight f.given) (slots_of sight f.back) r.before r.after f.refusal.counted
       (f.refusal.covered r.follow opening.about.limits (history_of opening.about k (histories k)) (writing_at (Some g.end) (histories k)) covers)
 

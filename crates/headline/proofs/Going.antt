@@ -1,7 +1,7 @@
 -- What is found in the end, after any events.
 use Rattle.std.proofs.Common.{◌≡◌, ℕ, zero, suc, ◌+◌, ◌<◌, List, [], ◌∷◌, ◌++◌, length, refl, sym, ap, ◌∙◌, subst, inl, length-append, arith, Option}
 use Rattle.std.specs.FinMap as finite
-use Rattle.headline.proofs.Common.{Streams, Limits, Ask, Item, History, About, Sight, Wal, owner_of, Recovers, Covers, IsAfter, slots_of, AllFollow, AreOpenedFrom, IsLegalAt, base_at, terms_of, history_of, RefusedShard, IsForDeviceOrMemory, IsReplay, Life, ShardEnd, IsLife, AreLeftAt, LogsFollow, writing_at, writing_in, legal_front}
+use Rattle.headline.proofs.Common.{Streams, Limits, Ask, Item, History, About, Sight, Wal, place_of, Recovers, Covers, IsAfter, slots_of, AllFollow, AreOpenedFrom, IsLegalAt, base_at, terms_of, history_of, RefusedShard, IsForDeviceOrMemory, IsReplay, Life, ShardEnd, IsLife, AreLeftAt, LogsFollow, writing_at, writing_in, legal_front}
 use Rattle.accept.proofs.Growing.{within-nothing}
 use Rattle.accept.proofs.Meanings.{meaning-nothing}
 use Rattle.wal.proofs.OneImage.{one_image}
@@ -33,7 +33,7 @@ module _ {D : Type 0} (sight : D → Sight) (follows : D → Type 0) (only_now :
   -- each of n shards has slots that keep a history
   record Keep (limits : Limits) (h : ℕ → History) (doubt : ℕ → List Ask) (n : ℕ) (slots : List (List D)) : Type 0 where
     pub count : length slots ≡ n
-    pub covers : (k : ℕ) → k < n → Covers (owner_of k n) limits (slots_of sight (pair_at slots k)) (h k) (doubt k)
+    pub covers : (k : ℕ) → k < n → Covers (place_of k n) limits (slots_of sight (pair_at slots k)) (h k) (doubt k)
 
   -- what was found is after a beginning of the calls in doubt
   abbrev AreAfter : Limits → (ℕ → History) → (ℕ → List Ask) → ℕ → (ℕ → Streams) → Type 0
@@ -52,7 +52,7 @@ module _ {D : Type 0} (sight : D → Sight) (follows : D → Type 0) (only_now :
   found_in limits h doubt n capacity left logs states keep o f k lt =
       let counted = keep.count in
       let one = opened_pair sight follows (length left) capacity k 0 k left logs states (omega arith) o f (omega arith) in
-      one.2.covered one.1 limits (h k) (doubt k) (subst (λ (m : ℕ). Covers (owner_of k m) limits (slots_of sight (pair_at left k)) (h k) (doubt k)) (sym counted) (keep.covers k lt))
+      one.2.covered one.1 limits (h k) (doubt k) (subst (λ (m : ℕ). Covers (place_of k m) limits (slots_of sight (pair_at left k)) (h k) (doubt k)) (sym counted) (keep.covers k lt))
 
   -- ---- an opening that lived
 
@@ -74,7 +74,7 @@ module _ {D : Type 0} (sight : D → Sight) (follows : D → Type 0) (only_now :
       count = left_length sight follows life.ends left crash ∙ is.ends_of_all ∙ sym is.shards;
       covers = λ k lt.
           let g = (history_at sight follows only_now life is k).1 lt in
-          subst (λ (o : Option (ShardEnd D)). Covers (owner_of k about.shards) about.limits (slots_of sight (pair_at left k)) (its_histories k) (writing_at o (its k))) (sym g.there)
+          subst (λ (o : Option (ShardEnd D)). Covers (place_of k about.shards) about.limits (slots_of sight (pair_at left k)) (its_histories k) (writing_at o (its k))) (sym g.there)
           (g.good.covers (pair_at left k) (left_pair sight follows life.ends left k g.end crash g.there));
     }
 
@@ -101,8 +101,8 @@ module _ {D : Type 0} (sight : D → Sight) (follows : D → Type 0) (only_now :
         let pair : pair_at life.given k ≡ at.0 = index_get life.given k [] at.0 at.4 in
         let base : base_at about k ≡ at.1 = index_get about.bases k finite.empty at.1 at.2 in
         subst (IsAfter limits (h k) (doubt k)) (sym base) (at.3.covered g.follow limits (h k) (doubt k)
-        (subst (λ (l : List D). Covers (owner_of k (length life.given)) limits (slots_of sight l) (h k) (doubt k)) pair
-        (subst (λ (m : ℕ). Covers (owner_of k m) limits (slots_of sight (pair_at life.given k)) (h k) (doubt k)) (sym counted) (keep.covers k lt))))
+        (subst (λ (l : List D). Covers (place_of k (length life.given)) limits (slots_of sight l) (h k) (doubt k)) pair
+        (subst (λ (m : ℕ). Covers (place_of k m) limits (slots_of sight (pair_at life.given k)) (h k) (doubt k)) (sym counted) (keep.covers k lt))))
 
   -- ---- any event
 
@@ -116,7 +116,7 @@ module _ {D : Type 0} (sight : D → Sight) (follows : D → Type 0) (only_now :
         covers = λ k lt.
             let in_given : k < length given = omega arith in
             let in_backs : k < length backs = omega arith in
-            covers_by sight follows (owner_of k n) limits (pair_at given k) (pair_at backs k) (pair_at left k) (h k) (doubt k) (r.each k in_given) (f k in_backs) (keep.covers k lt) (l.each k in_backs);
+            covers_by sight follows (place_of k n) limits (pair_at given k) (pair_at backs k) (pair_at left k) (h k) (doubt k) (r.each k in_given) (f k in_backs) (keep.covers k lt) (l.each k in_backs);
       }
 
   kept_since : (limits : Limits) (h : ℕ → History) (doubt : ℕ → List Ask) (n : ℕ) (given backs left : List (List D)) → Keep limits h doubt n given → AreAtRest sight follows given backs → AllFollowIn sight follows backs → ArePairsLeftSince sight follows given backs left → Keep limits h doubt n left
@@ -128,7 +128,7 @@ module _ {D : Type 0} (sight : D → Sight) (follows : D → Type 0) (only_now :
         covers = λ k lt.
             let in_given : k < length given = omega arith in
             let in_backs : k < length backs = omega arith in
-            covers_since sight follows (owner_of k n) limits (pair_at given k) (pair_at backs k) (pair_at left k) (h k) (doubt k) (r.each k in_given) (f k in_backs) (keep.covers k lt) (l.each k in_given);
+            covers_since sight follows (place_of k n) limits (pair_at given k) (pair_at backs k) (pair_at left k) (h k) (doubt k) (r.each k in_given) (f k in_backs) (keep.covers k lt) (l.each k in_given);
       }
 
   -- the history of an opening that lived; no other event has one
@@ -153,7 +153,7 @@ module _ {D : Type 0} (sight : D → Sight) (follows : D → Type 0) (only_now :
         let covered = keep.covers k lt p.first.seen p.second.seen there.0 there.1 in (
           covered.0,
           covered.1,
-          one_image (owner_of k n) p.first.seen p.second.seen (d.olds k) _ (subst (λ (m : ℕ). Recovers (owner_of k m) p.first.seen p.second.seen (d.olds k)) counted ((d.read k in_old).recovers follow)) covered.2,
+          one_image (place_of k n) p.first.seen p.second.seen (d.olds k) _ (subst (λ (m : ℕ). Recovers (place_of k m) p.first.seen p.second.seen (d.olds k)) counted ((d.read k in_old).recovers follow)) covered.2,
         )
 
     split_step : (s : Splitting D) (history : ℕ → List Item) → Keep limits h doubt n s.old → (w : WasSplit sight follows s) → IsStep limits h doubt n (Split s) history
@@ -170,12 +170,12 @@ module _ {D : Type 0} (sight : D → Sight) (follows : D → Type 0) (only_now :
                 let came = w.count in
                 let in_back : k < length s.new_back = omega arith in
                 let started = w.are_split.started k lt in
-                let holds : Covers (owner_of k (length s.new)) limits (slots_of sight (pair_at s.new_back k)) (alone (d.news k)) [] = λ a b x y. (
+                let holds : Covers (place_of k (length s.new)) limits (slots_of sight (pair_at s.new_back k)) (alone (d.news k)) [] = λ a b x y. (
                   0,
                   omega arith,
-                  subst (Recovers (owner_of k (length s.new)) a b) (sym (meaning-nothing (d.news k))) (started.keeps (w.follow k in_back) a b x y),
+                  subst (Recovers (place_of k (length s.new)) a b) (sym (meaning-nothing (d.news k))) (started.keeps (w.follow k in_back) a b x y),
                 ) in
-                covered_left sight follows (owner_of k (length s.new)) limits (pair_at s.new_back k) (pair_at left k) (alone (d.news k)) [] (l.each k in_back) holds;
+                covered_left sight follows (place_of k (length s.new)) limits (pair_at s.new_back k) (pair_at left k) (alone (d.news k)) [] (l.each k in_back) holds;
           };
           back = λ after found. (
             d.olds,
@@ -255,8 +255,8 @@ module _ {D : Type 0} (sight : D → Sight) (follows : D → Type 0) (only_now :
       let parts : length r.left ≡ length f.front + suc (length f.behind) = ap length f.all_are ∙ length-append f.front (f.given ∷ f.behind) in
       let number : length f.front ≡ k = f.number in
       let pair : pair_at r.left k ≡ f.given = ap (λ (i : ℕ). pair_at r.left i) (sym number) ∙ ap (λ (l : List (List D)). pair_at l (length f.front)) f.all_are ∙ pair_there f.front f.given f.behind in
-      let covers = subst (λ (l : List D). Covers (owner_of k (length r.left)) kept.limits (slots_of sight l) (kept.h k) (kept.doubt k)) pair
-      (subst (λ (m : ℕ). Covers (owner_of k m) kept.limits (slots_of sight (pair_at r.left k)) (kept.h k) (kept.doubt k)) (sym counted) (kept.keep.covers k (omega arith))) in
+      let covers = subst (λ (l : List D). Covers (place_of k (length r.left)) kept.limits (slots_of sight l) (kept.h k) (kept.doubt k)) pair
+      (subst (λ (m : ℕ). Covers (place_of k m) kept.limits (slots_of sight (pair_at r.left k)) (kept.h k) (kept.doubt k)) (sym counted) (kept.keep.covers k (omega arith))) in
       for_device_or_memory shown (slots_of sight f.given) (slots_of sight f.back) r.before r.after f.refusal.counted (f.refusal.covered r.follow kept.limits (kept.h k) (kept.doubt k) covers)
 
   -- ---- from the first opening on

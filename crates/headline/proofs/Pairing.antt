@@ -1,6 +1,6 @@
 -- Slots of shards, by their numbers, over which nothing was written.
 use Rattle.std.proofs.Common.{◌≡◌, ◌⊎◌, ℕ, zero, suc, ◌+◌, ◌<◌, List, [], ◌∷◌, ◌++◌, length, map, refl, sym, subst, inl, inr, arith, Some, None, slice_get}
-use Rattle.headline.proofs.Common.{Streams, Limits, Ask, History, Sight, Wal, Follow, OpenFault, Owner, owner_of, Covers, slots_of, disks, AllFollow, IsOpenedFrom, IsReturned, AreOpenedFrom, AreReturned, AreGood, IsFirstRefused, ShardEnd, LeftAt, AreLeftBy, AreLeftAt, LogsFollow}
+use Rattle.headline.proofs.Common.{Streams, Limits, Ask, History, Sight, Wal, Follow, OpenFault, ShardPlace, place_of, Covers, slots_of, disks, AllFollow, IsOpenedFrom, IsReturned, AreOpenedFrom, AreReturned, AreGood, IsFirstRefused, ShardEnd, LeftAt, AreLeftBy, AreLeftAt, LogsFollow}
 use Rattle.openings.proofs.Ordered.{ordered}
 use Rattle.ingester.specs.declared.refusal.OpenFault.{OpenFault as Refusal}
 use Rattle.ingester.specs.declared.refusal.OpenFault.TheVariants as refusals
@@ -14,11 +14,11 @@ use Rattle.headline.proofs.Leaving.{covered_left}
 module _ {D : Type 0} (sight : D → Sight) (follows : D → Type 0) where
   -- the log that was opened over the slots of shard k
   pub opened_pair : (count capacity k j i : ℕ) (given : List (List D)) (logs : List (Wal D)) (ms : List Streams) → k ≡ j + i → AreOpenedFrom sight follows count capacity j given logs ms → LogsFollow sight follows logs → i < length given
-      → (log : Wal D) × Follow follows log × IsOpenedFrom sight follows (owner_of k count) capacity (pair_at given i) log (map_at ms i)
+      → (log : Wal D) × Follow follows log × IsOpenedFrom sight follows (place_of k count) capacity (pair_at given i) log (map_at ms i)
   opened_pair count capacity k j i [] logs ms e o f lt = absurd (omega arith)
   opened_pair count capacity k j zero (x ∷ given) (w ∷ logs) (m ∷ ms) e o f lt =
       let at : j ≡ k = omega arith in
-      (w, f.0, subst (λ (i : ℕ). IsOpenedFrom sight follows (owner_of i count) capacity x w m) at o.0)
+      (w, f.0, subst (λ (i : ℕ). IsOpenedFrom sight follows (place_of i count) capacity x w m) at o.0)
   opened_pair count capacity k j (suc i) (x ∷ given) (w ∷ logs) (m ∷ ms) e o f lt = opened_pair count capacity k (j + 1) i given logs ms (omega arith) o.1 f.1 (omega arith)
   opened_pair count capacity k j i given logs ms e o f lt = absurd o
 
@@ -78,14 +78,14 @@ module _ {D : Type 0} (sight : D → Sight) (follows : D → Type 0) where
   rests_unmade now count all backs refusals.Memory (inr r) = rests_returned all backs r.0
   rests_unmade now count all backs refusals.Thread same = subst (AreAtRest all) (sym same) (rests_untouched now all)
 
-  rests_opened : (whose : Owner) (capacity : ℕ) (given : List D) (log : Wal D) (m : Streams) → IsOpenedFrom sight follows whose capacity given log m → IsAtRest sight follows given (disks log)
+  rests_opened : (whose : ShardPlace) (capacity : ℕ) (given : List D) (log : Wal D) (m : Streams) → IsOpenedFrom sight follows whose capacity given log m → IsAtRest sight follows given (disks log)
   rests_opened whose capacity given log m o =
       let s = ordered sight follows log (disks log) refl in
       record { before = λ f. o.before (s.both f); rests = λ f. s.rests given (o.rests (s.both f)) }
 
   all_opened : (count capacity j : ℕ) (given : List (List D)) (logs : List (Wal D)) (ms : List Streams) → AreOpenedFrom sight follows count capacity j given logs ms → AreAtRest given (map disks logs)
   all_opened count capacity j [] [] [] o = rest_none
-  all_opened count capacity j (x ∷ given) (w ∷ logs) (m ∷ ms) o = rest_more x (disks w) given (map disks logs) (rests_opened (owner_of j count) capacity x w m o.0) (all_opened count capacity (j + 1) given logs ms o.1)
+  all_opened count capacity j (x ∷ given) (w ∷ logs) (m ∷ ms) o = rest_more x (disks w) given (map disks logs) (rests_opened (place_of j count) capacity x w m o.0) (all_opened count capacity (j + 1) given logs ms o.1)
   all_opened count capacity j given logs ms o = absurd o
 
   -- an opening that came to nothing wrote nothing
@@ -95,7 +95,7 @@ module _ {D : Type 0} (sight : D → Sight) (follows : D → Type 0) where
 
   -- ---- what they keep
 
-  module _ (owner : Owner) (limits : Limits) (given back left : List D) (h : History) (doubt : List Ask) (r : IsAtRest sight follows given back) (f : AllFollow follows back) (c : Covers owner limits (slots_of sight given) h doubt) where
+  module _ (owner : ShardPlace) (limits : Limits) (given back left : List D) (h : History) (doubt : List Ask) (r : IsAtRest sight follows given back) (f : AllFollow follows back) (c : Covers owner limits (slots_of sight given) h doubt) where
     -- as they came back
     pub covers_by : AreLeftBy sight follows back left → Covers owner limits (slots_of sight left) h doubt
     covers_by l =

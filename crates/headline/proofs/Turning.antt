@@ -1,7 +1,7 @@
 -- What a crash leaves of a shard between its opening and its end.
 use Rattle.std.proofs.Common.{◌≡◌, ◌⊎◌, ℕ, zero, suc, Bool, true, false, List, [], ◌∷◌, ◌++◌, length, take, drop, refl, sym, ap, ◌∙◌, subst, inl, inr, ⊎_elim, append_assoc, append-nil, arith, Some, None, slice_get, slice_index_or}
 use Rattle.std.proofs.Math.Seq.{take-length, take-nil}
-use Rattle.headline.proofs.Common.{Unavailable, Ask, Item, Answered, Failed, About, Sight, Wal, Owner, Sharded, Opening, meaning, answered_to, is_marked, IsWithin, owner_of, Follow, slots, owner, IsOnDisk, Allows, Covers, is_even, Recovers, pair, slots_of, IsLegalAt, IsByPasses, base_at, terms_of, history_of, reply_of, step_of, doubt_of, doubt_or, Booked, history_in, asks_of, fresh_book, MayLeave, IsCommitted, IsMarkedInDoubt, items_with, with_steps, changing_of, marked_by, MayLeaveAll, Turn, AreTogether, IsAlone, IsTurn, Thread, IsMade, Lead, Moment, Between, Within, Stretch, shard_then, calls_with_steps, made_in, writing_then, IsMoment, FollowThen, IsStretch, MayBeLeft, IsLeftThen, cases_Bool, doubt_marked, doubt_unmarked, legal_none}
+use Rattle.headline.proofs.Common.{Unavailable, Ask, Item, Answered, Failed, About, Sight, Wal, ShardPlace, Sharded, Opening, meaning, answered_to, is_marked, IsWithin, place_of, Follow, slots, owner, IsOnDisk, Allows, Covers, is_even, Recovers, pair, slots_of, IsLegalAt, IsByPasses, base_at, terms_of, history_of, reply_of, step_of, doubt_of, doubt_or, Booked, history_in, asks_of, fresh_book, MayLeave, IsCommitted, IsMarkedInDoubt, items_with, with_steps, changing_of, marked_by, MayLeaveAll, Turn, AreTogether, IsAlone, IsTurn, Thread, IsMade, Lead, Moment, Between, Within, Stretch, shard_then, calls_with_steps, made_in, writing_then, IsMoment, FollowThen, IsStretch, MayBeLeft, IsLeftThen, cases_Bool, doubt_marked, doubt_unmarked, legal_none}
 use Rattle.accept.proofs.Legal.{legal-within}
 use Rattle.accept.proofs.Meanings.{meaning-nothing}
 use Rattle.wal.proofs.OneImage.{settled_covers}
@@ -41,10 +41,10 @@ index_get (y ∷ xs) zero d x e = let one : Some y ≡ Some x = e in cc
 index_get (y ∷ xs) (suc k) d x e = index_get xs k d x e
 
 -- what a book's slots may hold, as the opening's
-as_opening : (about : About) (k : ℕ) (book : Booked) (doubt : List Ask) (a b : List ℕ) → book.about ≡ about → book.shard ≡ k → IsAllowed book doubt a b → Allows (owner_of k about.shards) about.limits (history_of about k book.items) doubt a b
+as_opening : (about : About) (k : ℕ) (book : Booked) (doubt : List Ask) (a b : List ℕ) → book.about ≡ about → book.shard ≡ k → IsAllowed book doubt a b → Allows (place_of k about.shards) about.limits (history_of about k book.items) doubt a b
 as_opening about k book doubt a b e f allowed =
-    subst (λ (j : ℕ). Allows (owner_of j about.shards) about.limits (history_of about j book.items) doubt a b) f
-    (subst (λ (x : About). Allows (owner_of book.shard x.shards) x.limits (history_of x book.shard book.items) doubt a b) e allowed)
+    subst (λ (j : ℕ). Allows (place_of j about.shards) about.limits (history_of about j book.items) doubt a b) f
+    (subst (λ (x : About). Allows (place_of book.shard x.shards) x.limits (history_of x book.shard book.items) doubt a b) e allowed)
 
 -- with no call in doubt, or with the mark's
 allowed_or : (book : Booked) (asks : List Ask) (a b : List ℕ) → IsAllowed book (doubt_of book.items) a b → IsAllowed book (doubt_or book.items asks) a b
@@ -138,8 +138,8 @@ module _ {D : Type 0} (sight : D → Sight) (follows : D → Type 0) (only_now :
         let base : base_at opening.about k ≡ o.m = index_get opening.about.bases k _ o.m o.there in
         let means : o.m ≡ meaning (history_of opening.about k []) = sym (meaning-nothing (base_at opening.about k) ∙ base) in
         let settled : IsOnDisk sight log (meaning (history_of opening.about k [])) = subst (IsOnDisk sight log) means (o.opened.settled f) in
-        let whose : owner log ≡ owner_of k opening.about.shards = o.opened.same_owner ∙ ap (owner_of k) (sym counted) in
-        subst (λ (w : Owner). Covers w opening.about.limits (slots sight log) (history_of opening.about k []) []) whose (settled_covers sight log opening.about.limits (history_of opening.about k []) [] settled);
+        let whose : owner log ≡ place_of k opening.about.shards = o.opened.same_owner ∙ ap (place_of k) (sym counted) in
+        subst (λ (w : ShardPlace). Covers w opening.about.limits (slots sight log) (history_of opening.about k []) []) whose (settled_covers sight log opening.about.limits (history_of opening.about k []) [] settled);
   }
 
   -- the calls of a group, or the one that goes alone, are those that the turn makes
@@ -187,7 +187,7 @@ module _ {D : Type 0} (sight : D → Sight) (follows : D → Type 0) (only_now :
 
   -- at any moment
   pub moment_covers : (about : About) (k : ℕ) (m : Moment D) (left : List D) → Rests about k (shard_then m) → IsMoment sight follows m → FollowThen sight follows m → IsWithin (shard_then m).book.about.limits (history_in (shard_then m).book)
-      → IsLeftThen sight follows m left → Covers (owner_of k about.shards) about.limits (slots_of sight left) (history_of about k (shard_then m).book.items) (writing_then m)
+      → IsLeftThen sight follows m left → Covers (place_of k about.shards) about.limits (slots_of sight left) (history_of about k (shard_then m).book.items) (writing_then m)
   moment_covers about k (Between s) left r is f within l = λ a b x y.
       let c = l.crash a b x y in
       as_opening about k s.book (doubt_of s.book.items) a b r.about_is r.number (r.covers f a b c.0 c.1)
@@ -198,7 +198,7 @@ module _ {D : Type 0} (sight : D → Sight) (follows : D → Type 0) (only_now :
   stretch_rests opening threads count capacity k st is counted o = lead_rests opening.about k _ (shard_then st.moment) st.turns (start_rests opening count capacity k is.opened counted o) is.turned
 
   pub stretch_covers : (opening : Opening D) (threads : List Thread) (count capacity k : ℕ) (st : Stretch D) (left : List D) (is : IsStretch sight follows opening threads k st) → opening.about.shards ≡ count → IsOpenedAt sight follows count capacity k is.opened opening.about.bases → IsLeftThen sight follows st.moment left
-      → Covers (owner_of k opening.about.shards) opening.about.limits (slots_of sight left) (history_of opening.about k (shard_then st.moment).book.items) (writing_then st.moment)
+      → Covers (place_of k opening.about.shards) opening.about.limits (slots_of sight left) (history_of opening.about k (shard_then st.moment).book.items) (writing_then st.moment)
   stretch_covers opening threads count capacity k st left is counted o l =
       let r = stretch_rests opening threads count capacity k st is counted o in
       let book : Booked = (shard_then st.moment).book in

@@ -1,7 +1,7 @@
 -- An opening until it is closed or a crash comes, and what is then left of its slots.
 use Rattle.std.specs.Prelude.{◌≡◌, ℕ, ◌≤◌, List, [], ◌∷◌, Bool, Option, Some, None, length, slice_get}
 use Rattle.headline.specs.Types.{Streams, Limits, Ask, Item, Sight, Wal, Opening}
-use Rattle.segment.specs.Segments.{owner_of}
+use Rattle.segment.specs.ShardPlaces.{place_of}
 use Rattle.wal.specs.Recovery.{Recovers}
 use Rattle.wal.specs.Moments.{Pair, HasFailed}
 use Rattle.wal.specs.Logs.{Follow, slots}
@@ -93,7 +93,7 @@ module _ {D : Type 0} (sight : D → Sight) (follows : D → Type 0) where
   pub record WereRead (life : Life D) (k : ℕ) (m : Streams) : Type 0 where
     pub given : List D
     pub given_as : slice_get life.given k ≡ Some given
-    pub stood : Recovers (owner_of k (length life.given)) (slots_of sight given).first.seen
+    pub stood : Recovers (place_of k (length life.given)) (slots_of sight given).first.seen
         (slots_of sight given).second.seen m
 
   -- both slots at the end of a shard, or at the start of the turn that was cut

@@ -3,7 +3,7 @@ pub use Rattle.labels.specs.declared.key.StreamKey.{StreamKey}
 pub use Rattle.accept.specs.declared.fault.CallFault.{CallFault}
 pub use Rattle.accept.specs.declared.fault.CallFault.TheVariants.{Memory, PassClosed, LogSpent, InDoubt}
 pub use Rattle.disk.specs.Sight.{Sight}
-pub use Rattle.segment.specs.declared.owner.Owner.{Owner}
+pub use Rattle.segment.specs.ShardPlaces.{ShardPlace}
 pub use Rattle.wal.specs.declared.fault.OpenFault.{OpenFault}
 pub use Rattle.wal.specs.declared.log.Wal.{Wal}
 pub use Rattle.wal.specs.Logs.{Follow}

@@ -6,7 +6,7 @@ use Rattle.std.proofs.lemmas.Option.{slice_get_within}
 use Rattle.std.proofs.lemmas.Bool.{cases_eq}
 use Rattle.accept.specs.Histories.{is_marked}
 use Rattle.disk.specs.Sight.{Sight}
-use Rattle.segment.specs.Segments.{owner_of}
+use Rattle.segment.specs.ShardPlaces.{place_of}
 use Rattle.wal.specs.Moments.{HasFailed, HasNoFailure}
 use Rattle.wal.specs.Logs.{Follow, slots}
 use Rattle.wal.specs.Covers.{Covers}
@@ -53,7 +53,7 @@ module _ {D : Type 0} (sight : D → Sight) (follows : D → Type 0) where
         told = λ i pass e. subst (λ (n : ℕ). IsTold n shard.book.items pass) number (compared i pass (slice_get_within passes i pass e) e).told;
         by_passes = subst (λ (a : About). IsByPasses a.passes shard.book.items) about (compared 0 there.0 some_pass there.1).by_passes;
         marked_is = flag;
-        covers = λ f. subst (λ (z : About × ℕ). Covers (owner_of z.1 z.0.shards) z.0.limits (slots_of sight out) (history_of z.0 z.1 shard.book.items) (doubt_of shard.book.items)) (λ i. (about i, number i))
+        covers = λ f. subst (λ (z : About × ℕ). Covers (place_of z.1 z.0.shards) z.0.limits (slots_of sight out) (history_of z.0 z.1 shard.book.items) (doubt_of shard.book.items)) (λ i. (about i, number i))
             (are.covers _ _ _ _ (keeps (are.both f)));
         opened = shard.opened;
         opened_as = is_of.opened;

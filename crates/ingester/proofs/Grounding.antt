@@ -10,7 +10,7 @@ use Rattle.accept.specs.Rooms.{Streams}
 use Rattle.accept.specs.OneStream.{AreLimits}
 use Rattle.accept.specs.declared.limits.Limits.{Limits}
 use Rattle.disk.specs.Sight.{Sight}
-use Rattle.segment.specs.Segments.{owner_of}
+use Rattle.segment.specs.ShardPlaces.{place_of}
 use Rattle.segment.specs.Fitting.{FitStreams}
 use Rattle.wal.specs.declared.log.Wal.{Wal}
 use Rattle.wal.specs.Logs.{slots}
@@ -110,7 +110,7 @@ module _ {D : Type 0} (sight : D → Sight) (follows : D → Type 0) where
   -- the log of a shard and the streams that stood in it
   record IsFoundAt (count capacity k : ℕ) (log : Wal D) (m : Streams) : Type 0 where
     pub given : List D
-    pub opened : IsOpenedFrom sight follows (owner_of k count) capacity given log m
+    pub opened : IsOpenedFrom sight follows (place_of k count) capacity given log m
 
   opened_at : (count capacity k j : ℕ) (all : List (List D)) (logs : List (Wal D)) (ms : List Streams) (log : Wal D) (m : Streams) → AreOpenedFrom sight follows count capacity k all logs ms
       → slice_get logs j ≡ Some log → slice_get ms j ≡ Some m → IsFoundAt count capacity (k + j) log m
@@ -122,7 +122,7 @@ module _ {D : Type 0} (sight : D → Sight) (follows : D → Type 0) where
   opened_at count capacity k zero (g ∷ all) (l ∷ logs) (m' ∷ ms) log m h e f =
       let a = same_Some l log e in
       let b = same_Some m' m f in
-      record { given = g; opened = subst (λ (z : Wal D × Streams). IsOpenedFrom sight follows (owner_of (k + 0) count) capacity g z.0 z.1) (λ i. (a i, b i)) (subst (λ n. IsOpenedFrom sight follows (owner_of n count) capacity g l m') (omega arith) h.0) }
+      record { given = g; opened = subst (λ (z : Wal D × Streams). IsOpenedFrom sight follows (place_of (k + 0) count) capacity g z.0 z.1) (λ i. (a i, b i)) (subst (λ n. IsOpenedFrom sight follows (place_of n count) capacity g l m') (omega arith) h.0) }
   opened_at count capacity k (suc j) (g ∷ all) (l ∷ logs) (m' ∷ ms) log m h e f = subst (λ n. IsFoundAt count capacity n log m) (omega arith) (opened_at count capacity (k + 1) j all logs ms log m h.1 e f)
 
   -- what was opened is what shards are made of, with the fresh books of its histories
@@ -142,7 +142,7 @@ module _ {D : Type 0} (sight : D → Sight) (follows : D → Type 0) where
         small_limits = lawful;
         same_capacity = o.same_capacity;
         small_capacity = o.small_capacity;
-        same_owner = o.same_owner ∙ ap (owner_of k) (sym many);
+        same_owner = o.same_owner ∙ ap (place_of k) (sym many);
         usable = o.usable;
         settled = o.settled;
         fit = subst (λ w. FitStreams w m) (sym o.same_owner) o.fit;

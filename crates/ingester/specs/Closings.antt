@@ -3,7 +3,7 @@ use Rattle.std.specs.Prelude.{◌≡◌, ℕ, ◌<◌, List, Bool, true, false, 
 use Rattle.accept.specs.declared.history.Item.{Item}
 use Rattle.accept.specs.Histories.{is_marked}
 use Rattle.disk.specs.Sight.{Sight}
-use Rattle.segment.specs.Segments.{owner_of}
+use Rattle.segment.specs.ShardPlaces.{place_of}
 use Rattle.wal.specs.declared.log.Wal.{Wal}
 use Rattle.wal.specs.Moments.{HasFailed, HasNoFailure}
 use Rattle.wal.specs.Logs.{Follow, slots}
@@ -40,7 +40,7 @@ pub record IsHandedOut {D : Type 0} (sight : D → Sight) (follows : D → Type 
   pub by_passes : IsByPasses opening.about.passes items
   pub marked_is : handed.1 ≡ is_marked items
   pub covers : AllFollow follows handed.0
-      → Covers (owner_of k opening.about.shards) opening.about.limits (slots_of sight handed.0)
+      → Covers (place_of k opening.about.shards) opening.about.limits (slots_of sight handed.0)
       (history_of opening.about k items) (doubt_of items)
   pub opened : Wal D
   pub opened_as : slice_get opening.logs k ≡ Some opened

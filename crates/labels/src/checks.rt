@@ -5,7 +5,7 @@ ghost use Rattle.labels.specs.Faults.{max_labels, begins_name, continues_name, i
 
 use crate::fault::LabelFault;
 
-/// The most labels of a stream: this project's profile.
+/// The most labels of a stream: Loki's default for `max_label_names_per_series`.
 pub const MAX_LABELS: usize = 15;
 /// The longest name, in bytes.
 const MAX_NAME: usize = 1_024;

@@ -9,7 +9,7 @@ use Rattle.entries.specs.declared.entry.Entry.{Entry}
 use Rattle.segment.specs.declared.version.Version.{Version}
 use Rattle.segment.specs.declared.version.Version.TheVariants.{One, Two}
 use Rattle.segment.specs.declared.header.Header.{Header}
-use Rattle.segment.specs.declared.owner.Owner.{Owner}
+use Rattle.segment.specs.ShardPlaces.{ShardPlace}
 use Rattle.segment.specs.declared.record.Record.{Record}
 use Rattle.segment.specs.declared.record.Record.TheVariants.{Append, Trim, State}
 use Rattle.segment.specs.Versions.{latest}
@@ -38,7 +38,7 @@ entries_anew v (e ∷ es) h =
       omega (arith, left.1, longer_entry v e h.0, length-append (entry latest e) (flat_map (entry latest) es), length-append (entry v e) (flat_map (entry v) es)),
     )
 
-record_anew : (v : Version) (owner : Owner) (r : Record) → FitsRecord v owner r → IsShortRecord r × (length (record_text latest r) ≤ 2 * length (record_text v r))
+record_anew : (v : Version) (owner : ShardPlace) (r : Record) → FitsRecord v owner r → IsShortRecord r × (length (record_text latest r) ≤ 2 * length (record_text v r))
 record_anew v owner (Append k es) h =
     let all = entries_anew v es h.1.each in
     (all.0, omega (arith, all.1, length-append_text latest k es, length-append_text v k es, length-entries latest es, length-entries v es))
@@ -49,7 +49,7 @@ record_anew v owner (State k highest last es) h =
       omega (arith, all.1, longer_entry v last h.1.fits_last, length-state_text latest k highest last es, length-state_text v k highest last es, length-entries latest es, length-entries v es),
     )
 
-block_anew : (v : Version) (owner : Owner) (rs : List Record) → AllByRecursion (FitsRecord v owner) rs → AllByRecursion IsShortRecord rs × (length (payload latest rs) ≤ 2 * length (payload v rs))
+block_anew : (v : Version) (owner : ShardPlace) (rs : List Record) → AllByRecursion (FitsRecord v owner) rs → AllByRecursion IsShortRecord rs × (length (payload latest rs) ≤ 2 * length (payload v rs))
 block_anew v owner [] h = (tt, omega arith)
 block_anew v owner (r ∷ rs) h =
     let one = record_anew v owner r h.0 in
@@ -58,7 +58,7 @@ block_anew v owner (r ∷ rs) h =
       omega (arith, one.1, left.1, length-append (record_text latest r) (payload latest rs), length-append (record_text v r) (payload v rs)),
     )
 
-blocks_anew : (v : Version) (owner : Owner) (before groups : List (List Record)) → Stand v owner before groups → AllByRecursion IsShortRecord (all_of groups) × (length (payload latest (all_of groups)) ≤ 2 * length (blocks v groups))
+blocks_anew : (v : Version) (owner : ShardPlace) (before groups : List (List Record)) → Stand v owner before groups → AllByRecursion IsShortRecord (all_of groups) × (length (payload latest (all_of groups)) ≤ 2 * length (blocks v groups))
 blocks_anew v owner before [] s = (tt, omega arith)
 blocks_anew v owner before (rs ∷ groups) s =
     let one = block_anew v owner rs s.0.each in
@@ -67,7 +67,7 @@ blocks_anew v owner before (rs ∷ groups) s =
       omega (arith, one.1, left.1, ap length (flat_map-append (record_text latest) rs (all_of groups)), length-append (payload latest rs) (payload latest (all_of groups)), length-append (1 ∷ frame v rs) (blocks v groups), length-append (number 4 (length (payload v rs))) (payload v rs)),
     )
 
-pub segment_anew : (owner : Owner) (bytes : List ℕ) (g : Header) (rs : List Record) (end : ℕ) → IsSegment owner bytes g rs end → AllByRecursion IsShortRecord rs × (length (payload latest rs) ≤ 2 * length bytes)
+pub segment_anew : (owner : ShardPlace) (bytes : List ℕ) (g : Header) (rs : List Record) (end : ℕ) → IsSegment owner bytes g rs end → AllByRecursion IsShortRecord rs × (length (payload latest rs) ≤ 2 * length bytes)
 segment_anew owner bytes g rs end s =
     let groups : List (List Record) = s.first ∷ s.later in
     let all = blocks_anew g.version owner [] groups s.front.stand in

@@ -1,6 +1,6 @@
 ghost use Rattle.std.specs.Prelude.{◌≡◌, IfOk};
 ghost use Rattle.std.specs.Str.Parse.{digits_value, without_leading_plus};
-ghost use Rattle.segment.specs.Segments.{IsLawfulShard, owner_of};
+ghost use Rattle.segment.specs.ShardPlaces.{IsLawfulShard, place_of};
 
 use anyhow::{Context, Result, bail};
 use rows::word_of;
@@ -20,8 +20,8 @@ pub fn number_of(word: &str) -> Result<u64>
 ///
 /// # Errors
 /// Other words, or a count that is not 1 to 64.
-pub fn owner_of(words: &str) -> Result<(u32, u32)>
-    ensures { IfOk result (λ it. IsLawfulShard (owner_of it.0 it.1)) }
+pub fn place_of(words: &str) -> Result<(u32, u32)>
+    ensures { IfOk result (λ it. IsLawfulShard (place_of it.0 it.1)) }
 {
     let (shard, count) = word_of(words);
     let shard = u32::try_from(number_of(shard)?)?;

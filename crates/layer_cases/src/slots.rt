@@ -1,6 +1,6 @@
 //! The two slots of a log.
 use crate::entry_words::write_image;
-use crate::numbers::{number_of, owner_of};
+use crate::numbers::{number_of, place_of};
 use anyhow::{Result, bail};
 use disk::Disk;
 use memory_disk::MemDisk;
@@ -74,7 +74,7 @@ pub fn open(
     let Some((owner, capacity)) = words.rsplit_once(' ') else {
         bail!("no capacity")
     };
-    let (shard, count) = owner_of(owner)?;
+    let (shard, count) = place_of(owner)?;
     let Some(capacity) = Capacity::new(number_of(capacity)?.min(Capacity::MAX_BYTES)) else {
         bail!("no capacity")
     };

@@ -1,7 +1,7 @@
 //! An opening of two shards with two passes, made of what `Ingester::open` makes one of.
 ghost use Rattle.std.specs.Prelude.{◌≡◌, [], ◌∷◌, length, vec_len, IfSome};
 ghost use Rattle.accept.specs.OneStream.{AreLimits};
-ghost use Rattle.segment.specs.Segments.{owner_of};
+ghost use Rattle.segment.specs.ShardPlaces.{place_of};
 ghost use Rattle.wal.specs.Opened.{IsOpenedFrom};
 ghost use Rattle.history.specs.Handles.{about_of};
 ghost use Rattle.shard.specs.Shards.{IsGround};
@@ -71,9 +71,9 @@ fn open_logs<D: Disk + Drop>(
     capacity: Capacity,
 ) -> Option<((Wal<D>, Image), (Wal<D>, Image))>
     ensures first { IfSome result (λ it.
-        IsOpenedFrom D.sight D.follows (owner_of 0 2) capacity slots.0 it.0.0 it.0.1) }
+        IsOpenedFrom D.sight D.follows (place_of 0 2) capacity slots.0 it.0.0 it.0.1) }
     ensures second { IfSome result (λ it.
-        IsOpenedFrom D.sight D.follows (owner_of 1 2) capacity slots.1 it.1.0 it.1.1) }
+        IsOpenedFrom D.sight D.follows (place_of 1 2) capacity slots.1 it.1.0 it.1.1) }
 {
     let (first, second) = slots;
     match Wal::open(alloc, first, 0, 2, capacity) {

@@ -2,7 +2,7 @@
 use Rattle.std.proofs.Common.{◌≡◌, List, [], ◌∷◌, Bool, true, false, refl, sym, subst}
 use Rattle.std.specs.Prelude.{if◌then◌else◌}
 use Rattle.disk.specs.Sight.{Sight}
-use Rattle.segment.specs.declared.owner.Owner.{Owner}
+use Rattle.segment.specs.ShardPlaces.{ShardPlace}
 use Rattle.accept.specs.declared.limits.Limits.{Limits}
 use Rattle.accept.specs.declared.history.Ask.{Ask}
 use Rattle.accept.specs.declared.history.History.{History}
@@ -17,7 +17,7 @@ module _ {D : Type 0} (sight : D → Sight) (follows : D → Type 0) where
   -- the slots of a log in their order
   pub record AreSlots (log : Wal D) (out : List D) : Type 0 where
     pub both : AllFollow follows out → Follow follows log
-    pub covers : (owner : Owner) (limits : Limits) (h : History) (doubt : List Ask) → Covers owner limits (slots sight log) h doubt → Covers owner limits (slots_of sight out) h doubt
+    pub covers : (owner : ShardPlace) (limits : Limits) (h : History) (doubt : List Ask) → Covers owner limits (slots sight log) h doubt → Covers owner limits (slots_of sight out) h doubt
     pub failed : (opened : Wal D) → HasFailed (slots sight opened) (slots sight log) → HasFailed (slots sight opened) (slots_of sight out)
     pub not_failed : (opened : Wal D) → HasNoFailure (slots sight opened) (slots sight log) → HasNoFailure (slots sight opened) (slots_of sight out)
     pub rests : (given : List D) → PairRests (slots_of sight given) (slots sight log) → PairRests (slots_of sight given) (slots_of sight out)

@@ -5,8 +5,7 @@ use Rattle.std.proofs.lemmas.Option.{none-some, same_Some}
 use Rattle.std.proofs.lemmas.List.Elements.{All-nil, All-cons}
 use Rattle.accept.specs.Rooms.{Streams}
 use Rattle.disk.specs.Sight.{Sight}
-use Rattle.segment.specs.declared.owner.Owner.{Owner}
-use Rattle.segment.specs.Segments.{owner_of}
+use Rattle.segment.specs.ShardPlaces.{ShardPlace, place_of}
 use Rattle.wal.specs.declared.fault.OpenFault.{OpenFault}
 use Rattle.wal.specs.declared.log.Wal.{Wal}
 use Rattle.wal.specs.Opening.{disks}
@@ -20,7 +19,7 @@ use Rattle.openings.proofs.Ordered.{ordered}
 
 module _ {D : Type 0} (sight : D → Sight) (follows : D → Type 0) where
   -- the slots of a log that was opened come back
-  pub log_returned : (whose : Owner) (capacity : ℕ) (given : List D) (log : Wal D) (m : Streams)
+  pub log_returned : (whose : ShardPlace) (capacity : ℕ) (given : List D) (log : Wal D) (m : Streams)
       → IsOpenedFrom sight follows whose capacity given log m → IsReturned sight follows given (disks log)
   log_returned whose capacity given log m o = let are = ordered sight follows log (disks log) refl in
       record { before = λ f. o.before (are.both f); rests = λ f. are.rests given (o.rests (are.both f)) }
@@ -34,7 +33,7 @@ module _ {D : Type 0} (sight : D → Sight) (follows : D → Type 0) where
   logs_returned count capacity k (given ∷ all) [] ms h = absurd h
   logs_returned count capacity k (given ∷ all) (log ∷ logs) [] h = absurd h
   logs_returned count capacity k (given ∷ all) (log ∷ logs) (m ∷ ms) h =
-      (log_returned (owner_of k count) capacity given log m h.0, logs_returned count capacity (k + 1) all logs ms h.1)
+      (log_returned (place_of k count) capacity given log m h.0, logs_returned count capacity (k + 1) all logs ms h.1)
 
   -- as many logs and lists of streams as shards
   pub as_many : (count capacity k : ℕ) (all : List (List D)) (logs : List (Wal D)) (ms : List Streams)
@@ -49,21 +48,21 @@ module _ {D : Type 0} (sight : D → Sight) (follows : D → Type 0) where
 
   -- what holds of each place by its number holds of the list
   pub tried_each : (count capacity k : ℕ) (old new : List (Place D)) → length new ≡ length old
-      → ((i : ℕ) (d : Place D) → i < length old → IsTried sight follows (owner_of (k + i) count) capacity (slots_in (slice_index_or old i d)) (slice_index_or new i d))
+      → ((i : ℕ) (d : Place D) → i < length old → IsTried sight follows (place_of (k + i) count) capacity (slots_in (slice_index_or old i d)) (slice_index_or new i d))
       → AreTried sight follows count capacity k (map slots_in old) new
   tried_each count capacity k [] [] e h = tt
   tried_each count capacity k [] (y ∷ new) e h = absurd (omega arith)
   tried_each count capacity k (x ∷ old) [] e h = absurd (omega arith)
   tried_each count capacity k (x ∷ old) (y ∷ new) e h =
       let here : k + 0 ≡ k = omega arith in (
-        subst (λ n. IsTried sight follows (owner_of n count) capacity (slots_in x) y) here (h 0 x (omega arith)),
+        subst (λ n. IsTried sight follows (place_of n count) capacity (slots_in x) y) here (h 0 x (omega arith)),
         tried_each count capacity (k + 1) old new (omega arith) (λ i d lt.
             let there : k + suc i ≡ (k + 1) + i = omega arith in
-            subst (λ n. IsTried sight follows (owner_of n count) capacity (slots_in (slice_index_or old i d)) (slice_index_or new i d)) there (h (suc i) d (omega arith))),
+            subst (λ n. IsTried sight follows (place_of n count) capacity (slots_in (slice_index_or old i d)) (slice_index_or new i d)) there (h (suc i) d (omega arith))),
       )
 
   -- the slots of a shard that was tried are there, and nothing was written
-  tried_back : (whose : Owner) (capacity : ℕ) (given : List D) (place : Place D) → IsTried sight follows whose capacity given place
+  tried_back : (whose : ShardPlace) (capacity : ℕ) (given : List D) (place : Place D) → IsTried sight follows whose capacity given place
       → AreSlotsThere place × IsReturned sight follows given (slots_in place)
   tried_back whose capacity given (Given a b) h = absurd h
   tried_back whose capacity given Out h = absurd h
@@ -76,7 +75,7 @@ module _ {D : Type 0} (sight : D → Sight) (follows : D → Type 0) where
   all_back count capacity k [] (place ∷ places) h = absurd h
   all_back count capacity k (given ∷ all) [] h = absurd h
   all_back count capacity k (given ∷ all) (place ∷ places) h =
-      let one = tried_back (owner_of k count) capacity given place h.0 in
+      let one = tried_back (place_of k count) capacity given place h.0 in
       let more = all_back count capacity (k + 1) all places h.1 in
       (All-cons AreSlotsThere place places one.0 more.0, (one.1, more.1))
 
@@ -106,7 +105,7 @@ module _ {D : Type 0} (sight : D → Sight) (follows : D → Type 0) where
     pub number : k + length front ≡ shard
     pub good : AreGood sight follows count k front front_back
     pub came_back : IsReturned sight follows given back
-    pub refusal : IsRefusal sight follows (owner_of shard count) given back fault
+    pub refusal : IsRefusal sight follows (place_of shard count) given back fault
     pub returned : AreReturned sight follows behind behind_back
 
   first_from : (count capacity k shard : ℕ) (fault : OpenFault) (all : List (List D)) (places : List (Place D)) → AreTried sight follows count capacity k all places
@@ -131,7 +130,7 @@ module _ {D : Type 0} (sight : D → Sight) (follows : D → Type 0) where
         all_are = ap (λ l. given ∷ l) r.all_are;
         backs_are = ap (λ l. disks log ∷ l) r.backs_are;
         number = omega arith;
-        good = ((log_returned (owner_of k count) capacity given log m o, (m, λ f. found_streams sight follows (owner_of k count) capacity given log m o (are.both f))), r.good);
+        good = ((log_returned (place_of k count) capacity given log m o, (m, λ f. found_streams sight follows (place_of k count) capacity given log m o (are.both f))), r.good);
         came_back = r.came_back;
         refusal = r.refusal;
         returned = r.returned;
@@ -150,7 +149,7 @@ module _ {D : Type 0} (sight : D → Sight) (follows : D → Type 0) where
         number = let at : k ≡ shard = ap (λ (p : ℕ × OpenFault). p.0) same in omega arith;
         good = tt;
         came_back = h.0.0;
-        refusal = subst (λ (p : ℕ × OpenFault). IsRefusal sight follows (owner_of p.0 count) given (a ∷ b ∷ []) p.1) same h.0.1;
+        refusal = subst (λ (p : ℕ × OpenFault). IsRefusal sight follows (place_of p.0 count) given (a ∷ b ∷ []) p.1) same h.0.1;
         returned = (all_back count capacity (k + 1) all places h.1).1;
       }
 

@@ -2,7 +2,7 @@
 use Rattle.std.specs.Prelude.{◌≡◌, ℕ, ◌+◌, List, [], ◌∷◌, ◌++◌, length}
 use Rattle.accept.specs.Rooms.{Streams}
 use Rattle.disk.specs.Sight.{Sight}
-use Rattle.segment.specs.Segments.{owner_of}
+use Rattle.segment.specs.ShardPlaces.{place_of}
 use Rattle.wal.specs.declared.fault.OpenFault.{OpenFault}
 use Rattle.wal.specs.declared.log.Wal.{Wal}
 use Rattle.wal.specs.Recovery.{Recovers}
@@ -16,7 +16,7 @@ module _ {D : Type 0} (sight : D → Sight) (follows : D → Type 0) where
   abbrev pub AreOpenedFrom : ℕ → ℕ → ℕ → List (List D) → List (Wal D) → List Streams → Type 0
   AreOpenedFrom count capacity k [] [] [] = Unit {0}
   AreOpenedFrom count capacity k (given ∷ all) (log ∷ logs) (m ∷ ms) =
-      IsOpenedFrom sight follows (owner_of k count) capacity given log m
+      IsOpenedFrom sight follows (place_of k count) capacity given log m
       × AreOpenedFrom count capacity (k + 1) all logs ms
   AreOpenedFrom count capacity k all logs ms = ⊥
 
@@ -32,7 +32,7 @@ module _ {D : Type 0} (sight : D → Sight) (follows : D → Type 0) where
   AreGood count k [] [] = Unit {0}
   AreGood count k (given ∷ all) (back ∷ backs) =
       (IsReturned sight follows given back × ((m : Streams) × (AllFollow follows back
-      → Recovers (owner_of k count) (slots_of sight given).first.seen
+      → Recovers (place_of k count) (slots_of sight given).first.seen
       (slots_of sight given).second.seen m)))
       × AreGood count (k + 1) all backs
   AreGood count k all backs = ⊥
@@ -52,7 +52,7 @@ module _ {D : Type 0} (sight : D → Sight) (follows : D → Type 0) where
     pub number : length front ≡ shard
     pub good : AreGood count 0 front front_back
     pub came_back : IsReturned sight follows given back
-    pub refusal : IsRefusal sight follows (owner_of shard count) given back fault
+    pub refusal : IsRefusal sight follows (place_of shard count) given back fault
     pub returned : AreReturned behind behind_back
 
   -- All slots come back in their order, and this is why. Without memory they are untouched.

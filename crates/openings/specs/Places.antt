@@ -2,8 +2,7 @@
 use Rattle.std.specs.Prelude.{ℕ, ◌+◌, List, [], ◌∷◌, Option, Some, None}
 use Rattle.accept.specs.Rooms.{Streams}
 use Rattle.disk.specs.Sight.{Sight}
-use Rattle.segment.specs.declared.owner.Owner.{Owner}
-use Rattle.segment.specs.Segments.{owner_of}
+use Rattle.segment.specs.ShardPlaces.{ShardPlace, place_of}
 use Rattle.wal.specs.declared.fault.OpenFault.{OpenFault}
 use Rattle.wal.specs.declared.log.Wal.{Wal}
 use Rattle.wal.specs.Opening.{disks}
@@ -72,7 +71,7 @@ module _ {D : Type 0} where
 
 module _ {D : Type 0} (sight : D → Sight) (follows : D → Type 0) where
   -- the slots of a shard were opened, or refused
-  abbrev pub IsTried : Owner → ℕ → List D → Place D → Type 0
+  abbrev pub IsTried : ShardPlace → ℕ → List D → Place D → Type 0
   IsTried whose capacity given (Given a b) = ⊥
   IsTried whose capacity given Out = ⊥
   IsTried whose capacity given (Opened log m) =
@@ -85,5 +84,5 @@ module _ {D : Type 0} (sight : D → Sight) (follows : D → Type 0) where
   abbrev pub AreTried : ℕ → ℕ → ℕ → List (List D) → List (Place D) → Type 0
   AreTried count capacity k [] [] = Unit {0}
   AreTried count capacity k (given ∷ all) (place ∷ places) =
-      IsTried (owner_of k count) capacity given place × AreTried count capacity (k + 1) all places
+      IsTried (place_of k count) capacity given place × AreTried count capacity (k + 1) all places
   AreTried count capacity k all places = ⊥

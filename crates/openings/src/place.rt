@@ -1,13 +1,12 @@
 //! What becomes of a shard's slots.
-ghost use Rattle.std.specs.Prelude.{◌≡◌, ◌<◌, ◌≤◌, ◌*◌, ◌^◌};
+ghost use Rattle.std.specs.Prelude.{◌≡◌, ◌<◌, ◌*◌, ◌^◌};
 ghost use Rattle.std.specs.Mem.{type_size};
-ghost use Rattle.labels.specs.Shards.{max_shards};
 ghost use Rattle.openings.specs.Places.{IsNotLookedAt, AreSlotsThere, IsTried, slots_in, refusal_in};
 
 use crate::observer::Observer;
 use accept::Image;
 use disk::Disk;
-use segment::Owner;
+use segment::ShardPlace;
 use segment_reader::ReadBlocks;
 use std::alloc::Global;
 use std::mem;
@@ -36,11 +35,10 @@ fn open_slots<D: Disk + Drop, B: ReadBlocks>(
     by: &B,
     alloc: Global,
     given: [D; 2],
-    owner: Owner,
+    owner: ShardPlace,
     capacity: Capacity,
 ) -> Place<D>
     requires reader { B.can_read }
-    requires shard { (owner.shard < owner.count) × (owner.count ≤ max_shards) }
     ensures { IsTried D.sight D.follows owner capacity given result }
 {
     match Wal::open_by(by, alloc, given, owner, capacity) {
@@ -74,21 +72,20 @@ pub(crate) fn open_place<D: Disk + Drop, B: ReadBlocks, O: Observer>(
     by: &B,
     alloc: Global,
     place: &mut Place<D>,
-    owner: Owner,
+    owner: ShardPlace,
     capacity: Capacity,
     observer: &O,
 )
     requires reader { B.can_read }
     requires fits { 2 * type_size D.row < 2 ^ 63 }
     requires given { IsNotLookedAt place.old }
-    requires shard { (owner.shard < owner.count) × (owner.count ≤ max_shards) }
     ensures { IsTried D.sight D.follows owner capacity (slots_in place.old) place.new }
 {
     let Place::Given(first, second) = mem::replace(place, Place::Out) else {
         unreachable!();
     };
     let tried = open_slots(by, alloc, [first, second], owner, capacity);
-    tell_opened(observer, owner.shard, &tried);
+    tell_opened(observer, owner.shard(), &tried);
     *place = tried;
 }
 

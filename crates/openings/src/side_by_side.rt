@@ -5,7 +5,7 @@ ghost use Rattle.std.specs.Mem.{type_size};
 ghost use Rattle.std.specs.Vec.{vec_capacity};
 ghost use Rattle.std.specs.VecDeque.{deque_len, deque_capacity};
 ghost use Rattle.labels.specs.Shards.{max_shards};
-ghost use Rattle.segment.specs.Segments.{owner_of};
+ghost use Rattle.segment.specs.ShardPlaces.{place_of};
 ghost use Rattle.openings.specs.Findings.{AreOpenedFrom, AreRefused};
 ghost use Rattle.openings.specs.Places.{IsNotLookedAt, IsOpened, AreSlotsThere, IsTried, AreTried};
 ghost use Rattle.openings.specs.Places.{slots_in, logs_in, images_in, first_refused};
@@ -15,7 +15,7 @@ use crate::observer::Observer;
 use crate::place::{Place, given_place, open_place, refusal_of, take_slots};
 use accept::Image;
 use disk::Disk;
-use segment::Owner;
+use segment::ShardPlace;
 use segment_reader::ReadAhead;
 use std::alloc::Global;
 use std::collections::VecDeque;
@@ -117,13 +117,10 @@ fn try_each<D: Disk + Drop + Send, R: Threads + Sync, O: Observer + Sync>(
         requires { IsSync R.row × (2 * type_size D.row < 2 ^ 63) × IsNotLookedAt place.old
             × (shard < count)
             × (count ≤ max_shards) }
-        ensures { IsTried D.sight D.follows (owner_of shard count) capacity
+        ensures { IsTried D.sight D.follows (place_of shard count) capacity
             (slots_in place.old) place.new }
     {
-        let owner = Owner {
-            shard: shard as u32,
-            count,
-        };
+        let owner = ShardPlace::of(shard as u32, count);
         open_place(&by, alloc, place, owner, capacity, observer)
     };
     for_each_mut(rt, places.as_mut_slice(), threads, &try_one);

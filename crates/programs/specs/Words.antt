@@ -7,7 +7,7 @@ use Rattle.labels.specs.Tenants.{is_tenant}
 use Rattle.pushjson.specs.Times.{IsTime}
 use Rattle.requests.specs.declared.route.Route.{Route}
 use Rattle.requests.specs.declared.route.Route.TheVariants.{Push, Read, Trim}
-use Rattle.programs.specs.declared.said.ShardPlace.{ShardPlace}
+use Rattle.programs.specs.declared.said.ShardWords.{ShardWords}
 use Rattle.programs.specs.declared.said.ServerWords.{ServerWords}
 use Rattle.programs.specs.declared.said.CallWords.{CallWords}
 
@@ -33,7 +33,7 @@ pub record GiveShard (words : List (String Global)) : Type 0 where
   pub named : NameShard (string_bytes shard) (string_bytes count)
 
 -- the place that they say
-pub record SaysPlace (words : List (String Global)) (place : ShardPlace) : Type 0 where
+pub record SaysPlace (words : List (String Global)) (place : ShardWords) : Type 0 where
   pub given : GiveShard words
   pub shard_is : place.shard ≡ value (string_bytes given.shard)
   pub count_is : place.count ≡ value (string_bytes given.count)

@@ -24,7 +24,7 @@ use labels::{LabelFault, Tenant};
 pub use laws::{unset_limits, written_durations_are_read};
 use pushjson::time_of;
 use requests::Route;
-pub use said::{CallWords, ServerWords, ShardPlace};
+pub use said::{CallWords, ServerWords, ShardWords};
 pub use slot_name::SlotName;
 pub use slots::{SlotsFault, open_slots};
 use std::alloc::{AllocError, Global};
@@ -112,7 +112,7 @@ fn variable_of<R: Env + AllocGlobal>(rt: &R, name: &str) -> Result<Option<String
 }
 
 /// The place in the words `FILE SHARD COUNT`: `None` where they are not such words.
-pub fn place_in(words: &[String]) -> Option<ShardPlace>
+pub fn place_in(words: &[String]) -> Option<ShardWords>
     ensures given { MatchOption result (¬ GiveShard words.now) (λ _. GiveShard words.now) }
     ensures says { IfSome result (SaysPlace words.now) }
 {
@@ -122,7 +122,7 @@ pub fn place_in(words: &[String]) -> Option<ShardPlace>
     }
 }
 
-fn place_of(shard: &str, count: &str) -> Option<ShardPlace>
+fn place_of(shard: &str, count: &str) -> Option<ShardWords>
     ensures { MatchOption result
         (¬ NameShard shard.now count.now) (λ place. NameShard shard.now count.now
         × (place.shard ≡ value shard.now) × (place.count ≡ value count.now)) }
@@ -132,7 +132,7 @@ fn place_of(shard: &str, count: &str) -> Option<ShardPlace>
     if count < 1 || count > MAX_SHARDS || shard >= count {
         return None;
     }
-    Some(ShardPlace {
+    Some(ShardWords {
         shard: shard as u32,
         count: count as u32,
     })

@@ -7,9 +7,9 @@ use labels::Tenant;
 use requests::Route;
 use std::alloc::AllocError;
 
-/// A shard's number, and how many shards there are.
+/// The words `SHARD COUNT`: a shard's number, and how many shards there are.
 #[derive(Clone, Copy)]
-pub struct ShardPlace {
+pub struct ShardWords {
     /// The shard's number, from 0 on.
     pub shard: u32,
     /// The number of shards, 1 to 64.

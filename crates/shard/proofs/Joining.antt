@@ -4,7 +4,7 @@ use Rattle.accept.specs.declared.call.Call.{Call}
 use Rattle.accept.specs.declared.call.Reply.{Reply}
 use Rattle.accept.specs.Histories.{key_of}
 use Rattle.disk.specs.Sight.{Sight}
-use Rattle.segment.specs.declared.owner.Owner.{Owner}
+use Rattle.segment.specs.ShardPlaces.{ShardPlace}
 use Rattle.segment.specs.Versions.{latest}
 use Rattle.segment.specs.Spelling.{record_text, IsHere}
 use Rattle.wal.specs.Logs.{FitsInUse}
@@ -47,7 +47,7 @@ module _ {D : Type 0} (sight : D → Sight) (follows : D → Type 0) (p : Parts 
     idle = g.no_change;
     limits = g.shard.small_limits;
     numbers = lawful.2;
-    here = subst (λ (o : Owner). IsHere o (key_of j.call)) (sym (g.owner_is ∙ g.shard.states_owner)) (is_here p.book j.ticket.ask j.call lawful.0 lawful.1);
+    here = subst (λ (o : ShardPlace). IsHere o (key_of j.call)) (sym (g.owner_is ∙ g.shard.states_owner)) (is_here p.book j.ticket.ask j.call lawful.0 lawful.1);
     capacity = g.shard.small_capacity;
     is_open = record { before = []; records = g.records; is = g.block_is.is_open };
   }

@@ -7,7 +7,7 @@ use Rattle.accept.specs.OneStream.{AreLimits}
 use Rattle.accept.specs.Rooms.{Streams, room}
 use Rattle.accept.specs.Calls.{AreNumbers}
 use Rattle.accept.specs.Histories.{changes, key_of}
-use Rattle.segment.specs.declared.owner.Owner.{Owner}
+use Rattle.segment.specs.ShardPlaces.{ShardPlace}
 use Rattle.segment.specs.declared.record.Record.{Record}
 use Rattle.segment.specs.Versions.{latest}
 use Rattle.segment.specs.Spelling.{record_text, FitsRecord, IsHere}
@@ -28,7 +28,7 @@ use Rattle.shard.specs.Readies.{answer_of, after_of, IsUnchanged}
 
 -- the block has the record of the call's change more, which fits with it after the segment in use, and the change is
 -- stored in memory
-pub record IsJoined {D : Type 0} (limits : Limits) (log : Wal D) (owner : Owner) (m : Streams)
+pub record IsJoined {D : Type 0} (limits : Limits) (log : Wal D) (owner : ShardPlace) (m : Streams)
     (call : Call)
     (n : Streams) (old new : List ℕ) (r : Reply) : Type 0 where
   pub changing : changes (answer_of limits m call) ≡ true

@@ -1,4 +1,4 @@
-//! The server over a folder, and `ingestctl` over the same while there is no server.
+//! The server over a folder.
 
 use crate::client::{Action, Client, NO_CONTENT, PUSH, READ, answers_of, listen};
 use front::{Environment, SystemClock, run_server};
@@ -11,7 +11,6 @@ use std::sync::Wait;
 use std::test::*;
 use std::thread::{self, Threads, join};
 use std::time::Duration;
-use tools::run_ctl;
 
 /// A body that reads all of the stream {a="1"}.
 const READ_ALL: &str = r#"{"stream":{"a":"1"},"from":"0","to":"9223372036854775807"}"#;
@@ -69,37 +68,6 @@ where
     (told, ended)
 }
 
-/// What `ingestctl` does with the words of this line, while there is no server.
-fn run_line<R>(rt: &R, alloc: Global, line: &str, body: &str) -> Result<ProgramOutput, Fail>
-where
-    R: Files<File = File> + Threads + Wait + Copy + Send + Sync + 'static,
-{
-    let words = words_of(alloc, line)?;
-    Ok(run_words(rt, alloc, &words, body))
-}
-
-fn run_words<R>(rt: &R, alloc: Global, words: &[String], body: &str) -> ProgramOutput
-where
-    R: Files<File = File> + Threads + Wait + Copy + Send + Sync + 'static,
-{
-    let (mut output, mut errors) = (Vec::new(alloc), Vec::new(alloc));
-    let (mut input, unset) = (body.as_bytes(), Environment::default());
-    let status = run_ctl(
-        rt,
-        alloc,
-        words,
-        &unset,
-        &mut input,
-        &mut output,
-        &mut errors,
-    );
-    ProgramOutput {
-        status,
-        output,
-        errors,
-    }
-}
-
 /// Whether the server of the folder `sockets_test`, with two shards and one worker for two connections, says that it
 /// is ready, stores a line of this time, and answers a read of it with what is kept.
 fn is_served<R>(rt: &R, alloc: Global, now: u64, kept: &str) -> Result<bool, Fail>
@@ -135,19 +103,10 @@ where
     )
 }
 
-/// Whether the folder has the slots of the shard of the sample's stream, and `ingestctl` reads what is kept.
-fn is_kept<R>(rt: &R, alloc: Global, now: u64, kept: &str) -> Result<bool, Fail>
-where
-    R: Files<File = File> + Threads + Wait + Copy + Send + Sync + 'static,
-{
-    let line = format!(in alloc; "read sockets_test/new 2 t {now}")?;
-    let wanted = format!(in alloc; "200\n{kept}")?;
-    let read = run_line(rt, alloc, line.as_str(), READ_ALL)?;
-    Ok(
-        fs::metadata(rt, "sockets_test/new/shard-01-0.wal").is_ok()
-            && fs::metadata(rt, "sockets_test/new/shard-02-0.wal").is_err()
-            && read.is(wanted.as_str()),
-    )
+/// Whether the folder has the slots of both shards, and no others.
+fn has_slots<R: Files<File = File>>(rt: &R) -> bool {
+    fs::metadata(rt, "sockets_test/new/shard-01-0.wal").is_ok()
+        && fs::metadata(rt, "sockets_test/new/shard-02-0.wal").is_err()
 }
 
 /// Whether the clock of the programs counts nanoseconds, and each of its times is a new reading.
@@ -160,55 +119,14 @@ fn counts_nanoseconds<R: Clock>(rt: &R) -> bool {
 }
 
 #[test]
-fn a_server_keeps_what_it_answered(rt: HostRuntime) -> Result<(), Fail> {
+fn a_server_over_a_folder(rt: HostRuntime) -> Result<(), Fail> {
     let alloc = rt.alloc();
     assert!(rt; counts_nanoseconds(&rt));
     let _ = fs::remove_dir_all(&rt, "sockets_test");
     let now = front::Clock::now(&mut SystemClock::new(&rt));
     let kept = format!(in alloc; "{{\"values\":[[\"{now}\",\"x\"]]}}")?;
     assert!(rt; is_served(&rt, alloc, now, kept.as_str())?);
-    assert!(rt; is_kept(&rt, alloc, now, kept.as_str())?);
+    assert!(rt; has_slots(&rt));
     fs::remove_dir_all(&rt, "sockets_test")?;
-    Ok(())
-}
-
-/// A body that pushes `lines` lines of this length to the sample's stream, all of this time.
-fn lines_of(alloc: Global, time: u64, lines: u64, length: usize) -> Result<String, Fail> {
-    let line = "x".repeat(alloc, length)?;
-    let mut body = String::new(alloc);
-    body.push_str(r#"{"streams":[{"stream":{"a":"1"},"values":["#)?;
-    for place in 0..lines {
-        let comma = if place == 0 { "" } else { "," };
-        let piece = format!(in alloc; "{comma}[\"{time}\",\"{place}{line}\"]")?;
-        body.push_str(piece.as_str())?;
-    }
-    body.push_str("]}]}")?;
-    Ok(body)
-}
-
-/// What `ingestctl` does with a push of lines of 262,140 bytes and more to the one shard of the folder `sockets_full`.
-fn push_lines<R>(rt: &R, alloc: Global, time: u64, lines: u64) -> Result<ProgramOutput, Fail>
-where
-    R: Files<File = File> + Threads + Wait + Copy + Send + Sync + 'static,
-{
-    let body = lines_of(alloc, time, lines, 262_140)?;
-    run_line(rt, alloc, "push sockets_full 1 t 100", body.as_str())
-}
-
-#[test]
-fn a_shard_holds_64_mib(rt: HostRuntime) -> Result<(), Fail> {
-    let alloc = rt.alloc();
-    let _ = fs::remove_dir_all(&rt, "sockets_full");
-    for time in 1..=18 {
-        assert!(rt; push_lines(&rt, alloc, time, 14)?.is("204\n"));
-    }
-    // (254 lines of 262,153 bytes, and the last once more)
-    assert!(rt;
-        push_lines(&rt, alloc, 19, 2)?.is("204\n"),
-        "with a quarter of a MiB to spare"
-    );
-    let refused = push_lines(&rt, alloc, 20, 1)?;
-    assert!(rt; refused.output.as_slice() == b"507\nstream 0: no room\n".as_slice());
-    fs::remove_dir_all(&rt, "sockets_full")?;
     Ok(())
 }

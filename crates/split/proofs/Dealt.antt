@@ -17,7 +17,8 @@ use Rattle.accept.specs.Histories.{set_stream}
 use Rattle.accept.proofs.KeyOrder.{same_key-is}
 use Rattle.accept.proofs.Meanings.{get-set_stream}
 use Rattle.accept.proofs.RoomLaws.{room-empty, room-set_stream}
-use Rattle.segment.specs.Segments.{owner_of, state_record}
+use Rattle.segment.specs.Segments.{state_record}
+use Rattle.segment.specs.ShardPlaces.{place_of}
 use Rattle.segment.specs.Images.{then_record}
 use Rattle.segment.specs.Fitting.{FitsStream}
 use Rattle.segment.proofs.More.{image-states_of}
@@ -201,16 +202,16 @@ module _ (m : ℕ) where
 pub apart_by_fit : (n : ℕ) (olds : List Streams) → AreFit n olds → AreApart n (map_at olds)
 apart_by_fit n olds fit s k lt there = here (finite.get (map_at olds s) k) (fit s lt k) there
   where
-    here : (o : Option StreamImage) → IfSome o (FitsStream (owner_of s n) k) → IsSome o → shard k n ≡ s
+    here : (o : Option StreamImage) → IfSome o (FitsStream (place_of s n) k) → IsSome o → shard k n ≡ s
     here None fits some = absurd (false≢true some)
     here (Some x) fits some = fits.here
 
-moved : (n m i s : ℕ) (k : StreamKey) (b : Bool) (o : Option StreamImage) → (shard k m == s) ≡ b → IfSome o (FitsStream (owner_of i n) k) → IfSome (cond b o None) (FitsStream (owner_of s m) k)
+moved : (n m i s : ℕ) (k : StreamKey) (b : Bool) (o : Option StreamImage) → (shard k m == s) ≡ b → IfSome o (FitsStream (place_of i n) k) → IfSome (cond b o None) (FitsStream (place_of s m) k)
 moved n m i s k true None is fits = tt
 moved n m i s k true (Some x) is fits = record { here = eqb-true (shard k m) s is; last = fits.last; each = fits.each; whole = fits.whole }
 moved n m i s k false o is fits = tt
 
 pub fit_by_split : (n m : ℕ) (olds news : List Streams) → 0 < n → AreFit n olds → IsSplit n m (map_at olds) (map_at news) → AreFit m news
 fit_by_split n m olds news some fit split s lt k =
-    subst (λ (o : Option StreamImage). IfSome o (FitsStream (owner_of s m) k)) (sym (split s k lt))
+    subst (λ (o : Option StreamImage). IfSome o (FitsStream (place_of s m) k)) (sym (split s k lt))
     (moved n m (shard k n) s k (shard k m == s) (finite.get (map_at olds (shard k n)) k) refl (fit (shard k n) (shard_within k n some) k))

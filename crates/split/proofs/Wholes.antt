@@ -3,7 +3,7 @@ use Rattle.std.proofs.Common.{◌≡◌, ◌≢◌, ℕ, ◌<◌, List, length, 
 use Rattle.std.specs.Prelude.{Result, Ok, Err, OnOk, IfErr}
 use Rattle.accept.specs.Rooms.{Streams}
 use Rattle.disk.specs.Sight.{Sight}
-use Rattle.segment.specs.Segments.{owner_of}
+use Rattle.segment.specs.ShardPlaces.{place_of}
 use Rattle.wal.specs.Opening.{slots_of, AllFollow}
 use Rattle.split.specs.declared.fault.SplitFault.{SplitFault}
 use Rattle.split.specs.declared.fault.SplitFault.TheVariants.{NotEmpty, NoRoom, Device, Memory}
@@ -24,14 +24,14 @@ module _ {D : Type 0} (sight : D → Sight) (follows : D → Type 0) where
   -- the maps of old shards that were read, and of new ones
   abbrev AreDivided : ℕ → ℕ → List Streams → List Streams → List (List D) → List (List D) → Type 0
   AreDivided n m olds news old old_back =
-      EachPair (λ s given back. IsOldShardRead sight follows (owner_of s n) given back (map_at olds s)) old old_back × AreFit n olds × IsSplit n m (map_at olds) (map_at news)
+      EachPair (λ s given back. IsOldShardRead sight follows (place_of s n) given back (map_at olds s)) old old_back × AreFit n olds × IsSplit n m (map_at olds) (map_at news)
 
   abbrev divided : (m : ℕ) (olds news : List Streams) (old old_back : List (List D)) → AreDivided (length old) m olds news old old_back → Division sight follows m old old_back
   divided m olds news old old_back are = record { olds = map_at olds; news = map_at news; read = are.0; apart = apart_by_fit (length old) olds are.1; split = are.2 }
 
   -- what the slots of old shards hold, by the number of them
-  pub old_read : (n : ℕ) (olds : List Streams) (old old_back : List (List D)) → n ≡ length old → EachPair (λ s given back. IsOldShardRead sight follows (owner_of s n) given back (map_at olds s)) old old_back → AreOldRead sight follows old old_back
-  old_read n olds old old_back long read s lt = (map_at olds s, subst (λ (k : ℕ). IsOldShardRead sight follows (owner_of s k) (pair_at old s) (pair_at old_back s) (map_at olds s)) long (read s lt))
+  pub old_read : (n : ℕ) (olds : List Streams) (old old_back : List (List D)) → n ≡ length old → EachPair (λ s given back. IsOldShardRead sight follows (place_of s n) given back (map_at olds s)) old old_back → AreOldRead sight follows old old_back
+  old_read n olds old old_back long read s lt = (map_at olds s, subst (λ (k : ℕ). IsOldShardRead sight follows (place_of s k) (pair_at old s) (pair_at old_back s) (map_at olds s)) long (read s lt))
 
   pub no_room : (n cap s : ℕ) (olds news : List Streams) (old old_back new mid : List (List D)) → n ≡ length old → length news ≡ length new → AreDivided n (length new) olds news old old_back → EachPair (λ _. IsTested sight follows) new mid → IsFirstAbove cap s news
       → IsCause sight follows (NoRoom s) cap old old_back new mid
@@ -45,12 +45,12 @@ module _ {D : Type 0} (sight : D → Sight) (follows : D → Type 0) where
   }
 
   pub finished : (n m cap : ℕ) (olds news : List Streams) (old old_back new mid back : List (List D)) → n ≡ length old → m ≡ length new → length mid ≡ length new → AreDivided n m olds news old old_back → HaveRoomWithin cap m news
-      → EachPair (λ _. IsTested sight follows) new mid → EachPair (λ s given made. IsShardBegun sight follows (owner_of s m) given made (map_at news s)) mid back → AreSplit sight follows cap old old_back new back
+      → EachPair (λ _. IsTested sight follows) new mid → EachPair (λ s given made. IsShardBegun sight follows (place_of s m) given made (map_at news s)) mid back → AreSplit sight follows cap old old_back new back
   finished n m cap olds news old old_back new mid back long many len are small tested begun = record {
     division = divided (length new) olds news old old_back (subst (λ (k : ℕ). AreDivided k (length new) olds news old old_back) long (subst (λ (k : ℕ). AreDivided n k olds news old old_back) many are));
     started = λ s lt.
         let test = tested s lt in
-        let start = subst (λ (k : ℕ). IsShardBegun sight follows (owner_of s k) (pair_at mid s) (pair_at back s) (map_at news s)) many (begun s (omega (arith, lt, len))) in
+        let start = subst (λ (k : ℕ). IsShardBegun sight follows (place_of s k) (pair_at mid s) (pair_at back s) (map_at news s)) many (begun s (omega (arith, lt, len))) in
         record {
           empty = λ all. test.empty (start.before all);
           keeps = start.keeps;
@@ -61,7 +61,7 @@ module _ {D : Type 0} (sight : D → Sight) (follows : D → Type 0) where
   }
 
   pub finished_if_ok : (r : Result (Unit {0}) SplitFault) (n m cap : ℕ) (olds news : List Streams) (old old_back new mid back : List (List D)) → n ≡ length old → m ≡ length new → length mid ≡ length new → AreDivided n m olds news old old_back → HaveRoomWithin cap m news
-      → EachPair (λ _. IsTested sight follows) new mid → OnOk r (EachPair (λ s given made. IsShardBegun sight follows (owner_of s m) given made (map_at news s)) mid back) → OnOk r (AreSplit sight follows cap old old_back new back)
+      → EachPair (λ _. IsTested sight follows) new mid → OnOk r (EachPair (λ s given made. IsShardBegun sight follows (place_of s m) given made (map_at news s)) mid back) → OnOk r (AreSplit sight follows cap old old_back new back)
   finished_if_ok (Ok x) n m cap olds news old old_back new mid back long many len are small tested begun = finished n m cap olds news old old_back new mid back long many len are small tested begun
   finished_if_ok (Err e) n m cap olds news old old_back new mid back long many len are small tested begun = tt
 
@@ -104,11 +104,11 @@ module _ {D : Type 0} (sight : D → Sight) (follows : D → Type 0) where
   unfailed n given back fault (short is never) short_is = never
 
   -- no device of another shard has failed
-  pub starts_others : (n m : ℕ) (news : List Streams) (xs ys zs : List (List D)) → AreDone (λ s given made. IsShardBegun sight follows (owner_of s m) given made (map_at news s)) n xs ys → zs ≡ set ys n (pair_at zs n) → EachPair (λ s given back. s ≢ n → HasNotFailed sight follows given back) xs zs
+  pub starts_others : (n m : ℕ) (news : List Streams) (xs ys zs : List (List D)) → AreDone (λ s given made. IsShardBegun sight follows (place_of s m) given made (map_at news s)) n xs ys → zs ≡ set ys n (pair_at zs n) → EachPair (λ s given back. s ≢ n → HasNotFailed sight follows given back) xs zs
   starts_others n m news xs ys zs so_far there =
-      stopped (λ s given made. IsShardBegun sight follows (owner_of s m) given made (map_at news s)) (λ s given back. s ≢ n → HasNotFailed sight follows given back) n xs ys zs (pair_at zs n) so_far there (λ s given made begun not. begun.not_failed) (λ not. absurd (not refl)) (λ s given not. (refl, refl))
+      stopped (λ s given made. IsShardBegun sight follows (place_of s m) given made (map_at news s)) (λ s given back. s ≢ n → HasNotFailed sight follows given back) n xs ys zs (pair_at zs n) so_far there (λ s given made begun not. begun.not_failed) (λ not. absurd (not refl)) (λ s given not. (refl, refl))
 
-  pub starts_stop : (n m : ℕ) (news : List Streams) (fault : SplitFault) (xs ys zs : List (List D)) → AreDone (λ s given made. IsShardBegun sight follows (owner_of s m) given made (map_at news s)) n xs ys → zs ≡ set ys n (pair_at zs n)
+  pub starts_stop : (n m : ℕ) (news : List Streams) (fault : SplitFault) (xs ys zs : List (List D)) → AreDone (λ s given made. IsShardBegun sight follows (place_of s m) given made (map_at news s)) n xs ys → zs ≡ set ys n (pair_at zs n)
       → IsStartFault sight follows n (pair_at ys n) (pair_at zs n) fault → fault ≡ Memory → EachPair (λ _. HasNotFailed sight follows) xs zs
   starts_stop n m news fault xs ys zs so_far there why is =
-      stopped (λ s given made. IsShardBegun sight follows (owner_of s m) given made (map_at news s)) (λ _. HasNotFailed sight follows) n xs ys zs (pair_at zs n) so_far there (λ s given made begun. begun.not_failed) (unfailed n (pair_at ys n) (pair_at zs n) fault why is) (λ s given. (refl, refl))
+      stopped (λ s given made. IsShardBegun sight follows (place_of s m) given made (map_at news s)) (λ _. HasNotFailed sight follows) n xs ys zs (pair_at zs n) so_far there (λ s given made begun. begun.not_failed) (unfailed n (pair_at ys n) (pair_at zs n) fault why is) (λ s given. (refl, refl))

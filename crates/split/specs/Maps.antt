@@ -7,7 +7,7 @@ use Rattle.labels.specs.Shards.{shard}
 use Rattle.accept.specs.declared.image.StreamImage.{StreamImage}
 use Rattle.accept.specs.Rooms.{Streams, room}
 use Rattle.accept.specs.Histories.{set_stream}
-use Rattle.segment.specs.Segments.{owner_of}
+use Rattle.segment.specs.ShardPlaces.{place_of}
 use Rattle.segment.specs.Fitting.{FitStreams}
 
 -- of a list of maps the map of a shard
@@ -39,7 +39,7 @@ all_dealt m maps olds = fold (dealt m) maps olds
 
 -- each map has streams that its shard among n can hold, and so much room at most
 abbrev pub AreFit : ℕ → List Streams → Type 0
-AreFit n maps = (s : ℕ) → s < n → FitStreams (owner_of s n) (map_at maps s)
+AreFit n maps = (s : ℕ) → s < n → FitStreams (place_of s n) (map_at maps s)
 
 abbrev pub HaveRoomWithin : ℕ → ℕ → List Streams → Type 0
 HaveRoomWithin bound n maps = (s : ℕ) → s < n → room (map_at maps s) ≤ bound

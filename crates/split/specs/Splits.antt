@@ -2,9 +2,8 @@
 use Rattle.std.specs.Prelude.{◌≡◌, ◌≢◌, ◌⊎◌, ◌≤◌, ◌<◌, ℕ, List, [], length, slice_index_or, Result, Ok, Err}
 use Rattle.accept.specs.Rooms.{Streams, room}
 use Rattle.disk.specs.Sight.{Sight}
-use Rattle.segment.specs.declared.owner.Owner.{Owner}
+use Rattle.segment.specs.ShardPlaces.{ShardPlace, place_of}
 use Rattle.segment.specs.Versions.{latest_header}
-use Rattle.segment.specs.Segments.{owner_of}
 use Rattle.wal.specs.declared.fault.OpenFault.{OpenFault}
 use Rattle.wal.specs.Slots.{IsClosed}
 use Rattle.wal.specs.Recovery.{Stands, Recovers}
@@ -30,12 +29,12 @@ abbrev pub EachPair : {D : Type 0} → (ℕ → List D → List D → Type 0) �
 EachPair P givens backs = (s : ℕ) → s < length givens → P s (pair_at givens s) (pair_at backs s)
 
 -- each two contents that a crash now may leave stand for these streams
-abbrev pub KeepsStreams : Owner → Pair → Streams → Type 0
+abbrev pub KeepsStreams : ShardPlace → Pair → Streams → Type 0
 KeepsStreams owner slots m = (a b : List ℕ) → slots.first.may_leave a → slots.second.may_leave b
     → Recovers owner a b m
 
 -- slot 1 holds generation 1 of the latest version with these streams, and slot 0 is closed
-pub record IsFirstSegment (owner : Owner) (a b : List ℕ) (m : Streams) : Type 0 where
+pub record IsFirstSegment (owner : ShardPlace) (a b : List ℕ) (m : Streams) : Type 0 where
   pub end : ℕ
   pub stands : Stands owner b (latest_header 1) end m
   pub closed : IsClosed a
@@ -65,14 +64,14 @@ module _ {D : Type 0} (sight : D → Sight) (follows : D → Type 0) where
     pub rests : AllFollow follows back → PairRests (slots_of sight given) (slots_of sight back)
 
   -- an old shard's slots held these streams, and no crash takes them
-  pub record IsOldShardRead (owner : Owner) (given back : List D) (m : Streams) : Type 0 where
+  pub record IsOldShardRead (owner : ShardPlace) (given back : List D) (m : Streams) : Type 0 where
     pub recovers : AllFollow follows back
         → Recovers owner (slots_of sight given).first.seen (slots_of sight given).second.seen m
     pub keeps : AllFollow follows back → KeepsStreams owner (slots_of sight back) m
     pub not_failed : HasNotFailed given back
 
   -- a new shard's slots were empty, and slot 1 has generation 1 with these streams, which no crash takes
-  pub record IsStarted (owner : Owner) (cap : ℕ) (given back : List D) (m : Streams) : Type 0 where
+  pub record IsStarted (owner : ShardPlace) (cap : ℕ) (given back : List D) (m : Streams) : Type 0 where
     pub empty : AllFollow follows back → IsEmptyPair (slots_of sight given)
     pub keeps : AllFollow follows back → KeepsStreams owner (slots_of sight back) m
     pub first : AllFollow follows back → (a b : List ℕ) → (slots_of sight back).first.may_leave a
@@ -84,7 +83,7 @@ module _ {D : Type 0} (sight : D → Sight) (follows : D → Type 0) where
   pub record Division (m : ℕ) (givens backs : List (List D)) : Type 0 where
     pub olds : ℕ → Streams
     pub news : ℕ → Streams
-    pub read : EachPair (λ s given back. IsOldShardRead (owner_of s (length givens)) given back
+    pub read : EachPair (λ s given back. IsOldShardRead (place_of s (length givens)) given back
         (olds s)) givens backs
     pub apart : AreApart (length givens) olds
     pub split : IsSplit (length givens) m olds news
@@ -92,12 +91,12 @@ module _ {D : Type 0} (sight : D → Sight) (follows : D → Type 0) where
   -- all that the old slots hold stands in the new ones, under the new number of shards
   pub record AreSplit (cap : ℕ) (old old_back new new_back : List (List D)) : Type 0 where
     pub division : Division (length new) old old_back
-    pub started : EachPair (λ s given back. IsStarted (owner_of s (length new)) cap given back
+    pub started : EachPair (λ s given back. IsStarted (place_of s (length new)) cap given back
         (division.news s)) new
         new_back
 
   -- why the slots of an old shard are refused, as the log says it
-  pub record IsOldShardRefused (owner : Owner) (given back : List D)
+  pub record IsOldShardRefused (owner : ShardPlace) (given back : List D)
       (fault : OpenFault) : Type 0 where
     pub why : IsOfDeviceOrMemory fault ⊎ (AllFollow follows back
         → IsOpenFault owner (slots_of sight given).first.seen
@@ -108,17 +107,17 @@ module _ {D : Type 0} (sight : D → Sight) (follows : D → Type 0) where
   pub record IsOldRefused (s : ℕ) (fault : OpenFault)
       (old old_back new new_back : List (List D)) : Type 0 where
     pub within : s < length old
-    pub refused : IsOldShardRefused (owner_of s (length old)) (pair_at old s)
+    pub refused : IsOldShardRefused (place_of s (length old)) (pair_at old s)
         (pair_at old_back s) fault
     pub before : (i : ℕ) → i < s → (m : Streams)
-        × IsOldShardRead (owner_of i (length old)) (pair_at old i) (pair_at old_back i) m
+        × IsOldShardRead (place_of i (length old)) (pair_at old i) (pair_at old_back i) m
     pub untouched : new_back ≡ new
 
   -- the slots of every old shard were read
   abbrev pub AreOldRead : List (List D) → List (List D) → Type 0
   AreOldRead old old_back =
       EachPair (λ s given back. (m : Streams)
-      × IsOldShardRead (owner_of s (length old)) given back m) old old_back
+      × IsOldShardRead (place_of s (length old)) given back m) old old_back
 
   -- Every old shard was read. If the new slots follow the disk model, this slot of this new shard is the first that is
   -- not empty, and nothing was written.

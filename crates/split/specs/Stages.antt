@@ -2,7 +2,7 @@
 use Rattle.std.specs.Prelude.{◌≡◌, ◌≢◌, ◌≤◌, ◌<◌, ◌+◌, ◌^◌, ℕ, List, length}
 use Rattle.accept.specs.Rooms.{Streams, segment_bytes, room}
 use Rattle.disk.specs.Sight.{Sight}
-use Rattle.segment.specs.declared.owner.Owner.{Owner}
+use Rattle.segment.specs.ShardPlaces.{ShardPlace}
 use Rattle.segment.specs.Versions.{latest}
 use Rattle.segment.specs.Fitting.{FitStreams}
 use Rattle.wal.specs.declared.log.Wal.{Wal}
@@ -22,7 +22,7 @@ pub record AreDone {D : Type 0} (P : ℕ → List D → List D → Type 0) (n : 
 
 module _ {D : Type 0} (sight : D → Sight) (follows : D → Type 0) where
   -- an old shard's slots were read, and held these streams, which its segments can hold
-  pub record IsOldShardOpened (owner : Owner) (given back : List D) (m : Streams) : Type 0 where
+  pub record IsOldShardOpened (owner : ShardPlace) (given back : List D) (m : Streams) : Type 0 where
     pub rests : IsAtRest sight follows given back
     pub read : IsOldShardRead sight follows owner given back m
     pub fit : FitStreams owner m
@@ -43,7 +43,7 @@ module _ {D : Type 0} (sight : D → Sight) (follows : D → Type 0) where
         → IsTestFault s given back fault
 
   -- generation 1 stands in slot 1 with these streams
-  pub record IsShardBegun (owner : Owner) (given back : List D) (m : Streams) : Type 0 where
+  pub record IsShardBegun (owner : ShardPlace) (given back : List D) (m : Streams) : Type 0 where
     pub before : HaveFollowed sight follows given back
     pub keeps : AllFollow follows back → KeepsStreams owner (slots_of sight back) m
     pub first : AllFollow follows back → (a b : List ℕ) → (slots_of sight back).first.may_leave a

@@ -2,7 +2,7 @@
 ghost use Rattle.std.specs.Prelude.{◌≡◌, ◌<◌, ◌≤◌, ◌+◌, ◌^◌, List, set, IfOk, IfErr, vec_len};
 ghost use Rattle.labels.specs.Shards.{max_shards};
 ghost use Rattle.accept.specs.Rooms.{segment_bytes};
-ghost use Rattle.segment.specs.Segments.{owner_of};
+ghost use Rattle.segment.specs.ShardPlaces.{place_of};
 ghost use Rattle.split.specs.Maps.{map_at, AreFit, HaveRoomWithin};
 ghost use Rattle.split.specs.Splits.{pair_at, EachPair, IsAtRest, IsOldShardRead, IsOldShardRefused, IsCause};
 ghost use Rattle.split.specs.Stages.{IsOldShardOpened};
@@ -11,7 +11,7 @@ use crate::fault::SplitFault;
 use crate::moving::{put, take};
 use accept::Image;
 use disk::Disk;
-use segment::Owner;
+use segment::ShardPlace;
 use std::alloc::Global;
 use wal::{Capacity, OpenFault, Wal};
 
@@ -19,17 +19,16 @@ use wal::{Capacity, OpenFault, Wal};
 fn read_pair<D: Disk>(
     alloc: Global,
     given: [D; 2],
-    owner: Owner,
+    owner: ShardPlace,
     cap: Capacity,
 ) -> (Result<Image, OpenFault>, [D; 2])
-    requires shard { (owner.shard < owner.count) × (owner.count ≤ max_shards) }
     ensures rests { IsAtRest D.sight D.follows given result.1 }
     ensures read { IfOk result.0
         (λ m. IsOldShardOpened D.sight D.follows owner given result.1 m) }
     ensures refused { IfErr result.0 (λ fault.
         IsOldShardRefused D.sight D.follows owner given result.1 fault) }
 {
-    match Wal::open(alloc, given, owner.shard, owner.count, cap) {
+    match Wal::open_at(alloc, given, owner, cap) {
         Ok((log, image)) => {
             let back = log.into_slots();
             (Ok(image), back)
@@ -54,18 +53,15 @@ fn read_at<D: Disk>(
     ensures rests { IsAtRest D.sight D.follows (pair_at old.old.items shard)
         (pair_at old.new.items shard) }
     ensures read { IfOk result (λ m.
-        IsOldShardOpened D.sight D.follows (owner_of shard (vec_len old.old))
+        IsOldShardOpened D.sight D.follows (place_of shard (vec_len old.old))
         (pair_at old.old.items shard)
         (pair_at old.new.items shard) m) }
     ensures refused { IfErr result (λ fault.
-        IsOldShardRefused D.sight D.follows (owner_of shard (vec_len old.old))
+        IsOldShardRefused D.sight D.follows (place_of shard (vec_len old.old))
         (pair_at old.old.items shard)
         (pair_at old.new.items shard) fault) }
 {
-    let owner = Owner {
-        shard,
-        count: old.len() as u32,
-    };
+    let owner = ShardPlace::of(shard, old.len() as u32);
     let given = take(old, shard as usize);
     let (read, back) = read_pair(alloc, given, owner, cap);
     put(old, shard as usize, back);
@@ -87,7 +83,7 @@ pub(crate) fn read_all<D: Disk>(
     ensures rests { EachPair (λ _. IsAtRest D.sight D.follows) old.old.items old.new.items }
     ensures images { IfOk result (λ maps. vec_len maps ≡ vec_len old.old) }
     ensures read { IfOk result (λ maps. EachPair
-        (λ s given back. IsOldShardRead D.sight D.follows (owner_of s (vec_len old.old)) given back
+        (λ s given back. IsOldShardRead D.sight D.follows (place_of s (vec_len old.old)) given back
         (map_at maps.items s))
         old.old.items old.new.items) }
     ensures fit { IfOk result (λ maps. AreFit (vec_len old.old) maps.items) }

@@ -7,7 +7,7 @@ use Rattle.accept.specs.Rooms.{Streams}
 use Rattle.accept.specs.Histories.{meaning, answered_to}
 use Rattle.accept.proofs.Meanings.{meaning-nothing}
 use Rattle.disk.specs.Sight.{Sight}
-use Rattle.segment.specs.declared.owner.Owner.{Owner}
+use Rattle.segment.specs.ShardPlaces.{ShardPlace}
 use Rattle.segment.specs.Segments.{is_closed}
 use Rattle.wal.specs.declared.log.Wal.{Wal}
 use Rattle.wal.specs.Covers.{Covers}
@@ -25,13 +25,13 @@ still_nothing zero = meaning-nothing finite.empty
 still_nothing (suc j) = meaning-nothing finite.empty
 
 module _ {D : Type 0} (sight : D → Sight) (follows : D → Type 0) (always : (d : D) → follows d) where
-  covered : (whose : Owner) (a b : D) → IsEmptyDisk (sight a) → IsEmptyDisk (sight b) → Covers whose profile_limits (slots_of sight (a ∷ b ∷ [])) no_past []
+  covered : (whose : ShardPlace) (a b : D) → IsEmptyDisk (sight a) → IsEmptyDisk (sight b) → Covers whose profile_limits (slots_of sight (a ∷ b ∷ [])) no_past []
   covered whose a b first second x y p q =
       let is_x : x ≡ [] = first.synced x p ∙ first.none in
       let is_y : y ≡ [] = second.synced y q ∙ second.none in
       (0, omega arith, inl (record { first = ap is_closed is_x; second = ap is_closed is_y; none = still_nothing 0 }))
 
-  none_there : (whose : Owner) (capacity : ℕ) (a b : D) (log : Wal D) (m : Streams) → IsEmptyDisk (sight a) → IsEmptyDisk (sight b) → IsOpenedFrom sight follows whose capacity (a ∷ b ∷ []) log m → m ≡ finite.empty
+  none_there : (whose : ShardPlace) (capacity : ℕ) (a b : D) (log : Wal D) (m : Streams) → IsEmptyDisk (sight a) → IsEmptyDisk (sight b) → IsOpenedFrom sight follows whose capacity (a ∷ b ∷ []) log m → m ≡ finite.empty
   none_there whose capacity a b log m first second is =
       let found = is.covered (always log.active, always log.spare) profile_limits no_past [] (covered whose a b first second) in
       found.2 ∙ still_nothing found.0

@@ -4,8 +4,7 @@ use Rattle.std.specs.Prelude.{Result, Ok, Err, OnOk}
 use Rattle.std.proofs.lemmas.List.{length-map}
 use Rattle.accept.specs.Rooms.{Streams}
 use Rattle.disk.specs.Sight.{Sight}
-use Rattle.segment.specs.declared.owner.Owner.{Owner}
-use Rattle.segment.specs.Segments.{owner_of}
+use Rattle.segment.specs.ShardPlaces.{ShardPlace, place_of}
 use Rattle.wal.specs.Moments.{Pair, HasNoFailure}
 use Rattle.wal.specs.Recovery.{Recovers}
 use Rattle.wal.specs.Opening.{slots_of, AllFollow}
@@ -40,14 +39,14 @@ module _ {A B : Type 0} (inner : A → B) (sight : B → Sight) (follows : B →
   whole : (given back : List A) → HasNotFailed (λ a. sight (inner a)) (λ a. follows (inner a)) given back → HasNotFailed sight follows (map inner given) (map inner back)
   whole given back none = subst (λ (z : Pair × Pair). HasNoFailure z.0 z.1) (λ i. (shows given i, shows back i)) none
 
-  read_within : (owner : Owner) (given back : List A) (m : Streams) → IsOldShardRead (λ a. sight (inner a)) (λ a. follows (inner a)) owner given back m → IsOldShardRead sight follows owner (map inner given) (map inner back) m
+  read_within : (owner : ShardPlace) (given back : List A) (m : Streams) → IsOldShardRead (λ a. sight (inner a)) (λ a. follows (inner a)) owner given back m → IsOldShardRead sight follows owner (map inner given) (map inner back) m
   read_within owner given back m was = record {
     recovers = λ all. subst (λ (p : Pair). Recovers owner p.first.seen p.second.seen m) (shows given) (was.recovers (follow back all));
     keeps = λ all. subst (λ (p : Pair). KeepsStreams owner p m) (shows back) (was.keeps (follow back all));
     not_failed = whole given back was.not_failed;
   }
 
-  started_within : (owner : Owner) (cap : ℕ) (given back : List A) (m : Streams) → IsStarted (λ a. sight (inner a)) (λ a. follows (inner a)) owner cap given back m → IsStarted sight follows owner cap (map inner given) (map inner back) m
+  started_within : (owner : ShardPlace) (cap : ℕ) (given back : List A) (m : Streams) → IsStarted (λ a. sight (inner a)) (λ a. follows (inner a)) owner cap given back m → IsStarted sight follows owner cap (map inner given) (map inner back) m
   started_within owner cap given back m was = record {
     empty = λ all. subst (λ (p : Pair). IsEmptyPair p) (shows given) (was.empty (follow back all));
     keeps = λ all. subst (λ (p : Pair). KeepsStreams owner p m) (shows back) (was.keeps (follow back all));
@@ -67,13 +66,13 @@ module _ {A B : Type 0} (inner : A → B) (sight : B → Sight) (follows : B →
         division = record {
           olds = was.olds;
           news = was.news;
-          read = λ s lt. subst (λ (z : ℕ × List B × List B). IsOldShardRead sight follows (owner_of s z.0) z.1 z.2 (was.olds s)) (λ i. (same_count old i, at_shard old s i, at_shard old_back s i))
-              (read_within (owner_of s (length old)) (pair_at old s) (pair_at old_back s) (was.olds s) (was.read s (omega (arith, lt, same_count old))));
+          read = λ s lt. subst (λ (z : ℕ × List B × List B). IsOldShardRead sight follows (place_of s z.0) z.1 z.2 (was.olds s)) (λ i. (same_count old i, at_shard old s i, at_shard old_back s i))
+              (read_within (place_of s (length old)) (pair_at old s) (pair_at old_back s) (was.olds s) (was.read s (omega (arith, lt, same_count old))));
           apart = subst (λ (n : ℕ). AreApart n was.olds) (same_count old) was.apart;
           split = subst (λ (z : ℕ × ℕ). IsSplit z.0 z.1 was.olds was.news) (λ i. (same_count old i, same_count new i)) was.split;
         };
-        started = λ s lt. subst (λ (z : ℕ × List B × List B). IsStarted sight follows (owner_of s z.0) cap z.1 z.2 (was.news s)) (λ i. (same_count new i, at_shard new s i, at_shard new_back s i))
-            (started_within (owner_of s (length new)) cap (pair_at new s) (pair_at new_back s) (was.news s) (are.started s (omega (arith, lt, same_count new))));
+        started = λ s lt. subst (λ (z : ℕ × List B × List B). IsStarted sight follows (place_of s z.0) cap z.1 z.2 (was.news s)) (λ i. (same_count new i, at_shard new s i, at_shard new_back s i))
+            (started_within (place_of s (length new)) cap (pair_at new s) (pair_at new_back s) (was.news s) (are.started s (omega (arith, lt, same_count new))));
       }
 
   pub split_of_these : (r : Result (Unit {0}) WalsplitFault) (cap : ℕ) (old new : List (List A)) (olds news : List (List B)) → within inner old ≡ olds → within inner new ≡ news

@@ -2,7 +2,7 @@ use Rattle.std.proofs.Common.{◌≡◌, ℕ, List, length, sym, ap, ◌∙◌, 
 use Rattle.std.specs.Prelude.{vec_len, OnOk}
 use Rattle.std.proofs.lemmas.Result.{err_from_is_err_and}
 use Rattle.accept.specs.Rooms.{Streams}
-use Rattle.segment.specs.Segments.{owner_of}
+use Rattle.segment.specs.ShardPlaces.{place_of}
 use Rattle.split.specs.declared.fault.SplitFault.{SplitFault}
 use Rattle.split.specs.Maps.{map_at, IsSplit, HaveRoomWithin, IsFirstAbove}
 use Rattle.split.specs.Splits.{EachPair, IsCause}
@@ -45,7 +45,7 @@ returns-clause-split g c =
     let split = split_at (vec_len c.in_ok-olds.olds) c.len-count.result (vec_len c.args.old.now) m olds news c.in_ok-olds.ensures.images many c.in_ok-news.ensures.split in
     let long : length c.deref.result.now ≡ m = ap (λ (l : List Streams). length l) c.deref.ensures.value ∙ (sym c.in_ok-news.news.ok.0 ∙ (c.in_ok-news.ensures.len ∙ many)) in
     let small = subst (λ (l : List Streams). HaveRoomWithin c.args.cap m l) c.deref.ensures.value (subst (λ (k : ℕ). HaveRoomWithin c.args.cap k c.deref.result.now) long c.in_ok-test_rooms.ensures.ok) in
-    let begun = subst (λ (l : List Streams). OnOk c.start_all.result (EachPair (λ s given made. IsShardBegun g.D.Disk.sight g.D.Disk.follows (owner_of s m) given made (map_at l s)) mid.items c.start_all.new.new.items)) c.deref-2.ensures.value c.start_all.ensures.begun in
+    let begun = subst (λ (l : List Streams). OnOk c.start_all.result (EachPair (λ s given made. IsShardBegun g.D.Disk.sight g.D.Disk.follows (place_of s m) given made (map_at l s)) mid.items c.start_all.new.new.items)) c.deref-2.ensures.value c.start_all.ensures.begun in
     finished_if_ok g.D.Disk.sight g.D.Disk.follows c.start_all.result (vec_len c.args.old.now) m c.args.cap olds news c.args.old.now.items c.read_all.new.old.items new.items mid.items c.start_all.new.new.items c.args.old.now.ok.0
     (c.test_all.ensures.len ∙ new.ok.0) (sym mid.ok.0 ∙ (c.test_all.ensures.len ∙ new.ok.0)) (c.in_ok-olds.ensures.read, c.in_ok-olds.ensures.fit, split) small c.in_ok-test_all.ensures.tested begun
 
