@@ -12,6 +12,7 @@ import signal
 import stat
 import struct
 import subprocess
+import time
 
 import pytest
 import servers
@@ -20,7 +21,18 @@ from row_files import pieces_of
 
 NOBODY, LONGEST = 65_534, 2**30
 READ = b'{"stream":{"a":"1"},"from":"0","to":"100"}'
+READ_ALL = b'{"stream":{"a":"1"},"from":"0","to":"9223372036854775807"}'
 as_root = pytest.mark.skipif(os.geteuid() != 0, reason="needs root")
+
+
+def test_ingestctl_reads_what_a_server_kept(serve, folder):
+    """Once the server is killed."""
+    now, server = time.time_ns(), serve("log", 2)
+    with servers.Client(server.port) as client:
+        assert client.push({"a": "1"}, [(now, "x", ())]) == (204, "")
+    server.end()
+    wanted = b'200\n{"values":[["%d","x"]]}' % now
+    assert servers.run(["ingestctl", "read", f"{folder}/log", "2", "t", str(now)], READ_ALL) == (0, wanted, b"")
 
 
 def files_of(folder):
