@@ -79,7 +79,7 @@ measure: ## what is timed: soak scale roll start default_shards metrics_cost dra
 	@RT='$(RT)' tests/gate/build ingesterd walcat
 	@tests/run $(NAME) $(WORDS)
 
-bench: ## how fast bodies are read, calls are made, and connections are served
+bench: ## how fast bodies and segments are read, the log appends, and calls are made
 	@RT='$(RT)' tests/gate/build bench
 	@for it in time_parts time_calls; do \
 		TMPDIR='$(CURDIR)' GLIBC_TUNABLES=$(HELD) crates/bench/out/bench $$it || exit 1; done

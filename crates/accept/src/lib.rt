@@ -16,7 +16,6 @@ pub use entries::{Entry, EntryList, KeptEntries, KeptList, Line};
 pub use fault::CallFault;
 pub use history::{Ask, History, Item, Step};
 pub use image::{Image, StreamImage};
-pub use labels::Meta;
 pub use laws::{
     answer_is_of_stream, answered_in_a_row, answered_step, changes_what_it_says,
     entries_come_from_batches, equal_meanings_answer_alike, legal_histories, limits_of_profile,
@@ -25,5 +24,6 @@ pub use laws::{
 };
 pub use limits::Limits;
 pub use outcome::{Outcome, OutcomeList};
+pub use pairs::Meta;
 pub use refusal::TrimRefusal;
 pub use stream::StreamState;

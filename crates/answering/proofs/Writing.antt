@@ -8,7 +8,7 @@ use Rattle.json.specs.Print.{print}
 use Rattle.serde_json.specs.View.{items_of}
 use Rattle.serde_json.specs.Written.{outline, items_outline, members_outline, compact_text}
 use Rattle.serde_json.proofs.Texts.{print-outline}
-use Rattle.labels.specs.Labels.{Label, label_of}
+use Rattle.pairs.specs.Labels.{Label, label_of}
 use Rattle.entries.specs.declared.entry.Entry.{Entry}
 use Rattle.pushjson.specs.Bodies.{labels_tree}
 use Rattle.answering.specs.Replies.{entry_tree, read_tree}

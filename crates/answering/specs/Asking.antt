@@ -1,7 +1,7 @@
 -- What the body of a request asks for, stream by stream.
 use Rattle.std.specs.Prelude.{◌≡◌, ℕ, List, [], ◌∷◌, map, Result, Ok, Err, None, Vec}
 use Rattle.std.specs.declared.alloc.Global.{Global}
-use Rattle.labels.specs.Labels.{Label}
+use Rattle.pairs.specs.Labels.{Label}
 use Rattle.labels.specs.Canonical.{IsTextOf}
 use Rattle.labels.specs.Faults.{first_fault}
 use Rattle.labels.specs.declared.key.StreamKey.{StreamKey}

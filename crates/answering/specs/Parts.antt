@@ -1,6 +1,6 @@
 -- What the parts of an answer say; for private clauses.
 use Rattle.std.specs.Prelude.{◌≡◌, ◌≢◌, ℕ, List, [], ◌∷◌, None, Some, Result, Ok, Err}
-use Rattle.labels.specs.Labels.{Label}
+use Rattle.pairs.specs.Labels.{Label}
 use Rattle.labels.specs.Faults.{first_fault}
 use Rattle.accept.specs.declared.call.Call.{Call}
 use Rattle.pushjson.specs.declared.fault.PushFault.{PushFault}

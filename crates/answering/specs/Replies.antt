@@ -3,7 +3,7 @@ use Rattle.std.specs.Prelude.{ℕ, List, [], ◌∷◌, ◌++◌, map, codes, de
 use Rattle.serde_json.specs.Data.{Data, string, array, object, member, no_members}
 use Rattle.serde_json.specs.View.{items_of}
 use Rattle.serde_json.specs.Written.{compact_text}
-use Rattle.labels.specs.Labels.{Label}
+use Rattle.pairs.specs.Labels.{Label}
 use Rattle.entries.specs.declared.entry.Entry.{Entry}
 use Rattle.accept.specs.declared.call.Reply.TheVariants as replies
 use Rattle.pushjson.specs.Bodies.{labels_tree}

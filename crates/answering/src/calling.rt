@@ -8,7 +8,8 @@ ghost use Rattle.answering.specs.Parts.{AsksForCall, IsUncalled};
 ghost use Rattle.answering.specs.declared.calling.Uncalled.TheVariants.{Body};
 
 use accept::Call;
-use labels::{LabelFault, LabelPairs, LabelSet, StreamKey, Tenant};
+use labels::{LabelFault, LabelSet, StreamKey, Tenant};
+use pairs::LabelPairs;
 use pushjson::{PushFault, RawRead, RawTrim, read_query, read_trim};
 use std::alloc::Global;
 

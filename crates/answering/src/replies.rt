@@ -4,7 +4,7 @@ ghost use Rattle.json.specs.Token.{Token as SpecToken};
 ghost use Rattle.json.specs.Tree.{json_tokens, items_tokens, members_tokens};
 ghost use Rattle.serde_json.specs.View.{items_of};
 ghost use Rattle.serde_json.specs.Written.{compact_text, outline, items_outline, members_outline};
-ghost use Rattle.labels.specs.Labels.{label_of};
+ghost use Rattle.pairs.specs.Labels.{label_of};
 ghost use Rattle.pushjson.specs.Bodies.{labels_tree};
 ghost use Rattle.answering.specs.Calls.{Refused, Replied};
 ghost use Rattle.answering.specs.Lines.{push_status, lines_from};

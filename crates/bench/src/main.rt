@@ -1,8 +1,7 @@
 //! `bench time_parts` prints how fast push bodies and segments are read, how the log appends, and how long calls on one
-//! stream take; `bench time_calls` how many calls a shard makes in groups and an ingester by its passes, and how fast a
-//! connection is served. Files are in a folder of their own among the temporary files. `bench check_parts` and
-//! `bench check_calls` make a few of all that, the parts without files, and `bench quiet` calls that request no memory.
-//! Several words are taken one after another.
+//! stream take; `bench time_calls` how many calls a shard makes in groups. Files are in a folder of their own among the
+//! temporary files. `bench check_parts` and `bench check_calls` make a few of all that, the parts without files, and
+//! `bench quiet` calls that request no memory. Several words are taken one after another.
 #![tactic(auto)]
 
 mod appends;
@@ -15,7 +14,6 @@ mod pushes;
 mod quiet_calls;
 mod quiet_parts;
 mod segments;
-mod served;
 mod stopwatch;
 mod stream;
 
@@ -47,12 +45,12 @@ where
             run_parts(rt, Mode::Time)?;
             appends::time(rt, folder)
         }
-        "time_calls" => run_calls(rt, Mode::Time, folder),
+        "time_calls" => groups::run(rt, Mode::Time, folder),
         "check_parts" => {
             run_parts(rt, Mode::Check)?;
             appends::check(rt)
         }
-        "check_calls" => run_calls(rt, Mode::Check, folder),
+        "check_calls" => groups::run(rt, Mode::Check, folder),
         "quiet" => {
             quiet_parts::trim(rt)?;
             quiet_parts::write(rt)?;
@@ -66,14 +64,4 @@ fn run_parts<R: Clock + Print + AllocGlobal>(rt: &R, mode: Mode) -> Result<()> {
     bodies::run(rt, mode)?;
     segments::run(rt, mode)?;
     stream::run(rt, mode)
-}
-
-fn run_calls<R>(rt: &R, mode: Mode, folder: &str) -> Result<()>
-where
-    R: Clock + Print + Files<File = File> + Threads + Wait + Sync + AllocGlobal,
-    R: Copy + Send + 'static,
-{
-    groups::run(rt, mode, folder)?;
-    calls::run(rt, mode)?;
-    served::run(rt, mode)
 }

@@ -10,7 +10,7 @@ use std::alloc::Global;
 pub const LINES: u64 = 10;
 
 /// How many bytes a line has.
-pub const LINE: usize = 200;
+const LINE: usize = 200;
 
 /// The time of the first line, in nanoseconds: a day of 2023.
 pub const START: u64 = 1_700_000_000_000_000_000;

@@ -50,12 +50,7 @@ impl Stopwatch {
 
     /// Begins a run. Where the clock fails it doesn't count.
     pub fn start<R: Clock>(&mut self, rt: &R) {
-        self.start_at(Instant::now(rt).ok());
-    }
-
-    /// A run began then. Without a time it doesn't count.
-    pub fn start_at(&mut self, started: Option<Instant>) {
-        self.started = started;
+        self.started = Instant::now(rt).ok();
     }
 
     /// Ends a run that did this much.

@@ -13,12 +13,14 @@ use Rattle.std.proofs.lemmas.Cmp.{nat_list_cmp_total}
 use Rattle.std.proofs.lemmas.Map.Lookups.{exact_bytes}
 use Rattle.std.proofs.lemmas.List.Elements.{recursion_from_All, All-from_recursion}
 use Rattle.std.proofs.lemmas.List.Sorted.{All-permutation, IsPermutation-refl, IsPermutation-sym, IsPermutation-trans, IsPermutation-cons, IsPermutation-middle, length_permutation, sum_by-IsPermutation}
-use Rattle.labels.specs.Labels.{Label}
+use Rattle.pairs.specs.Labels.{Label}
 use Rattle.labels.specs.declared.fault.LabelFault.{LabelFault}
-use Rattle.labels.specs.Faults.{max_labels, label_fault, each_fault, times_named, repeats_name, first_fault}
-use Rattle.labels.specs.Canonical.{AreTexts, IsLabel, NamesRise, IsTextOf, set_text}
+use Rattle.labels.specs.Faults.{max_labels, label_fault, each_fault, first_fault}
+use Rattle.pairs.specs.Names.{times_named, repeats_name}
+use Rattle.labels.specs.Canonical.{AreTexts, IsLabel, IsTextOf, set_text}
+use Rattle.pairs.specs.Names.{NamesRise}
 use Rattle.labels.proofs.Lawful.{AreSound, no_fault, no_option}
-use Rattle.labels.proofs.Order.{Above, AreOnce, rise_above, rise_tail, rise_once, repeats_permuted, named_tail, named_first}
+use Rattle.pairs.proofs.Order.{Above, AreOnce, rise_above, rise_tail, rise_once, repeats_permuted, named_tail, named_first}
 
 -- labels with one more, in the order of their names
 record Placed (p : Label) (qs : List Label) : Type 0 where

@@ -11,12 +11,14 @@ use Rattle.std.proofs.lemmas.Str.{IsUtf8-string_bytes}
 use Rattle.std.proofs.lemmas.List.Elements.{recursion_from_All, All-from_recursion}
 use Rattle.std.proofs.lemmas.List.Sorted.{All-permutation, IsPermutation-map, length_permutation}
 use Rattle.std.proofs.lemmas.Bool.Decides.{nat_tests}
-use Rattle.labels.specs.Labels.{Label, label_of}
+use Rattle.pairs.specs.Labels.{Label, label_of}
 use Rattle.labels.specs.declared.fault.LabelFault.{LabelFault}
 use Rattle.labels.specs.declared.fault.LabelFault.TheVariants.{NameTwice}
-use Rattle.labels.specs.Faults.{max_labels, label_fault, each_fault, repeats_name, first_fault}
-use Rattle.labels.specs.Canonical.{IsLabel, NamesRise, IsTextOf, set_text}
-use Rattle.labels.proofs.Order.{pair_cmp, repeats_permuted, rise_once, rise_from_adjacent, stuck_repeats}
+use Rattle.labels.specs.Faults.{max_labels, label_fault, each_fault, first_fault}
+use Rattle.pairs.specs.Names.{repeats_name}
+use Rattle.labels.specs.Canonical.{IsLabel, IsTextOf, set_text}
+use Rattle.pairs.specs.Names.{NamesRise}
+use Rattle.pairs.proofs.Order.{pair_cmp, repeats_permuted, rise_once, rise_from_adjacent, stuck_repeats}
 
 pub no_option : (o p : Option LabelFault) → option_or o p ≡ None → (o ≡ None) × (p ≡ None)
 no_option None p h = (refl, h)

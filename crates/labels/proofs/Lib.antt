@@ -2,8 +2,6 @@ pub mod Chars
 pub mod Escapes
 pub mod Existence
 pub mod Lawful
-pub mod Metas
-pub mod Order
 pub mod Parts
 pub mod Reading
 pub mod Sets

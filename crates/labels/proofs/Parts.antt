@@ -10,11 +10,12 @@ use Rattle.std.proofs.lemmas.Bool.{false≢true}
 use Rattle.std.proofs.lemmas.Slice.Eq.{bytes_eq-Decides}
 use Rattle.std.specs.Cmp.Lexicographic.{slice_cmp}
 use Rattle.std.proofs.lemmas.Bool.Decides.{nat_tests}
-use Rattle.labels.specs.Labels.{Label}
+use Rattle.pairs.specs.Labels.{Label}
 use Rattle.labels.specs.declared.fault.LabelFault.{LabelFault}
 use Rattle.labels.specs.Faults.{max_labels, label_fault, is_name}
 use Rattle.labels.specs.declared.fault.LabelFault.TheVariants.{BadName, NameTooLong, EmptyValue, ValueTooLong}
-use Rattle.labels.specs.Canonical.{escape, label_text, tail_text, IsLabel, NamesRise, IsCanonical, IsCanonicalText, EndsSet}
+use Rattle.labels.specs.Canonical.{escape, label_text, tail_text, IsLabel, IsCanonical, IsCanonicalText, EndsSet}
+use Rattle.pairs.specs.Names.{NamesRise}
 use Rattle.labels.proofs.Reading.{one_value}
 use Rattle.labels.proofs.Unique.{NoEquals, one_name, one_label, lawful_name, regroup}
 

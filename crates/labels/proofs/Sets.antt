@@ -9,9 +9,10 @@ use Rattle.std.proofs.lemmas.Bool.{false≢true}
 use Rattle.std.proofs.lemmas.Cmp.{nat_list_cmp_total}
 use Rattle.std.proofs.lemmas.List.Elements.{All-contains_itself, recursion_from_All}
 use Rattle.std.proofs.lemmas.List.Sorted.{All-permutation, IsPermutation-sym, IsPermutation-trans}
-use Rattle.labels.specs.Labels.{Label}
-use Rattle.labels.specs.Canonical.{NamesRise, IsTextOf, set_text}
-use Rattle.labels.proofs.Order.{Above, rise_above, rise_tail, same_name, other_name}
+use Rattle.pairs.specs.Labels.{Label}
+use Rattle.labels.specs.Canonical.{IsTextOf, set_text}
+use Rattle.pairs.specs.Names.{NamesRise}
+use Rattle.pairs.proofs.Order.{Above, rise_above, rise_tail, same_name, other_name}
 use Rattle.labels.proofs.Unique.{one_set}
 
 abbrev Among : Label → List Label → Type 0

@@ -2,7 +2,7 @@
 use Rattle.std.proofs.Common.{◌≡◌, ◌≢◌, ℕ, Bool, true, false, ◌&&◌, ◌||◌, not, cond, Option, Some, None, List, [], ◌∷◌, ◌++◌, refl, sym, ap, ◌∙◌, arith, append_assoc}
 use Rattle.std.specs.List.{flat_map, AllByRecursion, list_all}
 use Rattle.std.specs.Int.{is_in_range}
-use Rattle.labels.specs.Labels.{Label}
+use Rattle.pairs.specs.Labels.{Label}
 use Rattle.labels.specs.declared.fault.LabelFault.{LabelFault}
 use Rattle.labels.specs.Faults.{label_fault, is_name, continues_name, begins_name}
 use Rattle.labels.specs.Canonical.{escape, label_text, tail_text, set_text, IsLabel, IsCanonical}

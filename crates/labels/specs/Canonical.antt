@@ -1,12 +1,10 @@
 -- The canonical text of a label set: `{a="1", b="2"}`, the names in strictly rising byte order.
-use Rattle.std.specs.Prelude.{ℕ, ◌≡◌, ◌≤◌, List, [], ◌∷◌, ◌++◌, length, codes, None, ⊤, ◌==◌, if◌then◌else◌}
+use Rattle.std.specs.Prelude.{ℕ, ◌≡◌, ◌≤◌, List, [], ◌∷◌, ◌++◌, length, codes, None, ◌==◌, if◌then◌else◌}
 use Rattle.std.specs.List.{flat_map, AllByRecursion}
 use Rattle.std.specs.List.Sorted.{IsPermutation}
-use Rattle.std.specs.Cmp.Lexicographic.{slice_cmp}
-use Rattle.std.specs.Ordering.{nat_cmp}
 use Rattle.std.specs.Str.{IsUtf8}
-use Rattle.std.specs.declared.cmp.Ordering.TheVariants.{Less}
-use Rattle.labels.specs.Labels.{Label}
+use Rattle.pairs.specs.Labels.{Label}
+use Rattle.pairs.specs.Names.{NamesRise}
 use Rattle.labels.specs.Faults.{max_labels, label_fault}
 
 -- a byte of a value: `\`, `"` and a newline stand after a `\`
@@ -36,12 +34,6 @@ pub record IsLabel (p : Label) : Type 0 where
 -- each value is a text
 abbrev pub AreTexts : List Label → Type 0
 AreTexts ps = AllByRecursion (λ p. IsUtf8 p.1) ps
-
--- each name is below the next
-abbrev pub NamesRise : List Label → Type 0
-NamesRise [] = ⊤
-NamesRise (p ∷ []) = ⊤
-NamesRise (p ∷ q ∷ qs) = (slice_cmp nat_cmp p.0 q.0 ≡ Less) × NamesRise (q ∷ qs)
 
 -- the text is that of these labels, as they stand
 pub record IsCanonical (text : List ℕ) (ps : List Label) : Type 0 where

@@ -1,10 +1,10 @@
 -- The fault that is answered for labels that are not lawful.
 use Rattle.std.specs.Prelude.{ℕ, Bool, false, ◌&&◌, ◌||◌, List, [], ◌∷◌, Option, Some, None, length, codes, nat_lt, not, ◌==◌, if◌then◌else◌}
-use Rattle.std.specs.List.{list_all, list_any, count_by}
+use Rattle.std.specs.List.{list_all}
 use Rattle.std.specs.Option.{option_or}
 use Rattle.std.specs.Char.{is_ascii_alphabetic, is_ascii_alphanumeric}
-use Rattle.std.specs.Str.{bytes_eq}
-use Rattle.labels.specs.Labels.{Label}
+use Rattle.pairs.specs.Labels.{Label}
+use Rattle.pairs.specs.Names.{repeats_name}
 use Rattle.labels.specs.declared.fault.LabelFault.{LabelFault}
 use Rattle.labels.specs.declared.fault.LabelFault.TheVariants.{NoLabels, TooManyLabels, BadName, NameTooLong, EmptyValue, ValueTooLong, NameTwice, NotCanonical, BadTenant, Memory}
 
@@ -51,14 +51,6 @@ label_fault p =
 abbrev pub each_fault : List Label → Option LabelFault
 each_fault [] = None
 each_fault (p ∷ ps) = option_or (label_fault p) (each_fault ps)
-
--- how many of the labels have this name
-abbrev pub times_named : List ℕ → List Label → ℕ
-times_named name ps = count_by (λ q. bytes_eq name q.0) ps
-
--- whether a name stands twice
-abbrev pub repeats_name : List Label → Bool
-repeats_name ps = list_any (λ p. nat_lt 1 (times_named p.0 ps)) ps
 
 -- what is wrong with the labels of a stream: their number, then each label, then a repeated name
 unfoldable pub first_fault : List Label → Option LabelFault

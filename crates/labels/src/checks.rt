@@ -1,6 +1,6 @@
 ghost use Rattle.std.specs.Prelude.{◌≡◌, ℕ, List, map, Some, None, IfSome, IfNone, length, ◌≤◌};
 ghost use Rattle.std.specs.List.{list_all};
-ghost use Rattle.labels.specs.Labels.{label_of};
+ghost use Rattle.pairs.specs.Labels.{label_of};
 ghost use Rattle.labels.specs.Faults.{max_labels, begins_name, continues_name, is_name, label_fault, each_fault, first_fault};
 
 use crate::fault::LabelFault;

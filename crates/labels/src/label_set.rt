@@ -4,12 +4,12 @@ ghost use Rattle.std.specs.Cmp.Lexicographic.{pointwise, slice_cmp, nat_list_eq_
 ghost use Rattle.std.specs.Ordering.{nat_cmp};
 ghost use Rattle.labels.specs.Faults.{first_fault};
 ghost use Rattle.labels.specs.Canonical.{IsTextOf, IsCanonical, IsCanonicalText};
-ghost use Rattle.labels.specs.Labels.{Label};
+ghost use Rattle.pairs.specs.Labels.{Label};
 
 use crate::fault::LabelFault;
-use crate::pairs::LabelPairs;
 use crate::parsing::is_canonical;
 use crate::writing::canonical_text;
+use pairs::LabelPairs;
 use std::alloc::{AllocError, Global};
 use std::cmp::Ordering;
 use std::marker::Model;

@@ -1,6 +1,6 @@
 ghost use Rattle.std.specs.Prelude.{◌≡◌, ℕ, List, None};
 ghost use Rattle.std.specs.List.Sorted.{IsPermutation};
-ghost use Rattle.labels.specs.Labels.{Label};
+ghost use Rattle.pairs.specs.Labels.{Label};
 ghost use Rattle.labels.specs.Canonical.{AreTexts, IsCanonical, IsTextOf};
 ghost use Rattle.labels.specs.Faults.{first_fault};
 ghost use Rattle.labels.specs.Keys.{key_cmp};

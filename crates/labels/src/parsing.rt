@@ -4,7 +4,7 @@ ghost use Rattle.std.specs.Char.{len_utf8};
 ghost use Rattle.std.specs.Cmp.Lexicographic.{slice_cmp};
 ghost use Rattle.std.specs.Ordering.{nat_cmp, is_lt};
 ghost use Rattle.std.specs.Str.{chars, IsUtf8};
-ghost use Rattle.labels.specs.Labels.{Label};
+ghost use Rattle.pairs.specs.Labels.{Label};
 ghost use Rattle.labels.specs.Faults.{max_labels};
 ghost use Rattle.labels.specs.Canonical.{escape, label_text, IsLabel, IsCanonical, IsCanonicalText, EndsSet};
 

@@ -1,15 +1,13 @@
-ghost use Rattle.std.specs.Prelude.{◌≡◌, ◌++◌, ◌<◌, ◌⊎◌, length, map, OnOk, IfOk, IfErr, None, Some, string_bytes, vec_len};
-ghost use Rattle.std.specs.List.{flat_map, IsAllAdjacentAnswer};
-ghost use Rattle.std.specs.Cmp.Lexicographic.{slice_cmp};
-ghost use Rattle.std.specs.Ordering.{nat_cmp, is_lt, ordering_then};
-ghost use Rattle.std.specs.List.Sorted.{IsPermutation, IsSorted};
+ghost use Rattle.std.specs.Prelude.{◌≡◌, ◌++◌, ◌<◌, ◌⊎◌, length, map, OnOk, IfOk, IfErr, None, Some, string_bytes};
+ghost use Rattle.std.specs.List.{flat_map};
 ghost use Rattle.std.specs.Char.{encode_utf8};
-ghost use Rattle.labels.specs.Labels.{label_of};
+ghost use Rattle.pairs.specs.Labels.{label_of};
 ghost use Rattle.labels.specs.Canonical.{escape, label_text, tail_text, set_text, IsTextOf};
 ghost use Rattle.labels.specs.Faults.{first_fault};
 
 use crate::checks::early_fault;
 use crate::fault::LabelFault;
+use pairs::{names_rise, sort};
 use std::alloc::{AllocError, Global};
 
 #[tactic(auto, using(crate::proofs::Escapes::escape_char))]
@@ -82,25 +80,6 @@ pub fn set_text(alloc: Global, pairs: &[(String, String)]) -> Result<String, All
     push_label(&mut out, name.as_str(), value.as_str())?;
     push_rest(&mut out, &pairs[1..])?;
     Ok(out)
-}
-
-/// Sorts by name in place. It does not matter that values break ties: labels of one name are refused.
-pub fn sort(pairs: &mut Vec<(String, String)>)
-    ensures permutation { IsPermutation pairs.old.items pairs.new.items }
-    ensures len { vec_len pairs.new ≡ vec_len pairs.old }
-    ensures sorted { IsSorted (λ x y. ordering_then
-        (slice_cmp nat_cmp (string_bytes x.0) (string_bytes y.0))
-        (slice_cmp nat_cmp (string_bytes x.1) (string_bytes y.1))) pairs.new.items }
-{
-    pairs.sort_unstable();
-}
-
-/// Whether each name is below the next, so that none is given twice.
-pub fn names_rise(pairs: &[(String, String)]) -> bool
-    ensures { IsAllAdjacentAnswer (λ x y b. b
-        ≡ is_lt (slice_cmp nat_cmp (string_bytes x.0) (string_bytes y.0))) pairs.now result }
-{
-    pairs.is_sorted_by(|one, next| one.0.as_str() < next.0.as_str())
 }
 
 /// The canonical text of the labels, or their first fault.

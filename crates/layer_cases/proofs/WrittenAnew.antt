@@ -3,8 +3,8 @@
 use Rattle.std.proofs.Common.{ℕ, ◌+◌, ◌*◌, ◌≤◌, List, [], ◌∷◌, ◌++◌, length, sym, ap, subst, arith, length-append}
 use Rattle.std.specs.List.{flat_map, AllByRecursion}
 use Rattle.std.proofs.lemmas.List.Concat.{flat_map-append}
-use Rattle.labels.specs.Labels.{Label}
-use Rattle.labels.specs.Metas.{is_short_meta}
+use Rattle.pairs.specs.Labels.{Label}
+use Rattle.pairs.specs.Metas.{is_short_meta}
 use Rattle.entries.specs.declared.entry.Entry.{Entry}
 use Rattle.segment.specs.declared.version.Version.{Version}
 use Rattle.segment.specs.declared.version.Version.TheVariants.{One, Two}

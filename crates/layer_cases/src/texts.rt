@@ -1,7 +1,8 @@
 //! Labels and metadata of words.
 
 use anyhow::{Result, bail};
-use labels::{LabelFault, LabelPairs, LabelSet, Meta, MetaFault};
+use labels::{LabelFault, LabelSet};
+use pairs::{LabelPairs, Meta, MetaFault};
 use rows::{Said, split_pairs};
 use segment::SegFault;
 use std::alloc::Global;

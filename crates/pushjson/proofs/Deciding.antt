@@ -9,7 +9,7 @@ use Rattle.std.proofs.lemmas.Slice.Eq.{bytes_eq-Decides}
 use Rattle.std.proofs.lemmas.List.Elements.{All-nil, All-cons}
 use Rattle.serde_json.specs.Data.{Data, string, array, object, Items, no_items, item, Members, no_members, member}
 use Rattle.serde_json.specs.View.{items_of}
-use Rattle.labels.specs.Labels.{Label}
+use Rattle.pairs.specs.Labels.{Label}
 use Rattle.pushjson.specs.Times.{IsTime}
 use Rattle.pushjson.specs.Bodies.{Stream, TimedLine, labels_tree, third_tree, value_tree, stream_tree, body_tree, AreTimed, HaveTimes, IsFirstBad, IsFirstBadTime}
 use Rattle.pushjson.specs.Queries.{query_tree, trim_tree}

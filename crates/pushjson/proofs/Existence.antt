@@ -17,7 +17,7 @@ use Rattle.pushjson.proofs.Deciding.{Decided, tested, body_decided, query_decide
 use Rattle.std.proofs.lemmas.Bool.{cases_order}
 use Rattle.std.proofs.lemmas.List.{get_or-take}
 use Rattle.serde_json.specs.View.{items_of}
-use Rattle.labels.specs.Labels.{Label}
+use Rattle.pairs.specs.Labels.{Label}
 
 -- a printer of lists is injective where that of their elements is
 same_items : {Y : Type 0} (tree : Y → Data) → ((y z : Y) → tree y ≡ tree z → y ≡ z) → (ys zs : List Y) → items_of (map tree ys) ≡ items_of (map tree zs) → ys ≡ zs

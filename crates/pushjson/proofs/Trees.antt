@@ -8,8 +8,8 @@ use Rattle.std.specs.Map.{keys_of}
 use Rattle.serde_json.specs.declared.value.Value.{Value}
 use Rattle.serde_json.specs.Data.{Data, string, object, Items, Members, no_members, member}
 use Rattle.serde_json.specs.View.{items_of, members_view}
-use Rattle.labels.specs.Labels.{Label}
-use Rattle.labels.specs.Canonical.{NamesRise}
+use Rattle.pairs.specs.Labels.{Label}
+use Rattle.pairs.specs.Names.{NamesRise}
 use Rattle.pushjson.specs.Bodies.{labels_tree, HaveRisingNames}
 use Rattle.pushjson.specs.Shape.{IsFaultOf}
 use Rattle.pushjson.specs.declared.fault.PushFault.{PushFault}

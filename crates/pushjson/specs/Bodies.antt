@@ -7,7 +7,7 @@ use Rattle.std.specs.Str.Parse.{digits_value}
 use Rattle.serde_json.specs.Data.{Data, string, array, object, Members, no_members, member}
 use Rattle.serde_json.specs.Read.{read}
 use Rattle.serde_json.specs.View.{items_of}
-use Rattle.labels.specs.Labels.{Label}
+use Rattle.pairs.specs.Labels.{Label}
 use Rattle.entries.specs.declared.entry.Entry.{Entry}
 use Rattle.pushjson.specs.Times.{IsTime}
 use Rattle.pushjson.specs.declared.push.RawBatch.{RawBatch}

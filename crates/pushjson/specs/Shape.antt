@@ -4,7 +4,7 @@ use Rattle.std.specs.declared.alloc.Global.{Global}
 use Rattle.serde_json.specs.Data.{Data, Members, member}
 use Rattle.serde_json.specs.View.{view, members_view}
 use Rattle.serde_json.specs.declared.value.Value.{Value}
-use Rattle.labels.specs.Labels.{label_of}
+use Rattle.pairs.specs.Labels.{label_of}
 use Rattle.pushjson.specs.Bodies.{Stream, TimedLine, IsJson}
 use Rattle.pushjson.specs.declared.fault.PushFault.{PushFault}
 use Rattle.pushjson.specs.declared.fault.PushFault.TheVariants.{NotJson, WrongShape, Memory}

@@ -9,7 +9,7 @@ use crate::fault::PushFault;
 use crate::shape::{StreamTexts, ValueTexts, body_texts, read_tree};
 use crate::time::time_of;
 use accept::{Entry, EntryList, Line, MAX_ENTRIES};
-use labels::{LabelPairs, Meta};
+use pairs::{LabelPairs, Meta};
 use std::alloc::Global;
 
 /// A stream of a push body: its labels, not yet tested, and its entries.

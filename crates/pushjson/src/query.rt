@@ -6,7 +6,7 @@ ghost use Rattle.pushjson.specs.Queries.{ReadsQuery, ReadsTrim};
 use crate::fault::PushFault;
 use crate::shape::{query_texts, read_tree, trim_texts};
 use crate::time::time_of;
-use labels::LabelPairs;
+use pairs::LabelPairs;
 use std::alloc::Global;
 
 /// A query body: it asks for the entries of a stream with `from <= time < to`.

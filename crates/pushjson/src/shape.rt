@@ -1,6 +1,6 @@
 // Takes a body's tree apart by value: the texts are those that the tree held.
 ghost use Rattle.std.specs.Prelude.{◌≡◌, map, string_bytes, IfOk, All};
-ghost use Rattle.labels.specs.Labels.{label_of};
+ghost use Rattle.pairs.specs.Labels.{label_of};
 ghost use Rattle.serde_json.specs.Data.{Data, string, array, object, no_members, member};
 ghost use Rattle.serde_json.specs.View.{view, items_of};
 ghost use Rattle.pushjson.specs.Bodies.{labels_tree, value_tree, stream_tree, body_tree, HaveRisingNames};
@@ -9,7 +9,7 @@ ghost use Rattle.pushjson.specs.Shape.{ReadsTree, ReadsData, TakesValue};
 ghost use Rattle.pushjson.specs.Shape.{value_texts_of, stream_texts_of, query_texts_of, trim_texts_of};
 
 use crate::fault::PushFault;
-use labels::Meta;
+use pairs::Meta;
 use serde_json::Value;
 use std::alloc::Global;
 use std::collections::btree_map::IntoIter;

@@ -7,7 +7,8 @@ ghost use Rattle.threads.specs.Reads.{ReadsNothing};
 
 use accept::{Call, EntryList, Image, Limits, Reply};
 use history::{Book, History, Kept, Pass, Receipt, Ticket};
-use labels::{LabelPairs, LabelSet, StreamKey, Tenant};
+use labels::{LabelSet, StreamKey, Tenant};
+use pairs::LabelPairs;
 use std::alloc::Global;
 use std::marker::{Brand, Model, PhantomData};
 use std::process::Abort;

@@ -1,5 +1,5 @@
 use Rattle.std.proofs.Common.{◌≡◌, ◌++◌, map, drop}
-use Rattle.labels.specs.Labels.{label_of}
+use Rattle.pairs.specs.Labels.{label_of}
 use Rattle.answering.proofs.Writing.{pairs_tokens}
 use Rattle.answering.proofs.replies.write_pairs.Given as goal
 

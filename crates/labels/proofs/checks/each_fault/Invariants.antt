@@ -1,5 +1,5 @@
 use Rattle.std.proofs.Common.{◌≡◌, map, drop}
-use Rattle.labels.specs.Labels.{label_of}
+use Rattle.pairs.specs.Labels.{label_of}
 use Rattle.labels.specs.Faults.{each_fault}
 use Rattle.labels.proofs.checks.each_fault.Given as goal
 

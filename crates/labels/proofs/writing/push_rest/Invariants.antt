@@ -1,5 +1,5 @@
 use Rattle.std.proofs.Common.{◌≡◌, ◌++◌, string_bytes, map, drop}
-use Rattle.labels.specs.Labels.{label_of}
+use Rattle.pairs.specs.Labels.{label_of}
 use Rattle.labels.specs.Canonical.{tail_text}
 use Rattle.labels.proofs.writing.push_rest.Given as goal
 

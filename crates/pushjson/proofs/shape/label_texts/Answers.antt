@@ -4,7 +4,7 @@ use Rattle.std.proofs.lemmas.Grind.{common_steps}
 use Rattle.serde_json.proofs.Views.{view-Object}
 use Rattle.serde_json.specs.Data.{object}
 use Rattle.serde_json.specs.View.{view, members_view}
-use Rattle.labels.specs.Labels.{label_of}
+use Rattle.pairs.specs.Labels.{label_of}
 use Rattle.pushjson.proofs.Trees.{labels_then, label_fault, label_more, label_last, rising_keys, rising_more, rising_last}
 use Rattle.pushjson.proofs.shape.label_texts.Goals as goal
 

@@ -1,9 +1,0 @@
-use Rattle.std.proofs.Common.{◌≡◌, map, drop}
-use Rattle.std.specs.List.{list_all}
-use Rattle.labels.specs.Labels.{label_of}
-use Rattle.labels.specs.Metas.{is_short_pair}
-use Rattle.labels.proofs.meta.are_short.Given as goal
-
--- the pairs seen so far are short
-abbrev pub invariant-loop-name : goal.invariant-loop-name
-invariant-loop-name l = list_all is_short_pair (map label_of (drop l.name-index l.pairs)) ≡ list_all is_short_pair (map label_of l.pairs)

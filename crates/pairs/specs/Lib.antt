@@ -1,0 +1,3 @@
+pub mod Labels
+pub mod Names
+pub mod Metas
