@@ -462,14 +462,15 @@ def test_refused_requests(name, preload, folder, monkeypatch):
     assert sum(counts) >= least
 
 
-def test_quiet_calls(folder):
-    """Of the calls that the bench begins and ends some make no request, one makes some."""
-    settings = {"MEMORY_COUNT_TO": f"{folder}/bench", "LD_PRELOAD": servers.library()}
-    status, output, errors = run(["bench", "quiet"], b"", settings)
-    counts = list(map(int, servers.bytes_of(f"{folder}/bench").split()))
+@pytest.mark.parametrize("program, quiet, others", [
+    ("bench", ["trim", "roll", "append"], []), ("call_cases", ["look", "meet", "take"], ["call"])])
+def test_quiet_calls(folder, program, quiet, others):
+    """Of the calls that a program begins and ends some make no request, and others make some."""
+    settings = {"MEMORY_COUNT_TO": f"{folder}/counts", "LD_PRELOAD": servers.library()}
+    status, output, errors = run([program, "quiet"], b"", settings)
+    counts = list(map(int, servers.bytes_of(f"{folder}/counts").split()))
     names = [line.removesuffix(" begins") for line in output.decode().splitlines()[::2]]
     due = "".join(f"{name} begins\n{name} ends\n" for name in names)
     assert (status, output.decode(), errors, len(counts)) == (0, due, b"", 2 * len(names))
-    made = [(name, end > begin) for name, begin, end in zip(names, counts[::2], counts[1::2])]
-    quiet = ["append", "look", "meet", "roll", "take", "trim"]
-    assert sorted(made) == sorted([("call", True), *((name, False) for name in quiet)])
+    made = {name: end > begin for name, begin, end in zip(names, counts[::2], counts[1::2])}
+    assert made == {**dict.fromkeys(quiet, False), **dict.fromkeys(others, True)}

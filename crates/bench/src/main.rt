@@ -6,12 +6,10 @@
 
 mod appends;
 mod bodies;
-mod calls;
 mod folders;
 mod frames;
 mod groups;
 mod pushes;
-mod quiet_calls;
 mod quiet_parts;
 mod segments;
 mod stopwatch;
@@ -21,8 +19,6 @@ use crate::stopwatch::Mode;
 use anyhow::{Result, bail};
 use std::fs::File;
 use std::rt::{Clock, Files};
-use std::sync::Wait;
-use std::thread::Threads;
 use std::{env, process};
 
 fn main(rt: HostRuntime) -> Result<()> {
@@ -37,8 +33,7 @@ fn main(rt: HostRuntime) -> Result<()> {
 
 fn run<R>(rt: &R, word: &str, folder: &str) -> Result<()>
 where
-    R: Clock + Print + Files<File = File> + Threads + Wait + Sync + AllocGlobal,
-    R: Copy + Send + 'static,
+    R: Clock + Print + Files<File = File> + AllocGlobal,
 {
     match word {
         "time_parts" => {
@@ -53,8 +48,7 @@ where
         "check_calls" => groups::run(rt, Mode::Check, folder),
         "quiet" => {
             quiet_parts::trim(rt)?;
-            quiet_parts::write(rt)?;
-            quiet_calls::run(rt)
+            quiet_parts::write(rt)
         }
         _ => bail!("usage: bench time_parts|time_calls|check_parts|check_calls|quiet"),
     }

@@ -1,4 +1,5 @@
-//! `call_cases FILE..`: rows of calls on shards over slots in memory.
+//! `call_cases FILE..`: rows of calls on shards over slots in memory. `call_cases quiet`: calls of an ingester, each kind
+//! between two lines, for whoever counts their requests for memory.
 #![tactic(auto)]
 
 mod alone;
@@ -9,6 +10,7 @@ mod crashes;
 mod gathered;
 mod left;
 mod pieces;
+mod quiet;
 mod replies;
 mod settings;
 mod shards;
@@ -27,6 +29,9 @@ use std::thread::Threads;
 fn main(rt: HostRuntime) -> Result<()> {
     let mut tally = Tally::new();
     for name in env::args(&rt)?.skip(1) {
+        if name.as_str() == "quiet" {
+            return quiet::run(&rt);
+        }
         judge_file(&rt, name.as_str(), &mut tally)?;
     }
     tally.end(&rt)

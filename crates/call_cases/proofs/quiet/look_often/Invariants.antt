@@ -1,5 +1,5 @@
 use Rattle.ingester.specs.Calls.{IsPassOf}
-use Rattle.bench.proofs.quiet_calls.look_often.Given as goal
+use Rattle.call_cases.proofs.quiet.look_often.Given as goal
 
 abbrev pub invariant-loop-turn : goal.invariant-loop-turn
 invariant-loop-turn l = IsPassOf l.ingester l.pass

@@ -1,15 +1,18 @@
-//! Pushes, looks and meetings of an ingester, and what is left of it once it is closed.
+//! Calls of an ingester, each kind between two lines, for whoever counts their requests for memory.
 ghost use Rattle.std.specs.Prelude.{◌≡◌, ℕ, Some, slice_get, IfOk, OnOk};
+ghost use Rattle.accept.specs.Calls.{AreNumbers};
 ghost use Rattle.history.specs.Handles.{Passed};
 ghost use Rattle.ingester.specs.Calls.{IsPassOf};
 
-use crate::calls;
-use crate::pushes::{LINES, START, push_of};
+use crate::calls::call_of;
+use accept::{Call, Limits, Outcome, Reply};
 use anyhow::{Result, bail};
-use ingester::{Closed, Ingester, Pass};
+use ingester::{Closed, Ingester, Pass, Settings};
 use memory_disk::MemDisk;
+use std::alloc::Global;
 use std::sync::Wait;
 use std::thread::Threads;
+use wal::Capacity;
 
 /// How many shards the ingester has.
 const SHARDS: u32 = 2;
@@ -20,8 +23,8 @@ const PASSES: u32 = 2;
 /// How many streams are pushed to: enough that each shard has some.
 const STREAMS: u64 = 8;
 
-/// The pushes for which a slot has room: more than are made.
-const ROOM: u64 = 64;
+/// How many bytes a slot has room for, more than are written, and how many calls.
+const ROOM: (u64, u64) = (65_536, 256);
 
 /// How often a pass looks, and how often two passes meet.
 const TIMES: u32 = 10;
@@ -31,12 +34,75 @@ pub fn run<R>(rt: &R) -> Result<()>
 where
     R: Print + Threads + Wait + AllocGlobal + Copy + Send + Sync + 'static,
 {
-    let (ingester, mut passes) = calls::open(rt, rt.alloc(), SHARDS, PASSES, ROOM)?;
+    let (ingester, mut passes) = open(rt, rt.alloc())?;
     let mut one = next(&ingester, &mut passes)?;
     let mut two = next(&ingester, &mut passes)?;
     push_look_meet(rt, &ingester, &mut one, &mut two)?;
     let passes = vec![in rt.alloc(); one]?;
     take(rt, &mut ingester.close(rt, passes))
+}
+
+/// An ingester over empty slots, and its passes.
+fn open<R>(rt: &R, alloc: Global) -> Result<(Ingester<MemDisk>, Vec<Pass>)>
+where
+    R: Threads + Wait + Copy + Send + Sync + 'static,
+    ensures { IfOk result (λ it. (p : ℕ) (pass : Passed) → slice_get it.1.items p ≡ Some pass
+        → IsPassOf it.0 pass) }
+{
+    let slots = slots_of(alloc)?;
+    let Some(capacity) = Capacity::new(ROOM.0) else {
+        unreachable!()
+    };
+    if slots.is_empty() || slots.len() > 64 {
+        bail!("there are 1 to 64 shards");
+    }
+    let settings = Settings {
+        passes: PASSES,
+        limits: Limits::PROFILE,
+        capacity,
+    };
+    match Ingester::open(rt, *rt, alloc, slots, settings) {
+        Ok(opened) => Ok(opened),
+        Err(refusal) => Err(refusal.0.into()),
+    }
+}
+
+fn slots_of(alloc: Global) -> Result<Vec<[MemDisk; 2]>> {
+    let mut slots = Vec::new(alloc);
+    for _ in 0..SHARDS {
+        slots.push([slot(alloc)?, slot(alloc)?])?;
+    }
+    Ok(slots)
+}
+
+fn slot(alloc: Global) -> Result<MemDisk> {
+    Ok(MemDisk::new(alloc, ROOM.0, ROOM.1, ROOM.0)?)
+}
+
+/// A push of a line to a stream.
+fn push_of(alloc: Global, stream: u64, time: u64) -> Result<Call>
+    ensures { IfOk result AreNumbers }
+{
+    let line = format!(in alloc; "push {stream} 20 {time}:x")?;
+    call_of(alloc, line.as_str())
+}
+
+/// Makes a push: whether its line was stored.
+fn make<R: Wait>(
+    rt: &R,
+    alloc: Global,
+    ingester: &Ingester<MemDisk>,
+    pass: &mut Pass,
+    call: Call,
+) -> bool
+    requires pass { IsPassOf ingester.now pass.old }
+    requires call { AreNumbers call }
+    ensures { IsPassOf ingester.now pass.new }
+{
+    match ingester.call(rt, alloc, pass, call) {
+        Ok(Reply::Verdict(outcomes)) => matches!(outcomes.as_slice(), [Outcome::Stored]),
+        _ => false,
+    }
 }
 
 fn next(ingester: &Ingester<MemDisk>, passes: &mut Vec<Pass>) -> Result<Pass>
@@ -89,12 +155,12 @@ fn push<R: Print + Wait + AllocGlobal>(
     let alloc = rt.alloc();
     let mut stored = true;
     for stream in 0..STREAMS {
-        let call = push_of(alloc, stream, START, 1, LINES)?;
-        stored &= calls::push(rt, alloc, ingester, pass, call);
+        let call = push_of(alloc, stream, 10)?;
+        stored &= make(rt, alloc, ingester, pass, call);
     }
-    let call = push_of(alloc, 0, START + LINES, 1, LINES)?;
+    let call = push_of(alloc, 0, 11)?;
     rt.println("call begins")?;
-    stored &= calls::push(rt, alloc, ingester, pass, call);
+    stored &= make(rt, alloc, ingester, pass, call);
     rt.println("call ends")?;
     Ok(stored)
 }

@@ -1,6 +1,6 @@
 use Rattle.ingester.specs.Calls.{IsPassOf}
 use Rattle.ingester.proofs.Listing.{each_front}
-use Rattle.bench.proofs.quiet_calls.next.Goals as goal
+use Rattle.call_cases.proofs.quiet.next.Goals as goal
 
 pub returns-clause-pass : goal.returns-clause-pass
 returns-clause-pass c = (each_front (IsPassOf c.args.ingester.now) _ c.pop.new.self.items c.in-Some.pass c.in-Some.ensures.items c.requires.passes).1

@@ -1,4 +1,4 @@
-use Rattle.bench.proofs.quiet_calls.take_all.Given as goal
+use Rattle.call_cases.proofs.quiet.take_all.Given as goal
 
 abbrev pub decreases-loop-slots : goal.decreases-loop-slots
 decreases-loop-slots l = l.closed.left
