@@ -2,19 +2,7 @@
 //! between two lines, for whoever counts their requests for memory.
 #![tactic(auto)]
 
-mod alone;
-mod calls;
-mod contents;
-mod counted;
-mod crashes;
-mod gathered;
-mod left;
-mod pieces;
 mod quiet;
-mod replies;
-mod settings;
-mod shards;
-mod slots;
 mod stage;
 mod together;
 

@@ -4,9 +4,9 @@ ghost use Rattle.accept.specs.Calls.{AreNumbers};
 ghost use Rattle.history.specs.Handles.{Passed};
 ghost use Rattle.ingester.specs.Calls.{IsPassOf};
 
-use crate::calls::call_of;
 use accept::{Call, Limits, Outcome, Reply};
 use anyhow::{Result, bail};
+use call_rows::call_of;
 use ingester::{Closed, Ingester, Pass, Settings};
 use memory_disk::MemDisk;
 use std::alloc::Global;

@@ -1,16 +1,11 @@
 //! What the lines of a row do.
 
-use crate::alone::{Alone, open_alone, open_apart, say_group, say_grouped, say_line};
-use crate::calls::number_of;
-use crate::contents::Contents;
-use crate::crashes::{Doing, Tries, say_contents, say_trials};
-use crate::gathered::Gathered;
-use crate::left::FinalState;
-use crate::settings::CaseSettings;
-use crate::shards::Shards;
-use crate::slots::FailureMode;
 use crate::together::Together;
 use anyhow::{Result, bail};
+use call_rows::{
+    Alone, CaseSettings, Contents, Doing, FailureMode, FinalState, Gathered, Shards, Tries,
+    number_of, open_alone, open_apart, say_contents, say_group, say_grouped, say_line, say_trials,
+};
 use memory_disk::MemDisk;
 use rows::{Said, word_of};
 use std::alloc::Global;

@@ -5,14 +5,9 @@ ghost use Rattle.accept.specs.contracts.image.Image as image;
 ghost use Rattle.history.specs.Handles.{Passed};
 ghost use Rattle.ingester.specs.Calls.{IsPassOf};
 
-use crate::calls::{call_of, number_of};
-use crate::counted::Counted;
-use crate::gathered::Gathered;
-use crate::left::FinalState;
-use crate::replies::write_told;
-use crate::settings::CaseSettings;
 use accept::{CallFault, Reply};
 use anyhow::{Result, bail};
+use call_rows::{CaseSettings, Counted, FinalState, Gathered, call_of, number_of, write_told};
 use ingester::{Closed, Ingester, OpenFault, Pass};
 use memory_disk::MemDisk;
 use rows::{Said, word_of};

@@ -27,6 +27,9 @@ pub struct Doing {
 
 impl Doing {
     /// These calls, one after another or as a group.
+    ///
+    /// # Errors
+    /// Want of memory.
     pub fn of(alloc: Global, calls: Gathered, is_group: bool) -> Result<Doing> {
         let reads = calls.reads(alloc)?;
         Ok(Doing {
@@ -192,6 +195,9 @@ fn found_in_each(
 }
 
 /// Says what reads give of each pair of contents.
+///
+/// # Errors
+/// Those of `open_alone` and of the reads.
 pub fn say_contents(
     alloc: Global,
     contents: &Contents,
@@ -291,6 +297,9 @@ impl Trial<'_> {
 
 /// Tries calls on copies of these slots, of which one fails. Says their answers, and for each slot what becomes of
 /// them; the slots are then as after the calls. Gives how many contents were opened.
+///
+/// # Errors
+/// Slots that are refused where none fails, calls that are never answered, those of `open_alone` and of the calls.
 pub fn say_trials(tries: Tries<'_>, slots: &mut [MemDisk; 2], said: &mut Said) -> Result<u64> {
     let before = tries.found_in_copy(slots)?;
     let mut next = tries.say_made(slots, said)?;

@@ -3,8 +3,8 @@ use Rattle.std.specs.Prelude.{◌≡◌, ◌≤◌, ◌<◌, ◌↔◌, ℕ, Lis
 use Rattle.disk.specs.Sight.{Holds, IsSynced}
 use Rattle.memory_disk.specs.MemDisk.{WillFail, memory_sight}
 use Rattle.memory_disk.specs.declared.memory.MemDisk.{MemDisk}
-use Rattle.call_cases.specs.declared.slots.FailureMode.{FailureMode}
-use Rattle.call_cases.specs.declared.slots.FailureMode.TheVariants.{Fails, Stops}
+use Rattle.call_rows.specs.declared.slots.FailureMode.{FailureMode}
+use Rattle.call_rows.specs.declared.slots.FailureMode.TheVariants.{Fails, Stops}
 
 -- what a read gives
 abbrev pub bytes_in : MemDisk → List ℕ

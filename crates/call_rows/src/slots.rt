@@ -1,7 +1,7 @@
 //! The slots under calls, in memory.
 
 ghost use Rattle.std.specs.Prelude.{◌≡◌, IfOk, OnOk};
-ghost use Rattle.call_cases.specs.Slots.{FailsAsPlanned, IsWritten, bytes_in};
+ghost use Rattle.call_rows.specs.Slots.{FailsAsPlanned, IsWritten, bytes_in};
 
 use anyhow::Result;
 use disk::Disk;

@@ -22,6 +22,9 @@ pub type Alone = Box<LoneShard<MemDisk>>;
 pub type OpenResult = Result<Alone, (OpenFault, [MemDisk; 2])>;
 
 /// Opens the shard in these slots.
+///
+/// # Errors
+/// Limits that aren't lawful, a capacity of more than 2^30 bytes, or want of memory.
 pub fn open_alone(
     alloc: Global,
     slots: [MemDisk; 2],
@@ -38,6 +41,9 @@ pub fn open_alone(
 pub type Apart = Result<(Alone, Grouped), (OpenFault, [MemDisk; 2])>;
 
 /// Opens the shard in these slots, and makes the calls as a group, each by a pass of its own.
+///
+/// # Errors
+/// Those of `open_alone`, more than 63 calls, a line that is no call, or a number that no call may have.
 pub fn open_apart(
     alloc: Global,
     slots: [MemDisk; 2],
@@ -54,6 +60,9 @@ pub fn open_apart(
 
 /// `look`: says how long the history is, and whether it has a failure mark. Any other line is a call, whose answer it
 /// says.
+///
+/// # Errors
+/// A line that is no call, a number that no call may have, or want of memory.
 pub fn say_line(
     shard: &mut LoneShard<MemDisk>,
     alloc: Global,
@@ -98,6 +107,9 @@ pub fn say_calls(
 }
 
 /// Makes the calls as a group, and says their answers and the turns, a line each. Gives the shard back.
+///
+/// # Errors
+/// A line that is no call, a number that no call may have, or want of memory. The shard is then lost.
 pub fn say_group(alloc: Global, shard: Alone, calls: &Gathered, said: &mut Said) -> Result<Alone> {
     let mut jobs = calls.calls(alloc)?;
     let (shard, grouped) = group(alloc, shard, &mut jobs)?;
@@ -111,6 +123,9 @@ fn group(alloc: Global, shard: Alone, jobs: &mut VecDeque<Call>) -> Result<(Alon
 }
 
 /// Says the answers of a group and its turns, a line each.
+///
+/// # Errors
+/// Want of memory.
 pub fn say_grouped(alloc: Global, grouped: &Grouped, said: &mut Said) -> Result<()> {
     let mut lines = Counted::new(alloc, "\n");
     for answer in grouped.answers.iter() {

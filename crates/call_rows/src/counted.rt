@@ -1,3 +1,5 @@
+//! Texts of which equal ones in a row are counted.
+
 use rows::Said;
 use std::alloc::Global;
 

@@ -1,3 +1,5 @@
+//! Calls of a row that wait for their group.
+
 ghost use Rattle.std.specs.Prelude.{◌≡◌, All, IfOk, length, vec_len};
 ghost use Rattle.accept.specs.Calls.{AreNumbers};
 
