@@ -148,7 +148,7 @@ def test_requests_without_end(serve, preload):
     """A request whose last byte comes too long after its first is closed, though it sends some now and then. The server's
     clock goes forty times as fast."""
     server = serve(workers=1, settings={"LD_PRELOAD": preload, "FAST": "40"})
-    patience = servers.number_in("crates/workers/src/peer.rt", "REQUEST_SECONDS") / 40
+    patience = servers.number_in("crates/talks/src/peer.rt", "REQUEST_SECONDS") / 40
     request, began = push_request({"a": "endless"}, [entry("x" * 10_000)]), time.monotonic()
     with connect(server.port) as it:
         with contextlib.suppress(ConnectionError):

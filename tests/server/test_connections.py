@@ -61,7 +61,7 @@ def closes(ends):
 def test_silent_clients(serve, preload):
     """Silence closes a connection in its time, and nothing of it is served (a clock that is 20 times as fast)."""
     server = serve(workers=3, settings={"LD_PRELOAD": preload, "FAST": "20"})
-    silence = servers.number_in("crates/workers/src/peer.rt", "IDLE_SECONDS") / 20
+    silence = servers.number_in("crates/talks/src/peer.rt", "IDLE_SECONDS") / 20
     inner = push_request({"a": "inner"}, [entry()]) + READY
     head = servers.request(servers.PUSH, "x" * (len(inner) + 98))[:-len(inner) - 100]
     clients = [connect(server.port) for _ in range(3)]

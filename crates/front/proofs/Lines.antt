@@ -14,8 +14,8 @@ use Rattle.answering.specs.declared.visiting.Visited.{Visited}
 use Rattle.answering.specs.declared.visiting.Visited.TheVariants.{More, Unfinished, Closed}
 use Rattle.front.specs.Calls.{CallGives}
 use Rattle.front.specs.Visits.{Visit, Line, bytes_of, text_put, IsKeptOrNot, AreJoined, IsVisited, AreVisited, IsVisitedLine}
-use Rattle.workers.specs.Sockets.{SocketCall, heard_in, said_in}
-use Rattle.workers.specs.Talks.{Seen, HasNothing, IsSame, with_heard, with_said, Steps, TalksFor, IsOfTalk}
+use Rattle.talks.specs.Sockets.{SocketCall, heard_in, said_in}
+use Rattle.talks.specs.Talks.{Seen, HasNothing, IsSame, with_heard, with_said, Steps, TalksFor, IsOfTalk}
 use Rattle.front.specs.Sessions.{session_seen, WasVisited}
 use Rattle.front.proofs.ServedPasses.{appended}
 

@@ -20,7 +20,8 @@ use Rattle.programs.specs.Environments.{limits_of}
 use Rattle.programs.specs.declared.environment.Environment.{Environment}
 use Rattle.programs.specs.declared.said.ServerWords.{ServerWords}
 use Rattle.front.specs.Openings.{IsOpenedUnder}
-use Rattle.workers.specs.Talks.{HaveVisited, IsPassLeft, ArePassesLeft}
+use Rattle.talks.specs.Talks.{HaveVisited}
+use Rattle.workers.specs.Workers.{IsPassLeft, ArePassesLeft}
 use Rattle.front.specs.ServedPasses.{HasServed}
 use Rattle.front.specs.Endings.{HasServedAsAsked}
 use Rattle.front.specs.Sessions.{WereVisited}

@@ -3,7 +3,7 @@ use Rattle.std.specs.Prelude.{◌≡◌, ◌⊎◌, ℕ, ◌-◌, ◌^◌, List,
 use Rattle.std.specs.Io.KnownBytes.{Appends}
 use Rattle.std.specs.declared.alloc.Global.{Global}
 use Rattle.workers.specs.declared.accepting.AcceptEnd.{AcceptEnd}
-use Rattle.workers.specs.Talks.{IsServedFor}
+use Rattle.workers.specs.Workers.{IsServedFor}
 use Rattle.programs.specs.declared.said.ServerWords.{ServerWords}
 use Rattle.programs.specs.Words.{SaysServer, capacity_of}
 use Rattle.programs.specs.Environments.{limits_of}

@@ -5,7 +5,7 @@ use Rattle.answering.specs.Connections.{Unended}
 use Rattle.answering.specs.Gathering.{Known, IsVisitedSo, AreVisitedSo, known}
 use Rattle.answering.specs.Serving.{World, world}
 use Rattle.front.specs.Calls.{CallGives}
-use Rattle.workers.specs.Talks.{Seen}
+use Rattle.talks.specs.Talks.{Seen}
 
 abbrev pub session_seen : Unended → Seen
 session_seen c = record { came = c.came; room = c.room; text = c.text; closes = c.closes }

@@ -14,7 +14,7 @@ use std::alloc::Global;
 use std::collections::VecDeque;
 use std::marker::PhantomData;
 use std::sync::Wait;
-use workers::{Serve, Session};
+use talks::{Serve, Session};
 
 /// A connection as its worker keeps it. `C` is the clock by which it is served.
 #[derive(Drop)]

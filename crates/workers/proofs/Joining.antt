@@ -1,7 +1,7 @@
 -- The passes in their order, while threads take them and give them back.
 use Rattle.std.proofs.Common.{◌≡◌, ◌⊎◌, inl, List, [], ◌∷◌, ◌++◌, map, reverse, Result, Ok, Err, OnOk, refl, sym, ap, ◌∙◌, subst}
 use Rattle.std.proofs.lemmas.List.{append_assoc, map-append, reverse-append}
-use Rattle.workers.specs.Talks.{ArePassesLeft, IsPassLeft, with_starts}
+use Rattle.workers.specs.Workers.{ArePassesLeft, IsPassLeft, with_starts}
 
 module _ {P T : Type 0} (start : T → P) where
   last_first : (threads : List T) (t : T) → reverse (map start (threads ++ t ∷ [])) ≡ start t ∷ reverse (map start threads)

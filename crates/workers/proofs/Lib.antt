@@ -1,4 +1,2 @@
 pub mod Joining
 pub mod Lists
-pub mod Pairs
-pub mod Talking

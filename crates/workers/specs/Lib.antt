@@ -1,3 +1,1 @@
-pub mod Batches
-pub mod Sockets
-pub mod Talks
+pub mod Workers

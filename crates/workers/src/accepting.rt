@@ -1,10 +1,9 @@
 //! The acceptor: it hands each connection that comes to the worker with the fewest.
 ghost use Rattle.std.specs.Prelude.{◌≡◌, IfOk};
-ghost use Rattle.workers.specs.Talks.{IsServedFor};
+ghost use Rattle.workers.specs.Workers.{IsServedFor};
 
 use crate::fault::WorkersFault;
 use crate::shared::{Shared, WorkerLoad};
-use crate::socket::NewSocket;
 use crossbeam_channel::{Sender, TrySendError};
 use mio::{Events, Interest, Poll, Token, net};
 use std::alloc::Global;
@@ -14,6 +13,7 @@ use std::rt::Clock;
 use std::sync::{Arc, Wait};
 use std::thread;
 use std::time::Duration;
+use talks::NewSocket;
 
 /// For how many milliseconds the acceptor waits when it could not accept a connection, or there is no room for one.
 const PAUSE_MILLIS: u64 = 10;

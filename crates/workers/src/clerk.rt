@@ -1,15 +1,11 @@
 //! A worker's turns: it visits each connection whose turn comes.
 ghost use Rattle.std.specs.Prelude.{◌≡◌, false, IfOk};
-ghost use Rattle.workers.specs.Talks.{Visits};
+ghost use Rattle.talks.specs.Talks.{Visits};
 
-use crate::batch::{Batch, Returned, VisitedBatch};
 use crate::event_loop::EventLoop;
-use crate::peer::{Left, Peer};
-use crate::serve::Serve;
-use crate::session::Session;
-use crate::talk::Talk;
 use std::alloc::Global;
 use std::sync::Wait;
+use talks::{Batch, Left, Peer, Returned, Serve, Session, Talk, VisitedBatch};
 
 /// What a worker answers by: the service, a pass of it, and its server.
 #[derive(Drop)]

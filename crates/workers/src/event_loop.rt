@@ -1,11 +1,8 @@
 //! The connections of a worker, and whose turn it is.
 
 use crate::inbox::{Arrived, Inbox, NobodySends};
-use crate::peer::{Left, Peer};
-use crate::session::Session;
 use crate::shared::{Shared, WorkerLoad};
-use crate::talk::Talk;
-use mio::{Events, Interest, Poll, Token};
+use mio::{Events, Poll, Token};
 use slab::Slab;
 use std::alloc::{AllocError, Global};
 use std::collections::VecDeque;
@@ -13,6 +10,7 @@ use std::rt::Clock;
 use std::sync::atomic::Ordering;
 use std::sync::{Arc, Wait};
 use std::time::Duration;
+use talks::{Left, Peer, Session, Talk};
 
 /// The token of the worker's waker.
 pub(crate) const WAKER: Token = Token(usize::MAX);
@@ -121,14 +119,7 @@ impl<T: Session + Drop> EventLoop<T> {
         let Some(talk) = &mut peer.talk else {
             return;
         };
-        let both = Interest::READABLE | Interest::WRITABLE;
-        let stream = &mut talk.socket.stream;
-        if self
-            .poll
-            .registry()
-            .register(stream, Token(key), both)
-            .is_err()
-        {
+        if !talk.register(&self.poll, key) {
             self.end(key);
         }
     }

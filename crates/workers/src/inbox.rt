@@ -1,8 +1,8 @@
 //! Where a worker's connections arrive.
 
-use crate::socket::NewSocket;
 use crossbeam_channel::{Receiver, TryRecvError};
 use std::sync::Wait;
+use talks::NewSocket;
 
 /// The channel has told that nobody can send any more. Only this file makes one.
 #[derive(Drop)]

@@ -1,15 +1,12 @@
 //! The threads of the workers.
 ghost use Rattle.std.specs.Prelude.{◌≡◌, ℕ, Some, All, slice_get, IfOk, OnOk};
-ghost use Rattle.workers.specs.Talks.{ArePassesLeft, HasEnded, IsServedFor, WasServed, with_starts};
+ghost use Rattle.workers.specs.Workers.{ArePassesLeft, HasEnded, IsServedFor, WasServed, with_starts};
 
 use crate::accepting::{AcceptEnd, Acceptor, Bounds, Link, Watch, close};
-use crate::batch::Batch;
 use crate::clerk::Clerk;
 use crate::event_loop::{EventLoop, WAKER};
 use crate::fault::WorkersFault;
 use crate::inbox::Inbox;
-use crate::serve::Serve;
-use crate::session::Session;
 use crate::shared::{Shared, WorkerLoad};
 use crate::worker::{OfService, Worker, WorkerEnd, work};
 use crossbeam_channel::bounded;
@@ -19,6 +16,7 @@ use std::net::{Net, TcpListener};
 use std::rt::Clock;
 use std::sync::{Arc, Wait};
 use std::thread::{self, PromisedHandle, Scope, Threads};
+use talks::{Batch, Serve, Session};
 
 /// How many connections may wait for a worker.
 const WAITING: usize = 64;
@@ -34,24 +32,37 @@ struct Crew<I, P: Drop, S: Serve<I, P>> {
     links: Vec<Link>,
 }
 
-// What every worker is given.
+// What all workers and the acceptor share.
 #[derive(Drop)]
 struct Site<'s, I, R> {
     rt: &'s R,
     alloc: Global,
     service: &'s I,
+    listener: &'s TcpListener,
     shared: Arc<Shared>,
 }
 
-// Where each of `count` workers waits, and what it tells the others.
-fn make_polls<R: Net>(
+// What a worker is given for itself, beside its pass.
+#[derive(Drop)]
+struct Post<S> {
+    server: S,
+    /// Where it waits.
+    poll: Poll,
+}
+
+// A post for each of these servers, at most `count`, and what the worker there tells the others.
+fn make_posts<S: Drop, R: Net>(
     rt: &R,
     alloc: Global,
+    servers: Vec<S>,
     count: usize,
-) -> Result<(Vec<Poll>, Vec<Arc<WorkerLoad>>), WorkersFault> {
-    let mut polls = Vec::with_capacity(alloc, count)?;
+) -> Result<(Vec<Post<S>>, Vec<Arc<WorkerLoad>>), WorkersFault> {
+    let mut posts = Vec::with_capacity(alloc, count)?;
     let mut loads = Vec::with_capacity(alloc, count)?;
-    for _ in 0..count {
+    for server in servers {
+        if posts.len() == count {
+            break;
+        }
         let Ok(poll) = Poll::new(rt) else {
             return Err(WorkersFault::Thread);
         };
@@ -61,11 +72,11 @@ fn make_polls<R: Net>(
         let Ok(load) = Arc::new(alloc, WorkerLoad::new(waker)) else {
             return Err(WorkersFault::Memory);
         };
-        if polls.push(poll).is_err() || loads.push(load).is_err() {
+        if posts.push(Post { server, poll }).is_err() || loads.push(load).is_err() {
             return Err(WorkersFault::Memory);
         }
     }
-    Ok((polls, loads))
+    Ok((posts, loads))
 }
 
 // The connections of a worker, and the acceptor's side of it.
@@ -118,8 +129,7 @@ fn start_next<'s, E, I, P, S, R>(
     scope: &'s Scope<'s, E>,
     site: &Site<'s, I, R>,
     crew: &mut Crew<I, P, S>,
-    server: S,
-    poll: Poll,
+    post: Post<S>,
     load: &Arc<WorkerLoad>,
 ) -> Result<bool, WorkersFault>
 where
@@ -136,6 +146,7 @@ where
         crew.new.threads.items ≡ with_starts (λ thread. thread.promise.start.value)
         crew.old.passes.items crew.old.threads.items) }
 {
+    let Post { server, poll } = post;
     let (event_loop, link) = make(site.alloc, poll, load, &site.shared)?;
     let batch = Batch::new(site.alloc)?;
     let Some(pass) = crew.passes.pop() else {
@@ -168,8 +179,7 @@ fn start_all<'s, E, I, P, S, R>(
     scope: &'s Scope<'s, E>,
     site: &Site<'s, I, R>,
     crew: &mut Crew<I, P, S>,
-    mut servers: Vec<S>,
-    mut polls: Vec<Poll>,
+    mut posts: Vec<Post<S>>,
 ) -> Result<(), WorkersFault>
 where
     I: Sync + 's,
@@ -185,14 +195,11 @@ where
         crew.new.threads.items ≡ with_starts (λ thread. thread.promise.start.value)
         crew.old.passes.items crew.old.threads.items) }
 {
-    while let Some(server) = servers.pop() {
-        let Some(poll) = polls.pop() else {
+    while let Some(post) = posts.pop() {
+        let Some(load) = site.shared.loads.get(posts.len()) else {
             break;
         };
-        let Some(load) = site.shared.loads.get(polls.len()) else {
-            break;
-        };
-        if !start_next(scope, site, crew, server, poll, load)? {
+        if !start_next(scope, site, crew, post, load)? {
             break;
         }
     }
@@ -233,9 +240,7 @@ fn serve_in<'s, E, I, P, S, R, W: Watch>(
     scope: &'s Scope<'s, E>,
     site: &Site<'s, I, R>,
     crew: Crew<I, P, S>,
-    servers: Vec<S>,
-    polls: Vec<Poll>,
-    listener: &TcpListener,
+    posts: Vec<Post<S>>,
     bounds: &Bounds<'_, W>,
 ) -> (Vec<P>, Result<AcceptEnd, WorkersFault>)
 where
@@ -252,8 +257,8 @@ where
     ensures served { IfOk result.1 (IsServedFor bounds.now.connections) }
 {
     let mut crew = crew;
-    let served = match start_all(scope, site, &mut crew, servers, polls) {
-        Ok(()) => accept(site, listener, crew.links.as_slice(), bounds),
+    let served = match start_all(scope, site, &mut crew, posts) {
+        Ok(()) => accept(site, crew.links.as_slice(), bounds),
         Err(fault) => Err(fault),
     };
     close(crew.links.as_mut_slice());
@@ -267,13 +272,19 @@ where
 // Hands the connections that come to the workers.
 fn accept<I, R: Wait + Clock + Net, W: Watch>(
     site: &Site<'_, I, R>,
-    listener: &TcpListener,
     links: &[Link],
     bounds: &Bounds<'_, W>,
 ) -> Result<AcceptEnd, WorkersFault>
     ensures { IfOk result (IsServedFor bounds.now.connections) }
 {
-    let mut acceptor = Acceptor::new(site.rt, site.alloc, listener, links, &site.shared, bounds)?;
+    let mut acceptor = Acceptor::new(
+        site.rt,
+        site.alloc,
+        site.listener,
+        links,
+        &site.shared,
+        bounds,
+    )?;
     Ok(acceptor.accept(site.rt))
 }
 
@@ -311,7 +322,7 @@ where
     ensures served { IfOk result.1 (IsServedFor bounds.now.connections) }
 {
     let count = passes.len().min(servers.len());
-    let (polls, loads) = match make_polls(rt, alloc, count) {
+    let (posts, loads) = match make_posts(rt, alloc, servers, count) {
         Ok(made) => made,
         Err(fault) => return (passes, Err(fault)),
     };
@@ -322,6 +333,7 @@ where
         rt,
         alloc,
         service,
+        listener,
         shared,
     };
     thread::scope(
@@ -338,7 +350,7 @@ where
                 threads: Vec::new(alloc),
                 links: Vec::new(alloc),
             };
-            serve_in(scope, &site, crew, servers, polls, listener, bounds)
+            serve_in(scope, &site, crew, posts, bounds)
         },
     )
 }

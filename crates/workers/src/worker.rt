@@ -1,19 +1,18 @@
 //! What a worker's thread does.
 ghost use Rattle.std.specs.Prelude.{◌≡◌};
-ghost use Rattle.workers.specs.Talks.{HasEnded, Visits, WasServed};
+ghost use Rattle.talks.specs.Talks.{Visits};
+ghost use Rattle.workers.specs.Workers.{HasEnded, WasServed};
 
-use crate::batch::Batch;
 use crate::clerk::{Clerk, send_ready};
 use crate::event_loop::EventLoop;
 use crate::inbox::NobodySends;
-use crate::serve::Serve;
-use crate::session::Session;
 use std::alloc::Global;
 use std::marker::PhantomData;
 use std::rt::Clock;
 use std::snapshot::Snapshot;
 use std::sync::Wait;
 use std::thread::Promise;
+use talks::{Batch, Serve, Session};
 
 /// What a worker's thread is given.
 #[derive(Drop)]

@@ -1,5 +1,5 @@
 use Rattle.std.proofs.Common.{◌≡◌, vec_len, All, OnOk}
-use Rattle.workers.specs.Talks.{with_starts}
+use Rattle.workers.specs.Workers.{with_starts}
 use Rattle.workers.proofs.Joining.{IsJoined}
 use Rattle.workers.proofs.serving.join_all.Given as goal
 

@@ -1,5 +1,5 @@
 use Rattle.std.proofs.Common.{◌∙◌}
-use Rattle.workers.proofs.Talking.{visits_join}
+use Rattle.talks.proofs.Talking.{visits_join}
 use Rattle.workers.proofs.worker.serve_all.Goals as goal
 
 pub loop-turn-preserved : goal.loop-turn-preserved

@@ -1,5 +1,5 @@
 use Rattle.std.proofs.Common.{◌≡◌}
-use Rattle.workers.specs.Talks.{Visits}
+use Rattle.talks.specs.Talks.{Visits}
 use Rattle.workers.proofs.worker.serve_all.Given as goal
 
 abbrev pub invariant-loop-turn : goal.invariant-loop-turn

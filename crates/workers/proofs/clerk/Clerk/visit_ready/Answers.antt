@@ -1,5 +1,5 @@
 use Rattle.std.proofs.Common.{◌∙◌}
-use Rattle.workers.proofs.Talking.{visits_join}
+use Rattle.talks.proofs.Talking.{visits_join}
 use Rattle.workers.proofs.clerk.Clerk.visit_ready.Goals as goal
 
 pub loop-batch-preserved : goal.loop-batch-preserved

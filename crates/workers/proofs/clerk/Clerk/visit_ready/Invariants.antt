@@ -1,5 +1,5 @@
 use Rattle.std.proofs.Common.{◌≡◌}
-use Rattle.workers.specs.Talks.{Visits}
+use Rattle.talks.specs.Talks.{Visits}
 use Rattle.workers.proofs.clerk.Clerk.visit_ready.Given as goal
 
 abbrev pub invariant-loop-batch : goal.invariant-loop-batch

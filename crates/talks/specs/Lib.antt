@@ -1,0 +1,3 @@
+pub mod Batches
+pub mod Sockets
+pub mod Talks
