@@ -1,10 +1,10 @@
 -- One step more of a connection, and of a worker.
-use Rattle.std.proofs.Common.{◌≡◌, ◌⊎◌, inl, inr, ℕ, ◌≤◌, Bool, true, false, if◌then◌else◌, List, [], ◌∷◌, ◌++◌, length, take, Result, Ok, Err, IfOk, OnErr, refl, sym, ap, ◌∙◌, subst, min, arith}
+use Rattle.std.proofs.Common.{◌≡◌, inl, inr, ℕ, ◌≤◌, Bool, true, false, List, [], ◌∷◌, ◌++◌, length, take, Result, Ok, Err, IfOk, OnErr, refl, sym, ap, ◌∙◌, subst, min, arith}
 use mathlib.Core.Logic.{∥∥₁_map}
 use Rattle.std.proofs.lemmas.Bool.{true≢false}
 use Rattle.std.proofs.lemmas.List.{append-nil, append_assoc, length-take}
 use Rattle.talks.specs.Sockets.{SocketCall, Heard, Said, NoDelay, NoWaiting, heard_in, said_in}
-use Rattle.talks.specs.Talks.{Seen, HasNothing, IsSame, with_heard, with_said, Steps, TalksFor, HasTalked, IsOfTalk, HaveVisited, Visits}
+use Rattle.talks.specs.Talks.{Seen, HasNothing, IsSame, with_heard, with_said, Steps, IsOfTalk, HaveVisited, Visits}
 use Rattle.talks.specs.declared.socket.Stalled.{Stalled}
 
 -- no more bytes are read than may come

@@ -1,6 +1,6 @@
-use Rattle.std.proofs.Common.{◌≡◌, ◌⊎◌, inr, ◌++◌, ◌∷◌, [], true, if◌then◌else◌, ap, ◌∙◌, subst, option_to_list, OnOk}
+use Rattle.std.proofs.Common.{◌≡◌, inr, ◌++◌, ◌∷◌, [], if◌then◌else◌, ap, ◌∙◌, subst, option_to_list}
 use Rattle.std.specs.Result.{is_ok}
-use Rattle.workers.specs.Workers.{IsPassLeft, WasServed, with_starts}
+use Rattle.workers.specs.Workers.{WasServed, with_starts}
 use Rattle.workers.proofs.Joining.{none_joined, still_joined}
 use Rattle.workers.proofs.Lists.{popped, pushed}
 use Rattle.workers.proofs.serving.join_all.Goals as goal
