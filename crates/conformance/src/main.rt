@@ -2,21 +2,11 @@
 //! the rows of the files say, and prints each row that does not say what it must.
 #![tactic(auto)]
 
-mod connection;
-mod each;
-mod groups;
-mod listed;
-mod manner;
 mod opened;
-mod plan;
-mod script;
 mod serving;
-mod sink;
-mod source;
-mod visits;
 
-use crate::plan::CasePlan;
 use anyhow::{Context, Result};
+use connection_rows::CasePlan;
 use rows::{Row, Said, Tally, rows_of};
 use std::rt::Files;
 use std::sync::Wait;

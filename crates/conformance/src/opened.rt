@@ -4,12 +4,9 @@ ghost use Rattle.std.specs.Coded.{codes};
 ghost use Rattle.accept.specs.contracts.image.Image as image;
 ghost use Rattle.ingester.specs.Calls.{IsPassOf};
 
-use crate::manner::Manner;
-use crate::plan::{CasePlan, ConnectionCase};
-use crate::sink::Sink;
-use crate::visits::{Came, Ticking};
 use accept::Limits;
 use anyhow::{Result, bail};
+use connection_rows::{Came, CasePlan, ConnectionCase, Manner, Sink, Ticking};
 use front::serve;
 use ingester::{Ingester, Pass, Settings};
 use memory_disk::MemDisk;

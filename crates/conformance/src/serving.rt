@@ -1,14 +1,11 @@
 //! The connections of a row, one after another.
 
-use crate::each::Each;
-use crate::groups::Groups;
-use crate::listed::{STORED, run_alone, run_listed};
-use crate::manner::Manner;
 use crate::opened::OnePassIngester;
-use crate::plan::{CasePlan, ConnectionCase};
-use crate::script::{Script, Told};
-use crate::visits::Came;
 use anyhow::Result;
+use connection_rows::{
+    Came, CasePlan, ConnectionCase, Each, Groups, Manner, STORED, Script, Told, run_alone,
+    run_listed,
+};
 use rows::Said;
 use std::alloc::Global;
 use std::sync::Wait;

@@ -1,3 +1,5 @@
+//! What is written to a connection.
+
 use crate::manner::Manner;
 use rows::Said;
 use std::alloc::Global;

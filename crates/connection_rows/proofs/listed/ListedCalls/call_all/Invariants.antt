@@ -3,8 +3,8 @@ use Rattle.std.specs.VecDeque.{deque_len, deque_capacity}
 use Rattle.accept.specs.declared.call.Reply.{Reply}
 use Rattle.accept.specs.declared.fault.CallFault.{CallFault}
 use Rattle.answering.specs.Calls.{CallsGive, CallsGiveAfter}
-use Rattle.conformance.specs.declared.script.Script.{Script}
-use Rattle.conformance.proofs.listed.ListedCalls.call_all.Given as goal
+use Rattle.connection_rows.specs.declared.script.Script.{Script}
+use Rattle.connection_rows.proofs.listed.ListedCalls.call_all.Given as goal
 
 abbrev pub invariant-loop-call : goal.invariant-loop-call
 invariant-loop-call g l = record {

@@ -1,5 +1,4 @@
-//! Connections in memory: how their bytes come, how what is written is taken (`manner.rt`, `source.rt`, `sink.rt`), and
-//! runs that are repeated for each place (`each.rt`, `groups.rt`).
+//! The bytes of a connection, put together from lines.
 
 use crate::manner::Manner;
 use crate::source::Source;
@@ -14,6 +13,7 @@ pub struct ConnectionInput {
     bytes: Vec<u8>,
     /// The body of the next `post` so far.
     body: Vec<u8>,
+    /// How they come.
     pub manner: Manner,
 }
 

@@ -1,3 +1,5 @@
+//! What comes of a connection.
+
 use crate::manner::Manner;
 use std::io::{self, ErrorKind, Read};
 

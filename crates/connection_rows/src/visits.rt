@@ -4,8 +4,8 @@ ghost use Rattle.std.specs.Prelude.{◌≡◌};
 use crate::plan::ConnectionCase;
 use crate::sink::Sink;
 use accept::END_OF_TIME;
+use answering::{Clock, ServeFault, Served};
 use anyhow::Result;
-use front::{Clock, ServeFault, Served};
 use rows::Said;
 use std::alloc::Global;
 
@@ -41,6 +41,7 @@ impl Clock for Ticking {
 pub struct Came {
     /// What was written.
     pub sink: Sink,
+    /// How the connection ended.
     pub end: Result<Served, ServeFault>,
     /// How many steps all shards have, or how many calls a list has made.
     pub count: u64,

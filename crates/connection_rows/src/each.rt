@@ -1,3 +1,4 @@
+//! Runs of a connection that are repeated for each place.
 ghost use Rattle.std.specs.Prelude.{◌≡◌, ◌≢◌, max, true};
 ghost use Rattle.rows.specs.Tallies.{one_more};
 

@@ -1,3 +1,5 @@
+//! Runs of which those with the same result are counted.
+
 use rows::Said;
 use std::alloc::Global;
 

@@ -1,3 +1,5 @@
+//! What a row asks for.
+
 use crate::connection::ConnectionInput;
 use crate::each::Each;
 use crate::script::Told;
@@ -19,6 +21,7 @@ pub struct ConnectionCase {
     pub time: u64,
     /// How much later each further request comes.
     pub tick: u64,
+    /// What comes of it.
     pub connection: ConnectionInput,
     /// The places at which it is run again.
     pub each: Option<Each>,

@@ -1,3 +1,5 @@
+//! How a connection comes and is taken.
+
 use anyhow::{Result, bail};
 
 /// How the bytes of a connection come, and how what is written is taken.

@@ -6,8 +6,8 @@ use Rattle.accept.specs.declared.call.Reply.{Reply}
 use Rattle.accept.specs.Doubts.{is_doubt}
 use Rattle.accept.specs.declared.fault.CallFault.{CallFault}
 use Rattle.answering.specs.Calls.{CallsGiveAfter}
-use Rattle.conformance.specs.declared.script.Script.{Script}
-use Rattle.conformance.proofs.listed.ListedCalls.call_all.Goals as goal
+use Rattle.connection_rows.specs.declared.script.Script.{Script}
+use Rattle.connection_rows.proofs.listed.ListedCalls.call_all.Goals as goal
 
 abbrev Given : Bool → Script → List Call → List (Result Reply CallFault) → Script → Type 0
 Given = CallsGiveAfter (λ doubt old call told new. Unit {0})
