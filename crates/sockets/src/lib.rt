@@ -4,6 +4,6 @@
 #[cfg(test)]
 mod client;
 #[cfg(test)]
-mod folder;
+mod dialogues;
 #[cfg(test)]
-mod talks;
+mod folder;

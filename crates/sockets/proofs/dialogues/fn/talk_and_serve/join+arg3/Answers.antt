@@ -10,7 +10,7 @@ use Rattle.memory_disk.specs.contracts.memory.MemDiskDisk.TheImpl as memory_disk
 use Rattle.disk.specs.declared.device.Disk as disk
 use Rattle.ingester.proofs.Sent.{ingester_sync}
 use Rattle.ingester.specs.contracts.opened.Ingester as ingester
-use Rattle.sockets.proofs.talks.fn.talk_and_serve.join+arg3.Goals as goal
+use Rattle.sockets.proofs.dialogues.fn.talk_and_serve.join+arg3.Goals as goal
 
 slot_send : IsSend (slot.the_row memory.the_row)
 slot_send = search (gate.the_send, gate.the_field_send, memory_moves.the_send, crosses, sendable) depth 20
