@@ -1,5 +1,5 @@
-//! Connections in memory, as rows of a text say them: the bytes that come, how they come and how what is written is taken,
-//! what comes of their calls where a list says it, and what each run comes to.
+//! Connections in memory, as rows of a text say them: the bytes that come, how they come, and how what is written is
+//! taken; what comes of their calls, where a list says it; and what each run comes to.
 #![tactic(auto)]
 
 mod connection;

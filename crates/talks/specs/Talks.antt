@@ -63,7 +63,8 @@ module _ {I S P T : Type 0} (visits : I → S → P → List (T × T) → S → 
 
   -- by some visits
   abbrev pub Visits : S → P → S → P → Type 0
-  Visits server pass server' pass' = (batches : List (List (T × T))) × HaveVisited server pass batches server' pass'
+  Visits server pass server' pass' = (batches : List (List (T × T)))
+      × HaveVisited server pass batches server' pass'
 
 -- A socket did this for a session: what came was taken in, but what came once it was over; and it took what the session
 -- had to say.

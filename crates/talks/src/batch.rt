@@ -40,7 +40,7 @@ pub struct Batch<T: Session + Drop> {
     ghost talked: { ∥ AllZip (MayBeVisited T.seen T.visited) sessions.items lent.items ∥₁ },
 }
 
-/// The same after the visit.
+/// The sessions of a batch after their visit, and beside each what is left of its talk.
 #[derive(Drop)]
 pub struct VisitedBatch<T: Session + Drop> {
     sessions: VecDeque<T>,
@@ -60,6 +60,9 @@ pub struct Returned<T: Session + Drop> {
 
 impl<T: Session + Drop> Batch<T> {
     /// No sessions, and memory for one: so each can be visited, alone where there is no memory for more.
+    ///
+    /// # Errors
+    /// Want of memory.
     pub fn new(alloc: Global) -> Result<Batch<T>, AllocError> {
         let sessions = VecDeque::with_capacity(alloc, 1)?;
         let lent = VecDeque::with_capacity(alloc, 1)?;
@@ -70,6 +73,7 @@ impl<T: Session + Drop> Batch<T> {
         })
     }
 
+    /// Whether it has no session.
     pub fn is_empty(&self) -> bool {
         self.sessions.is_empty()
     }

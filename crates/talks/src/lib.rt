@@ -1,5 +1,5 @@
-//! Connections between their sockets and their sessions: what comes is taken in, sessions are visited together, and what
-//! they have to say is sent. It has no threads, and knows no ingester, no HTTP and no disk.
+//! Connections between their sockets and their sessions: what comes is taken in, sessions are visited together, and
+//! what they have to say is sent. Without threads, and without an ingester, HTTP and a disk.
 #![tactic(auto)]
 
 mod batch;

@@ -60,7 +60,11 @@ impl<T: Session + Drop> Talk<T> {
     }
 
     /// Has a poll tell, under this number, when bytes may have come or may be sent. Whether it will.
-    pub fn register(&mut self, poll: &Poll, number: usize) -> bool {
+    pub fn register(&mut self, poll: &Poll, number: usize) -> bool
+        ensures session { self.new.session ≡ self.old.session }
+        ensures over { self.new.over ≡ self.old.over }
+        ensures noted { self.new.socket.noted ≡ self.old.socket.noted }
+    {
         let stream = &mut self.socket.stream;
         let both = Interest::READABLE | Interest::WRITABLE;
         poll.registry()
