@@ -173,6 +173,12 @@ def slots_of(folder, shard=0):
     return [f"{folder}/shard-{shard:02}-{slot}.wal" for slot in (0, 1)]
 
 
+def other_slot(path):
+    """The path of the other slot of a slot's shard; nothing where the path is no slot's."""
+    found = re.fullmatch(r"(.*/shard-\d\d-)([01])(\.wal)", path)
+    return found and f"{found[1]}{1 - int(found[2])}{found[3]}"
+
+
 def fill_slots(folder, count, settings):
     subprocess.run([f"{TOP}/deploy/fill-slots", folder, str(count)], env={**os.environ, **settings}, check=True)
 

@@ -119,7 +119,8 @@ def try_length(folder, begun, least, length):
     states = [b'200\n{"values":[%b]}' % b",".join(it) for it in (before, [*before, b'["11","y"]'])]
     os.mkdir(folder)
     if begun:
-        servers.write(f"{folder}/shard-00-1.wal", begun)
+        for slot, data in zip(servers.slots_of(folder), (b"", begun)):
+            servers.write(slot, data)
     pushed = servers.run(["ingestctl", "push", *words], body, preexec_fn=servers.limit_length(length))
     assert pushed == ((0, b"204\n", b"") if length >= least else (1, b"503\nstream 0: unavailable\n", b"")), length
     read = servers.run(["ingestctl", "read", *words], READ)

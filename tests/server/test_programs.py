@@ -99,7 +99,7 @@ class Row:
             return run_shown(*self.run(word, self.words(rest), self.limits))
         if word == "each":
             return self.each(*rest.split(" ", 4))
-        if word in ("folder", "file", "from", "look", "lock", "free", "listen"):
+        if word in ("folder", "file", "alone", "from", "look", "lock", "free", "listen"):
             return self.take_file(word, rest)
         if word == "drawn":
             return self.drawn(*rest.split(" "))
@@ -141,9 +141,11 @@ class Row:
         path = self.path(text)
         if word == "folder":
             os.makedirs(path, exist_ok=True)
-        elif word == "file":
+        elif word in ("file", "alone"):
             servers.write(path, self.input.data)
             self.kept = self.input.data
+            if word == "file" and (other := servers.other_slot(path)) and not os.path.exists(other):
+                servers.write(other, b"")
         elif word == "from":
             with open(f"{FOLDER}/{text}" if text.startswith("stored/") else path, "rb") as file:
                 self.input.data = file.read()
@@ -225,7 +227,7 @@ def programs(folder):
 
 
 def test_number_of_rows():
-    assert sum(map(len, ROWS.values())) == 431
+    assert sum(map(len, ROWS.values())) == 435
 
 
 @pytest.mark.parametrize("name", ROWS)

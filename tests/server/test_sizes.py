@@ -51,7 +51,8 @@ def test_a_start_over_a_block_above_100_mb(serve, folder):
     lines = [(now + at, b"x" * MOST_LINE) for at in range(count)]
     states = [state_bytes(2, (b"t", servers.text_of(it)), lines[-1][0], lines[-1], lines) for it in labels]
     os.mkdir(f"{folder}/log")
-    servers.write(f"{folder}/log/shard-00-1.wal", segment_bytes(b"2", 1, 0, 1, [b"".join(states)]))
+    for slot, data in zip(servers.slots_of(f"{folder}/log"), (b"", segment_bytes(b"2", 1, 0, 1, [b"".join(states)]))):
+        servers.write(slot, data)
     server = serve("log", 1, settings={"NEEDLEAZURE_CAPACITY": str(256 << 20)})
     with servers.Client(server.port) as client:
         for it in (labels[0], labels[-1]):

@@ -34,7 +34,7 @@ pub enum ProgramFault {
 impl ProgramFault {
     ghost use Rattle.front.specs.Stops.{stop_status};
 
-    /// The exit status: 3 for a refused opening, else 1.
+    /// The exit status: 3 for a refused opening or a folder that is no whole log of the number of shards, else 1.
     pub fn status(&self) -> u8
         ensures cause { result ≡ stop_status self.now }
         ensures some { result ≢ 2 }
@@ -42,6 +42,7 @@ impl ProgramFault {
     {
         match self {
             ProgramFault::Opening(_) => 3,
+            ProgramFault::Slots(SlotsFault::Missing(_) | SlotsFault::LeftOut { .. }) => 3,
             _ => 1,
         }
     }

@@ -5,6 +5,7 @@
 mod about;
 mod durations;
 mod environment;
+mod lacking;
 mod laws;
 mod said;
 mod slot_name;
@@ -20,6 +21,7 @@ ghost use Rattle.programs.specs.Words.{value, IsNumberIn, NameShard, GiveShard, 
 pub use about::{VERSION, tell_about};
 pub use durations::duration_in;
 pub use environment::{Environment, LimitSetting, limits_in};
+pub use lacking::has_slot;
 use labels::{LabelFault, Tenant};
 pub use laws::{unset_limits, written_durations_are_read};
 use pushjson::time_of;

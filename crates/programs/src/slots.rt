@@ -1,6 +1,7 @@
 //! The slots of a folder.
 ghost use Rattle.std.specs.Prelude.{◌≡◌, ◌≤◌, IfOk, vec_len};
 
+use crate::lacking::{path_of, refuse_lacking};
 use crate::slot_name::SlotName;
 use crate::watched::Watched;
 use disk::{FileDisk, LockedFile};
@@ -16,6 +17,16 @@ pub enum SlotsFault {
     /// The file or folder at this path cannot be opened.
     #[error("cannot open {0}")]
     Path(String),
+    /// There is no file at this path, and the shard's other slot holds a segment, which may be the older one.
+    #[error(
+        "{0} is missing: put it back, or, to go on without what it held, make it as an empty file"
+    )]
+    Missing(String),
+    /// The slot at this path is of a shard that this number of shards leaves out.
+    #[error(
+        "number of shards {shards} leaves out {path}: give the log's own number, or move away slots without lines"
+    )]
+    LeftOut { path: String, shards: u32 },
     /// The allocator gave no memory.
     #[error("out of memory")]
     Memory,
@@ -30,6 +41,10 @@ impl From<AllocError> for SlotsFault {
 /// Opens the slots of `shards` shards: the files `shard-SS-0.wal` and `shard-SS-1.wal` of a folder. Missing files are
 /// made empty, and so is a missing folder. Each file is locked against other processes. What was made survives a crash.
 /// A shard that stops answering writes a line to `errors`, where that is given.
+///
+/// # Errors
+///
+/// `Missing` and `LeftOut`: the folder is no log of so many shards, or not a whole one; then no file was made.
 pub fn open_slots<R: Files<File = File>>(
     rt: &R,
     alloc: Global,
@@ -42,6 +57,7 @@ pub fn open_slots<R: Files<File = File>>(
     if make_folder(rt, folder).is_err() {
         return Err(SlotsFault::Path(folder.to_string(alloc)?));
     }
+    refuse_lacking(rt, alloc, folder, shards)?;
     let mut slots = Vec::new(alloc);
     for shard in 0..shards {
         let first = open_slot(rt, alloc, folder, SlotName { shard, slot: 0 }, errors)?;
@@ -111,7 +127,7 @@ fn open_slot<R: Files<File = File>>(
     name: SlotName,
     errors: Option<Stderr>,
 ) -> Result<Watched<FileDisk>, SlotsFault> {
-    let path = format!(in alloc; "{folder}/{name}")?;
+    let path = path_of(alloc, folder, name)?;
     match LockedFile::open(rt, path.as_str()) {
         Ok(file) => Ok(Watched::new(FileDisk::new(file), name.shard, errors)),
         Err(_) => Err(SlotsFault::Path(path)),

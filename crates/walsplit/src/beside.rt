@@ -72,7 +72,7 @@ pub fn unopened(
 ) -> Result<WalsplitFault, WalsplitFault> {
     let is_folder = match &fault {
         SlotsFault::Path(path) => path.as_str() == unfinished,
-        SlotsFault::Memory => false,
+        _ => false,
     };
     if is_folder {
         refused(alloc, folder)

@@ -3,7 +3,7 @@ ghost use Rattle.std.specs.Prelude.{◌≤◌, IfOk};
 ghost use Rattle.labels.specs.Shards.{max_shards};
 
 use crate::walsplit_fault::WalsplitFault;
-use programs::{SlotName, SlotsFault};
+use programs::{SlotName, SlotsFault, has_slot};
 use std::alloc::Global;
 use std::fs::{self, Files};
 
@@ -28,7 +28,7 @@ pub fn shards_in<R: Files>(rt: &R, alloc: Global, folder: &str) -> Result<u32, W
         return Err(WalsplitFault::NoShards);
     }
     for shard in 0..shards {
-        if !has_slot(rt, alloc, folder, shard, 1)? {
+        if !has_slot(rt, alloc, folder, SlotName { shard, slot: 1 })? {
             return Err(WalsplitFault::Missing(SlotName { shard, slot: 1 }));
         }
     }
@@ -49,7 +49,7 @@ pub fn has_slots<R: Files>(
     from: u32,
 ) -> Result<bool, WalsplitFault> {
     for shard in from..=MAX_SHARDS {
-        if has_slot(rt, alloc, folder, shard, 0)? || has_slot(rt, alloc, folder, shard, 1)? {
+        if has_slot(rt, alloc, folder, SlotName { shard, slot: 0 })? || has_slot(rt, alloc, folder, SlotName { shard, slot: 1 })? {
             return Ok(true);
         }
     }
@@ -59,24 +59,9 @@ pub fn has_slots<R: Files>(
 // How many slots 0 there are without a gap: `MAX_SHARDS` + 1 where there are more.
 fn first_slots<R: Files>(rt: &R, alloc: Global, folder: &str) -> Result<u32, WalsplitFault> {
     for shard in 0..=MAX_SHARDS {
-        if !has_slot(rt, alloc, folder, shard, 0)? {
+        if !has_slot(rt, alloc, folder, SlotName { shard, slot: 0 })? {
             return Ok(shard);
         }
     }
     Ok(MAX_SHARDS + 1)
-}
-
-fn has_slot<R: Files>(
-    rt: &R,
-    alloc: Global,
-    folder: &str,
-    shard: u32,
-    slot: u32,
-) -> Result<bool, WalsplitFault> {
-    let name = SlotName { shard, slot };
-    let path = format!(in alloc; "{folder}/{name}")?;
-    match fs::exists(rt, path.as_str()) {
-        Ok(is_there) => Ok(is_there),
-        Err(_) => Err(WalsplitFault::Slots(SlotsFault::Path(path))),
-    }
 }
