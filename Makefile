@@ -7,7 +7,7 @@ ALL = ingesterd ingestctl ingest1 walcat walsplit
 # (memory that the process already has, since page faults would hide what a call costs)
 HELD = glibc.malloc.mmap_max=0:glibc.malloc.trim_threshold=17179869184
 
-.PHONY: help run demo sample test server edits faults check check-docs fmt bench kill power-loss filesystem-loss program-rows measure \
+.PHONY: help run prove release demo sample test server edits faults check check-docs fmt bench kill power-loss filesystem-loss program-rows measure \
 	deb deb-lint gateway pictures
 
 help: ## prints this
@@ -23,16 +23,22 @@ TUNED = $(if $(JEMALLOC),LD_PRELOAD=$(JEMALLOC) MALLOC_CONF=$(MALLOC_CONF),GLIBC
 
 # (without SHARDS, which stays the same for a folder, ./data keeps the number that it has, and a new one gets 8)
 run: ## the server on port 3100, with its log in ./data (SHARDS=8 WORKERS=16)
-	@RT='$(RT)' tests/gate/build ingesterd
+	@RT='$(RT)' tests/gate/take ingesterd
 	@deploy/check-filesystem "$(CURDIR)/data" || true
 	@SHARDS='$(SHARDS)' deploy/with-shards deploy/fill-slots "$(CURDIR)/data" {} || true
 	@SHARDS='$(SHARDS)' $(TUNED) exec deploy/with-shards crates/ingesterd/out/ingesterd "$(CURDIR)/data" 3100 {} $(WORKERS)
+
+prove: ## proves and builds all programs here, at a low priority, and compares them with the released ones
+	@RT='$(RT)' tests/gate/prove
+
+release: ## makes release/ of the newest release in CHANGELOG.md: proved and built twice, from nothing
+	@RT='$(RT)' tests/gate/release
 
 demo: ## in another shell: pushes a line to that server, and reads it back
 	@tests/package/demo 3100
 
 sample: ## judges a push body on an empty shard in memory, and reads it back
-	@RT='$(RT)' tests/gate/build ingest1
+	@RT='$(RT)' tests/gate/take ingest1
 	@crates/ingest1/out/ingest1 20 < crates/ingest1/stdin
 
 test: ## the merge gate: every proof from nothing, edits, cases, refused memory, the server in use, documents
@@ -102,11 +108,11 @@ pictures: ## draws the pictures and figures of the documents (graphviz, gnuplot-
 	@docs/figures/plot
 
 deb: gateway ## the Debian package, in deploy/out
-	@RT='$(RT)' tests/gate/build $(ALL)
+	@RT='$(RT)' tests/gate/take $(ALL)
 	@deploy/deb
 
 deb-lint: gateway ## the Debian packages made twice, which gives the same bytes, and looked at by lintian
-	@RT='$(RT)' tests/gate/build $(ALL)
+	@RT='$(RT)' tests/gate/take $(ALL)
 	@tests/package/deb_lint
 
 filesystem-loss: ## losses of power on real file systems, block by block (as root; IMAGES=1000 SEED=1 FILESYSTEMS="ext4 xfs btrfs")
