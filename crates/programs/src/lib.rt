@@ -21,8 +21,8 @@ ghost use Rattle.programs.specs.Words.{value, IsNumberIn, NameShard, GiveShard, 
 pub use about::{VERSION, tell_about};
 pub use durations::duration_in;
 pub use environment::{Environment, LimitSetting, limits_in};
-pub use lacking::has_slot;
 use labels::{LabelFault, Tenant};
+pub use lacking::has_slot;
 pub use laws::{unset_limits, written_durations_are_read};
 use pushjson::time_of;
 use requests::Route;

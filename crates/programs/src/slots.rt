@@ -18,14 +18,10 @@ pub enum SlotsFault {
     #[error("cannot open {0}")]
     Path(String),
     /// There is no file at this path, and the shard's other slot holds a segment, which may be the older one.
-    #[error(
-        "{0} is missing: put it back, or, to go on without what it held, make it as an empty file"
-    )]
+    #[error("{0} is missing: put it back, or, to go on without what it held, make it as an empty file")]
     Missing(String),
     /// The slot at this path is of a shard that this number of shards leaves out.
-    #[error(
-        "number of shards {shards} leaves out {path}: give the log's own number, or move away slots without lines"
-    )]
+    #[error("number of shards {shards} leaves out {path}: give the log's own number, or move away slots without lines")]
     LeftOut { path: String, shards: u32 },
     /// The allocator gave no memory.
     #[error("out of memory")]

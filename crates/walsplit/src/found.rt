@@ -49,7 +49,9 @@ pub fn has_slots<R: Files>(
     from: u32,
 ) -> Result<bool, WalsplitFault> {
     for shard in from..=MAX_SHARDS {
-        if has_slot(rt, alloc, folder, SlotName { shard, slot: 0 })? || has_slot(rt, alloc, folder, SlotName { shard, slot: 1 })? {
+        if has_slot(rt, alloc, folder, SlotName { shard, slot: 0 })?
+            || has_slot(rt, alloc, folder, SlotName { shard, slot: 1 })?
+        {
             return Ok(true);
         }
     }
