@@ -13,7 +13,7 @@ use std::io::{self, Read};
 ///
 /// # Errors
 ///
-/// `Missing`: a slot is missing, and the shard's other one holds a segment. `LeftOut`: there is a slot of a later shard.
+/// `Missing`: a slot is missing, and the shard's other one holds a segment. `LeftOut`: a later shard has a slot.
 /// `Path`: it cannot be found out whether a file is there, or what a lone one holds.
 pub(crate) fn refuse_lacking<R: Files<File = File>>(
     rt: &R,
@@ -84,8 +84,8 @@ pub(crate) fn path_of(alloc: Global, folder: &str, name: SlotName) -> Result<Str
     Ok(format!(in alloc; "{folder}/{name}")?)
 }
 
-// Whether a file holds no segment: it has at most one byte, or its first, the gate, is not open. What is no regular file
-// is refused when it is opened; a pipe would block here.
+// Whether a file holds no segment: it has at most one byte, or its first, the gate, is not open. A file that is not
+// regular is refused when it is opened; a pipe would block here.
 fn is_closed<R: Files<File = File>>(rt: &R, path: &str) -> io::Result<bool> {
     let metadata = fs::metadata(rt, path)?;
     if !metadata.is_file() || metadata.len() <= 1 {
