@@ -87,6 +87,6 @@ IsFoundVerdict verdict found = (found ≡ verdict) ⊎ ((found ≡ Is.NoMemory) 
 abbrev pub IsVerdict : List ℕ → List ℕ → List Field → Verdict → Type 0
 IsVerdict method target fields found = IsFoundVerdict (verdict_of method target fields) found
 
--- HTTP/1.0, or a field `Connection: close`
+-- HTTP/1.0, or a field `Connection` that lists `close`
 abbrev pub asks_close : ℕ → List Field → Bool
 asks_close minor fields = (minor == 0) || has_word (codes "connection") (codes "close") fields

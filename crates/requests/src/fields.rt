@@ -1,8 +1,8 @@
 //! The fields of a head that the tests look at.
-ghost use Rattle.std.specs.Prelude.{◌≡◌, List, ℕ, [], ◌∷◌, ◌++◌, length, map, reverse, All};
+ghost use Rattle.std.specs.Prelude.{◌≡◌, List, ℕ, [], ◌∷◌, ◌++◌, length, map, reverse, option_map, All};
 ghost use Rattle.httparse.specs.Grammar.{skip_ows, trim_ows};
 ghost use Rattle.httparse.specs.Spans.{IsHeaderWithin, header_bytes};
-ghost use Rattle.requests.specs.Fields.{is_same_word, values_of, has_field, has_word, before};
+ghost use Rattle.requests.specs.Fields.{is_same_word, values_of, has_field, lists, has_word, before, after_mark};
 ghost use Rattle.requests.specs.Finding.{Finds};
 
 use httparse::is_space_or_tab;
@@ -69,14 +69,42 @@ pub(crate) fn has_field(bytes: &[u8], fields: &[HeaderSpan], name: &[u8]) -> boo
     false
 }
 
-/// Whether a field has this name and this value.
+// What comes after the first mark.
+fn after(bytes: &[u8], mark: u8) -> Option<&[u8]>
+    ensures { option_map (λ b. b.now) result ≡ after_mark mark bytes.now }
+{
+    let mut rest = bytes;
+    while let [first, more @ ..] = rest {
+        if *first == mark {
+            return Some(more);
+        }
+        rest = more;
+    }
+    None
+}
+
+// Whether a list of words, between which commas stand, has this one.
+fn lists(list: &[u8], word: &[u8]) -> bool
+    ensures { result ≡ lists word.now list.now }
+{
+    let mut rest = list;
+    while let Some(more) = after(rest, b',') {
+        if is_same_word(trim_spaces(before(rest, b',')), word) {
+            return true;
+        }
+        rest = more;
+    }
+    is_same_word(trim_spaces(before(rest, b',')), word)
+}
+
+/// Whether a field has this name and lists this word.
 pub(crate) fn has_word(bytes: &[u8], fields: &[HeaderSpan], name: &[u8], word: &[u8]) -> bool
     requires { All (IsHeaderWithin (length bytes.now)) fields.now }
     ensures { result ≡ has_word name.now word.now (map (header_bytes bytes.now) fields.now) }
 {
     for field in fields {
         if is_same_word(field.name.of(bytes), name) {
-            if is_same_word(field.value.of(bytes), word) {
+            if lists(field.value.of(bytes), word) {
                 return true;
             }
         }

@@ -28,7 +28,7 @@ pub const MAX_FIELDS: usize = 64;
 pub struct Message {
     /// What it is.
     pub verdict: Verdict,
-    /// Whether it asks that the connection ends after its answer: HTTP/1.0, or `Connection: close`.
+    /// Whether it asks that the connection ends after its answer: HTTP/1.0, or a field `Connection` that lists `close`.
     pub closes: bool,
     /// Where its body begins in the buffer.
     pub start: usize,
