@@ -5,7 +5,7 @@ WORKERS ?= $(shell sed -n s/^WORKERS=//p deploy/needleazure.default)
 # the programs of the package
 ALL = ingesterd ingestctl ingest1 walcat walsplit
 
-.PHONY: help run demo sample test server edits faults check check-docs fmt bench kill power-loss filesystem-loss program-rows measure \
+.PHONY: help run demo sample test quick server edits faults check check-docs fmt bench kill power-loss filesystem-loss program-rows measure \
 	deb deb-lint gateway pictures
 
 help: ## prints this
@@ -35,6 +35,9 @@ sample: ## judges a push body on an empty shard in memory, and reads it back
 
 test: ## the merge gate: every proof from nothing, edits, cases, refused memory, the server in use, documents
 	@RT='$(RT)' tests/gate/run
+
+quick: ## after a change: proves a crate and the program that it is in, and runs its cases and tests (CRATE=wal)
+	@RT='$(RT)' tests/gate/quick $(CRATE)
 
 server: ## the built server as it is used: connections, sizes, a failing disk, kills, limits (WORDS="-k silent")
 	@RT='$(RT)' tests/gate/build $(ALL)
