@@ -1,6 +1,6 @@
 use Rattle.ingester.specs.Calls.{IsPassOf}
 use Rattle.ingester.proofs.Listing.{each_front, each_same}
-use Rattle.shard_threads.proofs.opening.last_of.Goals as goal
+use Rattle.threads.proofs.opening.last_of.Goals as goal
 
 pub returns-in-Some-clause-pass : goal.returns-in-Some-clause-pass
 returns-in-Some-clause-pass c = (each_front (IsPassOf c.args.ingester.now) _ c.pop.new.self.items c.in-Some.pass c.in-Some.ensures.items c.requires).1

@@ -15,7 +15,7 @@ use Rattle.memory_disk.specs.contracts.memory.MemDiskDisk.TheImpl as memory_disk
 use Rattle.disk.specs.declared.device.Disk as disk
 use Rattle.ingester.proofs.Sent.{ingester_sync}
 use Rattle.ingester.specs.contracts.opened.Ingester as ingester
-use Rattle.shard_threads.specs.contracts.context.ThreadContext as context
+use Rattle.threads.specs.contracts.context.ThreadContext as context
 
 abbrev slots : disk.Ghosts (slot.the_row memory.the_row).Denot
 slots = slot_disk.ghosts memory.the_row memory_disk.ghosts slot_disk.no_dict
