@@ -76,7 +76,7 @@ deb-check edge-check gateway-check: gateway
 	@$(BEFORE)
 	@RT='$(RT)' $(or $(wildcard tests/*/$(CHECK)),$(if $(wildcard tests/*/$(CHECK).py),tests/run $(CHECK)),$(error there is no $(CHECK))) $(WORDS)
 
-measure: ## what is timed: soak scale roll start default_shards metrics_cost drain_cost gateway_speed window parts (NAME=soak WORDS=2)
+measure: ## what is timed: soak scale roll start default_shards metrics_cost drain_cost gateway_speed window (NAME=soak WORDS=2)
 	@RT='$(RT)' tests/gate/build ingesterd walcat
 	@tests/run $(NAME) $(WORDS)
 
