@@ -4,10 +4,8 @@ RT ?= rt
 WORKERS ?= $(shell sed -n s/^WORKERS=//p deploy/needleazure.default)
 # the programs of the package
 ALL = ingesterd ingestctl ingest1 walcat walsplit
-# (memory that the process already has, since page faults would hide what a call costs)
-HELD = glibc.malloc.mmap_max=0:glibc.malloc.trim_threshold=17179869184
 
-.PHONY: help run prove release demo sample test server edits faults check check-docs fmt bench kill power-loss filesystem-loss program-rows measure \
+.PHONY: help run prove release demo sample test quick server edits faults check check-docs fmt bench kill power-loss filesystem-loss program-rows measure \
 	deb deb-lint gateway pictures
 
 help: ## prints this
@@ -44,6 +42,9 @@ sample: ## judges a push body on an empty shard in memory, and reads it back
 test: ## the merge gate: every proof from nothing, edits, cases, refused memory, the server in use, documents
 	@RT='$(RT)' tests/gate/run
 
+quick: ## after a change: proves a crate and the program that it is in, and runs its cases and tests (CRATE=wal)
+	@RT='$(RT)' tests/gate/quick $(CRATE)
+
 server: ## the built server as it is used: connections, sizes, a failing disk, kills, limits (WORDS="-k silent")
 	@RT='$(RT)' tests/gate/build $(ALL)
 	@tests/gate/pytest tests/server --ignore=tests/server/test_programs.py --ignore=tests/server/test_refused_memory.py $(WORDS)
@@ -57,14 +58,14 @@ power-loss: ## what a server under load may leave at a loss of power, image by i
 	@tests/server/power_loss $(or $(IMAGES),2000) $(SEED)
 
 faults: ## hostile bytes, refused memory, bad files, held to the definitions (some minutes)
-	@RT='$(RT)' tests/gate/build bench call_cases conformance $(ALL)
+	@RT='$(RT)' tests/gate/build cases conformance $(ALL)
 	@failed=0; for it in drawn files refused_memory; do \
 		tests/gate/pytest tests/server/test_$$it.py -m by_hand || failed=1; done; \
 		tests/gate/pytest tests/server/test_refused_memory.py tests/server/test_judges.py || failed=1; \
 		DRAWN=5000 tests/gate/pytest tests/server/test_drawn.py || failed=1; exit $$failed
 
 program-rows: ## the programs over their words, streams, files and slots, as the rows of tests/rows/programs say
-	@RT='$(RT)' tests/gate/build layer_cases $(ALL)
+	@RT='$(RT)' tests/gate/build cases $(ALL)
 	@tests/gate/pytest tests/server/test_programs.py
 
 # what a check is run over, and its words
@@ -85,10 +86,9 @@ measure: ## what is timed: soak scale roll start default_shards metrics_cost dra
 	@RT='$(RT)' tests/gate/build ingesterd walcat
 	@tests/run $(NAME) $(WORDS)
 
-bench: ## how fast bodies and segments are read, the log appends, and calls are made
-	@RT='$(RT)' tests/gate/build bench
-	@for it in time_parts time_calls; do \
-		TMPDIR='$(CURDIR)' GLIBC_TUNABLES=$(HELD) crates/bench/out/bench $$it || exit 1; done
+bench: ## how long the parts of a push take: bodies, a segment, appends, groups, long streams
+	@RT='$(RT)' tests/gate/build ingesterd ingest1 walcat
+	@TMPDIR='$(CURDIR)' tests/run parts
 
 edits: ## tries all wrong bodies, also those that rt ci tries, and prints the goal that each leaves open (CRATES="labels accept" JOBS=2)
 	@RT='$(RT)' tests/gate/edits $(if $(JOBS),--jobs $(JOBS)) $(CRATES)

@@ -1,9 +1,10 @@
 """Proves and builds crates of crates.txt, those that don't stand on one another side by side.
 
 First come those with the longest chain of others after them. On the longest chain, which all else
-waits for, a crate gets as many jobs as there are processors. Any other gets one where there is work
-for each processor, since two take a fifth more of them, and a lower priority where it isn't nearly
-on that chain.
+waits for, a crate gets as many jobs as there are processors, and two nearly on it, for the
+processors that become idle while it is proved: its jobs stay as many as at its start. Any other gets
+one where there is work for each processor, since two take a fifth more of them, and a lower priority
+where it is far behind.
 
 A library is proved from nothing, and its statements alone are kept, in its out/statements: those
 above it load them sooner than its proofs. What was built here from the same text is left as it is.
@@ -23,8 +24,9 @@ from toolchain import RT, TOP, kit, read, version
 EACH = 30
 # what it takes to load a line of the libraries below, where to prove a line takes 1
 LOADING = 0.03
-# chains of crates that are so long, as parts of the longest that is left, count as it does, and as nearly on it
-AS_LONG, NEARLY = 0.95, 0.65
+# chains of crates that are so long, as parts of the longest that is left, count as it does, and as nearly on it; those
+# that are shorter than the last are far behind
+AS_LONG, NEARLY, BEHIND = 0.98, 0.8, 0.65
 # by so much the priority of the other crates is lower
 LOWER = 10
 # the memory of each job but the first, as a part of the first one's
@@ -55,9 +57,10 @@ def chains_of(crates):
 
 
 def jobs_for(crate, share, idle, lanes, memory):
-    """How many jobs a crate gets whose chain has this share of the longest one: as many as there
-    are processors on the longest one, else one, or as idle ones that nothing else could use."""
-    wanted = 1 if os.environ.get("RT_JOBS") else lanes if share >= AS_LONG else max(1, idle)
+    """How many jobs a crate gets whose chain has this share of the longest one: as many as there are processors on the
+    longest one, else two nearly on it, else one; and more where idle processors are of no use to any other."""
+    least = lanes if share >= AS_LONG else min(lanes, 2) if share >= NEARLY else 1
+    wanted = 1 if os.environ.get("RT_JOBS") else max(least, idle)
     return min(wanted, int((memory / crate.memory - 1) // FURTHER) + 1)
 
 
@@ -80,7 +83,7 @@ def run(crates, say):
                 elif jobs > 0 and (len(running) < lanes or lanes > 1 and share >= NEARLY):
                     waiting.remove(crate)
                     held = crate.memory * (1 + FURTHER * (jobs - 1))
-                    running[pool.submit(make, crate, jobs, share < NEARLY)] = crate, held, jobs
+                    running[pool.submit(make, crate, jobs, share < BEHIND)] = crate, held, jobs
             ended = wait(running, EACH - time.monotonic() % EACH, FIRST_COMPLETED).done
             for it in ended:
                 crate, (status, text) = running.pop(it)[0], it.result()

@@ -7,11 +7,12 @@ MANY = 64
 
 
 def rows_of(path):
-    """The rows of a file: name, and the steps, each a line with the lines that must be said after it."""
+    """The rows of a file: name, and the steps, each a line with the lines that must be said after it. Between rows a line
+    `of SUBJECT` may say what they are about."""
     name, steps = None, []
     with open(path, encoding="utf-8") as file:
         for number, line in enumerate((it.rstrip("\n") for it in file), 1):
-            if not line or line.startswith("#"):
+            if not line or line.startswith("#") or name is None and line.startswith("of "):
                 continue
             if (name is None) != line.startswith("row ") or line == "end" and not any(wanted for _, wanted in steps):
                 raise ValueError(f"{path}, line {number}: {line}")

@@ -110,7 +110,7 @@ def judge_connections(steps):
         yield {shown(it) for it in judges.connection(data.data, judges.Calls())}, {"".join(wanted[:ends[0]])}
 
 
-KINDS = {"crates/layer_cases/data/labels.txt": judge_texts,
+KINDS = {"crates/cases/data/labels.txt": judge_texts,
          **{f"tests/rows/programs/{it}.txt": judge_programs
             for it in ("segments", "labels", "bodies", "walcat", "ingest1")},
          **{f"crates/conformance/data/{it}.txt": judge_connections

@@ -22,9 +22,9 @@ from row_slots import Bytes
 FOLDER = f"{servers.TOP}/tests/rows/programs"
 ROWS = {it.removesuffix(".txt"): list(rows_of(f"{FOLDER}/{it}"))
         for it in sorted(os.listdir(FOLDER)) if it.endswith(".txt")}
-PROGRAMS = ["ingesterd", "walcat", "ingest1", "ingestctl", "walsplit", "layer_cases"]
+PROGRAMS = ["ingesterd", "walcat", "ingest1", "ingestctl", "walsplit", "cases"]
 # words that run a program by another name
-RUNS = {"walcat": "|verdict|cuts|sets|beginnings", "layer_cases": "|drawn"}
+RUNS = {"walcat": "|verdict|cuts|sets|beginnings", "cases": "|drawn"}
 # a line that a shard has while others are worked on, and how long all took
 OF_SHARD = re.compile(rb"shard \d\d: ")
 TOOK = re.compile(rb" in \d+\.\d{3} s")
@@ -134,7 +134,7 @@ class Row:
         """Has a row of drawn calls run. Where it differs, the first lines that are said of it."""
         text, agreed = drawn_row(order, *map(int, numbers))
         servers.write(self.path("drawn.txt"), text.encode())
-        done = self.programs.run("layer_cases", ["drawn.txt"], self.folder, b"", {})
+        done = self.programs.run("cases", ["drawn.txt"], self.folder, b"", {})
         return [agreed] if done == (0, b"1 rows, 0 differ\n", b"") else [it[:400] for it in run_shown(*done)[:20]]
 
     def take_file(self, word, text):

@@ -81,13 +81,14 @@ class Plain(Run):
 
 
 class OfRow(Run):
-    """A row of call_cases or another program. `made` gives what it says, and how the program ended."""
+    """A row of `cases` or another program. `made` gives what it says, and how the program ended."""
 
-    program = "call_cases"
+    program, about = "cases", "calls"
 
     def said(self, lines, environment=None):
         with tempfile.TemporaryDirectory() as folder:
-            servers.write(f"{folder}/row.txt", "\n".join(["row shown", *lines, "= shown", "end", ""]).encode())
+            text = "\n".join([f"of {self.about}", "row shown", *lines, "= shown", "end", ""])
+            servers.write(f"{folder}/row.txt", text.encode())
             found = run([self.program, f"{folder}/row.txt"], b"", environment)
         said = found[1].decode().partition("\nsaid\n")[2].rpartition("\nend\n")[0].splitlines()
         # (a line that is said several times, one behind the other, is said once with its number)
@@ -109,12 +110,31 @@ class OfRow(Run):
         return said in self.right
 
 
+class Layer(OfRow):
+    """A row below calls: all is said as with ample memory, except that these lines may say that memory ran out."""
+
+    def __init__(self, name, about, lines, refused=()):
+        self.name, self.about = f"cases, {name}", about
+        self.made = functools.partial(self.said, lines)
+        self.ample = self.made()[0]
+        assert self.ample and NO_MEMORY not in self.ample, self.ample
+        self.right = [self.ample]
+        for at in map(lines.index, refused):
+            begun, done = (len(self.said(lines[:end])[0]) for end in (at, at + 1))
+            self.right.append([*self.ample[:begun], NO_MEMORY, *self.ample[done:]])
+
+    @staticmethod
+    def is_unsaid(found):
+        # (a log that was refused for want of memory is used)
+        return OfRow.is_unsaid(found) or found[0] == 1 and found[2].rstrip().endswith(b"no log")
+
+
 class Calls(OfRow):
-    """Calls of a row of call_cases, between other lines. One that is refused leaves no trace: all
-    else is said as in the run without it. `refused` has which calls come back together."""
+    """Calls of a row, between other lines. One that is refused leaves no trace: all else is said as in the run without
+    it. `refused` has which calls come back together."""
 
     def __init__(self, name, before, calls, after, refused):
-        self.name, self.before, self.calls, self.after = f"call_cases, {name}", before, calls, after
+        self.name, self.before, self.calls, self.after = f"cases, {name}", before, calls, after
         self.made = functools.partial(self.said_of, calls)
         self.ample = self.said_of(calls)[0]
         assert self.ample and NO_MEMORY not in self.ample, self.ample
@@ -180,7 +200,7 @@ class Group(Calls):
 class Opening(OfRow):
     """An opening of full slots, refused or not: each still holds what it held, and is read."""
 
-    name = "call_cases, an opening of full slots"
+    name = "cases, an opening of full slots"
     # (as in rows whose names end with "leaves the state before or after")
     FULL = [*(f"push 1 {it}000000000000 {it}000000000000*492:x" for it in range(1, 8)), "trim 1 3400000000000",
             "push 1 8000000000000 8000000000000*492:x"]
@@ -210,7 +230,7 @@ class Served(OfRow):
     """A connection with a push of two streams, and another that reads both: a row of conformance. Each is answered; or the
     first has written 500 or nothing, and then the calls that it made stand; or the second has written a beginning."""
 
-    name, program = "conformance, two streams and their reads", "conformance"
+    name, program, about = "conformance, two streams and their reads", "conformance", "connections"
     STREAMS = ['{"stream":{"a":"%d"},"values":[["1%d","x"]]}' % (it, it) for it in (1, 2)]
     READS = ['post /ingester/v1/read {"stream":{"a":"%d"},"from":"0","to":"100"}' % it for it in (1, 2)]
 
@@ -391,6 +411,16 @@ LONG = [("r", [(NOW - 100 + at, "x" * 492, ())]) for at in range(7)]
 READ_MANY = servers.read_body({"s": "m"})
 
 
+def rows_of_layers():
+    # (more entries than two buckets have; then late ones, each of which goes into one of these)
+    push, late = ("push 9000 " + " ".join(f"{time}:x" for time in its) for its in (range(30, 1830, 3), range(40, 1760, 90)))
+    yield Layer("a stream of buckets", "streams", [push, late, "read 900 1100", "limits half_age=0", "trim 930", "state"])
+    blocks = "segment " + " ".join(f"cut:{81 + 38 * number} 01 frame" for number in range(10))
+    changes = ["append frame", "roll segment at:5=02 from:1", "append frame", "log", "close"]
+    reading = [f"records {blocks}", f"streams {blocks}", "open"]
+    yield Layer("a log of ten blocks", "logs", [f"slot 1 {blocks}", "open 0 1 900", *changes, *reading], reading)
+
+
 def rows_of_calls():
     pushes = [f"push 1 20 {time}*492:x" for time in range(10, 18)]
     many = f"push 1 400 {' '.join(f'{time}:x' for time in range(1, 301))}"
@@ -430,11 +460,11 @@ def connections():
     yield Connection("push, read and push", [MANY], three, [ONE, OTHER])
 
 
-BODIES = [*hostile_bytes.BODIES, hostile_bytes.BODY.replace(b"10", b"1e9")]
-# the runs of a program, and the least number of their requests
-RUNS = {"bench": (lambda: [Plain(["bench", "check_parts"])], 2_000),
+LONG_BODY = json.dumps(servers.push_body([({"a": "1"}, [(at, "x" * 400, ()) for at in range(20)])])).encode()
+BODIES = [*hostile_bytes.BODIES, hostile_bytes.BODY.replace(b"10", b"1e9"), LONG_BODY]
+# runs, and the least number of their requests
+RUNS = {"layers": (rows_of_layers, 2_000), "calls": (rows_of_calls, 4_500), "conformance": (lambda: [Served()], 200),
         "ingest1": (lambda: [Plain(["ingest1", "20"], it) for it in BODIES], 300),
-        "call_cases": (rows_of_calls, 4_500), "conformance": (lambda: [Served()], 200),
         "ingestctl": (calls_of_ingestctl, 2_500), "ingesterd": (connections, 2_500)}
 
 
@@ -451,7 +481,7 @@ def refuse_each(it):
 
 
 @pytest.mark.parametrize("name", [
-    "bench", "ingest1", "call_cases", "conformance",
+    "layers", "ingest1", "calls", "conformance",
     *(pytest.param(it, marks=pytest.mark.by_hand) for it in ("ingestctl", "ingesterd"))])
 def test_refused_requests(name, preload, folder, monkeypatch):
     # (the library was made before, elsewhere)
@@ -462,15 +492,13 @@ def test_refused_requests(name, preload, folder, monkeypatch):
     assert sum(counts) >= least
 
 
-@pytest.mark.parametrize("program, quiet, others", [
-    ("bench", ["trim", "roll", "append"], []), ("call_cases", ["look", "meet", "take"], ["call"])])
-def test_quiet_calls(folder, program, quiet, others):
-    """Of the calls that a program begins and ends some make no request, and others make some."""
+def test_quiet_calls(folder):
+    """Of the calls that `cases quiet` begins and ends some make no request, and others make some."""
     settings = {"MEMORY_COUNT_TO": f"{folder}/counts", "LD_PRELOAD": servers.library()}
-    status, output, errors = run([program, "quiet"], b"", settings)
+    status, output, errors = run(["cases", "quiet"], b"", settings)
     counts = list(map(int, servers.bytes_of(f"{folder}/counts").split()))
     names = [line.removesuffix(" begins") for line in output.decode().splitlines()[::2]]
     due = "".join(f"{name} begins\n{name} ends\n" for name in names)
     assert (status, output.decode(), errors, len(counts)) == (0, due, b"", 2 * len(names))
     made = {name: end > begin for name, begin, end in zip(names, counts[::2], counts[1::2])}
-    assert made == {**dict.fromkeys(quiet, False), **dict.fromkeys(others, True)}
+    assert made == {**dict.fromkeys(["trim", "roll", "append", "look", "meet", "take"], False), "call": True}

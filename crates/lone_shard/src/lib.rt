@@ -6,6 +6,5 @@ mod busy_shard;
 mod grouped;
 mod lone;
 
-pub use busy_shard::{BusyShard, MOST};
 pub use grouped::{Grouped, TurnReport};
 pub use lone::LoneShard;

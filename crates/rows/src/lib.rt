@@ -1,7 +1,8 @@
 //! Cases as rows of a text: what is done, and the lines that must be said.
 //!
 //! A row is a line `row NAME`, lines that say what is done, lines `= TEXT` that must be said, and a line `end`.
-//! Blank lines and lines that begin with `#` are skipped.
+//! Blank lines and lines that begin with `#` are skipped. A line `of SUBJECT` outside a row says what the rows after it are
+//! about.
 #![tactic(auto)]
 
 mod hex;

@@ -4,6 +4,8 @@ use std::alloc::{AllocError, Global};
 /// One case.
 #[derive(Drop)]
 pub struct Row<'a> {
+    /// What the row is about: what follows `of ` of the last such line before the row. Empty where there is none.
+    pub about: &'a str,
     /// What follows `row `.
     pub name: &'a str,
     /// The lines that say what is done, in their order.
@@ -13,8 +15,9 @@ pub struct Row<'a> {
 }
 
 impl<'a> Row<'a> {
-    fn new(alloc: Global, name: &'a str) -> Row<'a> {
+    fn new(alloc: Global, about: &'a str, name: &'a str) -> Row<'a> {
         Row {
+            about,
             name,
             given: Vec::new(alloc),
             wanted: String::new(alloc),
@@ -51,10 +54,12 @@ impl<'a> Row<'a> {
 /// A line outside a row, a row inside another one, a row without its end or without wanted lines, or want of memory.
 pub fn rows_of<'a>(alloc: Global, text: &'a str) -> Result<Vec<Row<'a>>> {
     let mut rows = Vec::new(alloc);
-    let mut open = false;
+    let (mut open, mut about) = (false, "");
     for (index, line) in text.lines().enumerate() {
-        if !line.is_empty() && !line.starts_with('#') {
-            open = take_line(alloc, &mut rows, open, line).map_err(|error| anyhow!(
+        if let (false, Some(words)) = (open, line.strip_prefix("of ")) {
+            about = words;
+        } else if !line.is_empty() && !line.starts_with('#') {
+            open = take_line(alloc, &mut rows, open, about, line).map_err(|error| anyhow!(
                 "line {}: {error}",
                 index.saturating_add(1)
             ))?;
@@ -66,18 +71,19 @@ pub fn rows_of<'a>(alloc: Global, text: &'a str) -> Result<Vec<Row<'a>>> {
     Ok(rows)
 }
 
-/// Whether the last row is open after this line.
+/// Whether the last row is open after this line. A new one is about this.
 fn take_line<'a>(
     alloc: Global,
     rows: &mut Vec<Row<'a>>,
     open: bool,
+    about: &'a str,
     line: &'a str,
 ) -> Result<bool> {
     match (open, line.strip_prefix("row ")) {
         (false, None) => bail!("no row begins here"),
         (true, Some(_)) => bail!("the row before has no end"),
         (false, Some(name)) => {
-            rows.push(Row::new(alloc, name))?;
+            rows.push(Row::new(alloc, about, name))?;
             Ok(true)
         }
         (true, None) => match rows.last_mut() {

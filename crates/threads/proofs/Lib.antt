@@ -1,2 +1,3 @@
 mod Reading
+mod Sent
 mod Windows

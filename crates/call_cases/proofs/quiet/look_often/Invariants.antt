@@ -1,5 +1,0 @@
-use Rattle.ingester.specs.Calls.{IsPassOf}
-use Rattle.call_cases.proofs.quiet.look_often.Given as goal
-
-abbrev pub invariant-loop-turn : goal.invariant-loop-turn
-invariant-loop-turn l = IsPassOf l.ingester l.pass

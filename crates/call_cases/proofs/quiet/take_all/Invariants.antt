@@ -1,4 +1,0 @@
-use Rattle.call_cases.proofs.quiet.take_all.Given as goal
-
-abbrev pub decreases-loop-slots : goal.decreases-loop-slots
-decreases-loop-slots l = l.closed.left

@@ -1,5 +1,0 @@
-use Rattle.ingester.specs.Calls.{IsPassOf}
-use Rattle.shard_threads.proofs.tasks.push_all.Given as goal
-
-abbrev pub invariant-loop-k : goal.invariant-loop-k
-invariant-loop-k g l = IsPassOf l.context.ingester.now l.pass
