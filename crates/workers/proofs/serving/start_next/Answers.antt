@@ -1,6 +1,7 @@
 use Rattle.std.proofs.Common.{◌≡◌}
 use Rattle.std.proofs.lemmas.List.Elements.{All-pop}
 use Rattle.std.specs.Result.{is_ok}
+use Rattle.workers.proofs.Joining.{started}
 use Rattle.workers.proofs.Lists.{pushed}
 use Rattle.workers.proofs.serving.start_next.Goals as goal
 
@@ -27,3 +28,20 @@ returns-then-is_err-2-clause-passes g c = (All-pop (g.S.Serve.is_pass_of c.args.
 
 pub returns-then-is_err-2-clause-threads : goal.returns-then-is_err-2-clause-threads
 returns-then-is_err-2-clause-threads g c = pushed c.args.crew.now.threads.items c.push.new.self.items (λ thread. thread.promise.service.value ≡ c.args.site.now.service.now) (is_ok c.push.result) c.in_ok-thread.thread c.push.ensures.items c.requires.threads c.in_ok-thread.ensures.service
+
+pub returns-in_default-clause-threads : goal.returns-in_default-clause-threads
+returns-in_default-clause-threads g c = c.requires.threads
+
+pub returns-in_err-thread-clause-threads : goal.returns-in_err-thread-clause-threads
+returns-in_err-thread-clause-threads g c = c.requires.threads
+
+pub returns-then-is_err-clause-order : goal.returns-then-is_err-clause-order
+returns-then-is_err-clause-order g c = tt
+
+pub returns-then-is_err-2-clause-order : goal.returns-then-is_err-2-clause-order
+returns-then-is_err-2-clause-order g c = tt
+
+pub returns-clause-order : goal.returns-clause-order
+returns-clause-order g c =
+    started (λ thread. thread.promise.start.value) c.args.crew.now.passes.items c.pop.new.self.items c.pop.result c.in-Some.pass c.args.crew.now.threads.items c.push.new.self.items (is_ok c.push.result) c.in_ok-thread.thread
+    c.pop.ensures.items c.in-Some.is c.in_ok-thread.ensures.start c.push.ensures.items c.if-is_err.ensures.negation
