@@ -9,14 +9,14 @@ use crate::fault::WorkersFault;
 use crate::inbox::Inbox;
 use crate::shared::{Shared, WorkerLoad};
 use crate::worker::{OfService, Worker, WorkerEnd, work};
-use crossbeam_channel::bounded;
+use crossbeam_channel::{Sender, bounded};
 use mio::{Poll, Waker};
 use std::alloc::Global;
 use std::net::{Net, TcpListener};
 use std::rt::Clock;
 use std::sync::Wait;
 use std::thread::{self, PromisedHandle, Scope, Threads};
-use talks::{Batch, Serve, Session};
+use talks::{Batch, NewSocket, Serve, Session};
 
 /// How many connections may wait for a worker.
 const WAITING: usize = 64;
@@ -77,23 +77,19 @@ fn make_posts<S: Drop, R: Net>(
     Ok((posts, loads))
 }
 
-// The connections of a worker, and the acceptor's side of it.
+// The connections of a worker, and where the acceptor puts them.
 fn make<'s, T: Session + Drop>(
     alloc: Global,
     poll: Poll,
     load: &'s WorkerLoad,
     shared: &'s Shared,
-) -> Result<(Box<EventLoop<'s, T>>, Link<'s>), WorkersFault> {
+) -> Result<(Box<EventLoop<'s, T>>, Sender<NewSocket>), WorkersFault> {
     let (sender, receiver) = bounded(alloc, WAITING)?;
     let event_loop = EventLoop::new(alloc, poll, Inbox::new(receiver), load, shared)?;
     let Ok(event_loop) = Box::new(alloc, event_loop) else {
         return Err(WorkersFault::Memory);
     };
-    let link = Link {
-        arrivals: Some(sender),
-        load,
-    };
-    Ok((event_loop, link))
+    Ok((event_loop, sender))
 }
 
 // Starts a worker.
@@ -147,7 +143,7 @@ where
         crew.old.passes.items crew.old.threads.items) }
 {
     let Post { server, poll } = post;
-    let (event_loop, link) = make(site.alloc, poll, load, site.shared)?;
+    let (event_loop, sender) = make(site.alloc, poll, load, site.shared)?;
     let batch = Batch::new(site.alloc)?;
     let Some(pass) = crew.passes.pop() else {
         return Ok(false);
@@ -168,6 +164,10 @@ where
     if crew.threads.push(thread).is_err() {
         return Err(WorkersFault::Memory);
     }
+    let link = Link {
+        arrivals: Some(sender),
+        load,
+    };
     if crew.links.push(link).is_err() {
         return Err(WorkersFault::Memory);
     }
