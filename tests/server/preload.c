@@ -12,6 +12,8 @@
 //           reads too, with the thread in place of `at`. RECORD_SLOW=n: what is noted takes n microseconds longer.
 //           FAIL_SYNC=n: each n-th fdatasync (of files whose path has FAIL_NAME) fails. FULL_AT=n: from the n-th
 //           write on none makes its file longer; the first of them writes half.
+// holds     HOLD_SYNC: while this FIFO is there, an fdatasync of a file whose path has HOLD_NAME first reads it to its end.
+// sockets   FAIL_ACCEPT=n: the first n accepts fail, and for each the file ACCEPT_MARK gets a line.
 // time      FAST=n: what the program waits for, and the clock that it waits by, go n times as fast.
 // broken    BREAK_..: a server that is wrong in one way, as tests/rows/broken.txt says of each. A
 //           number is that of FAST, or what comes after n, each n-th, or of more than n bytes.
@@ -225,10 +227,17 @@ int setsockopt(int file, int level, int name, const void *value, socklen_t size)
 }
 
 int accept4(int it, struct sockaddr *address, socklen_t *length, int flags) {
-    static uint64_t come;
+    static uint64_t come, asked;
     uint64_t each = number_of("BREAK_CLOSE");
     if (getenv("BREAK_END") != NULL && come >= number_of("BREAK_END")) {
         _exit(0);
+    }
+    if (getenv("BREAK_ACCEPT") != NULL && asked >= number_of("BREAK_ACCEPT")) {
+        _exit(0);
+    }
+    if (++asked <= number_of("FAIL_ACCEPT")) {
+        tell(getenv("ACCEPT_MARK"), asked);
+        return refuse(EMFILE);
     }
     int file = NEXT(accept4)(it, address, length, flags);
     come += file >= 0;
@@ -414,9 +423,37 @@ static int sync_fails(const char *path) {
     return __atomic_add_fetch(&made, 1, __ATOMIC_SEQ_CST) % each == 0;
 }
 
+// Where syncs of this file are held, waits until the other end of the FIFO is closed.
+static void wait_while_held(int file) {
+    char link[64], path[4096] = "", piece;
+    const char *fifo = getenv("HOLD_SYNC"), *name = getenv("HOLD_NAME");
+    snprintf(link, sizeof link, "/proc/self/fd/%d", file);
+    if (fifo == NULL || name == NULL || readlink(link, path, sizeof path - 1) < 0 || strstr(path, name) == NULL) {
+        return;
+    }
+    int held = NEXT(open)(fifo, O_RDONLY | O_CLOEXEC);
+    while (held >= 0 && NEXT(read)(held, &piece, 1) > 0) {
+    }
+    close(held);
+}
+
+// The same, one sync after another where the server is broken so.
+static void wait_for_turn(int file) {
+    static pthread_mutex_t turn = PTHREAD_MUTEX_INITIALIZER;
+    int is_one = is_said("BREAK_SYNC", "one");
+    if (is_one) {
+        pthread_mutex_lock(&turn);
+    }
+    wait_while_held(file);
+    if (is_one) {
+        pthread_mutex_unlock(&turn);
+    }
+}
+
 int fdatasync(int file) {
     static uint64_t made;
     uint64_t number = __atomic_add_fetch(&made, 1, __ATOMIC_SEQ_CST);
+    wait_for_turn(file);
     struct timespec more = span_of((int64_t)(number_of("BREAK_SPEED") * number));
     if (nanoseconds(&more) > 0) {
         NEXT(nanosleep)(&more, NULL);

@@ -8,7 +8,12 @@ use std::io;
 pub fn open_files<R: Files<File = File>>(rt: &R, alloc: Global) -> Option<u64> {
     let limits = File::open(rt, "/proc/self/limits").ok()?;
     let text = io::read_to_string(alloc, limits).ok()?;
-    for line in text.as_str().lines() {
+    files_in(text.as_str())
+}
+
+// The number that a process's limits, a line each, give for open files.
+fn files_in(limits: &str) -> Option<u64> {
+    for line in limits.lines() {
         if let Some(rest) = line.strip_prefix("Max open files") {
             return rest.split_whitespace().next()?.parse::<u64>().ok();
         }

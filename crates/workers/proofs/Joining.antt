@@ -1,6 +1,6 @@
 -- The passes in their order, while threads take them and give them back.
-use Rattle.std.proofs.Common.{◌≡◌, inl, List, [], ◌∷◌, ◌++◌, map, reverse, Result, Ok, Err, OnOk, refl, sym, ap, ◌∙◌, subst}
-use Rattle.std.proofs.lemmas.List.{append_assoc, map-append, reverse-append}
+use Rattle.std.proofs.Common.{◌≡◌, inl, Bool, true, if◌then◌else◌, List, [], ◌∷◌, ◌++◌, map, reverse, Option, Some, None, option_to_list, Result, Ok, Err, OnOk, refl, sym, ap, ◌∙◌, subst}
+use Rattle.std.proofs.lemmas.List.{append_assoc, append-nil, map-append, reverse-append}
 use Rattle.workers.specs.Workers.{ArePassesLeft, IsPassLeft, with_starts}
 
 module _ {P T : Type 0} (start : T → P) where
@@ -13,6 +13,17 @@ module _ {P T : Type 0} (start : T → P) where
       ap (λ ts. new ++ reverse (map start ts)) is ∙ ap (λ l. new ++ l) (last_first threads t)
       ∙ sym (append_assoc new (start t ∷ []) (reverse (map start threads)))
       ∙ sym (ap (λ l. l ++ reverse (map start threads)) was)
+
+  -- none was left to be popped
+  pub none_left : (old left : List P) (popped : Option P) (threads : List T) → old ≡ left ++ option_to_list popped → popped ≡ None → with_starts start left threads ≡ with_starts start old threads
+  none_left old left popped threads was is =
+      ap (λ ps. with_starts start ps threads) (sym (was ∙ ap (λ o. left ++ option_to_list o) is ∙ append-nil left))
+
+  -- a pass was popped, and the thread that started with it was added to the others
+  pub started : (old left : List P) (popped : Option P) (pass : P) (threads threads' : List T) (is_added : Bool) (t : T) → old ≡ left ++ option_to_list popped → popped ≡ Some pass → start t ≡ pass
+      → threads' ≡ (if is_added then threads ++ t ∷ [] else threads) → is_added ≡ true → with_starts start left threads' ≡ with_starts start old threads
+  started old left popped pass threads threads' is_added t was is begun more added =
+      taken old left threads threads' t (was ∙ ap (λ o. left ++ option_to_list o) is ∙ ap (λ p. left ++ p ∷ []) (sym begun)) (more ∙ ap (λ b. if b then threads ++ t ∷ [] else threads) added)
 
 module _ {I S P T : Type 0} (visits : I → S → P → List (T × T) → S → P → Type 0) (service : I) where
   pub same_left : (ps : List P) → ArePassesLeft visits service ps ps

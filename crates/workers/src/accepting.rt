@@ -10,7 +10,7 @@ use std::alloc::Global;
 use std::io::ErrorKind;
 use std::net::{Net, TcpListener};
 use std::rt::Clock;
-use std::sync::{Arc, Wait};
+use std::sync::Wait;
 use std::thread;
 use std::time::Duration;
 use talks::NewSocket;
@@ -46,10 +46,10 @@ pub struct Bounds<'a, W> {
 
 /// The acceptor's side of a worker.
 #[derive(Drop)]
-pub(crate) struct Link {
+pub(crate) struct Link<'s> {
     /// Where connections are put for it, until no more come.
     pub(crate) arrivals: Option<Sender<NewSocket>>,
-    pub(crate) load: Arc<WorkerLoad>,
+    pub(crate) load: &'s WorkerLoad,
 }
 
 // What became of a connection that was handed over.
@@ -59,7 +59,7 @@ enum Handed {
     Gone(NewSocket),
 }
 
-impl Link {
+impl<'s> Link<'s> {
     fn hand<R: Wait>(&self, rt: &R, socket: NewSocket) -> Handed {
         let Some(arrivals) = &self.arrivals else {
             return Handed::Gone(socket);
@@ -83,7 +83,7 @@ impl Link {
 }
 
 // How many connections are open: `None` where no worker is left.
-fn open_in(links: &[Link]) -> Option<usize> {
+fn open_in(links: &[Link<'_>]) -> Option<usize> {
     let mut open = None;
     for link in links {
         if !link.load.is_gone() {
@@ -94,7 +94,7 @@ fn open_in(links: &[Link]) -> Option<usize> {
 }
 
 // The worker with the fewest connections, of those that are left.
-fn least_in(links: &[Link]) -> Option<&Link> {
+fn least_in<'a, 's>(links: &'a [Link<'s>]) -> Option<&'a Link<'s>> {
     let mut least = None;
     let mut fewest = usize::MAX;
     for link in links {
@@ -132,11 +132,13 @@ impl<'a> Door<'a> {
         alloc: Global,
         listener: &'a TcpListener,
     ) -> Result<Door<'a>, WorkersFault> {
-        let (Ok(()), Ok(poll), Ok(own)) = (
-            listener.set_nonblocking(true),
-            Poll::new(rt),
-            listener.try_clone(),
-        ) else {
+        if listener.set_nonblocking(true).is_err() {
+            return Err(WorkersFault::Thread);
+        }
+        let Ok(poll) = Poll::new(rt) else {
+            return Err(WorkersFault::Thread);
+        };
+        let Ok(own) = listener.try_clone() else {
             return Err(WorkersFault::Thread);
         };
         let mut registered = net::TcpListener::from_std(own);
@@ -180,7 +182,7 @@ impl<'a> Door<'a> {
 #[derive(Drop)]
 pub(crate) struct Acceptor<'a, W> {
     door: Door<'a>,
-    links: &'a [Link],
+    links: &'a [Link<'a>],
     shared: &'a Shared,
     bounds: &'a Bounds<'a, W>,
     /// The second in which it last looked after the workers.
@@ -193,7 +195,7 @@ impl<'a, W: Watch> Acceptor<'a, W> {
         rt: &R,
         alloc: Global,
         listener: &'a TcpListener,
-        links: &'a [Link],
+        links: &'a [Link<'a>],
         shared: &'a Shared,
         bounds: &'a Bounds<'a, W>,
     ) -> Result<Acceptor<'a, W>, WorkersFault>
@@ -288,7 +290,7 @@ impl<'a, W: Watch> Acceptor<'a, W> {
 }
 
 /// Tells each worker that no more connections come.
-pub(crate) fn close(links: &mut [Link]) {
+pub(crate) fn close(links: &mut [Link<'_>]) {
     for link in links.iter_mut() {
         link.arrivals = None;
         link.load.wake();

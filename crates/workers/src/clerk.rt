@@ -22,7 +22,7 @@ impl<'a, I, P, S: Serve<I, P>> Clerk<'a, I, P, S> {
         &mut self,
         rt: &R,
         alloc: Global,
-        event_loop: &mut EventLoop<S::Session>,
+        event_loop: &mut EventLoop<'_, S::Session>,
         mut batch: Batch<S::Session>,
         now: u64,
     ) -> Batch<S::Session>
@@ -48,7 +48,7 @@ impl<'a, I, P, S: Serve<I, P>> Clerk<'a, I, P, S> {
         &mut self,
         rt: &R,
         alloc: Global,
-        event_loop: &mut EventLoop<S::Session>,
+        event_loop: &mut EventLoop<'_, S::Session>,
         batch: Batch<S::Session>,
         now: u64,
     ) -> Batch<S::Session>
@@ -68,7 +68,7 @@ impl<'a, I, P, S: Serve<I, P>> Clerk<'a, I, P, S> {
 
 // Begins at most this many turns, until no more sessions fit into the batch. How many turns are left.
 fn fill<T: Session + Drop>(
-    event_loop: &mut EventLoop<T>,
+    event_loop: &mut EventLoop<'_, T>,
     batch: &mut Batch<T>,
     turns: usize,
     now: u64,
@@ -127,7 +127,7 @@ fn begin_turn<T: Session + Drop>(
 
 // Gives sessions back after their visit, in their order. Ends each turn: the answer is sent.
 fn give_back<T: Session + Drop>(
-    event_loop: &mut EventLoop<T>,
+    event_loop: &mut EventLoop<'_, T>,
     mut visited: VisitedBatch<T>,
     now: u64,
 ) -> Batch<T> {
@@ -152,7 +152,7 @@ fn give_back<T: Session + Drop>(
 }
 
 /// Sends what is left of each connection whose turn has come, and drops what still comes.
-pub(crate) fn send_ready<T: Session + Drop>(event_loop: &mut EventLoop<T>, now: u64) {
+pub(crate) fn send_ready<T: Session + Drop>(event_loop: &mut EventLoop<'_, T>, now: u64) {
     for _visit in 0..event_loop.ready.len() {
         let Some(key) = event_loop.ready.pop_front() else {
             return;

@@ -7,10 +7,10 @@ use slab::Slab;
 use std::alloc::{AllocError, Global};
 use std::collections::VecDeque;
 use std::rt::Clock;
+use std::sync::Wait;
 use std::sync::atomic::Ordering;
-use std::sync::{Arc, Wait};
 use std::time::Duration;
-use talks::{Left, Peer, Session, Talk};
+use talks::{Left, NewSocket, Peer, Session, Talk};
 
 /// The token of the worker's waker.
 pub(crate) const WAKER: Token = Token(usize::MAX);
@@ -26,7 +26,7 @@ const LONGEST_WAIT: u64 = 1;
 
 /// The connections of a worker.
 #[derive(Drop)]
-pub(crate) struct EventLoop<T: Session + Drop> {
+pub(crate) struct EventLoop<'s, T: Session + Drop> {
     poll: Poll,
     events: Events,
     inbox: Inbox,
@@ -39,21 +39,21 @@ pub(crate) struct EventLoop<T: Session + Drop> {
     pub(crate) ready: VecDeque<usize>,
     /// Where bytes are read.
     pub(crate) space: Vec<u8>,
-    load: Arc<WorkerLoad>,
-    shared: Arc<Shared>,
+    load: &'s WorkerLoad,
+    shared: &'s Shared,
     /// The second in which it looked after all connections last.
     ticked: u64,
 }
 
-impl<T: Session + Drop> EventLoop<T> {
+impl<'s, T: Session + Drop> EventLoop<'s, T> {
     /// No connections.
     pub(crate) fn new(
         alloc: Global,
         poll: Poll,
         inbox: Inbox,
-        load: Arc<WorkerLoad>,
-        shared: Arc<Shared>,
-    ) -> Result<EventLoop<T>, AllocError> {
+        load: &'s WorkerLoad,
+        shared: &'s Shared,
+    ) -> Result<EventLoop<'s, T>, AllocError> {
         Ok(EventLoop {
             poll,
             events: Events::with_capacity(alloc, EVENTS)?,
@@ -102,13 +102,14 @@ impl<T: Session + Drop> EventLoop<T> {
         now
     }
 
-    /// Takes a connection.
-    fn admit(&mut self, talk: Talk<T>, now: u64) {
+    // Takes a connection.
+    fn admit(&mut self, alloc: Global, socket: NewSocket, now: u64) {
         let room = self.peers.len().saturating_add(1);
         if self.ready.reserve(room).is_err() {
             self.load.end();
             return;
         }
+        let talk = Talk::new(socket, T::open(alloc));
         let Ok(key) = self.peers.insert(Peer::new(talk, now)) else {
             self.load.end();
             return;
@@ -135,7 +136,7 @@ impl<T: Session + Drop> EventLoop<T> {
         }
         for _arrival in 0..u64::MAX {
             match self.inbox.next(rt) {
-                Arrived::One(socket) => self.admit(Talk::new(socket, T::open(alloc)), now),
+                Arrived::One(socket) => self.admit(alloc, socket, now),
                 Arrived::None => return,
                 Arrived::Over(told) => {
                     self.over = Some(told);

@@ -9,14 +9,14 @@ use crate::fault::WorkersFault;
 use crate::inbox::Inbox;
 use crate::shared::{Shared, WorkerLoad};
 use crate::worker::{OfService, Worker, WorkerEnd, work};
-use crossbeam_channel::bounded;
+use crossbeam_channel::{Sender, bounded};
 use mio::{Poll, Waker};
 use std::alloc::Global;
 use std::net::{Net, TcpListener};
 use std::rt::Clock;
-use std::sync::{Arc, Wait};
+use std::sync::Wait;
 use std::thread::{self, PromisedHandle, Scope, Threads};
-use talks::{Batch, Serve, Session};
+use talks::{Batch, NewSocket, Serve, Session};
 
 /// How many connections may wait for a worker.
 const WAITING: usize = 64;
@@ -26,10 +26,10 @@ type Thread<I, P, S> = PromisedHandle<WorkerEnd<P>, OfService<I, P, S>>;
 
 // The passes that no worker has, the workers' threads, and the acceptor's sides of the workers.
 #[derive(Drop)]
-struct Crew<I, P: Drop, S: Serve<I, P>> {
+struct Crew<'s, I, P: Drop, S: Serve<I, P>> {
     passes: Vec<P>,
     threads: Vec<Thread<I, P, S>>,
-    links: Vec<Link>,
+    links: Vec<Link<'s>>,
 }
 
 // What all workers and the acceptor share.
@@ -39,7 +39,7 @@ struct Site<'s, I, R> {
     alloc: Global,
     service: &'s I,
     listener: &'s TcpListener,
-    shared: Arc<Shared>,
+    shared: &'s Shared,
 }
 
 // What a worker is given for itself, beside its pass.
@@ -56,7 +56,7 @@ fn make_posts<S: Drop, R: Net>(
     alloc: Global,
     servers: Vec<S>,
     count: usize,
-) -> Result<(Vec<Post<S>>, Vec<Arc<WorkerLoad>>), WorkersFault> {
+) -> Result<(Vec<Post<S>>, Vec<WorkerLoad>), WorkersFault> {
     let mut posts = Vec::with_capacity(alloc, count)?;
     let mut loads = Vec::with_capacity(alloc, count)?;
     for server in servers {
@@ -69,9 +69,7 @@ fn make_posts<S: Drop, R: Net>(
         let Ok(waker) = Waker::new(poll.registry(), WAKER) else {
             return Err(WorkersFault::Thread);
         };
-        let Ok(load) = Arc::new(alloc, WorkerLoad::new(waker)) else {
-            return Err(WorkersFault::Memory);
-        };
+        let load = WorkerLoad::new(waker);
         if posts.push(Post { server, poll }).is_err() || loads.push(load).is_err() {
             return Err(WorkersFault::Memory);
         }
@@ -79,21 +77,19 @@ fn make_posts<S: Drop, R: Net>(
     Ok((posts, loads))
 }
 
-// The connections of a worker, and the acceptor's side of it.
-fn make<T: Session + Drop>(
+// The connections of a worker, and where the acceptor puts them.
+fn make<'s, T: Session + Drop>(
     alloc: Global,
     poll: Poll,
-    load: &Arc<WorkerLoad>,
-    shared: &Arc<Shared>,
-) -> Result<(EventLoop<T>, Link), WorkersFault> {
+    load: &'s WorkerLoad,
+    shared: &'s Shared,
+) -> Result<(Box<EventLoop<'s, T>>, Sender<NewSocket>), WorkersFault> {
     let (sender, receiver) = bounded(alloc, WAITING)?;
-    let (own, shared) = (Arc::try_clone(load)?, Arc::try_clone(shared)?);
-    let event_loop = EventLoop::new(alloc, poll, Inbox::new(receiver), own, shared)?;
-    let link = Link {
-        arrivals: Some(sender),
-        load: Arc::try_clone(load)?,
+    let event_loop = EventLoop::new(alloc, poll, Inbox::new(receiver), load, shared)?;
+    let Ok(event_loop) = Box::new(alloc, event_loop) else {
+        return Err(WorkersFault::Memory);
     };
-    Ok((event_loop, link))
+    Ok((event_loop, sender))
 }
 
 // Starts a worker.
@@ -128,9 +124,9 @@ where
 fn start_next<'s, E, I, P, S, R>(
     scope: &'s Scope<'s, E>,
     site: &Site<'s, I, R>,
-    crew: &mut Crew<I, P, S>,
+    crew: &mut Crew<'s, I, P, S>,
     post: Post<S>,
-    load: &Arc<WorkerLoad>,
+    load: &'s WorkerLoad,
 ) -> Result<bool, WorkersFault>
 where
     I: Sync + 's,
@@ -147,7 +143,7 @@ where
         crew.old.passes.items crew.old.threads.items) }
 {
     let Post { server, poll } = post;
-    let (event_loop, link) = make(site.alloc, poll, load, &site.shared)?;
+    let (event_loop, sender) = make(site.alloc, poll, load, site.shared)?;
     let batch = Batch::new(site.alloc)?;
     let Some(pass) = crew.passes.pop() else {
         return Ok(false);
@@ -168,6 +164,10 @@ where
     if crew.threads.push(thread).is_err() {
         return Err(WorkersFault::Memory);
     }
+    let link = Link {
+        arrivals: Some(sender),
+        load,
+    };
     if crew.links.push(link).is_err() {
         return Err(WorkersFault::Memory);
     }
@@ -178,7 +178,7 @@ where
 fn start_all<'s, E, I, P, S, R>(
     scope: &'s Scope<'s, E>,
     site: &Site<'s, I, R>,
-    crew: &mut Crew<I, P, S>,
+    crew: &mut Crew<'s, I, P, S>,
     mut posts: Vec<Post<S>>,
 ) -> Result<(), WorkersFault>
 where
@@ -211,13 +211,14 @@ where
 fn join_all<I, P: Drop, S: Serve<I, P>, R: Threads>(
     rt: &R,
     service: &I,
-    crew: Crew<I, P, S>,
+    crew: Crew<'_, I, P, S>,
 ) -> (Vec<P>, Result<(), WorkersFault>)
     requires passes { All (S.is_pass_of service.now) crew.passes.items }
     requires threads { All (λ thread. thread.promise.service.value ≡ service.now) crew.threads.items }
     ensures passes { All (S.is_pass_of service.now) result.0.items }
     ensures left { OnOk result.1 (ArePassesLeft S.visits service.now
-        (with_starts (λ thread. thread.promise.start.value) crew.passes.items crew.threads.items) result.0.items) }
+        (with_starts (λ thread. thread.promise.start.value) crew.entry.passes.items crew.entry.threads.items)
+        result.0.items) }
 {
     let _ = service;
     let Crew {
@@ -239,7 +240,7 @@ fn join_all<I, P: Drop, S: Serve<I, P>, R: Threads>(
 fn serve_in<'s, E, I, P, S, R, W: Watch>(
     scope: &'s Scope<'s, E>,
     site: &Site<'s, I, R>,
-    crew: Crew<I, P, S>,
+    crew: Crew<'s, I, P, S>,
     posts: Vec<Post<S>>,
     bounds: &Bounds<'_, W>,
 ) -> (Vec<P>, Result<AcceptEnd, WorkersFault>)
@@ -253,7 +254,8 @@ where
     requires threads { All (λ thread. thread.promise.service.value ≡ site.now.service.now) crew.threads.items }
     ensures passes { All (S.is_pass_of site.now.service.now) result.0.items }
     ensures left { OnOk result.1 (ArePassesLeft S.visits site.now.service.now
-        (with_starts (λ thread. thread.promise.start.value) crew.passes.items crew.threads.items) result.0.items) }
+        (with_starts (λ thread. thread.promise.start.value) crew.entry.passes.items crew.entry.threads.items)
+        result.0.items) }
     ensures served { IfOk result.1 (IsServedFor bounds.now.connections) }
 {
     let mut crew = crew;
@@ -272,7 +274,7 @@ where
 // Hands the connections that come to the workers.
 fn accept<I, R: Wait + Clock + Net, W: Watch>(
     site: &Site<'_, I, R>,
-    links: &[Link],
+    links: &[Link<'_>],
     bounds: &Bounds<'_, W>,
 ) -> Result<AcceptEnd, WorkersFault>
     ensures { IfOk result (IsServedFor bounds.now.connections) }
@@ -282,7 +284,7 @@ fn accept<I, R: Wait + Clock + Net, W: Watch>(
         site.alloc,
         site.listener,
         links,
-        &site.shared,
+        site.shared,
         bounds,
     )?;
     Ok(acceptor.accept(site.rt))
@@ -299,13 +301,13 @@ fn accept<I, R: Wait + Clock + Net, W: Watch>(
 /// ends within a second. It ends at once, with an error, where there is no memory or a thread cannot be started. A
 /// connection is closed after `IDLE_SECONDS` without a byte either way, and `REQUEST_SECONDS` after the first byte of a
 /// request that has not come whole. A connection that could not be accepted is not counted, and costs 10 milliseconds.
-pub fn serve_listener<I, P, S, R, W: Watch>(
-    rt: &R,
+pub fn serve_listener<'a, I, P, S, R, W: Watch>(
+    rt: &'a R,
     alloc: Global,
-    service: &I,
+    service: &'a I,
     passes: Vec<P>,
     servers: Vec<S>,
-    listener: &TcpListener,
+    listener: &'a TcpListener,
     bounds: &Bounds<'_, W>,
 ) -> (Vec<P>, Result<AcceptEnd, WorkersFault>)
 where
@@ -326,15 +328,13 @@ where
         Ok(made) => made,
         Err(fault) => return (passes, Err(fault)),
     };
-    let Ok(shared) = Arc::new(alloc, Shared::new(rt, loads, bounds.half_sent)) else {
-        return (passes, Err(WorkersFault::Memory));
-    };
+    let shared = Shared::new(rt, loads, bounds.half_sent);
     let site = Site {
         rt,
         alloc,
         service,
         listener,
-        shared,
+        shared: &shared,
     };
     thread::scope(
         thread::scope_env(),

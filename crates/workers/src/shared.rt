@@ -2,7 +2,6 @@
 
 use mio::Waker;
 use std::rt::Clock;
-use std::sync::Arc;
 use std::sync::atomic::{AtomicBool, AtomicU64, AtomicUsize, Ordering};
 use std::time::Instant;
 
@@ -113,7 +112,7 @@ impl WorkerLoad {
 /// What all workers share.
 #[derive(Drop)]
 pub(crate) struct Shared {
-    pub(crate) loads: Vec<Arc<WorkerLoad>>,
+    pub(crate) loads: Vec<WorkerLoad>,
     /// How many bytes of requests that have not come whole they hold.
     pub(crate) held: AtomicUsize,
     /// How many they may.
@@ -123,7 +122,7 @@ pub(crate) struct Shared {
 
 impl Shared {
     /// Nothing is held yet, and the time begins.
-    pub(crate) fn new<R: Clock>(rt: &R, loads: Vec<Arc<WorkerLoad>>, most_held: usize) -> Shared {
+    pub(crate) fn new<R: Clock>(rt: &R, loads: Vec<WorkerLoad>, most_held: usize) -> Shared {
         Shared {
             loads,
             held: AtomicUsize::new(0),

@@ -20,7 +20,7 @@ pub(crate) struct Worker<'a, I, P, S: Serve<I, P>, R> {
     pub(crate) rt: &'a R,
     pub(crate) alloc: Global,
     pub(crate) clerk: Clerk<'a, I, P, S>,
-    pub(crate) event_loop: EventLoop<S::Session>,
+    pub(crate) event_loop: Box<EventLoop<'a, S::Session>>,
     pub(crate) batch: Batch<S::Session>,
 }
 
@@ -89,7 +89,7 @@ pub(crate) fn work<I, P, S: Serve<I, P> + Drop, R: Wait + Clock>(
         mut event_loop,
         batch,
     } = worker;
-    let why = serve_all(rt, alloc, &mut clerk, &mut event_loop, batch);
+    let why = serve_all(rt, alloc, &mut clerk, &mut *event_loop, batch);
     leave(rt, alloc, event_loop);
     WorkerEnd {
         pass: clerk.pass,
@@ -102,7 +102,7 @@ fn serve_all<I, P, S: Serve<I, P>, R: Wait + Clock>(
     rt: &R,
     alloc: Global,
     clerk: &mut Clerk<'_, I, P, S>,
-    event_loop: &mut EventLoop<S::Session>,
+    event_loop: &mut EventLoop<'_, S::Session>,
     mut batch: Batch<S::Session>,
 ) -> Why
     requires { S.is_pass_of clerk.old.service.now clerk.old.pass }
@@ -128,14 +128,18 @@ fn serve_all<I, P, S: Serve<I, P>, R: Wait + Clock>(
 }
 
 // Sends what was answered, and ends each connection.
-fn leave<T: Session + Drop, R: Wait + Clock>(rt: &R, alloc: Global, mut event_loop: EventLoop<T>) {
+fn leave<T: Session + Drop, R: Wait + Clock>(
+    rt: &R,
+    alloc: Global,
+    mut event_loop: Box<EventLoop<'_, T>>,
+) {
     event_loop.leave();
     for _turn in rt.forever() {
         if event_loop.peers.is_empty() {
             return;
         }
         let now = event_loop.wait(rt);
-        send_ready(&mut event_loop, now);
+        send_ready(&mut *event_loop, now);
         event_loop.tick(alloc, now);
     }
 }
