@@ -115,3 +115,18 @@ pub loop-log-smaller : goal.loop-log-smaller
 loop-log-smaller g c =
     let popped = c.in-Some.ensures.len in
     omega arith
+
+pub returns-in-Err-clause-made : goal.returns-in-Err-clause-made
+returns-in-Err-clause-made g c = tt
+
+pub returns-in-Err-clause-same : goal.returns-in-Err-clause-same
+returns-in-Err-clause-same g c = tt
+
+pub returns-in-Err-clause-room : goal.returns-in-Err-clause-room
+returns-in-Err-clause-room g c = tt
+
+pub returns-clause-same : goal.returns-clause-same
+returns-clause-same g c = refl
+
+pub returns-clause-unmade : goal.returns-clause-unmade
+returns-clause-unmade g c = tt

@@ -132,3 +132,18 @@ returns-clause-ready g c =
       subst (λ v. AreEnds c.opened_with.result.ingester v.items) (sym made.ends) (subst (λ (o : Opening g.row.D.Denot). AreEnds o c.in-Ok.planned.plan.ends.items) (sym here) plan.ends),
       ap deque_len made.ends ∙ (plan.count ∙ (counted ∙ (sym shards.ensures.room.1 ∙ ap vec_len (sym made.shards)))),
     )
+
+pub returns-in_default-clause-opened : goal.returns-in_default-clause-opened
+returns-in_default-clause-opened g c = tt
+
+pub returns-in_default-clause-ready : goal.returns-in_default-clause-ready
+returns-in_default-clause-ready g c = tt
+
+pub returns-in_default-make_shards-clause-opened : goal.returns-in_default-make_shards-clause-opened
+returns-in_default-make_shards-clause-opened g c = tt
+
+pub returns-in_default-make_shards-clause-ready : goal.returns-in_default-make_shards-clause-ready
+returns-in_default-make_shards-clause-ready g c = tt
+
+pub returns-clause-unmade : goal.returns-clause-unmade
+returns-clause-unmade g c = tt
