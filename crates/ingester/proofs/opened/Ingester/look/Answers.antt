@@ -38,9 +38,6 @@ returns-clause-legal g c =
     let now = seen_at c.observe.new.pass.caller k in
     subst (λ (p : Passed). IsLegalAt p.caller.about k now) c.pass.view_is c.observe.ensures.legal
 
-pub returns-clause-length : goal.returns-clause-length
-returns-clause-length g c = c.observe.ensures.length
-
 pub returns-clause-by_passes : goal.returns-clause-by_passes
 returns-clause-by_passes g c =
     let k = c.args.shard in

@@ -63,17 +63,6 @@ push_back_reserved-requires g c =
     let inv = c.loop.invariant in
     has_place _ _ _ _ _ _ _ inv.len c.loop-test.true c.requires.room inv.capacity
 
-pub returns-clause-lost : goal.returns-clause-lost
-returns-clause-lost g c =
-    let was = c.args.outcomes.now.items in
-    let all = at_end _ _ _ c.loop-test.false c.loop.auto.counter-end c.requires.some in
-    record {
-      mid = c.take_back.new.pass;
-      back = c.take_back.ensures.back;
-      closed = c.close.ensures;
-      outcomes_are = subst (λ (n : ℕ). c.loop.outcomes.items ≡ was ++ doubts (n - c.args.from)) all c.loop.invariant.items;
-    }
-
 pub returns-clause-len : goal.returns-clause-len
 returns-clause-len g c = c.loop.invariant.len ∙ ap (λ (n : ℕ). deque_len c.args.outcomes.now + n) (at_end _ _ _ c.loop-test.false c.loop.auto.counter-end c.requires.some)
 

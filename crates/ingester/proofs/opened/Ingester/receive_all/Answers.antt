@@ -91,11 +91,6 @@ receive_next-requires-clause-table g c = c.loop-i.invariant.round.table
 pub receive_next-requires-clause-about : goal.receive_next-requires-clause-about
 receive_next-requires-clause-about g c = c.loop-i.invariant.round.about
 
-pub receive_next-requires-clause-number : goal.receive_next-requires-clause-number
-receive_next-requires-clause-number g c =
-    let round = c.loop-i.invariant.round in
-    first_waits_for _ _ _ _ round.numbers round.long c.loop-i-test.true
-
 pub receive_next-requires-clause-rested : goal.receive_next-requires-clause-rested
 receive_next-requires-clause-rested g c = c.loop-i.invariant.round.rested
 
@@ -124,9 +119,6 @@ returns-clause-round g c = subst (λ (n : ℕ). IsUnderWay c.args.self.now c.loo
 
 pub returns-clause-routes : goal.returns-clause-routes
 returns-clause-routes g c = (c.loop-i.invariant.routes, c.loop-i.invariant.long)
-
-pub returns-clause-len : goal.returns-clause-len
-returns-clause-len g c = c.loop-i.invariant.len ∙ ap (λ (n : ℕ). deque_len c.args.outcomes.now + n) (all_taken _ _ c.loop-i-test.false c.loop-i.auto.i-end)
 
 pub returns-clause-capacity : goal.returns-clause-capacity
 returns-clause-capacity g c = c.loop-i.invariant.capacity

@@ -41,10 +41,6 @@ returns-in-Some-clause-settled g c = inl c.in-Some.ensures.taken
 pub returns-in-Some-clause-route : goal.returns-in-Some-clause-route
 returns-in-Some-clause-route g c = λ k is. c.in-Some.ensures.route k is
 
-pub returns-in-None-clause-settled : goal.returns-in-None-clause-settled
-returns-in-None-clause-settled g c =
-    inr (record { doubt = refl; mid = c.take_back.new.pass; back = subst (λ (p : Passed). IsTakenBack p c.take_back.new.pass) (c.in-None.ensures.none refl) c.take_back.ensures.back; closed = c.close.ensures })
-
 pub returns-in-None-clause-route : goal.returns-in-None-clause-route
 returns-in-None-clause-route g c = λ k is.
     let same = c.in-None.ensures.none refl in
