@@ -7,7 +7,7 @@ use Rattle.accept.specs.Calls.{AreNumbers}
 use Rattle.accept.specs.declared.call.Call.{Call}
 use Rattle.accept.specs.declared.call.Reply.{Reply}
 use Rattle.accept.specs.declared.history.Ask.{Ask}
-use Rattle.history.specs.Histories.{behind_first}
+use Rattle.history.specs.Histories.{behind_first, IsFirstNumber}
 use Rattle.history.specs.Plays.{IsRested}
 use Rattle.history.specs.Handles.{Passed}
 use Rattle.owners.specs.Openings.{Opening}
@@ -16,6 +16,15 @@ use Rattle.accept.specs.declared.fault.CallFault.TheVariants.{Memory, LogSpent, 
 use Rattle.ingester.specs.Calls.{IsPassOf, IsRefused, AreGiven, with_next, closed_now}
 use Rattle.ingester.specs.Batches.{doubts, IsTakenBack, AreAnnounced, AreCountedFrom, AreSomeOpen, IsCollected, IsWithdrawn, IsTaken, AreTaken, AreReceived, AreLost, AreEnded, IsNextRefused}
 use Rattle.ingester.proofs.Chaining.{AreDone, taken_more, some_given, all_lost, given_append}
+
+-- the first of the open calls waits, where fewer were taken in than are under way
+pub first_waits_for : (n taken count : ℕ) (asks : List Ask) → AreCountedFrom n asks → length asks + taken ≡ count → taken < count → IsFirstNumber n asks
+first_waits_for n taken count [] counted long fewer = absurd (omega arith)
+first_waits_for n taken count (a ∷ asks) counted long fewer = counted.0
+
+-- there is a place for another outcome
+pub has_place : (len from had done count cap room : ℕ) → len + from ≡ had + done → done < count → had + count ≤ cap + from → room ≡ cap → len < room
+has_place len from had done count cap room so_far fewer much same = omega arith
 
 -- the first open call was taken in
 pub record IsBehind (old new : Passed) : Type 0 where

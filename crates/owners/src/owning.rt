@@ -1,4 +1,7 @@
 //! A thread that owns a shard.
+ghost use Rattle.std.specs.Prelude.{ℕ};
+ghost use Rattle.owners.specs.Owners.{IsOwner};
+
 use crate::mailbox::Mailbox;
 use crate::making::make_all;
 use crate::messages::{AnswerSender, ExitReason, OrderReceiver};
@@ -48,23 +51,39 @@ impl<D: Disk + Drop> Model for OwnerThread<D> {
     ghost invariant = { λ o. IsOwner D.sight D.follows o.number o.state o.ends };
 }
 
+// Makes the calls that come, by groups, and sends the messages back, until the last order comes or nobody can send any
+// more. Says which of both has come.
+fn answer_orders<D: Disk + Drop, R: Wait>(
+    rt: &R,
+    alloc: Global,
+    state: &mut Shard<D>,
+    ends: &mut OwnerEnds<D>,
+) -> ExitReason
+    requires { (k : ℕ) × IsOwner D.sight D.follows k state.old ends.old }
+    ensures { (k : ℕ) → IsOwner D.sight D.follows k state.old ends.old
+        → IsOwner D.sight D.follows k state.new ends.new }
+{
+    for _ in rt.forever() {
+        let ending = take_group(rt, &mut ends.orders, &mut ends.mailbox);
+        make_all(alloc, state, &mut ends.mailbox);
+        send_all(rt, &mut ends.mailbox.messages, &mut ends.answers);
+        if let Some(ending) = ending {
+            return ending;
+        }
+    }
+    unreachable!()
+}
+
 /// Makes the calls that come, by groups, and sends the messages back, until the last order comes or nobody can send any
 /// more. Then it gives the shard back, and says which of both has come.
 pub fn own<D: Disk + Drop, R: Wait>(rt: &R, owner: OwnerThread<D>) -> ExitReason {
     let OwnerThread {
         alloc,
-        number,
+        number: _,
         mut state,
         mut ends,
     } = owner;
-    for _ in rt.forever() {
-        let ending = take_group(rt, &mut ends.orders, &mut ends.mailbox);
-        make_all(alloc, &mut state, &mut ends.mailbox);
-        send_all(rt, &mut ends.mailbox.messages, &mut ends.answers);
-        if let Some(ending) = ending {
-            drop(ends.back.send(rt, state));
-            return ending;
-        }
-    }
-    unreachable!()
+    let ending = answer_orders(rt, alloc, &mut state, &mut ends);
+    drop(ends.back.send(rt, state));
+    ending
 }

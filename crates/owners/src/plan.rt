@@ -13,7 +13,7 @@ ghost use Rattle.keyed.specs.Queues.{receives_as};
 ghost use Rattle.keyed.specs.declared.binding.Binding.TheVariants.{Bound};
 
 use crate::mailbox::Mailbox;
-use crate::owning::{OwnerEnds, ShardReceiver, ShardSender};
+use crate::owning::{OwnerEnds, ShardReceiver};
 use crate::places::{Home, OpeningSnapshot};
 use crate::routes::ShardRoute;
 use crate::rows::{ShardQueues, make_rows};
@@ -102,35 +102,6 @@ fn make_mailbox(alloc: Global, passes: usize) -> Result<Mailbox, AllocError>
     })
 }
 
-// What an owner works by, of these parts.
-fn ends_with<D: Disk + Drop>(
-    origin: OpeningSnapshot<D>,
-    queues: ShardQueues,
-    back: ShardSender<D>,
-    mailbox: Mailbox,
-) -> OwnerEnds<D>
-    ensures { result ≡ record {
-      origin = origin;
-      orders = queues.gets;
-      answers = queues.answers;
-      back = back;
-      mailbox = mailbox;
-    } }
-{
-    let ShardQueues {
-        orders: _,
-        gets,
-        answers,
-    } = queues;
-    OwnerEnds {
-        origin,
-        orders: gets,
-        answers,
-        back,
-        mailbox,
-    }
-}
-
 // What the owner of a shard works by, and the end by which the shard comes back.
 fn make_ends<D: Disk + Drop>(
     alloc: Global,
@@ -145,7 +116,19 @@ fn make_ends<D: Disk + Drop>(
 {
     let mailbox = make_mailbox(alloc, passes)?;
     let (back, comes) = queue(alloc, 1, &origin, shard)?;
-    Ok((ends_with(origin, queues, back, mailbox), comes))
+    let ShardQueues {
+        orders: _,
+        gets,
+        answers,
+    } = queues;
+    let ends = OwnerEnds {
+        origin,
+        orders: gets,
+        answers,
+        back,
+        mailbox,
+    };
+    Ok((ends, comes))
 }
 
 // What each owner works by, and the ends by which the shards come back, in the order of their numbers.

@@ -1,5 +1,5 @@
 -- What a job more makes of the group that is gathered.
-use Rattle.std.proofs.Common.{◌≡◌, ℕ, suc, ◌+◌, ◌<◌, ◌≤◌, List, [], ◌∷◌, ◌++◌, Some, None, length, length-append, refl, sym, ap, ◌∙◌, subst, arith, append_assoc}
+use Rattle.std.proofs.Common.{◌≡◌, ℕ, suc, ◌+◌, ◌<◌, ◌≤◌, List, [], ◌∷◌, ◌++◌, Some, None, length, length-append, refl, sym, ap, ◌∙◌, subst, arith, append_assoc, ◌≢◌}
 use Rattle.std.specs.VecDeque.{deque_len, deque_capacity}
 use Rattle.accept.specs.declared.call.Call.{Call}
 use Rattle.accept.specs.declared.call.Reply.{Reply}
@@ -19,6 +19,28 @@ use Rattle.shard.specs.FirstJobs.{EndsGathering, HasGathered}
 use Rattle.shard.specs.Judging.{IsTooLong, IsFullFor, IsUntouched}
 use Rattle.shard.specs.Jobs.{max_turn, tickets_of, AreLawful}
 use Rattle.shard.proofs.Joining.{none_joins}
+
+-- of numbers
+pub fits_under : (n len room : ℕ) → len ≡ n → len < 64 → 64 ≤ room → n < room
+fits_under n len room same under much = omega arith
+
+pub under : (n len : ℕ) → len ≡ n → len < 64 → n < 64
+under n len same less = omega arith
+
+pub fewer_fit : (n long few len judged cap : ℕ) → n ≡ few → few ≤ long → judged ≡ long → len ≡ judged → len < 64 → 64 ≤ cap → n < cap
+fewer_fit n long few len judged cap these fewer those same under much = omega arith
+
+pub none_fit : (n cap : ℕ) → n ≡ 0 → 64 ≤ cap → n < cap
+none_fit n cap none much = omega arith
+
+pub one_fewer : (fewer n : ℕ) → fewer + 1 ≡ n → suc fewer ≤ n
+one_fewer fewer n e = omega arith
+
+pub at_most : (n len : ℕ) → len ≡ n → 64 ≤ len → n ≤ 64 → n ≡ 64
+at_most n len same over few = omega arith
+
+pub not_empty : (j : Job) (rest jobs : List Job) → jobs ≡ j ∷ rest → jobs ≢ []
+not_empty j rest jobs is none = let both = sym is ∙ none in cc
 
 -- no more calls change something than are judged
 pub matched_fewer : (js : List Waiting) (ts : List Announced) → AreMatched js ts → length ts ≤ length js

@@ -1,4 +1,4 @@
-use Rattle.std.proofs.Common.{rules, ◌≡◌, ◌≤◌, ◌++◌, ◌∷◌, length, map, refl, ap, sym, ◌∙◌, subst, arith, vec_len}
+use Rattle.std.proofs.Common.{rules, ◌≡◌, ℕ, suc, ◌+◌, ◌<◌, ◌≤◌, add-zero, ◌++◌, ◌∷◌, length, map, refl, ap, sym, ◌∙◌, subst, arith, vec_len}
 use Rattle.std.specs.VecDeque.{deque_len, deque_capacity}
 use Rattle.std.proofs.lemmas.List.{nil_from_length}
 use Rattle.wal.specs.Opening.{disks}
@@ -7,6 +7,21 @@ use Rattle.ingester.proofs.Grounding.{partly_none, partly_more, partly_all, part
 use Rattle.ingester.proofs.Making.{books_behind, shards_in}
 use Rattle.ingester.proofs.building.make_shards.Goals as goal
 
+fewer_same : (had logs fewer left : ℕ) → had ≡ logs → fewer + 1 ≡ had → left + 1 ≡ logs → fewer ≡ left
+fewer_same had logs fewer left same one other = omega arith
+
+one_more : (logs left shards more all : ℕ) → logs + shards ≡ all → left + 1 ≡ logs → more ≡ shards + 1 → left + more ≡ all
+one_more logs left shards more all so_far popped pushed = omega arith
+
+has_place : (logs left shards all room : ℕ) → left + 1 ≡ logs → logs + shards ≡ all → all ≤ room → shards < room
+has_place logs left shards all room popped so_far much = omega arith
+
+all_made : (logs shards all made : ℕ) → logs ≡ 0 → logs + shards ≡ all → made ≡ shards → made ≡ all
+all_made logs shards all made none so_far same = omega arith
+
+one_fewer : (logs left : ℕ) → left + 1 ≡ logs → suc left ≤ logs
+one_fewer logs left popped = omega arith
+
 pub loop-log-init : goal.loop-log-init
 loop-log-init g c = record {
   ground = c.requires.ground;
@@ -14,20 +29,17 @@ loop-log-init g c = record {
   books = c.requires.lens.1;
   partly = partly_none c.args.shards.items c.args.ground.logs.items c.args.ground.books.items c.requires.shards.0;
   slots = refl;
-  made = let none = c.requires.shards.1 in omega arith;
+  made = ap (λ (n : ℕ). vec_len c.args.ground.logs + n) c.requires.shards.1 ∙ add-zero (vec_len c.args.ground.logs);
   room = c.requires.shards.2;
 }
 
 pub make_one-requires-clause-ground : goal.make_one-requires-clause-ground
 make_one-requires-clause-ground g c =
     let inv = c.loop-log.invariant in
-    let logs = c.in-Some.ensures.len in
-    let images = c.in-Some-pop.ensures.len in
-    let books = c.in-Some-pop-2.ensures.len in
-    let images_as = inv.images in
-    let books_as = inv.books in
+    let images = sym c.pop-in-Some.new.self.ok.0 ∙ (fewer_same _ _ _ _ inv.images c.in-Some-pop.ensures.len c.in-Some.ensures.len ∙ c.pop.new.self.ok.0) in
+    let books = sym c.pop-in-Some-2.new.self.ok.0 ∙ (fewer_same _ _ _ _ inv.books c.in-Some-pop-2.ensures.len c.in-Some.ensures.len ∙ c.pop.new.self.ok.0) in
     (ground_popped g.D.Disk.sight g.D.Disk.follows c.args.ground.limits _ c.pop.new.self.items _ c.pop-in-Some.new.self.items _ c.pop-in-Some-2.new.self.items c.in-Some.log c.in-Some-pop.image c.in-Some-pop-2.book inv.ground
-    c.in-Some.ensures.items c.in-Some-pop.ensures.items c.in-Some-pop-2.ensures.items (omega arith) (omega arith)).0
+    c.in-Some.ensures.items c.in-Some-pop.ensures.items c.in-Some-pop-2.ensures.items images books).0
 
 pub return_shards-requires : goal.return_shards-requires
 return_shards-requires g c =
@@ -66,23 +78,19 @@ returns-in-Err-clause-unmade g c =
 pub loop-log-preserved : goal.loop-log-preserved
 loop-log-preserved g c =
     let inv = c.loop-log.invariant in
-    let logs = c.in-Some.ensures.len in
-    let images = c.in-Some-pop.ensures.len in
-    let books = c.in-Some-pop-2.ensures.len in
-    let images_as = inv.images in
-    let books_as = inv.books in
-    let made = inv.made in
+    let popped = c.in-Some.ensures.len in
+    let images = fewer_same _ _ _ _ inv.images c.in-Some-pop.ensures.len popped in
+    let books = fewer_same _ _ _ _ inv.books c.in-Some-pop-2.ensures.len popped in
     let did = c.in_default-make_one.ensures in
-    let more = did.len in
     record {
       ground = (ground_popped g.D.Disk.sight g.D.Disk.follows c.args.ground.limits _ c.pop.new.self.items _ c.pop-in-Some.new.self.items _ c.pop-in-Some-2.new.self.items c.in-Some.log c.in-Some-pop.image c.in-Some-pop-2.book inv.ground
-          c.in-Some.ensures.items c.in-Some-pop.ensures.items c.in-Some-pop-2.ensures.items (omega arith) (omega arith)).1;
-      images = omega arith;
-      books = omega arith;
+          c.in-Some.ensures.items c.in-Some-pop.ensures.items c.in-Some-pop-2.ensures.items (sym c.pop-in-Some.new.self.ok.0 ∙ (images ∙ c.pop.new.self.ok.0)) (sym c.pop-in-Some-2.new.self.ok.0 ∙ (books ∙ c.pop.new.self.ok.0))).1;
+      images = images;
+      books = books;
       partly = partly_more c.loop-log.shards.items c.make_one.new.shards.items c.loop-log.logs.items c.pop.new.self.items c.args.ground.logs.items c.loop-log.books.items c.pop-in-Some-2.new.self.items c.args.ground.books.items c.in-Some.log c.in-Some-pop-2.book
           inv.partly c.in-Some.ensures.items c.in-Some-pop-2.ensures.items did.made;
       slots = inv.slots;
-      made = omega arith;
+      made = one_more _ _ _ _ _ inv.made popped did.len;
       room = subst (λ n. vec_len c.args.ground.logs ≤ n) (sym did.capacity) inv.room;
     }
 
@@ -98,20 +106,27 @@ returns-clause-made g c =
 pub make_one-requires-clause-room : goal.make_one-requires-clause-room
 make_one-requires-clause-room g c =
     let inv = c.loop-log.invariant in
-    let popped = c.in-Some.ensures.len in
-    let made = inv.made in
-    let room = inv.room in
-    omega arith
+    has_place _ _ _ _ _ c.in-Some.ensures.len inv.made inv.room
 
 pub returns-clause-room : goal.returns-clause-room
 returns-clause-room g c =
     let inv = c.loop-log.invariant in
-    let none = c.in_default.ensures.cases.0 in
-    let made = inv.made in
-    let len = c.into_vec-2.ensures.len in
-    (inv.slots, omega arith)
+    (inv.slots, all_made _ _ _ _ c.in_default.ensures.cases.0 inv.made c.into_vec-2.ensures.len)
 
 pub loop-log-smaller : goal.loop-log-smaller
-loop-log-smaller g c =
-    let popped = c.in-Some.ensures.len in
-    omega arith
+loop-log-smaller g c = one_fewer _ _ c.in-Some.ensures.len
+
+pub returns-in-Err-clause-made : goal.returns-in-Err-clause-made
+returns-in-Err-clause-made g c = tt
+
+pub returns-in-Err-clause-same : goal.returns-in-Err-clause-same
+returns-in-Err-clause-same g c = tt
+
+pub returns-in-Err-clause-room : goal.returns-in-Err-clause-room
+returns-in-Err-clause-room g c = tt
+
+pub returns-clause-same : goal.returns-clause-same
+returns-clause-same g c = refl
+
+pub returns-clause-unmade : goal.returns-clause-unmade
+returns-clause-unmade g c = tt

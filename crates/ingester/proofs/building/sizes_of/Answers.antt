@@ -1,4 +1,4 @@
-use Rattle.std.proofs.Common.{◌≤◌, vec_len, sym, subst, arith}
+use Rattle.std.proofs.Common.{ℕ, ◌≤◌, vec_len, sym, ap, ◌+◌, ◌∙◌, subst, arith}
 use Rattle.ingester.proofs.building.sizes_of.Goals as goal
 
 pub loop-place-init : goal.loop-place-init
@@ -16,6 +16,4 @@ push_reserved-requires g c =
 pub loop-place-preserved : goal.loop-place-preserved
 loop-place-preserved g c =
     let inv = c.loop-place.invariant in
-    let len = inv.len in
-    let pushed = c.push_reserved.ensures.len in
-    record { len = omega arith; room = subst (λ n. vec_len c.args.shards.now ≤ n) (sym c.push_reserved.ensures.capacity) inv.room }
+    record { len = c.push_reserved.ensures.len ∙ ap (λ (n : ℕ). n + 1) inv.len; room = subst (λ n. vec_len c.args.shards.now ≤ n) (sym c.push_reserved.ensures.capacity) inv.room }

@@ -1,10 +1,22 @@
-use Rattle.std.proofs.Common.{rules, ◌≡◌, ◌++◌, [], ◌∷◌, map, length, refl, sym, ap, ◌∙◌, subst, arith}
+use Rattle.std.proofs.Common.{rules, ◌≡◌, ℕ, suc, ◌+◌, ◌<◌, ◌≤◌, ◌++◌, [], ◌∷◌, map, length, refl, sym, ap, ◌∙◌, subst, arith}
 use Rattle.std.specs.Prelude.{Some, None}
 use Rattle.std.proofs.lemmas.List.{nil_from_length}
 use Rattle.wal.specs.Opening.{disks}
 use Rattle.ingester.specs.Makings.{AreShardsIn, logs_of_shards}
 use Rattle.ingester.proofs.Making.{in_front, in_last, moved_shard}
 use Rattle.ingester.proofs.made_shards.return_shards.Goals as goal
+
+has_place : (shards left slots all had cap room : ℕ) → left + 1 ≡ shards → shards + slots ≡ all + had → all + had ≤ cap → room ≡ cap → slots < room
+has_place shards left slots all had cap room popped so_far much same = omega arith
+
+one_back : (shards left slots more all had : ℕ) → shards + slots ≡ all + had → left + 1 ≡ shards → more ≡ slots + 1 → left + more ≡ all + had
+one_back shards left slots more all had so_far popped pushed = omega arith
+
+all_back : (shards slots all had : ℕ) → shards ≡ 0 → shards + slots ≡ all + had → slots ≡ all + had
+all_back shards slots all had none so_far = omega arith
+
+one_fewer : (shards left : ℕ) → left + 1 ≡ shards → suc left ≤ shards
+one_fewer shards left popped = omega arith
 
 pub loop-last-init : goal.loop-last-init
 loop-last-init g c = record { items = refl; shards = c.requires.shards; len = refl; capacity = refl }
@@ -20,11 +32,8 @@ into_slots-requires g c =
 
 pub push_front_reserved-requires : goal.push_front_reserved-requires
 push_front_reserved-requires g c =
-    let popped = c.in-Some.ensures.len in
-    let len = c.loop-last.invariant.len in
-    let capacity = c.loop-last.invariant.capacity in
-    let room = c.requires.room in
-    omega arith
+    let inv = c.loop-last.invariant in
+    has_place _ _ _ _ _ _ _ c.in-Some.ensures.len inv.len c.requires.room inv.capacity
 
 pub loop-last-preserved : goal.loop-last-preserved
 loop-last-preserved g c =
@@ -32,14 +41,11 @@ loop-last-preserved g c =
     let shard = c.in-Some-last.shard in
     let all = c.in-Some.ensures.items ∙ ap (λ x. c.pop.new.self.items ++ x ∷ []) c.in-Some-last.is in
     let front = c.push_front_reserved.ensures in
-    let popped = c.in-Some.ensures.len in
-    let pushed = front.len in
-    let len = inv.len in
     record {
       items = ap (λ l. map disks (logs_of_shards c.pop.new.self.items) ++ l) (front.items ∙ ap (λ x. x ∷ c.loop-last.slots.items) c.into_slots.ensures.slots)
           ∙ (moved_shard c.pop.new.self.items c.loop-last.shards.items shard c.loop-last.slots.items all ∙ inv.items);
       shards = in_front c.args.ended.now c.pop.new.self.items _ (subst (AreShardsIn c.args.ended.now) all inv.shards);
-      len = omega arith;
+      len = one_back _ _ _ _ _ _ inv.len c.in-Some.ensures.len front.len;
       capacity = front.capacity ∙ inv.capacity;
     }
 
@@ -53,12 +59,7 @@ pub returns-clause-capacity : goal.returns-clause-capacity
 returns-clause-capacity g c = c.loop-last.invariant.capacity
 
 pub returns-clause-len : goal.returns-clause-len
-returns-clause-len g c =
-    let none = c.in_default.ensures.cases.0 in
-    let len = c.loop-last.invariant.len in
-    omega arith
+returns-clause-len g c = all_back _ _ _ _ c.in_default.ensures.cases.0 c.loop-last.invariant.len
 
 pub loop-last-smaller : goal.loop-last-smaller
-loop-last-smaller g c =
-    let popped = c.in-Some.ensures.len in
-    omega arith
+loop-last-smaller g c = one_fewer _ _ c.in-Some.ensures.len

@@ -1,4 +1,4 @@
-use Rattle.std.proofs.Common.{rules, ◌≡◌, ◌<◌, ◌≤◌, List, length, refl, sym, ap, ◌∙◌, inr, subst, arith, vec_len}
+use Rattle.std.proofs.Common.{rules, ◌≡◌, ℕ, ◌<◌, ◌≤◌, List, length, refl, sym, ap, ◌∙◌, inr, subst, arith, vec_len}
 use Rattle.std.specs.Vec.{vec_capacity}
 use Rattle.std.specs.VecDeque.{deque_len, deque_capacity}
 use Rattle.labels.specs.Shards.{max_shards}
@@ -13,6 +13,9 @@ use Rattle.ingester.proofs.Grounding.{length-fresh_books, all_fit, grounded, ret
 use Rattle.ingester.proofs.Making.{books_in}
 use Rattle.ingester.proofs.Passing.{fresh_seats}
 use Rattle.ingester.proofs.opened.open_all.Goals as goal
+
+room_for : (made logs slots count room : ℕ) → made ≡ logs → logs ≡ slots → count ≡ slots → count ≤ room → made ≤ room
+room_for made logs slots count room all same counted much = omega arith
 
 pub returns-in_default-clause-unmade : goal.returns-in_default-clause-unmade
 returns-in_default-clause-unmade g c =
@@ -58,11 +61,7 @@ returns-in_default-make_shards-clause-unmade g c =
 
 pub sizes_of-requires : goal.sizes_of-requires
 sizes_of-requires g c =
-    let made = c.in-Ok-make_shards.ensures.room.1 in
-    let lens = c.in_ok-logs.ensures.lens.0 in
-    let room = c.in_ok-sizes.ensures.capacity in
-    let count = c.len-count.ensures in
-    (c.in_ok-sizes.ensures.len, omega arith)
+    (c.in_ok-sizes.ensures.len, room_for _ _ _ _ _ c.in-Ok-make_shards.ensures.room.1 c.in_ok-logs.ensures.lens.0 c.len-count.ensures c.in_ok-sizes.ensures.capacity)
 
 pub overflow_cast-kept : goal.overflow_cast-kept
 overflow_cast-kept g c =
@@ -132,3 +131,18 @@ returns-clause-ready g c =
       subst (λ v. AreEnds c.opened_with.result.ingester v.items) (sym made.ends) (subst (λ (o : Opening g.row.D.Denot). AreEnds o c.in-Ok.planned.plan.ends.items) (sym here) plan.ends),
       ap deque_len made.ends ∙ (plan.count ∙ (counted ∙ (sym shards.ensures.room.1 ∙ ap vec_len (sym made.shards)))),
     )
+
+pub returns-in_default-clause-opened : goal.returns-in_default-clause-opened
+returns-in_default-clause-opened g c = tt
+
+pub returns-in_default-clause-ready : goal.returns-in_default-clause-ready
+returns-in_default-clause-ready g c = tt
+
+pub returns-in_default-make_shards-clause-opened : goal.returns-in_default-make_shards-clause-opened
+returns-in_default-make_shards-clause-opened g c = tt
+
+pub returns-in_default-make_shards-clause-ready : goal.returns-in_default-make_shards-clause-ready
+returns-in_default-make_shards-clause-ready g c = tt
+
+pub returns-clause-unmade : goal.returns-clause-unmade
+returns-clause-unmade g c = tt

@@ -1,4 +1,4 @@
-use Rattle.std.proofs.Common.{◌≡◌, ◌+◌, ◌<◌, ℕ, List, length, length-set, add-zero, refl, ap, sym, ◌∙◌, subst, arith}
+use Rattle.std.proofs.Common.{◌≡◌, ◌+◌, ◌<◌, ◌≤◌, ℕ, List, length, length-set, add-zero, refl, ap, sym, ◌∙◌, subst, arith}
 use Rattle.std.specs.VecDeque.{deque_len}
 use Rattle.accept.specs.declared.call.Call.{Call}
 use Rattle.history.specs.Handles.{Passed}
@@ -8,6 +8,9 @@ use Rattle.ingester.proofs.Batching.{below_same}
 use Rattle.ingester.proofs.Receiving.{announced_ahead}
 use Rattle.ingester.proofs.Gathering.{some_first, some_more, first_waits, more_wait, left_numbers}
 use Rattle.ingester.proofs.opened.Ingester.announce_all.Goals as goal
+
+none_open : (waiting calls most : ℕ) → waiting ≡ 0 → calls ≤ most → waiting + calls ≤ most
+none_open waiting calls most none few = omega arith
 
 pub loop-shard-init : goal.loop-shard-init
 loop-shard-init g c =
@@ -85,3 +88,29 @@ returns-clause-round g c =
         below = inv.below;
       };
     })
+
+pub announce_next-requires-clause-numbers : goal.announce_next-requires-clause-numbers
+announce_next-requires-clause-numbers g c = c.requires.numbers
+
+pub announce_next-requires-clause-pass : goal.announce_next-requires-clause-pass
+announce_next-requires-clause-pass g c = (c.requires.pass.table, c.requires.pass.about)
+
+pub announce_next-requires-clause-few : goal.announce_next-requires-clause-few
+announce_next-requires-clause-few g c = none_open _ _ _ (ap length c.requires.idle) c.requires.few
+
+pub announce_next-requires-in-loop-shard-clause-pass : goal.announce_next-requires-in-loop-shard-clause-pass
+announce_next-requires-in-loop-shard-clause-pass g c = (c.loop-shard.invariant.table, c.loop-shard.invariant.about)
+
+pub announce_next-requires-in-loop-shard-clause-numbers : goal.announce_next-requires-in-loop-shard-clause-numbers
+announce_next-requires-in-loop-shard-clause-numbers g c = c.loop-shard.invariant.numbers
+
+pub returns-clause-messages : goal.returns-clause-messages
+returns-clause-messages g c =
+    let last = c.announce_next-in-loop-shard.new in
+    subst (λ (p : ℕ). HasMessages c.args.self.now p last.pass.caller last.routes.items) c.loop-shard.invariant.pass c.in_default.ensures.messages
+
+pub returns-clause-count : goal.returns-clause-count
+returns-clause-count g c = ap (λ d. deque_len d + c.loop-shard.count) c.in_default.ensures.not.1 ∙ c.loop-shard.invariant.calls
+
+pub returns-clause-capacity : goal.returns-clause-capacity
+returns-clause-capacity g c = c.in_default.ensures.capacity ∙ c.loop-shard.invariant.capacity

@@ -44,3 +44,21 @@ returns-clause-messages g c =
       ready = ready_still (home_of now) c.args.pass.now.caller.pass items k was c.join.new.route within c.index_mut.ensures.value c.in_ok-number.ensures.rest messages.ready;
       count = length-set items k c.join.new.route ∙ long;
     }
+
+pub join-requires-clause-table : goal.join-requires-clause-table
+join-requires-clause-table g c = c.requires.pass.0
+
+pub join-requires-clause-few : goal.join-requires-clause-few
+join-requires-clause-few g c = c.requires.few
+
+pub join-requires-clause-numbers : goal.join-requires-clause-numbers
+join-requires-clause-numbers g c = c.requires.numbers
+
+pub returns-clause-not : goal.returns-clause-not
+returns-clause-not g c = c.in_ok-number.ensures.not
+
+pub returns-clause-capacity : goal.returns-clause-capacity
+returns-clause-capacity g c = c.join.ensures.capacity
+
+pub returns-in_err-number-clause-capacity : goal.returns-in_err-number-clause-capacity
+returns-in_err-number-clause-capacity g c = c.join.ensures.capacity

@@ -1,12 +1,19 @@
-use Rattle.std.proofs.Common.{◌≡◌, ◌+◌, [], ◌∷◌, ap, sym, ◌∙◌, subst, arith}
+use Rattle.std.proofs.Common.{◌≡◌, ◌+◌, ◌≤◌, ℕ, [], ◌∷◌, ap, sym, ◌∙◌, subst, arith}
 use Rattle.std.specs.VecDeque.{deque_len, deque_capacity}
 use Rattle.std.specs.declared.alloc.Global.{Global}
 use Rattle.std.specs.declared.collections.VecDeque.{VecDeque}
 use Rattle.accept.specs.declared.call.Call.{Call}
 use Rattle.history.specs.Handles.{Passed}
+use Rattle.ingester.specs.Calls.{IsPassOf}
 use Rattle.ingester.specs.Batches.{HasMessages, HasIdleRoutes, IsNextRefused}
 use Rattle.ingester.proofs.Receiving.{announced_ahead, round_more, refused_more, refused_pass, ended_pass, rest_numbers}
 use Rattle.ingester.proofs.opened.Ingester.call_by.Goals as goal
+
+fewer_left : (outcomes calls had most : ℕ) → outcomes + calls ≡ had → had ≤ most → calls ≤ most
+fewer_left outcomes calls had most lens few = omega arith
+
+round_fits : (outcomes calls had left count cap room : ℕ) → outcomes + calls ≡ had → left + count ≡ calls → had ≤ cap → room ≡ cap → outcomes + count ≤ room
+round_fits outcomes calls had left count cap room lens begun much same = omega arith
 
 pub make_round-requires-clause-messages : goal.make_round-requires-clause-messages
 make_round-requires-clause-messages g c =
@@ -61,3 +68,27 @@ loop-alloc-preserved g c =
       outcomes = c.push_back_reserved.ensures.capacity ∙ inv.outcomes;
       numbers = rest_numbers c.loop-alloc.calls.items (refused.call ∷ []) left.items refused.calls_are inv.numbers;
     }
+
+pub announce_some-requires-clause-pass : goal.announce_some-requires-clause-pass
+announce_some-requires-clause-pass g c = c.loop-alloc.invariant.pass
+
+pub announce_some-requires-clause-numbers : goal.announce_some-requires-clause-numbers
+announce_some-requires-clause-numbers g c = c.loop-alloc.invariant.numbers
+
+pub announce_some-requires-clause-few : goal.announce_some-requires-clause-few
+announce_some-requires-clause-few g c = fewer_left _ _ _ _ c.loop-alloc.invariant.lens c.requires.calls.0
+
+pub announce_some-requires-clause-routes : goal.announce_some-requires-clause-routes
+announce_some-requires-clause-routes g c = subst (λ (p : ℕ). HasIdleRoutes c.args.self.now p c.loop-alloc.routes.items) (sym c.loop-alloc.invariant.own) c.loop-alloc.invariant.routes
+
+pub make_round-requires-clause-round : goal.make_round-requires-clause-round
+make_round-requires-clause-round g c = c.in-Some.ensures.round.under_way
+
+pub make_round-requires-clause-room : goal.make_round-requires-clause-room
+make_round-requires-clause-room g c = round_fits _ _ _ _ _ _ _ c.loop-alloc.invariant.lens c.in-Some.ensures.count c.requires.outcomes.1 c.loop-alloc.invariant.outcomes
+
+pub refuse_next-fault-requires-clause-pass : goal.refuse_next-fault-requires-clause-pass
+refuse_next-fault-requires-clause-pass g c = subst (λ (p : Passed). IsPassOf c.args.self.now p) (sym c.in-None.ensures.count.0) c.loop-alloc.invariant.pass
+
+pub returns-clause-pass : goal.returns-clause-pass
+returns-clause-pass g c = c.loop-alloc.invariant.pass
