@@ -8,7 +8,7 @@ use Rattle.owners.specs.Openings.{home_of}
 use Rattle.owners.specs.Routes.{IsRoute}
 use Rattle.owners.proofs.Each.{routes_set}
 use Rattle.ingester.proofs.Batching.{below_at}
-use Rattle.ingester.proofs.Receiving.{first_waits_for, taken_behind, receiving_more, received_more}
+use Rattle.ingester.proofs.Receiving.{taken_behind, receiving_more, received_more}
 use Rattle.ingester.proofs.opened.Ingester.receive_all.Goals as goal
 
 has_place : (len had done count cap room : ℕ) → len ≡ had + done → done < count → had + count ≤ cap → room ≡ cap → len < room

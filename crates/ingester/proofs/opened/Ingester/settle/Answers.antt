@@ -1,9 +1,8 @@
-use Rattle.std.proofs.Common.{inl, inr, refl, sym, ap, ◌∙◌, subst}
+use Rattle.std.proofs.Common.{inl, refl, sym, ap, ◌∙◌, subst}
 use Rattle.history.specs.Handles.{Passed}
 use Rattle.history.specs.Histories.{IsFirstNumber}
 use Rattle.owners.specs.Openings.{home_of}
 use Rattle.owners.specs.Routes.{IsRoute}
-use Rattle.ingester.specs.Batches.{IsTakenBack}
 use Rattle.ingester.proofs.opened.Ingester.settle.Goals as goal
 
 pub receive_next-requires-clause-table : goal.receive_next-requires-clause-table
