@@ -39,7 +39,9 @@ func main() {
 		os.Exit(2)
 	}
 	// (beside the budget what isn't collected yet: with less it would do little else than collect)
-	debug.SetMemoryLimit(given.memory + given.memory/2)
+	if os.Getenv("GOMEMLIMIT") == "" {
+		debug.SetMemoryLimit(given.memory + given.memory/2)
+	}
 	ends, stop := signal.NotifyContext(context.Background(), syscall.SIGTERM, syscall.SIGINT)
 	defer stop()
 	listening, err := net.Listen("tcp", given.listen)
