@@ -3,9 +3,10 @@ package main
 import (
 	"errors"
 	"flag"
+	"fmt"
 	"io"
 	"net/url"
-	"regexp"
+	"unicode/utf8"
 )
 
 const usage = `usage: needleazure-gateway --listen ADDR --to http://HOST:PORT
@@ -22,7 +23,22 @@ type words struct {
 // part that is 6 times as long; so that none is answered 503 for ever)
 const memoryEach = 24
 
-var tenantName = regexp.MustCompile(`^[A-Za-z0-9_-]{1,150}$`)
+const mostTenant = 150
+
+// badTenant is why the server has no tenant of this name, or nothing. Loki takes a dot and some other characters, too. Each
+// name of the server's characters is already a tenant's, so that no other name could be written as one of them without
+// being another tenant's.
+func badTenant(name string) string {
+	for _, it := range name {
+		if it >= utf8.RuneSelf || !isLetter(byte(it)) && !isDigit(byte(it)) && it != '-' {
+			return fmt.Sprintf("%q is none of letters, digits, - and _", it)
+		}
+	}
+	if name == "" || len(name) > mostTenant {
+		return fmt.Sprintf("not 1 to %d bytes", mostTenant)
+	}
+	return ""
+}
 
 func readWords(given []string) (words, error) {
 	it := words{}
@@ -46,7 +62,7 @@ func readWords(given []string) (words, error) {
 		return it, errors.New("--listen is missing")
 	case err != nil || to.Scheme != "http" && to.Scheme != "https" || to.Host == "" || to.Path != "" || to.RawQuery != "":
 		return it, errors.New("--to is not of the form http://HOST:PORT")
-	case it.tenant != "" && !tenantName.MatchString(it.tenant):
+	case it.tenant != "" && badTenant(it.tenant) != "":
 		return it, errors.New("--tenant is not 1 to 150 letters, digits, - and _")
 	case it.maxBody < 65_536 || it.maxBody > 1<<30:
 		return it, errors.New("--max-body is not a number from 65536 to 1073741824")
