@@ -20,6 +20,8 @@ const (
 	mostAnswerHead = 16_384
 	// so often a push that waits for its answer looks whether its client is still there
 	lookTime = 500 * time.Millisecond
+	// a body for which a write may have to wait
+	leastWritten = 65_536
 )
 
 // A connection to the server is kept from one push to the next. One push at a time uses it: an answer of 500, or its end,
@@ -36,6 +38,9 @@ type connection struct {
 	// how the push that is under way ends without an answer
 	in    context.Context
 	until time.Time
+	// when a read ends that nothing came to, and whether there is such a time for writes
+	look        time.Time
+	isWriteTime bool
 }
 
 func newConnection(below, above net.Conn) (*connection, error) {
@@ -58,7 +63,11 @@ func (it *connection) isOpen() bool {
 
 // ask sends a request, and is the answer to it, and whether the connection may be used again.
 func (it *connection) ask(head []byte, body *buffer) (answer, bool, error) {
-	it.SetWriteDeadline(it.until)
+	// (less than that finds room in the system, since all that was sent before is answered)
+	if it.isWriteTime || len(body.bytes) > leastWritten {
+		it.SetWriteDeadline(it.until)
+		it.isWriteTime = true
+	}
 	unsent := it.send(head, body)
 	// (an answer that came before the whole body was read counts)
 	found, isKept, err := it.answer()
@@ -102,11 +111,7 @@ func (it *connection) more() error {
 		it.space = append(it.space, make([]byte, len(it.space))...)
 	}
 	for {
-		look := time.Now().Add(lookTime)
-		if it.until.Before(look) {
-			look = it.until
-		}
-		it.SetReadDeadline(look)
+		it.setLook()
 		count, err := it.Conn.Read(it.space[it.end:])
 		it.end += count
 		switch {
@@ -120,6 +125,18 @@ func (it *connection) more() error {
 			return err
 		}
 	}
+}
+
+// setLook has the next read end in time. It leaves a time that is near enough, since a new one takes longer than a look.
+func (it *connection) setLook() {
+	now := time.Now()
+	if it.look.Sub(now) > lookTime/2 && !it.until.Before(it.look) {
+		return
+	}
+	if it.look = now.Add(lookTime); it.until.Before(it.look) {
+		it.look = it.until
+	}
+	it.SetReadDeadline(it.look)
 }
 
 func asUnexpected(err error) error {

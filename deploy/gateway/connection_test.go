@@ -103,7 +103,7 @@ func TestAnswers(t *testing.T) {
 		for _, pause := range []time.Duration{0, 20 * time.Microsecond} {
 			serving := newScripted(t, pause, it.text, string(stored))
 			server := serving.server()
-			found, err := server.push(context.Background(), "t", bodyOf("{}"))
+			found, err := server.push(context.Background(), time.Now().Add(time.Minute), "t", bodyOf("{}"))
 			if err != nil || found != it.wanted {
 				t.Errorf("%s: %v, %v", name, found, err)
 			}
@@ -111,7 +111,7 @@ func TestAnswers(t *testing.T) {
 			if pause > 0 {
 				continue
 			}
-			if found, err = server.push(context.Background(), "t", bodyOf("{}")); err != nil || found.status != 204 {
+			if found, err = server.push(context.Background(), time.Now().Add(time.Minute), "t", bodyOf("{}")); err != nil || found.status != 204 {
 				t.Errorf("%s: then %v, %v", name, found, err)
 			}
 			if count := serving.connections.Load(); (count == 1) != it.isKept {
@@ -139,7 +139,7 @@ func TestNoAnswers(t *testing.T) {
 		"chunks that lie":     plainHead + "Transfer-Encoding: chunked\r\n\r\nx\r\n",
 	} {
 		serving := newScripted(t, 0, text, "")
-		if found, err := serving.server().push(context.Background(), "t", bodyOf("{}")); err == nil {
+		if found, err := serving.server().push(context.Background(), time.Now().Add(time.Minute), "t", bodyOf("{}")); err == nil {
 			t.Errorf("%s: %v", name, found)
 		}
 	}
@@ -160,7 +160,7 @@ func TestAnswersToTheEnd(t *testing.T) {
 			line.Close()
 		}))
 		defer ends.Close()
-		found, err := newServer(ends.URL).push(context.Background(), "t", bodyOf(""))
+		found, err := newServer(ends.URL).push(context.Background(), time.Now().Add(time.Minute), "t", bodyOf(""))
 		if err != nil {
 			found.text = err.Error()
 		}
@@ -175,7 +175,7 @@ func TestStaleConnections(t *testing.T) {
 	for name, behind := range map[string]string{"ended": "", "said": "HTTP/1.1 408 Request Timeout\r\n\r\n"} {
 		serving := newScripted(t, 0, string(stored), string(stored))
 		server := serving.server()
-		if _, err := server.push(context.Background(), "t", bodyOf("{}")); err != nil {
+		if _, err := server.push(context.Background(), time.Now().Add(time.Minute), "t", bodyOf("{}")); err != nil {
 			t.Fatal(err)
 		}
 		idle := server.pushes.idle[0]
@@ -190,7 +190,7 @@ func TestStaleConnections(t *testing.T) {
 			other.Close()
 		}
 		time.Sleep(10 * time.Millisecond)
-		if found, err := server.push(context.Background(), "t", bodyOf("{}")); err != nil || found.status != 204 {
+		if found, err := server.push(context.Background(), time.Now().Add(time.Minute), "t", bodyOf("{}")); err != nil || found.status != 204 {
 			t.Errorf("%s: %v, %v", name, found, err)
 		}
 		if serving.connections.Load() != 2 {
@@ -256,12 +256,12 @@ func TestSecure(t *testing.T) {
 	serving.StartTLS()
 	defer serving.Close()
 	server := newServer(serving.URL)
-	if _, err := server.push(context.Background(), "t", bodyOf("{}")); err == nil {
+	if _, err := server.push(context.Background(), time.Now().Add(time.Minute), "t", bodyOf("{}")); err == nil {
 		t.Error("a certificate of nobody's is taken")
 	}
 	server.pushes.secure.RootCAs = serving.Client().Transport.(*http.Transport).TLSClientConfig.RootCAs
 	for at := 0; at < 3; at++ {
-		if found, err := server.push(context.Background(), "t", bodyOf("{}")); err != nil || found.text != "t" {
+		if found, err := server.push(context.Background(), time.Now().Add(time.Minute), "t", bodyOf("{}")); err != nil || found.text != "t" {
 			t.Errorf("%v, %v", found, err)
 		}
 	}

@@ -69,8 +69,8 @@ type answer struct {
 	text   string
 }
 
-// push sends a body for a tenant, which is of letters that may stand in a head.
-func (it *server) push(in context.Context, tenant string, body *buffer) (answer, error) {
+// push sends a body for a tenant, which is of letters that may stand in a head. The answer has to come until then.
+func (it *server) push(in context.Context, until time.Time, tenant string, body *buffer) (answer, error) {
 	if err := in.Err(); err != nil {
 		return answer{}, err
 	}
@@ -79,8 +79,8 @@ func (it *server) push(in context.Context, tenant string, body *buffer) (answer,
 		return answer{}, err
 	}
 	by.in, by.until = in, time.Now().Add(answerTime)
-	if at, is := in.Deadline(); is && at.Before(by.until) {
-		by.until = at
+	if until.Before(by.until) {
+		by.until = until
 	}
 	var space [headSpace]byte
 	head := append(append(space[:0], it.head...), tenant...)

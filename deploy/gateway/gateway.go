@@ -49,6 +49,10 @@ func (it *gateway) handler() http.Handler {
 	return http.HandlerFunc(func(to http.ResponseWriter, from *http.Request) {
 		// (also what nobody wants of a request is read to its end before the next one)
 		setDeadline(from, time.Now().Add(it.within))
+		if from.URL.Path == pushPath && from.Method == http.MethodPost {
+			it.push(to, from)
+			return
+		}
 		routes.ServeHTTP(to, from)
 	})
 }
@@ -110,22 +114,19 @@ func write(to http.ResponseWriter, found answer) {
 type pushed struct {
 	*gateway
 	in      context.Context
-	cancel  context.CancelFunc
 	began   time.Time
 	form    string
+	counted *formMetrics
 	tenant  string
 	body    received
 	holding *held
 }
 
 func newPushed(by *gateway, from *http.Request) *pushed {
-	it := &pushed{gateway: by, began: time.Now(), form: "none", holding: newHeld(by.budget)}
-	it.in, it.cancel = context.WithDeadline(from.Context(), it.began.Add(pushTime))
-	return it
+	return &pushed{gateway: by, in: from.Context(), began: time.Now(), form: "none", holding: newHeld(by.budget)}
 }
 
 func (it *pushed) end() {
-	it.cancel()
 	it.holding.release()
 	heldPool.Put(it.holding)
 }
@@ -146,20 +147,38 @@ func (it *pushed) answer(from *http.Request) (answer, error) {
 		return answer{}, err
 	}
 	it.body, it.form = body, body.form()
+	it.counted = it.metrics.forms[it.form]
 	if err := it.body.read(from, it.most, it.holding); err != nil {
 		return answer{}, err
 	}
-	it.metrics.received.WithLabelValues(it.form).Add(float64(len(it.body.bytes)))
-	select {
-	case it.places <- struct{}{}:
-		defer func() { <-it.places }()
-	case <-it.in.Done():
-		return answer{}, unanswered(it.in.Err())
+	it.counted.received.Add(float64(len(it.body.bytes)))
+	if err := it.enter(); err != nil {
+		return answer{}, err
 	}
+	defer func() { <-it.places }()
 	if err := it.body.unpack(it.most, it.holding); err != nil {
 		return answer{}, err
 	}
 	return it.forward()
+}
+
+// enter waits for a place.
+func (it *pushed) enter() error {
+	select {
+	case it.places <- struct{}{}:
+		return nil
+	default:
+	}
+	late := time.NewTimer(pushTime)
+	defer late.Stop()
+	select {
+	case it.places <- struct{}{}:
+		return nil
+	case <-it.in.Done():
+		return unanswered(it.in.Err())
+	case <-late.C:
+		return unanswered(context.DeadlineExceeded)
+	}
 }
 
 // For so many bytes of a body's limit there may be one of its streams, entries, times, labels and pairs.
@@ -174,7 +193,7 @@ func (it *pushed) forward() (answer, error) {
 	if whole == nil {
 		return it.forwardParts()
 	}
-	it.metrics.entries.WithLabelValues(it.form).Add(float64(found.entries))
+	it.counted.entries.Add(float64(found.entries))
 	return it.send(whole)
 }
 
@@ -205,7 +224,7 @@ func (it *pushed) read() ([]stream, error) {
 	for _, each := range streams {
 		count += each.length
 	}
-	it.metrics.entries.WithLabelValues(it.form).Add(float64(count))
+	it.counted.entries.Add(float64(count))
 	return streams, err
 }
 
@@ -213,7 +232,7 @@ func (it *pushed) read() ([]stream, error) {
 func (it *pushed) send(body *buffer) (answer, error) {
 	it.metrics.parts.Inc()
 	it.metrics.sent.Add(float64(len(body.bytes)))
-	found, err := it.server.push(it.in, it.tenant, body)
+	found, err := it.server.push(it.in, it.began.Add(pushTime), it.tenant, body)
 	it.server.note(err)
 	if err != nil {
 		it.metrics.away.Inc()

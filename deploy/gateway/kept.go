@@ -37,6 +37,9 @@ func newKept(address string) *keptConnections {
 	return it
 }
 
+// (within which an end comes as well after a look as before it)
+const leastIdle = time.Millisecond
+
 // take is a connection that nothing else uses.
 func (it *keptConnections) take(in context.Context) (*connection, error) {
 	for {
@@ -44,7 +47,8 @@ func (it *keptConnections) take(in context.Context) (*connection, error) {
 		if found == nil {
 			return it.dial(in)
 		}
-		if time.Since(found.lastUse) < idleTime && found.isOpen() {
+		since := time.Since(found.lastUse)
+		if since < leastIdle || since < idleTime && found.isOpen() {
 			return found, nil
 		}
 		found.Close()

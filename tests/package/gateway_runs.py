@@ -11,8 +11,8 @@ SECONDS = 120
 class Gateway(servers.Program):
     def __init__(self, server, *more, program="needleazure-gateway"):
         at, to = f"127.0.0.1:{servers.free_ports(1)[0]}", f"http://127.0.0.1:{server.port}"
-        # (which ends it with that status where the race detector has found something)
-        settings = {**os.environ, "GORACE": "exitcode=66 halt_on_error=1"}
+        # (as its unit has it; and the race detector ends it with that status where it has found something)
+        settings = {"GOGC": "400", **os.environ, "GORACE": "exitcode=66 halt_on_error=1"}
         program = f"{servers.TOP}/deploy/out/{program}"
         super().__init__([program, "--listen", at, "--to", to, *more], settings)
 
