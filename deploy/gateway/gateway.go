@@ -16,6 +16,7 @@ type gateway struct {
 	within time.Duration
 	budget *budget
 	cache  *labelCache
+	limits *limits
 	// a place for each push that is unpacked and sent
 	places  chan struct{}
 	metrics *metrics
@@ -30,6 +31,7 @@ func newGateway(words words) *gateway {
 		budget: newBudget(words.memory),
 		cache:  newLabelCache(words.memory / partOfCache),
 		places: make(chan struct{}, words.connections),
+		limits: words.limits,
 	}
 	it.metrics = newMetrics(func() float64 { return float64(words.memory - it.budget.left.Load()) })
 	return it
@@ -194,6 +196,11 @@ func (it *pushed) forward() (answer, error) {
 		return it.forwardParts()
 	}
 	it.counted.entries.Add(float64(found.entries))
+	if it.limits.any() {
+		if err := it.limits.take(it.tenant, found); err != nil {
+			return answer{}, err
+		}
+	}
 	return it.send(whole)
 }
 
@@ -246,6 +253,11 @@ func (it *pushed) forwardParts() (answer, error) {
 	streams, err := it.read()
 	if err != nil {
 		return answer{}, err
+	}
+	if it.limits.any() {
+		if err := it.limits.take(it.tenant, countsOf(streams)); err != nil {
+			return answer{}, err
+		}
 	}
 	found := verdict{}
 	parts := newSplitter(streams, found.refuse)

@@ -44,6 +44,7 @@ func main() {
 	}
 	ends, stop := signal.NotifyContext(context.Background(), syscall.SIGTERM, syscall.SIGINT)
 	defer stop()
+	go readAgain(given.limits)
 	listening, err := net.Listen("tcp", given.listen)
 	if err == nil {
 		fmt.Printf("ready %s\n", listening.Addr())
@@ -52,6 +53,15 @@ func main() {
 	if err != nil {
 		log.Print(err)
 		os.Exit(1)
+	}
+}
+
+// readAgain reads the limits again at each SIGHUP.
+func readAgain(limits *limits) {
+	asked := make(chan os.Signal, 1)
+	signal.Notify(asked, syscall.SIGHUP)
+	for range asked {
+		limits.again()
 	}
 }
 

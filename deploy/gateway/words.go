@@ -10,13 +10,15 @@ import (
 )
 
 const usage = `usage: needleazure-gateway --listen ADDR --to http://HOST:PORT
-       [--max-body BYTES] [--tenant NAME] [--connections N] [--memory BYTES]`
+       [--max-body BYTES] [--tenant NAME] [--connections N] [--memory BYTES]
+       [--limits FILE]`
 
 // The words that a gateway is started with.
 type words struct {
 	listen, to, tenant string
 	maxBody, memory    int64
 	connections        int
+	limits             *limits
 }
 
 // (what the largest push may take: what came and what it unpacks to thrice each, its texts, 8 times for its messages, and a
@@ -41,7 +43,7 @@ func badTenant(name string) string {
 }
 
 func readWords(given []string) (words, error) {
-	it := words{}
+	it, limits := words{}, ""
 	flags := flag.NewFlagSet("needleazure-gateway", flag.ContinueOnError)
 	flags.SetOutput(io.Discard)
 	flags.Usage = func() {}
@@ -51,6 +53,7 @@ func readWords(given []string) (words, error) {
 	flags.Int64Var(&it.maxBody, "max-body", 16<<20, "")
 	flags.Int64Var(&it.memory, "memory", 512<<20, "")
 	flags.IntVar(&it.connections, "connections", 32, "")
+	flags.StringVar(&limits, "limits", "", "")
 	if err := flags.Parse(given); err != nil {
 		return it, err
 	}
@@ -71,5 +74,6 @@ func readWords(given []string) (words, error) {
 	case it.memory < memoryEach*it.maxBody:
 		return it, errors.New("--memory is less than 24 times --max-body")
 	}
-	return it, nil
+	it.limits, err = newLimits(limits)
+	return it, err
 }
