@@ -20,6 +20,7 @@ import (
 type received struct {
 	*buffer
 	isJSON   bool
+	isOTLP   bool
 	encoding string
 }
 
@@ -49,8 +50,27 @@ const (
 	protobufType = "application/x-protobuf"
 )
 
+// readLogsHead does the same for logs of OpenTelemetry's protocol.
+func readLogsHead(from *http.Request) (received, error) {
+	it, err := readHead(from)
+	if err != nil {
+		return it, err
+	}
+	it.isOTLP = true
+	if kind, _, _ := mime.ParseMediaType(from.Header.Get("Content-Type")); !it.isJSON && kind != protobufType {
+		return it, badRequest("content type: %s is not supported", kind)
+	}
+	if it.encoding != "" && it.encoding != "gzip" {
+		return it, badRequest("Content-Encoding %q not supported", it.encoding)
+	}
+	return it, nil
+}
+
 func (it *received) form() string {
-	if it.isJSON {
+	switch {
+	case it.isOTLP:
+		return "otlp"
+	case it.isJSON:
 		return "json"
 	}
 	return "protobuf"
@@ -144,7 +164,7 @@ func (it *received) unpack(most int64, held *held) error {
 		return asBadRequest(err)
 	}
 	it.replace(unpacked, held)
-	if it.isJSON {
+	if it.isJSON || it.isOTLP {
 		return nil
 	}
 	// (Protobuf is in snappy's block format, whether the head says so or not)

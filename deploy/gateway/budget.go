@@ -98,6 +98,10 @@ const messageBytes = 128
 type messages struct {
 	held        *held
 	count, most int64
+	// how many are around the one that is read
+	depth int
+	// bytes that some have from others
+	shared int64
 }
 
 // (the budget is asked for many at a time)

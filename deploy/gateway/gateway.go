@@ -46,6 +46,7 @@ const pushTime = 4 * time.Minute
 func (it *gateway) handler() http.Handler {
 	routes := http.NewServeMux()
 	routes.HandleFunc(pushPath, only(it.push, http.MethodPost))
+	routes.HandleFunc(otlpPath, only(it.pushLogs, http.MethodPost))
 	routes.HandleFunc(readyPath, only(it.ready, http.MethodGet, http.MethodHead))
 	routes.HandleFunc("/metrics", only(it.metrics.handler().ServeHTTP, http.MethodGet, http.MethodHead))
 	return http.HandlerFunc(func(to http.ResponseWriter, from *http.Request) {
@@ -84,7 +85,7 @@ func (it *gateway) ready(to http.ResponseWriter, from *http.Request) {
 func (it *gateway) push(to http.ResponseWriter, from *http.Request) {
 	pushed := newPushed(it, from)
 	defer pushed.end()
-	found, err := pushed.answer(from)
+	found, err := pushed.answer(from, readHead)
 	status := found.status
 	if err != nil {
 		status = tell(to, err)
@@ -94,14 +95,32 @@ func (it *gateway) push(to http.ResponseWriter, from *http.Request) {
 	it.metrics.answered(pushed.form, status, pushed.began)
 }
 
+func (it *gateway) pushLogs(to http.ResponseWriter, from *http.Request) {
+	pushed := newPushed(it, from)
+	defer pushed.end()
+	found, err := pushed.answer(from, readLogsHead)
+	if err != nil {
+		its := faultOf(err)
+		found = answer{status: its.status, text: its.text}
+	}
+	found.status = otlpStatus(found.status)
+	writeOTLP(to, found, pushed.body.isJSON)
+	it.metrics.answered(pushed.form, found.status, pushed.began)
+}
+
 // tell answers a fault, and returns its status.
 func tell(to http.ResponseWriter, err error) int {
-	var found *fault
-	if !errors.As(err, &found) {
-		found = &fault{http.StatusInternalServerError, err.Error()}
-	}
+	found := faultOf(err)
 	http.Error(to, found.text, found.status)
 	return found.status
+}
+
+func faultOf(err error) *fault {
+	var found *fault
+	if errors.As(err, &found) {
+		return found
+	}
+	return &fault{http.StatusInternalServerError, err.Error()}
 }
 
 func write(to http.ResponseWriter, found answer) {
@@ -134,7 +153,7 @@ func (it *pushed) end() {
 }
 
 // answer is what the server answers to a push.
-func (it *pushed) answer(from *http.Request) (answer, error) {
+func (it *pushed) answer(from *http.Request, readHead func(*http.Request) (received, error)) (answer, error) {
 	if it.tenant = from.Header.Get("X-Scope-OrgID"); it.tenant == "" {
 		it.tenant = it.gateway.tenant
 	}
@@ -145,10 +164,10 @@ func (it *pushed) answer(from *http.Request) (answer, error) {
 		return answer{}, badRequest("bad tenant: %s", why)
 	}
 	body, err := readHead(from)
-	if err != nil {
+	if it.body = body; err != nil {
 		return answer{}, err
 	}
-	it.body, it.form = body, body.form()
+	it.form = body.form()
 	it.counted = it.metrics.forms[it.form]
 	if err := it.body.read(from, it.most, it.holding); err != nil {
 		return answer{}, err
@@ -206,6 +225,9 @@ func (it *pushed) forward() (answer, error) {
 
 // translate is the body that the server takes as this one, if that is found fast.
 func (it *pushed) translate() (*buffer, counts, error) {
+	if it.body.isOTLP {
+		return nil, counts{}, nil
+	}
 	if !it.body.isJSON {
 		return translate(it.body.bytes, it.most/bytesEach, it.holding, it.cache)
 	}
@@ -217,22 +239,34 @@ func (it *pushed) translate() (*buffer, counts, error) {
 
 // read is what a body asks for.
 func (it *pushed) read() ([]stream, error) {
-	// (its texts once more, and the part that is made of it, which is six times as long if it is all control characters)
-	length := int64(len(it.body.bytes))
-	if err := it.holding.take(length + smaller(mostEscaped*length, mostBody)); err != nil {
+	// (its texts once more, and the part that is made of it: six times as long if it is all control characters, and as long
+	// as a part may be where records share what their resource has)
+	length, part := int64(len(it.body.bytes)), int64(mostBody)
+	if !it.body.isOTLP {
+		part = smaller(mostEscaped*length, mostBody)
+	}
+	if err := it.holding.take(length + part); err != nil {
 		return nil, err
 	}
-	decode := decodeProtobuf
-	if it.body.isJSON {
-		decode = decodeJSON
-	}
-	streams, err := decode(it.body.bytes, &messages{held: it.holding, most: it.most / bytesEach})
+	streams, err := it.decoder()(it.body.bytes, &messages{held: it.holding, most: it.most / bytesEach})
 	count := 0
 	for _, each := range streams {
 		count += each.length
 	}
 	it.counted.entries.Add(float64(count))
 	return streams, err
+}
+
+func (it *pushed) decoder() func([]byte, *messages) ([]stream, error) {
+	switch {
+	case it.body.isOTLP && it.body.isJSON:
+		return decodeJSONLogs
+	case it.body.isOTLP:
+		return decodeOTLP
+	case it.body.isJSON:
+		return decodeJSON
+	}
+	return decodeProtobuf
 }
 
 // send sends a part, and is the server's answer.

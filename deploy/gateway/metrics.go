@@ -12,7 +12,7 @@ import (
 	"github.com/prometheus/client_golang/prometheus/promhttp"
 )
 
-// The metrics of a gateway. A form is `protobuf` or `json`, or `none` where a head was refused before it was looked at.
+// The metrics of a gateway. A form is `protobuf`, `json` or `otlp`, or `none` where a head was refused before it was looked at.
 type metrics struct {
 	registry *prometheus.Registry
 	requests *prometheus.CounterVec
@@ -57,7 +57,7 @@ func newMetrics(held func() float64) *metrics {
 	by.NewGaugeFunc(prometheus.GaugeOpts(named("held_bytes", "Memory that the pushes under way were given.")), held)
 	registry.MustRegister(collectors.NewGoCollector(), collectors.NewProcessCollector(collectors.ProcessCollectorOpts{}))
 	it.forms = map[string]*formMetrics{}
-	for _, each := range []string{"protobuf", "json"} {
+	for _, each := range []string{"protobuf", "json", "otlp"} {
 		it.forms[each] = &formMetrics{
 			received: it.received.WithLabelValues(each),
 			entries:  it.entries.WithLabelValues(each),
