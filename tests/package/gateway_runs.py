@@ -37,9 +37,9 @@ class Client(http.client.HTTPConnection, contextlib.AbstractContextManager):
     def __exit__(self, *_):
         self.close()
 
-    def push(self, body, head, is_chunked=False):
+    def push(self, body, head, is_chunked=False, path=servers.PUSH):
         """Status and text of the answer."""
         head = {"X-Scope-OrgID": self.tenant, **head}
-        self.request("POST", servers.PUSH, iter([body]) if is_chunked else body, head)
+        self.request("POST", path, iter([body]) if is_chunked else body, head)
         answer = self.getresponse()
         return answer.status, answer.read()
