@@ -74,10 +74,10 @@ kit-check theorem-check filesystem-check: PROGRAMS =
 deb-check: PROGRAMS = $(ALL)
 deb-check: WORDS = "$$(deploy/deb)"
 gateway-check: BEFORE = deploy/gateway/build race && tests/package/gateway_quick race
-deb-check edge-check gateway-check: gateway
+deb-check edge-check gateway-check container-check: gateway
 
 %-check: CHECK = $(subst -,_,$*)_check
-%-check: ## tests/*/NAME_check over built programs: clients gateway drain sweep after syslog memory edge scale-out metrics fill, as root deb filesystem, alone kit theorem
+%-check: ## tests/*/NAME_check over built programs: clients gateway drain sweep after syslog memory edge scale-out metrics fill, as root deb filesystem container, alone kit theorem
 	@$(if $(PROGRAMS),RT='$(RT)' tests/gate/build $(PROGRAMS))
 	@$(BEFORE)
 	@RT='$(RT)' $(or $(wildcard tests/*/$(CHECK)),$(if $(wildcard tests/*/$(CHECK).py),tests/run $(CHECK)),$(error there is no $(CHECK))) $(WORDS)

@@ -2,33 +2,42 @@ package main
 
 import (
 	"bytes"
-	"compress/flate"
-	"compress/gzip"
 	"context"
 	"errors"
 	"io"
 	"mime"
 	"net"
 	"net/http"
+	"sync"
 	"time"
 
 	"github.com/golang/snappy"
+	"github.com/klauspost/compress/flate"
+	"github.com/klauspost/compress/gzip"
 )
 
 // A body as it came: its bytes, and what its head says of them.
 type received struct {
-	bytes    []byte
+	*buffer
 	isJSON   bool
+	isOTLP   bool
 	encoding string
 }
 
 // readHead looks whether the head of a push has what Loki takes. All that isn't JSON is Protobuf to Loki.
 func readHead(from *http.Request) (received, error) {
-	kind, _, err := mime.ParseMediaType(from.Header.Get("Content-Type"))
-	if err != nil {
-		return received{}, badRequest("%s", err)
+	it := received{encoding: from.Header.Get("Content-Encoding")}
+	switch kind := from.Header.Get("Content-Type"); kind {
+	case jsonType:
+		it.isJSON = true
+	case protobufType:
+	default:
+		kind, _, err := mime.ParseMediaType(kind)
+		if err != nil {
+			return received{}, badRequest("%s", err)
+		}
+		it.isJSON = kind == jsonType
 	}
-	it := received{isJSON: kind == "application/json", encoding: from.Header.Get("Content-Encoding")}
 	switch it.encoding {
 	case "", "snappy", "gzip", "deflate":
 		return it, nil
@@ -36,8 +45,32 @@ func readHead(from *http.Request) (received, error) {
 	return it, badRequest("Content-Encoding %q not supported", it.encoding)
 }
 
+const (
+	jsonType     = "application/json"
+	protobufType = "application/x-protobuf"
+)
+
+// readLogsHead does the same for logs of OpenTelemetry's protocol.
+func readLogsHead(from *http.Request) (received, error) {
+	it, err := readHead(from)
+	if err != nil {
+		return it, err
+	}
+	it.isOTLP = true
+	if kind, _, _ := mime.ParseMediaType(from.Header.Get("Content-Type")); !it.isJSON && kind != protobufType {
+		return it, badRequest("content type: %s is not supported", kind)
+	}
+	if it.encoding != "" && it.encoding != "gzip" {
+		return it, badRequest("Content-Encoding %q not supported", it.encoding)
+	}
+	return it, nil
+}
+
 func (it *received) form() string {
-	if it.isJSON {
+	switch {
+	case it.isOTLP:
+		return "otlp"
+	case it.isJSON:
 		return "json"
 	}
 	return "protobuf"
@@ -48,7 +81,7 @@ func (it *received) read(from *http.Request, most int64, held *held) (err error)
 	if from.ContentLength > most {
 		return errTooLarge(most)
 	}
-	if it.bytes, err = readAll(from.Body, most, held); err != nil {
+	if it.buffer, err = held.readAll(from.Body, from.ContentLength, most); err != nil {
 		return unread(err)
 	}
 	setDeadline(from, time.Time{})
@@ -82,32 +115,77 @@ func unread(err error) error {
 	return asBadRequest(err)
 }
 
-// unpack is the body without its compression.
-func (it *received) unpack(most int64, held *held) ([]byte, error) {
-	found, err := it.bytes, error(nil)
+// A reader of a compressed form that is used again, since each has tables of some 40,000 bytes.
+type unpacker[T io.Reader] struct {
+	from  bytes.Reader
+	reads T
+}
+
+var (
+	gzipPool  = sync.Pool{New: func() any { return &unpacker[*gzip.Reader]{reads: new(gzip.Reader)} }}
+	flatePool = sync.Pool{New: func() any { return &unpacker[io.ReadCloser]{reads: flate.NewReader(nil)} }}
+)
+
+func unpackGzip(packed []byte, most int64, held *held) (*buffer, error) {
+	it := gzipPool.Get().(*unpacker[*gzip.Reader])
+	defer gzipPool.Put(it)
+	defer it.from.Reset(nil)
+	it.from.Reset(packed)
+	if err := it.reads.Reset(&it.from); err != nil {
+		return nil, err
+	}
+	return held.readAll(it.reads, usualGrowth*int64(len(packed)), most)
+}
+
+func unpackFlate(packed []byte, most int64, held *held) (*buffer, error) {
+	it := flatePool.Get().(*unpacker[io.ReadCloser])
+	defer flatePool.Put(it)
+	defer it.from.Reset(nil)
+	it.from.Reset(packed)
+	if err := it.reads.(flate.Resetter).Reset(&it.from, nil); err != nil {
+		return nil, err
+	}
+	return held.readAll(it.reads, usualGrowth*int64(len(packed)), most)
+}
+
+// (logs take a sixth or so)
+const usualGrowth = 8
+
+// unpack is the body without its compression. What is packed is given back.
+func (it *received) unpack(most int64, held *held) error {
+	unpacked, err := it.buffer, error(nil)
 	switch it.encoding {
 	case "gzip":
-		var unpacking *gzip.Reader
-		if unpacking, err = gzip.NewReader(bytes.NewReader(found)); err == nil {
-			found, err = readAll(unpacking, most, held)
-		}
+		unpacked, err = unpackGzip(it.bytes, most, held)
 	case "deflate":
-		found, err = readAll(flate.NewReader(bytes.NewReader(found)), most, held)
-	}
-	// (Protobuf is in snappy's block format, whether the head says so or not)
-	if err == nil && !it.isJSON {
-		found, err = unpackSnappy(found, most, held)
+		unpacked, err = unpackFlate(it.bytes, most, held)
 	}
 	if err != nil {
-		return nil, asBadRequest(err)
+		return asBadRequest(err)
 	}
-	return found, nil
+	it.replace(unpacked, held)
+	if it.isJSON || it.isOTLP {
+		return nil
+	}
+	// (Protobuf is in snappy's block format, whether the head says so or not)
+	if unpacked, err = unpackSnappy(it.bytes, most, held); err != nil {
+		return asBadRequest(err)
+	}
+	it.replace(unpacked, held)
+	return nil
+}
+
+func (it *received) replace(by *buffer, held *held) {
+	if by != it.buffer {
+		held.drop(it.buffer)
+		it.buffer = by
+	}
 }
 
 // A byte of snappy's format gives 64 / 3 bytes at most.
 const snappyMost = 22
 
-func unpackSnappy(body []byte, most int64, held *held) ([]byte, error) {
+func unpackSnappy(body []byte, most int64, held *held) (*buffer, error) {
 	length, err := snappy.DecodedLen(body)
 	switch {
 	case err != nil:
@@ -117,38 +195,11 @@ func unpackSnappy(body []byte, most int64, held *held) ([]byte, error) {
 	case length > snappyMost*len(body):
 		return nil, snappy.ErrCorrupt
 	}
-	if err := held.take(int64(length)); err != nil {
+	found, err := held.buffer(int64(length))
+	if err != nil {
 		return nil, err
 	}
-	return snappy.Decode(nil, body)
-}
-
-const firstRead = 16_384
-
-// readAll reads to the end, if that is at most this many bytes. What is held grows with what came, and not with what was
-// announced.
-func readAll(from io.Reader, most int64, held *held) ([]byte, error) {
-	var found []byte
-	for {
-		if len(found) == cap(found) {
-			next := int64(2*cap(found) + firstRead)
-			if next > most {
-				next = most + 1
-			}
-			if err := held.take(next); err != nil {
-				return nil, err
-			}
-			found = append(make([]byte, 0, next), found...)
-		}
-		more, err := from.Read(found[len(found):cap(found)])
-		found = found[:len(found)+more]
-		switch {
-		case int64(len(found)) > most:
-			return nil, errTooLarge(most)
-		case err == io.EOF:
-			return found, nil
-		case err != nil:
-			return nil, err
-		}
-	}
+	// (which takes no memory where the length is that of the space)
+	found.bytes, err = snappy.Decode(found.bytes[:length], body)
+	return found, err
 }

@@ -47,8 +47,10 @@ func unpacked(kind, encoding, body string, holding *held) (string, string) {
 	if err := it.read(from, mostHere, holding); err != nil {
 		return "", textOf(err)
 	}
-	found, err := it.unpack(mostHere, holding)
-	return string(found), textOf(err)
+	if err := it.unpack(mostHere, holding); err != nil {
+		return "", textOf(err)
+	}
+	return string(it.bytes), ""
 }
 
 func TestBodies(t *testing.T) {
@@ -103,13 +105,13 @@ func TestBodiesAreHeld(t *testing.T) {
 		most                 int64
 		fault                string
 	}{
-		{"application/json", "", "text", firstRead, ""},
-		{"application/json", "", "text", firstRead - 1, busy},
+		{"application/json", "", "text", 1 << leastSize, ""},
+		{"application/json", "", "text", 1<<leastSize - 1, busy},
 		{"application/json", "", long, 1 << 20, ""},
 		{"application/json", "", long, mostHere, busy},
 		{"application/json", "gzip", gzipped(long), mostHere, busy},
 		{"application/x-protobuf", "", snapped(long), mostHere, busy},
-		{"application/x-protobuf", "", "\x80\xfa\x01a", firstRead, "400 snappy: corrupt input"},
+		{"application/x-protobuf", "", "\x80\xfa\x01a", 1 << leastSize, "400 snappy: corrupt input"},
 	} {
 		holding := &held{of: newBudget(it.most)}
 		if _, fault := unpacked(it.kind, it.encoding, it.body, holding); fault != it.fault {
@@ -131,7 +133,7 @@ func TestUnread(t *testing.T) {
 		{errors.New("reset"), "400 reset"},
 	} {
 		holding := &held{of: newBudget(mostHere)}
-		_, err := readAll(io.MultiReader(strings.NewReader("a"), iotest.ErrReader(it.err)), mostHere, holding)
+		_, err := holding.readAll(io.MultiReader(strings.NewReader("a"), iotest.ErrReader(it.err)), -1, mostHere)
 		if found := textOf(unread(err)); found != it.wanted {
 			t.Errorf("%v: %s", it.err, found)
 		}

@@ -1,7 +1,6 @@
 package main
 
 import (
-	"bytes"
 	"context"
 	"errors"
 	"fmt"
@@ -21,6 +20,7 @@ const (
 	readyPath = "/ready"
 	// for an answer of the server, as nginx waits for one
 	answerTime = 60 * time.Second
+	dialTime   = 5 * time.Second
 	// less than the time after which the server closes an idle connection
 	idleTime = 30 * time.Second
 	// of the text of an answer, which has a line for each entry that is refused. (Those of a part are less.)
@@ -30,26 +30,34 @@ const (
 // The server that pushes are sent on to, over connections that are kept.
 type server struct {
 	address string
-	pushes  *http.Client
-	looks   *http.Client
-	isAway  atomic.Bool
+	// of each push, the beginning of its head
+	head   string
+	pushes *keptConnections
+	looks  *http.Client
+	isAway atomic.Bool
 }
 
-func newServer(address string, connections int) *server {
+func newServer(address string) *server {
+	kept := newKept(address)
 	return &server{
 		address: address,
-		pushes:  newClient(&http.Transport{MaxConnsPerHost: connections, MaxIdleConnsPerHost: connections}),
-		// (a look for /ready keeps no worker)
-		looks: newClient(&http.Transport{MaxConnsPerHost: 2, DisableKeepAlives: true}),
+		head: "POST " + pushPath + " HTTP/1.1\r\nHost: " + strings.SplitN(address, "//", 2)[1] +
+			"\r\nUser-Agent: needleazure-gateway\r\nContent-Type: application/json\r\nX-Scope-OrgID: ",
+		pushes: kept,
+		looks:  newClient(),
 	}
 }
 
-func newClient(by *http.Transport) *http.Client {
-	dialer := net.Dialer{Timeout: 5 * time.Second}
-	by.DialContext = dialer.DialContext
-	by.IdleConnTimeout = idleTime
-	by.ResponseHeaderTimeout = answerTime
-	by.DisableCompression = true
+// (a look for /ready keeps no worker)
+func newClient() *http.Client {
+	dialer := net.Dialer{Timeout: dialTime}
+	by := &http.Transport{
+		DialContext:           dialer.DialContext,
+		MaxConnsPerHost:       2,
+		DisableKeepAlives:     true,
+		DisableCompression:    true,
+		ResponseHeaderTimeout: answerTime,
+	}
 	noRedirect := func(*http.Request, []*http.Request) error { return http.ErrUseLastResponse }
 	return &http.Client{Transport: by, CheckRedirect: noRedirect}
 }
@@ -61,14 +69,29 @@ type answer struct {
 	text   string
 }
 
-func (it *server) push(in context.Context, tenant string, body []byte) (answer, error) {
-	asked, err := http.NewRequestWithContext(in, http.MethodPost, it.address+pushPath, bytes.NewReader(body))
+// push sends a body for a tenant, which is of letters that may stand in a head. The answer has to come until then.
+func (it *server) push(in context.Context, until time.Time, tenant string, body *buffer) (answer, error) {
+	if err := in.Err(); err != nil {
+		return answer{}, err
+	}
+	by, err := it.pushes.take(in)
 	if err != nil {
 		return answer{}, err
 	}
-	asked.Header.Set("Content-Type", "application/json")
-	asked.Header.Set("X-Scope-OrgID", tenant)
-	return ask(it.pushes, asked)
+	by.in, by.until = in, time.Now().Add(answerTime)
+	if until.Before(by.until) {
+		by.until = until
+	}
+	var space [headSpace]byte
+	head := append(append(space[:0], it.head...), tenant...)
+	head = strconv.AppendInt(append(head, "\r\nContent-Length: "...), int64(len(body.bytes)), 10)
+	found, isKept, err := by.ask(append(head, "\r\n\r\n"...), body)
+	if err == nil && isKept {
+		it.pushes.keep(by)
+	} else {
+		by.Close()
+	}
+	return found, err
 }
 
 func (it *server) ready(in context.Context) (answer, error) {
@@ -76,7 +99,17 @@ func (it *server) ready(in context.Context) (answer, error) {
 	if err != nil {
 		return answer{}, err
 	}
-	return ask(it.looks, asked)
+	asked.Header.Set("User-Agent", "needleazure-gateway")
+	got, err := it.looks.Do(asked)
+	if err != nil {
+		return answer{}, err
+	}
+	defer got.Body.Close()
+	text, err := io.ReadAll(io.LimitReader(got.Body, mostAnswer))
+	if err != nil {
+		return answer{}, err
+	}
+	return answer{got.StatusCode, got.Header.Get("Content-Type"), string(text)}, nil
 }
 
 // note says once that the server is away, and once that it is back.
@@ -91,20 +124,6 @@ func (it *server) note(err error) {
 	default:
 		log.Printf("the server at %s answers again", it.address)
 	}
-}
-
-func ask(client *http.Client, asked *http.Request) (answer, error) {
-	asked.Header.Set("User-Agent", "needleazure-gateway")
-	got, err := client.Do(asked)
-	if err != nil {
-		return answer{}, err
-	}
-	defer got.Body.Close()
-	text, err := io.ReadAll(io.LimitReader(got.Body, mostAnswer))
-	if err != nil {
-		return answer{}, err
-	}
-	return answer{got.StatusCode, got.Header.Get("Content-Type"), string(text)}, nil
 }
 
 // unanswered is the answer where the server gave none: what was sent may be stored or not, and is sent again.

@@ -15,6 +15,8 @@ type gateway struct {
 	most   int64
 	within time.Duration
 	budget *budget
+	cache  *labelCache
+	limits *limits
 	// a place for each push that is unpacked and sent
 	places  chan struct{}
 	metrics *metrics
@@ -22,16 +24,21 @@ type gateway struct {
 
 func newGateway(words words) *gateway {
 	it := &gateway{
-		server: newServer(words.to, words.connections),
+		server: newServer(words.to),
 		tenant: words.tenant,
 		most:   words.maxBody,
 		within: bodyTime,
 		budget: newBudget(words.memory),
+		cache:  newLabelCache(words.memory / partOfCache),
 		places: make(chan struct{}, words.connections),
+		limits: words.limits,
 	}
 	it.metrics = newMetrics(func() float64 { return float64(words.memory - it.budget.left.Load()) })
 	return it
 }
+
+// The texts of labels may take this part of the memory.
+const partOfCache = 64
 
 // (for all parts of a push)
 const pushTime = 4 * time.Minute
@@ -39,11 +46,16 @@ const pushTime = 4 * time.Minute
 func (it *gateway) handler() http.Handler {
 	routes := http.NewServeMux()
 	routes.HandleFunc(pushPath, only(it.push, http.MethodPost))
+	routes.HandleFunc(otlpPath, only(it.pushLogs, http.MethodPost))
 	routes.HandleFunc(readyPath, only(it.ready, http.MethodGet, http.MethodHead))
 	routes.HandleFunc("/metrics", only(it.metrics.handler().ServeHTTP, http.MethodGet, http.MethodHead))
 	return http.HandlerFunc(func(to http.ResponseWriter, from *http.Request) {
 		// (also what nobody wants of a request is read to its end before the next one)
 		setDeadline(from, time.Now().Add(it.within))
+		if from.URL.Path == pushPath && from.Method == http.MethodPost {
+			it.push(to, from)
+			return
+		}
 		routes.ServeHTTP(to, from)
 	})
 }
@@ -71,29 +83,44 @@ func (it *gateway) ready(to http.ResponseWriter, from *http.Request) {
 }
 
 func (it *gateway) push(to http.ResponseWriter, from *http.Request) {
-	began, form := time.Now(), "none"
-	in, end := context.WithTimeout(from.Context(), pushTime)
-	defer end()
-	holding := &held{of: it.budget}
-	defer holding.release()
-	found, err := it.answer(in, from, holding, &form)
+	pushed := newPushed(it, from)
+	defer pushed.end()
+	found, err := pushed.answer(from, readHead)
 	status := found.status
 	if err != nil {
 		status = tell(to, err)
 	} else {
 		write(to, found)
 	}
-	it.metrics.answered(form, status, began)
+	it.metrics.answered(pushed.form, status, pushed.began)
+}
+
+func (it *gateway) pushLogs(to http.ResponseWriter, from *http.Request) {
+	pushed := newPushed(it, from)
+	defer pushed.end()
+	found, err := pushed.answer(from, readLogsHead)
+	if err != nil {
+		its := faultOf(err)
+		found = answer{status: its.status, text: its.text}
+	}
+	found.status = otlpStatus(found.status)
+	writeOTLP(to, found, pushed.body.isJSON)
+	it.metrics.answered(pushed.form, found.status, pushed.began)
 }
 
 // tell answers a fault, and returns its status.
 func tell(to http.ResponseWriter, err error) int {
-	var found *fault
-	if !errors.As(err, &found) {
-		found = &fault{http.StatusInternalServerError, err.Error()}
-	}
+	found := faultOf(err)
 	http.Error(to, found.text, found.status)
 	return found.status
+}
+
+func faultOf(err error) *fault {
+	var found *fault
+	if errors.As(err, &found) {
+		return found
+	}
+	return &fault{http.StatusInternalServerError, err.Error()}
 }
 
 func write(to http.ResponseWriter, found answer) {
@@ -104,84 +131,175 @@ func write(to http.ResponseWriter, found answer) {
 	io.WriteString(to, found.text)
 }
 
+// A push that is under way.
+type pushed struct {
+	*gateway
+	in      context.Context
+	began   time.Time
+	form    string
+	counted *formMetrics
+	tenant  string
+	body    received
+	holding *held
+}
+
+func newPushed(by *gateway, from *http.Request) *pushed {
+	return &pushed{gateway: by, in: from.Context(), began: time.Now(), form: "none", holding: newHeld(by.budget)}
+}
+
+func (it *pushed) end() {
+	it.holding.release()
+	heldPool.Put(it.holding)
+}
+
 // answer is what the server answers to a push.
-func (it *gateway) answer(in context.Context, from *http.Request, holding *held, form *string) (answer, error) {
-	tenant := from.Header.Get("X-Scope-OrgID")
-	if tenant == "" {
-		tenant = it.tenant
+func (it *pushed) answer(from *http.Request, readHead func(*http.Request) (received, error)) (answer, error) {
+	if it.tenant = from.Header.Get("X-Scope-OrgID"); it.tenant == "" {
+		it.tenant = it.gateway.tenant
 	}
-	if tenant == "" {
+	if it.tenant == "" {
 		return answer{}, &fault{http.StatusUnauthorized, "no org id"}
 	}
+	if why := badTenant(it.tenant); why != "" {
+		return answer{}, badRequest("bad tenant: %s", why)
+	}
 	body, err := readHead(from)
-	if err != nil {
+	if it.body = body; err != nil {
 		return answer{}, err
 	}
-	*form = body.form()
-	if err := body.read(from, it.most, holding); err != nil {
+	it.form = body.form()
+	it.counted = it.metrics.forms[it.form]
+	if err := it.body.read(from, it.most, it.holding); err != nil {
 		return answer{}, err
 	}
-	it.metrics.received.WithLabelValues(*form).Add(float64(len(body.bytes)))
+	it.counted.received.Add(float64(len(it.body.bytes)))
+	if err := it.enter(); err != nil {
+		return answer{}, err
+	}
+	defer func() { <-it.places }()
+	if err := it.body.unpack(it.most, it.holding); err != nil {
+		return answer{}, err
+	}
+	return it.forward()
+}
+
+// enter waits for a place.
+func (it *pushed) enter() error {
 	select {
 	case it.places <- struct{}{}:
-		defer func() { <-it.places }()
-	case <-in.Done():
-		return answer{}, unanswered(in.Err())
+		return nil
+	default:
 	}
-	streams, err := it.read(&body, holding)
-	if err != nil {
-		return answer{}, err
+	late := time.NewTimer(pushTime)
+	defer late.Stop()
+	select {
+	case it.places <- struct{}{}:
+		return nil
+	case <-it.in.Done():
+		return unanswered(it.in.Err())
+	case <-late.C:
+		return unanswered(context.DeadlineExceeded)
 	}
-	return it.forward(in, tenant, streams)
 }
 
 // For so many bytes of a body's limit there may be one of its streams, entries, times, labels and pairs.
 const bytesEach = 16
 
-// read is what a body asks for.
-func (it *gateway) read(body *received, holding *held) ([]stream, error) {
-	unpacked, err := body.unpack(it.most, holding)
+// forward sends a push to the server: as one body that is found fast, as nearly all are, or else in parts.
+func (it *pushed) forward() (answer, error) {
+	whole, found, err := it.translate()
 	if err != nil {
+		return answer{}, err
+	}
+	if whole == nil {
+		return it.forwardParts()
+	}
+	it.counted.entries.Add(float64(found.entries))
+	if it.limits.any() {
+		if err := it.limits.take(it.tenant, found); err != nil {
+			return answer{}, err
+		}
+	}
+	return it.send(whole)
+}
+
+// translate is the body that the server takes as this one, if that is found fast.
+func (it *pushed) translate() (*buffer, counts, error) {
+	if it.body.isOTLP {
+		return nil, counts{}, nil
+	}
+	if !it.body.isJSON {
+		return translate(it.body.bytes, it.most/bytesEach, it.holding, it.cache)
+	}
+	if found, isSo := scanJSON(it.body.bytes, it.most/bytesEach); isSo {
+		return it.body.buffer, found, nil
+	}
+	return nil, counts{}, nil
+}
+
+// read is what a body asks for.
+func (it *pushed) read() ([]stream, error) {
+	// (its texts once more, and the part that is made of it: six times as long if it is all control characters, and as long
+	// as a part may be where records share what their resource has)
+	length, part := int64(len(it.body.bytes)), int64(mostBody)
+	if !it.body.isOTLP {
+		part = smaller(mostEscaped*length, mostBody)
+	}
+	if err := it.holding.take(length + part); err != nil {
 		return nil, err
 	}
-	// (its texts once more, and the part that is made of it, which is six times as long if it is all control characters)
-	length := int64(len(unpacked))
-	if err := holding.take(length + smaller(6*length, mostBody)); err != nil {
-		return nil, err
-	}
-	decode := decodeProtobuf
-	if body.isJSON {
-		decode = decodeJSON
-	}
-	streams, err := decode(unpacked, &messages{held: holding, most: it.most / bytesEach})
+	streams, err := it.decoder()(it.body.bytes, &messages{held: it.holding, most: it.most / bytesEach})
 	count := 0
 	for _, each := range streams {
 		count += each.length
 	}
-	it.metrics.entries.WithLabelValues(body.form()).Add(float64(count))
+	it.counted.entries.Add(float64(count))
 	return streams, err
 }
 
-func smaller(one, other int64) int64 {
-	if one < other {
-		return one
+func (it *pushed) decoder() func([]byte, *messages) ([]stream, error) {
+	switch {
+	case it.body.isOTLP && it.body.isJSON:
+		return decodeJSONLogs
+	case it.body.isOTLP:
+		return decodeOTLP
+	case it.body.isJSON:
+		return decodeJSON
 	}
-	return other
+	return decodeProtobuf
 }
 
-// forward sends a push in as many parts as the server needs, one after another.
-func (it *gateway) forward(in context.Context, tenant string, streams []stream) (answer, error) {
+// send sends a part, and is the server's answer.
+func (it *pushed) send(body *buffer) (answer, error) {
+	it.metrics.parts.Inc()
+	it.metrics.sent.Add(float64(len(body.bytes)))
+	found, err := it.server.push(it.in, it.began.Add(pushTime), it.tenant, body)
+	it.server.note(err)
+	if err != nil {
+		it.metrics.away.Inc()
+		return answer{}, unanswered(err)
+	}
+	return found, nil
+}
+
+// forwardParts sends a push in as many parts as the server needs, one after another.
+func (it *pushed) forwardParts() (answer, error) {
+	streams, err := it.read()
+	if err != nil {
+		return answer{}, err
+	}
+	if it.limits.any() {
+		if err := it.limits.take(it.tenant, countsOf(streams)); err != nil {
+			return answer{}, err
+		}
+	}
 	found := verdict{}
 	parts := newSplitter(streams, found.refuse)
 	for {
 		next := parts.next()
-		it.metrics.parts.Inc()
-		it.metrics.sent.Add(float64(len(next.body)))
-		got, err := it.server.push(in, tenant, next.body)
-		it.server.note(err)
+		got, err := it.send(&buffer{bytes: next.body})
 		if err != nil {
-			it.metrics.away.Inc()
-			return answer{}, unanswered(err)
+			return answer{}, err
 		}
 		if !found.add(next, got) || parts.done() {
 			return found.answer(), nil

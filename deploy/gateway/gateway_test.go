@@ -327,6 +327,7 @@ func TestWords(t *testing.T) {
 		"--listen :1 --to http://a --connections 65":    "--connections is not a number from 1 to 64",
 		"--listen :1 --to http://a --tenants a":         "flag provided but not defined: -tenants",
 		"--listen :1 --to http://a --tenant a|b":        "--tenant is not 1 to 150 letters, digits, - and _",
+		"--listen :1 --to http://a --limits /nowhere":   "open /nowhere: no such file or directory",
 	} {
 		found := ""
 		if _, err := readWords(strings.Fields(given)); err != nil {

@@ -39,9 +39,12 @@ func main() {
 		os.Exit(2)
 	}
 	// (beside the budget what isn't collected yet: with less it would do little else than collect)
-	debug.SetMemoryLimit(given.memory + given.memory/2)
+	if os.Getenv("GOMEMLIMIT") == "" {
+		debug.SetMemoryLimit(given.memory + given.memory/2)
+	}
 	ends, stop := signal.NotifyContext(context.Background(), syscall.SIGTERM, syscall.SIGINT)
 	defer stop()
+	go readAgain(given.limits)
 	listening, err := net.Listen("tcp", given.listen)
 	if err == nil {
 		fmt.Printf("ready %s\n", listening.Addr())
@@ -50,6 +53,15 @@ func main() {
 	if err != nil {
 		log.Print(err)
 		os.Exit(1)
+	}
+}
+
+// readAgain reads the limits again at each SIGHUP.
+func readAgain(limits *limits) {
+	asked := make(chan os.Signal, 1)
+	signal.Notify(asked, syscall.SIGHUP)
+	for range asked {
+		limits.again()
 	}
 }
 

@@ -3,6 +3,7 @@ package main
 import (
 	"net/http"
 	"strconv"
+	"sync/atomic"
 	"time"
 
 	"github.com/prometheus/client_golang/prometheus"
@@ -11,16 +12,24 @@ import (
 	"github.com/prometheus/client_golang/prometheus/promhttp"
 )
 
-// The metrics of a gateway. A form is `protobuf` or `json`, or `none` where a head was refused before it was looked at.
+// The metrics of a gateway. A form is `protobuf`, `json` or `otlp`, or `none` where a head was refused before it was looked at.
 type metrics struct {
 	registry *prometheus.Registry
 	requests *prometheus.CounterVec
 	received *prometheus.CounterVec
 	entries  *prometheus.CounterVec
 	seconds  *prometheus.HistogramVec
+	forms    map[string]*formMetrics
 	sent     prometheus.Counter
 	parts    prometheus.Counter
 	away     prometheus.Counter
+}
+
+// Those of a form, found once. What counts its stored pushes is there once there is one.
+type formMetrics struct {
+	received, entries prometheus.Counter
+	seconds           prometheus.Observer
+	stored            atomic.Pointer[prometheus.Counter]
 }
 
 func newMetrics(held func() float64) *metrics {
@@ -47,10 +56,13 @@ func newMetrics(held func() float64) *metrics {
 	}
 	by.NewGaugeFunc(prometheus.GaugeOpts(named("held_bytes", "Memory that the pushes under way were given.")), held)
 	registry.MustRegister(collectors.NewGoCollector(), collectors.NewProcessCollector(collectors.ProcessCollectorOpts{}))
-	for _, each := range []string{"protobuf", "json"} {
-		it.received.WithLabelValues(each)
-		it.entries.WithLabelValues(each)
-		it.seconds.WithLabelValues(each)
+	it.forms = map[string]*formMetrics{}
+	for _, each := range []string{"protobuf", "json", "otlp"} {
+		it.forms[each] = &formMetrics{
+			received: it.received.WithLabelValues(each),
+			entries:  it.entries.WithLabelValues(each),
+			seconds:  it.seconds.WithLabelValues(each),
+		}
 	}
 	return it
 }
@@ -60,6 +72,16 @@ func (it *metrics) handler() http.Handler {
 }
 
 func (it *metrics) answered(form string, status int, began time.Time) {
-	it.requests.WithLabelValues(form, strconv.Itoa(status)).Inc()
-	it.seconds.WithLabelValues(form).Observe(time.Since(began).Seconds())
+	its := it.forms[form]
+	if its == nil || status != http.StatusNoContent {
+		it.requests.WithLabelValues(form, strconv.Itoa(status)).Inc()
+		it.seconds.WithLabelValues(form).Observe(time.Since(began).Seconds())
+		return
+	}
+	if its.stored.Load() == nil {
+		stored := it.requests.WithLabelValues(form, "204")
+		its.stored.Store(&stored)
+	}
+	(*its.stored.Load()).Inc()
+	its.seconds.Observe(time.Since(began).Seconds())
 }

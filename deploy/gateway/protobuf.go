@@ -53,13 +53,25 @@ func (it shape) check(body []byte, found *messages) error {
 				return err
 			}
 			inner, _ := protowire.ConsumeBytes(body)
-			if err := known.inner.check(inner, found); err != nil {
+			if err := known.inner.checkInner(inner, found); err != nil {
 				return err
 			}
 		}
 		body = body[length:]
 	}
 	return nil
+}
+
+// (each takes some of the stack)
+const mostDepth = 100
+
+func (it shape) checkInner(body []byte, found *messages) error {
+	if found.depth == mostDepth {
+		return badRequest("more than %d messages in each other", mostDepth)
+	}
+	found.depth++
+	defer func() { found.depth-- }()
+	return it.check(body, found)
 }
 
 // decodeProtobuf reads a body as Loki's shippers make it.

@@ -22,10 +22,10 @@ NAMES, PIECES, NO_TEXT = (CHOICES[it] for it in ("name of a shipper", "piece of 
 codecs.register_error("each byte", lambda it: ("\ufffd", it.start + 1))
 
 
-def load_messages(folder):
-    subprocess.run(["protoc", f"--proto_path={HERE}", f"--python_out={folder}", "loki_push.proto"], check=True)
+def load_messages(folder, name="loki_push"):
+    subprocess.run(["protoc", f"--proto_path={HERE}", f"--python_out={folder}", f"{name}.proto"], check=True)
     sys.path.insert(0, folder)
-    return importlib.import_module("loki_push_pb2")
+    return importlib.import_module(f"{name}_pb2")
 
 
 def kept(text):

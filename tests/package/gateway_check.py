@@ -1,6 +1,7 @@
 """gateway_check [PART..]: needleazure-gateway before real servers, asked by encoders and clients that are none of its
-own: `random` pushes in all of Loki's forms, read back entry for entry; `answers`, beside those of a server that is
-asked directly; `hostile` bodies, and what memory they take; 500 kept `clients`; `kills` of a server and a gateway.
+own: `random` pushes in all of Loki's forms, read back entry for entry, and `otlp` the same of OpenTelemetry's; `answers`,
+beside those of a server that is asked directly; `hostile` bodies, and what memory they take; 500 kept `clients`; `kills`
+of a server and a gateway; `limits` of tenants that are read again.
 Go's race detector watches all but `hostile`. It needs protoc, python3-protobuf and python3-snappy."""
 import collections
 import concurrent.futures
@@ -10,19 +11,22 @@ import http.client
 import itertools
 import os
 import random
+import signal
 import time
 
 import servers
 import snappy
 from bodies import MOST_LABELS
 from gateway_bodies import MINUTE, Draw, Writer, kept, load_messages, texts, value_of
+from gateway_otlp import OTLPDraw, OTLPWriter, streams_of
 from gateway_runs import Client, Gateway
 from row_files import pieces_of
-from servers import PUSH, TOP, Repeated, Server, hold
+from servers import PUSH, TOP, Repeated, Server, hold, need
 
 # (where syncs take no time: what is killed here is no machine)
 PLACE = servers.memory()
-PUSHES, LARGE = 2000, 6
+PUSHES, LARGE, OTLP_PUSHES = 2000, 6, 500
+OTLP = "/otlp/v1/logs"
 CLIENTS, EACH = 500, 20
 RACE = {"program": "needleazure-gateway.race"}
 PROTOBUF = {"Content-Type": "application/x-protobuf"}
@@ -39,6 +43,13 @@ class Model:
 
     def __init__(self):
         self.streams, self.entries = {}, 0
+
+    def add(self, streams):
+        """Adds streams of which each is its labels, and its entries as JSON has them."""
+        for labels, entries in streams:
+            if entries:
+                self.streams.setdefault(tuple(sorted(labels.items())), []).extend(entries)
+                self.entries += len(entries)
 
     def store(self, streams):
         for labels, entries in streams:
@@ -82,6 +93,57 @@ def try_random(messages, work):
         hold(not wrong, f"{PUSHES} random pushes ({forms[0]} in Protobuf, {forms[1]} in JSON, {parts:.0f} parts), "
              f"{model.entries} entries of {len(model.streams)} streams read back, {len(wrong)} streams otherwise, seed {seed}")
         ends_well(gateway, "random")
+
+
+def try_otlp(_, work):
+    seed = time.time_ns()
+    chance = random.Random(seed)
+    draw, writer, model = OTLPDraw(Draw(chance)), OTLPWriter(load_messages(work, "otlp_logs"), chance), Model()
+    with (Server(f"{work}/otlp", workers=64) as server, Gateway(server, **RACE) as gateway, Client(gateway.port) as client):
+        for at in range(OTLP_PUSHES):
+            resources = [draw.resource() for _ in range(chance.randint(0, 3))]
+            body, head = writer.draw(resources, chance.random() < 0.5)
+            found = client.push(body, head, chance.random() < 0.2, OTLP)
+            if found != (204, b""):
+                hold(False, f"push {at} of seed {seed}: {found}")
+            model.add(streams_of(resources))
+        with servers.Client(server.port) as client:
+            wrong = model.wrong(client)
+        hold(not wrong, f"{OTLP_PUSHES} random pushes of OpenTelemetry's logs, {model.entries} entries of {len(model.streams)} "
+             f"streams read back, {len(wrong)} streams otherwise, seed {seed}")
+        ends_well(gateway, "otlp")
+
+
+def try_limits(messages, work):
+    """Tenants by a file: how much of what they push at once is taken, before it is read again and after."""
+    path, writer = f"{work}/limits.txt", Writer(messages, random)
+    line = b"x" * 1000
+
+    def taken(tenant, count=50):
+        with Client(gateway.port, tenant) as client:
+            streams = [[({b"a": b"1"}, [(time.time_ns(), line, {})])] for _ in range(count)]
+            found = [client.push(snappy.compress(writer.protobuf(it)), PROTOBUF) for it in streams]
+        need(all(status in (204, 429) for status, _ in found), f"pushes are answered {found}")
+        need(all(b"Ingestion rate limit exceeded for user " + tenant.encode() in text for status, text in found if status == 429),
+             f"Loki's words: {found}")
+        return [status for status, _ in found].count(204)
+
+    servers.write(path, b"total: 100000 1000000\nloud 1 10000\nothers: 1% 20000\n")
+    with Server(f"{work}/limits", workers=64) as server, Gateway(server, "--limits", path, **RACE) as gateway:
+        found = [taken(it) for it in ("loud", "one", "loud")]
+        hold(found[0] == 10 and 20 <= found[1] <= 40 and found[2] == 0, f"limits of tenants: {found} pushes of 1,000 bytes are taken")
+        servers.write(path, b"loud 1 2 3 4\n")
+        gateway.running.send_signal(signal.SIGHUP)
+        time.sleep(0.5)
+        hold(taken("loud") == 0, "a file with a fault changes nothing")
+        servers.write(path, b"loud 1000000000 1000000\n")
+        gateway.running.send_signal(signal.SIGHUP)
+        time.sleep(0.5)
+        hold([taken("loud"), taken("one")] == [50, 50], "limits that are read again hold from then on")
+        status, errors = gateway.stop()
+        said = f"needleazure-gateway: the limits stay as they are: {path}:1: not a name, a rate and a burst\n" \
+            "needleazure-gateway: limits read again: 1 tenants with lines of their own\n"
+        hold((status, errors) == (0, said), f"limits: the gateway ends with status {status}, and says {errors}")
 
 
 class Faults:
@@ -313,7 +375,7 @@ def try_kills(messages, work):
         hold(status == 0, f"kills: the gateway ends with status {status}")
 
 
-PARTS = {"random": try_random, "answers": try_answers, "hostile": try_hostile, "clients": try_clients, "kills": try_kills}
+PARTS = {"random": try_random, "otlp": try_otlp, "limits": try_limits, "answers": try_answers, "hostile": try_hostile, "clients": try_clients, "kills": try_kills}
 
 
 def check(work, _, *words):

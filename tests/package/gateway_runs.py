@@ -11,8 +11,8 @@ SECONDS = 120
 class Gateway(servers.Program):
     def __init__(self, server, *more, program="needleazure-gateway"):
         at, to = f"127.0.0.1:{servers.free_ports(1)[0]}", f"http://127.0.0.1:{server.port}"
-        # (which ends it with that status where the race detector has found something)
-        settings = {**os.environ, "GORACE": "exitcode=66 halt_on_error=1"}
+        # (as its unit has it; and the race detector ends it with that status where it has found something)
+        settings = {"GOGC": "400", **os.environ, "GORACE": "exitcode=66 halt_on_error=1"}
         program = f"{servers.TOP}/deploy/out/{program}"
         super().__init__([program, "--listen", at, "--to", to, *more], settings)
 
@@ -37,9 +37,9 @@ class Client(http.client.HTTPConnection, contextlib.AbstractContextManager):
     def __exit__(self, *_):
         self.close()
 
-    def push(self, body, head, is_chunked=False):
+    def push(self, body, head, is_chunked=False, path=servers.PUSH):
         """Status and text of the answer."""
         head = {"X-Scope-OrgID": self.tenant, **head}
-        self.request("POST", servers.PUSH, iter([body]) if is_chunked else body, head)
+        self.request("POST", path, iter([body]) if is_chunked else body, head)
         answer = self.getresponse()
         return answer.status, answer.read()
