@@ -4,7 +4,6 @@ times without more ado, a third some seconds after the link between the two was 
 the middle of a roll. Each time the other one is promoted by the page's command, and each line that
 was ever acknowledged has to be read back there, once. Then the same without fencing, which has to
 lose lines. It runs as root, and takes some half a minute a run."""
-import contextlib
 import http.client
 import json
 import os
@@ -26,6 +25,7 @@ from servers import PUSH, READ, SECONDS, TOP, TRIM, Repeated, hold, need, push_b
 IMAGE, NGINX = "NEEDLEAZURE_FAILOVER_IMAGE", "NEEDLEAZURE_FAILOVER_NGINX"
 # where the pair is kept as it was set up, for runs that don't set it up again
 KEPT = os.environ.get("PAIR")
+BEGUN = str(time.time_ns())
 ADDRESS, PROXY = "10.0.0.10", 3101
 WORDS = f"{ADDRESS}/24 eth0"
 SHARDS, CAPACITY, MIRROR_MIB = 2, 4 << 20, 96
@@ -45,9 +45,10 @@ modprobe@efi_pstore.service modprobe@fuse.service modprobe@loop.service dev-huge
 sys-kernel-debug.mount sys-kernel-tracing.mount sys-kernel-config.mount sys-fs-fuse-connections.mount
 proc-sys-fs-binfmt_misc.automount systemd-ask-password-console.path systemd-ask-password-wall.path
 systemd-firstboot.service systemd-machine-id-commit.service""".split()
-TENANT, CLIENTS, STREAMS, LINES, LENGTH = "t", 4, 3, 4, 100
-# a push after which no segment has room for a second one
-LARGE, LARGE_LINES = 250_000, 8
+# (a body with one line of a stream: of several a part may be stored again where the body is pushed again)
+TENANT, CLIENTS, STREAMS, LENGTH = "t", 4, 8, 100
+# a segment has room for two pushes of so many lines, and for no third one
+LARGE, LARGE_LINES = 250_000, 6
 CALM, MOST_CUT, PATIENCE, AFTER = 1.5, 8, 3, 1
 DAYS = 6 * 24 * 3_600
 KINDS = ["a kill", "a cut, then a kill", "a kill in a roll"]
@@ -89,7 +90,7 @@ class Pusher(Repeated):
     def __init__(self, name, streams, lines):
         super().__init__(self.push, 0.01)
         self.client, self.lines, self.count, self.since = Client(), lines, 0, None
-        self.streams = [{"from": name, "stream": str(at)} for at in range(streams)]
+        self.name, self.streams = name, [{"from": name, "begun": BEGUN, "at": str(at)} for at in range(streams)]
         self.acknowledged, self.times, self.refused = [[] for _ in range(streams)], [], {}
 
     def fresh(self):
@@ -126,29 +127,29 @@ class Pusher(Repeated):
 
 def short_lines(name):
     def lines(count):
-        now = time.time_ns()
-        return [(now + at, f"{name} {count} {at} ".ljust(LENGTH, "x"), ()) for at in range(LINES)]
+        return [(time.time_ns(), f"{name} {count} ".ljust(LENGTH, "x"), ())]
     return lines
 
 
 class Roller(Pusher):
-    """Pushes more than half of a segment at a time and trims what was there before, so that each push begins one."""
+    """Pushes a third of a segment at a time. The lines of the push before it stay, since they were the stream's window,
+    and those before them are trimmed, so each push begins a segment."""
+
+    at = time.time_ns() - DAYS * 10**9
 
     def __init__(self, shard):
-        labels = next(servers.labels_in(shard, SHARDS, TENANT, "roller"))
-        self.at = time.time_ns() - DAYS * 10**9
         super().__init__("roller", 1, self.long_lines)
-        self.streams, self.pause = [labels], 0.2
+        self.streams, self.pause = [next(servers.labels_in(shard, SHARDS, TENANT, "roller"))], 0.2
 
     def long_lines(self, count):
-        self.at += 3 * 10**9
-        return [(self.at + it, f"{count} {it} ".ljust(LARGE, "x"), ()) for it in range(LARGE_LINES)]
+        Roller.at += 3 * 10**9
+        self.newest = Roller.at
+        return [(self.newest + it, f"{count} {it} ".ljust(LARGE, "x"), ()) for it in range(LARGE_LINES)]
 
     def push(self):
         super().push()
-        with contextlib.suppress(SystemExit):
-            if not self.is_done.is_set():
-                self.client.ask(TRIM, json.dumps({"stream": self.streams[0], "bound": str(self.at - 10**9)}).encode())
+        if not self.is_done.is_set():
+            self.client.ask(TRIM, json.dumps({"stream": self.streams[0], "bound": str(self.newest - 10**9)}).encode())
 
 
 class Pair:
@@ -332,7 +333,7 @@ def compare(pushers, left):
     """How many lines were acknowledged, and how many of them are missing, there twice, or not known to anybody."""
     lines = missing = twice = invented = 0
     for pusher in pushers:
-        before = left.get(pusher.streams[0]["from"], [[]] * len(pusher.streams))
+        before = left.get(pusher.name, [[]] * len(pusher.streams))
         for found, more, old in zip(pusher.read(), pusher.acknowledged, before):
             due = set(more) | set(old)
             lines += len(due)
@@ -347,7 +348,7 @@ def trim_all(pushers):
     left = {}
     for it in pushers:
         it.trim()
-        left[it.streams[0]["from"]] = it.read()
+        left[it.name] = it.read()
     return left
 
 
