@@ -71,13 +71,14 @@ program-rows: ## the programs over their words, streams, files and slots, as the
 # what a check is run over, and its words
 %-check: PROGRAMS = ingesterd walcat
 kit-check theorem-check filesystem-check: PROGRAMS =
-deb-check: PROGRAMS = $(ALL)
+deb-check failover-check: PROGRAMS = $(ALL)
 deb-check: WORDS = "$$(deploy/deb)"
+failover-check: WORDS = "$$(deploy/deb)" $(RUNS)
 gateway-check: BEFORE = deploy/gateway/build race && tests/package/gateway_quick race
-deb-check edge-check gateway-check container-check: gateway
+deb-check edge-check failover-check gateway-check container-check: gateway
 
 %-check: CHECK = $(subst -,_,$*)_check
-%-check: ## tests/*/NAME_check over built programs: clients gateway drain sweep after syslog memory edge scale-out metrics fill, as root deb filesystem container, alone kit theorem
+%-check: ## tests/*/NAME_check over built programs: clients gateway drain sweep after syslog memory edge scale-out metrics fill, as root deb filesystem container failover (RUNS=100), alone kit theorem
 	@$(if $(PROGRAMS),RT='$(RT)' tests/gate/build $(PROGRAMS))
 	@$(BEFORE)
 	@RT='$(RT)' $(or $(wildcard tests/*/$(CHECK)),$(if $(wildcard tests/*/$(CHECK).py),tests/run $(CHECK)),$(error there is no $(CHECK))) $(WORDS)

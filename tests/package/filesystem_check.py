@@ -1,6 +1,8 @@
 """filesystem_check: what deploy/check-filesystem says of a log on file systems of each kind, as
 root: nothing of those that keep what was synced, and why others don't. Each is made on a loop
-device, or mounted, in a namespace of its own; NFS is told by a findmnt in place of the real one."""
+device, or mounted, in a namespace of its own; NFS is told by a findmnt in place of the real one,
+and so are mirrors, by devices and a drbdsetup that are made up. (`make failover-check` has real
+ones of DRBD.)"""
 import contextlib
 import copy
 import os
@@ -24,12 +26,12 @@ def said_of(folder, *before, **settings):
     return lines
 
 
-def judge(what, lines, folder, due):
+def judge(what, lines, folder, due, page="Which file system"):
     if not due:
         hold(lines == [], f"of {what} nothing is said")
     else:
         is_so = len(lines) == 1 and due in lines[0] and lines[0].startswith(f"check-filesystem: {folder} is on ")
-        hold(is_so and "Which file system" in lines[0], f"of {what} it is said: {lines}")
+        hold(is_so and page in lines[0], f"of {what} it is said: {lines}")
 
 
 def on_devices(work):
@@ -76,6 +78,33 @@ def by_others(work):
         judge(what, said_of(work, PATH=f"{tools}:{os.environ['PATH']}"), work, due)
 
 
+def make_devices(folder, lacking):
+    """A mirror of md that lacks so many disks, a volume on it, a part of it, and a device of DRBD."""
+    texts = {"md0/dev": "9:0", "md0/md/degraded": lacking, "md0/md0p1/dev": "259:1", "md0/md0p1/partition": "1",
+             "dm-0/slaves/md0/dev": "9:0", "drbd0/dev": "147:0"}
+    for path, text in texts.items():
+        os.makedirs(os.path.dirname(f"{folder}/{path}"), exist_ok=True)
+        write(f"{folder}/{path}", f"{text}\n".encode())
+    for number, path in {"9:0": "md0", "259:1": "md0/md0p1", "253:0": "dm-0", "147:0": "drbd0"}.items():
+        os.symlink(path, f"{folder}/{number}")
+
+
+def on_mirrors(work):
+    tools = f"{work}/tools"
+    for what, words, due in (row for kind, *row in ROWS if kind == "mirror"):
+        number, own, *more = words.split()
+        other, fencing = more or ("", "")
+        write_program(f"{tools}/findmnt", f'#!/bin/sh\necho "ext4 {number} rw /mnt /dev/some"\n')
+        write_program(f"{tools}/drbdsetup", f"""#!/bin/sh
+[ "$1" = status ] || {{ printf ' disk {{\\n\\tfencing \\t{fencing};\\n' && exit; }}
+printf 'another role:Primary\\n  volume:0 minor:7 disk:Diskless\\n\\n'
+printf 'log role:Primary\\n  volume:0 minor:0 disk:{own}\\n  peer role:Secondary\\n    volume:0 peer-disk:{other}\\n'
+""")
+        with at("/sys/dev/block", "-t", "tmpfs", "none"):
+            make_devices("/sys/dev/block", own)
+            judge(what, said_of(work, PATH=f"{tools}:{os.environ['PATH']}"), work, due, "FAILOVER.md")
+
+
 def through_links(work):
     """A slot that is a symbolic link is where it points to."""
     for it in ("disk", "other"):
@@ -99,4 +128,5 @@ def check(work, _):
         on_devices(work)
         on_others(work)
         by_others(work)
+        on_mirrors(work)
         through_links(work)

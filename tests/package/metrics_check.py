@@ -119,7 +119,7 @@ def check_texts(programs, metrics):
         hold(is_so, f"promtool {' '.join(words[:2])} says {' '.join(said) or 'nothing'}")
     actions = re.findall(r"^ *action: (.*)$", text_at("deploy/alerts.yml"), re.M)
     page = text_at("docs/MONITORING.md")
-    hold(len(actions) == 8 and all(it in page for it in actions), "docs/MONITORING.md says what to do as the alerts do")
+    hold(len(actions) == 9 and all(it in page for it in actions), "docs/MONITORING.md says what to do as the alerts do")
     names = {it.split("{")[0].split(" ")[0] for it in metrics.decode().splitlines() if not it.startswith("#")}
     hold(names and all(f"`{it}" in page for it in names), f"and has all {len(names)} metrics that come")
 

@@ -51,14 +51,15 @@ FILE_SYSTEMS = {
 }
 
 
-def enter_namespace():
-    """Starts this script again in a namespace of its own for mounts and processes, and returns there alone."""
+def enter_namespace(*more):
+    """Starts this script again in a namespace of its own for mounts and processes, and for what `more` words of unshare
+    name, and returns there alone."""
     if os.environ.get(INSIDE):
         signal.signal(signal.SIGTERM, lambda number, _: sys.exit(128 + number))
         return
     if os.geteuid() != 0:
         sys.exit("root alone may mount: run this as root")
-    words = ["unshare", "--mount", "--propagation", "slave", "--pid", "--fork", "--kill-child", "--mount-proc"]
+    words = ["unshare", *more, "--mount", "--propagation", "slave", "--pid", "--fork", "--kill-child", "--mount-proc"]
     # (a signal of the terminal comes to the script inside too)
     signal.signal(signal.SIGINT, signal.SIG_IGN)
     with subprocess.Popen([*words, sys.executable, "-B", *sys.argv], env={**os.environ, INSIDE: "1"},
