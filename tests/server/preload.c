@@ -410,7 +410,8 @@ int open(const char *path, int flags, ...) {
     int file = (int)end(&call, NEXT(open)(path, flags, mode));
     struct stat its;
     uint64_t longest = number_of("BREAK_ANEW");
-    if (longest > 0 && file >= 0 && (flags & O_ACCMODE) == O_RDWR && fstat(file, &its) == 0 && (uint64_t)its.st_size > longest) {
+    int is_slot = longest > 0 && file >= 0 && (flags & O_ACCMODE) == O_RDWR && fstat(file, &its) == 0;
+    if (is_slot && (uint64_t)its.st_size > longest) {
         NEXT(ftruncate)(file, 0);
     }
     return file;

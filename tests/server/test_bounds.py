@@ -1,5 +1,5 @@
-"""What a server's bounds are, as numbers: how long a client may take, what may be open and held, who is closed past that,
-and what is said how often. Clocks stand still but where a test sets them, so that only what it names can be the cause."""
+"""What a server's bounds are, as numbers: how long a client may take, what may be open and held, who is closed past
+that, and what is said how often. Clocks stand still but where a test sets them: only what it names can be the cause."""
 import os
 import resource
 import signal
@@ -53,7 +53,7 @@ def test_silence_of_a_minute(serve, clock):
 
 
 def test_a_request_of_five_minutes(serve, clock):
-    """A request may take five minutes from its first byte to its last, and no longer, though it sends some all the time."""
+    """A request may take five minutes from its first byte to its last, and no longer, though some comes all the time."""
     server = serve(workers=1, settings=clock.settings)
     clients = [connect(server.port) for _ in range(2)]
     for seconds in range(0, 296, 40):
@@ -67,8 +67,8 @@ def test_a_request_of_five_minutes(serve, clock):
 
 @pytest.mark.parametrize("workers, last", [(1, 0), (2, 0), (2, 1)])
 def test_the_slowest_is_closed(serve, clock, workers, last):
-    """Past the bytes of half-sent requests that are set, the connection is closed whose request comes slowest, on whichever
-    worker it is, and no other: neither large nor small ones that come faster."""
+    """Past the bytes of half-sent requests that are set, the connection is closed whose request comes slowest, on
+    whichever worker it is, and no other: neither large nor small ones that come faster."""
     server = serve(workers=workers, settings={HALF_SENT: str(LEAST_HELD), **clock.settings})
     slow = connect(server.port)
     slow.sendall(SMALL[:2_000])
@@ -119,7 +119,7 @@ def test_cut_requests_leave_nothing(serve, clock, length):
 
 
 def test_many_requests_at_once(serve, folder, preload):
-    """130 requests that come to one worker at once are answered in the order in which they came, and are written together."""
+    """130 requests that come to one worker at once are answered in their order, and are written together."""
     notes = f"{folder}/notes"
     server = serve("log", 1, 1, {"LD_PRELOAD": preload, "RECORD_UNDER": folder, "RECORD_TO": notes})
     now, clients = time.time_ns(), [servers.Client(server.port) for _ in range(130)]
@@ -141,7 +141,8 @@ def test_many_requests_at_once(serve, folder, preload):
 def hanging(folder, preload):
     """Settings of a server whose syncs hang between calls of the second and of the third."""
     path = f"{folder}/hangs"
-    return {"LD_PRELOAD": preload, "SYNC_WAITS": path}, lambda: servers.write(path, b""), lambda: os.remove(path)
+    settings = {"LD_PRELOAD": preload, "SYNC_WAITS": path}
+    return settings, lambda: servers.write(path, b""), lambda: os.remove(path)
 
 
 def test_connections_while_a_sync_hangs(serve, hanging):
@@ -204,14 +205,14 @@ def test_1050_connections_at_once(serve):
 
 
 def test_connections_without_end(serve, clock):
-    """After 263,000 connections that have ended others are served, more than 2^18. It waits a hundredth of the usual time."""
+    """After 263,000 connections that have ended, more than 2^18, others are served. Waits are a hundredth as long."""
     server = serve("log", 1, 8, {**clock.settings, "FAST": "100", "ENDED_FIRST": "263000"})
     with servers.Client(server.port) as client:
         assert client.push({"a": "1"}, [entry()]) == (204, "")
 
 
 def test_the_soft_limit_of_open_files(serve, folder):
-    """It counts, and not the hard one: as many connections are open as it allows, which a line says, and others wait."""
+    """It counts, and not the hard one: as many connections are open as it allows, as a line says, and others wait."""
     limit = lambda: resource.setrlimit(resource.RLIMIT_NOFILE, (80, 4_000))
     said = f"{folder}/said"
     with open(said, "wb") as errors:
@@ -226,7 +227,7 @@ def test_the_soft_limit_of_open_files(serve, folder):
 
 
 def said_lines(path, words, count):
-    """Waits for so many lines with these words on standard error, and returns what is before them in all that have come."""
+    """Waits for so many lines with these words on standard error. What stands before them in all that have come."""
     found = lambda: [it.partition(words)[0] for it in servers.bytes_of(path).decode().splitlines() if words in it]
     wait_until(lambda: len(found()) >= count, 10, 0.01)
     return found()

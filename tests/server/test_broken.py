@@ -1,4 +1,4 @@
-"""Wrong servers, each of which a test has to find, or a run. Those that preload.c breaks are tried once more, by hand."""
+"""Wrong servers, each of which a test has to find, or a run. Those that preload.c breaks are tried anew, by hand."""
 import os
 import re
 import subprocess

@@ -15,14 +15,15 @@ MEGABYTE, MOST_LINE, CAPACITY = 1 << 20, 262_144, "NEEDLEAZURE_CAPACITY"
 
 def shapes(path, begin):
     """The calls on slots in a file of notes from this one on: W writes bytes, c closes a gate, o opens one, s syncs."""
+    kind_of = lambda it: "W" if it.length > 1 else "o" if it.data == b"\1" else "c"
     notes = [it for it in notes_of(path)[begin:] if it.slot and not it.is_end]
-    return "".join(it.kind if it.kind != "w" else "W" if it.length > 1 else "o" if it.data == b"\1" else "c" for it in notes)
+    return "".join(kind_of(it) if it.kind == "w" else it.kind for it in notes)
 
 
 @pytest.mark.parametrize("length", [10, 40])
 def test_a_long_roll(serve, folder, preload, length):
-    """A roll writes so many megabytes: it syncs them before it opens the gate, and that too, as later pushes into so long
-    a slot do. After a kill all is there. (The first change of a slot of version 1 rolls.)"""
+    """A roll writes so many megabytes: it syncs them before it opens the gate, and that too, as later pushes into so
+    long a slot do. After a kill all is there. (The first change of a slot of version 1 rolls.)"""
     now, count, notes = time.time_ns(), length * MEGABYTE // 250_100, f"{folder}/notes"
     labels = sorted(({"a": str(it)} for it in range(4)), key=servers.text_of)
     lines = lines_from(now, count // 4 + 1, 250_000)
@@ -31,7 +32,8 @@ def test_a_long_roll(serve, folder, preload, length):
     os.mkdir(f"{folder}/log")
     servers.write(f"{folder}/log/shard-00-1.wal", segment_bytes(b"1", 1, 0, 1, [b"".join(states)]))
     settings = {CAPACITY: str(128 * MEGABYTE)}
-    server = serve("log", 1, settings={**settings, "LD_PRELOAD": preload, "RECORD_UNDER": f"{folder}/log", "RECORD_TO": notes})
+    noted = {"LD_PRELOAD": preload, "RECORD_UNDER": f"{folder}/log", "RECORD_TO": notes}
+    server = serve("log", 1, settings={**settings, **noted})
     more = [(now + 1_000 + at, f"more {at}", ()) for at in range(3)]
     with servers.Client(server.port) as client:
         for at, due in enumerate(["(cs)?(W+s)+os", "W+sos", "W+sos"]):
@@ -45,8 +47,8 @@ def test_a_long_roll(serve, folder, preload, length):
 
 
 def write_long_slot(path, length, key, now):
-    """Writes a segment of this length and more to a file with holes: lines of zeros, of which each block's are trimmed by
-    the next. Returns the time of its last line."""
+    """Writes a segment of this length and more to a file with holes: lines of zeros, of which each block's are trimmed
+    by the next. Returns the time of its last line."""
     zeros, each = bytes(MOST_LINE), 15
     first = state_bytes(2, key, now, (now, b"x"), [(now, b"x")])
     with open(path, "wb") as file:
@@ -99,7 +101,7 @@ def test_many_shards(serve, shards):
 
 
 def test_a_closing_after_a_failed_device(serve, folder, preload):
-    """A server whose second shard has failed ends well after its last connection, and leaves all lines that it answered."""
+    """A server whose second shard has failed ends well after its last connection, and leaves what it answered."""
     labels = [next(servers.labels_in(it, 2)) for it in range(2)]
     lines = lines_from(time.time_ns(), 3, 100)
     fails = {"LD_PRELOAD": preload, "RECORD_UNDER": folder, "FAIL_SYNC": "5", "FAIL_NAME": "shard-01-1.wal"}

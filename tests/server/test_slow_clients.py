@@ -1,4 +1,4 @@
-"""Clients that take long answers slowly, leave while they still send, or only wait: what they are due, and what they cost."""
+"""Clients that take long answers slowly, leave while they still send, or only wait: what they get, and what they cost."""
 import contextlib
 import os
 import resource
@@ -34,8 +34,8 @@ def long_answer(serve, clock):
 
 
 def look(port, count=1):
-    """Has each worker look after its connections by the clock as it is: of two answers the second comes after that. With
-    several workers, by so many connections at once that each has one of them."""
+    """Has each worker look after its connections by the clock as it is: of two answers the second comes after that.
+    With several workers, by so many connections at once that each has one of them."""
     with contextlib.ExitStack() as ends:
         clients = [ends.enter_context(servers.Client(port)) for _ in range(count)]
         for _ in range(2):
@@ -64,8 +64,8 @@ def test_a_read_of_40000_entries(long_answer):
 
 @pytest.mark.parametrize("way", ["it sends nothing more", "it still sends"])
 def test_the_last_answer_is_whole(long_answer, way):
-    """The last answer of a connection arrives to its end, where the client half closed it, and where the request asked for
-    its end and the client still sends."""
+    """The last answer of a connection arrives to its end, where the client half closed it, and where the request asked
+    for its end and the client still sends."""
     server, lines = long_answer
     with narrow(server.port) as client:
         if way == "it still sends":
@@ -74,14 +74,16 @@ def test_the_last_answer_is_whole(long_answer, way):
                 client.more()
                 client.ends.sendall(READY)
         else:
-            client.ends.sendall(read_request())
+            # (so short an answer that its end is read while it waits to be sent)
+            ask, lines = servers.read_body({"a": "long"}, 0, lines[5_000][0]), lines[:5_000]
+            client.ends.sendall(servers.request(servers.READ, ask))
             client.ends.shutdown(socket.SHUT_WR)
         assert servers.entries_of(*client.answer()) == lines
         assert client.ends.recv(1) == b""
 
 
 def test_a_slow_reader_is_not_silent(long_answer, clock):
-    """A client that takes a part of its answer every 20 seconds gets all of it, which takes it more than two minutes."""
+    """A client that takes a part of its answer every 20 seconds gets all of it, for more than two minutes."""
     server, lines = long_answer
     with narrow(server.port) as client:
         client.ends.sendall(read_request())
@@ -94,8 +96,8 @@ def test_a_slow_reader_is_not_silent(long_answer, clock):
 
 
 def test_a_connection_that_ends(serve, clock):
-    """After an answer that closes it, a connection hangs up at once. What still comes is dropped for two seconds, and then
-    it is closed, whether the client has closed its end or not."""
+    """After an answer that closes it, a connection hangs up at once. What still comes is dropped for two seconds, and
+    then it is closed, whether the client has closed its end or not."""
     server = serve(workers=1, settings=clock.settings)
     with servers.Client(server.port, seconds=10) as client:
         client.ends.sendall(CLOSE)
