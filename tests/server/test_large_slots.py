@@ -71,7 +71,7 @@ def write_long_slot(path, length, key, now):
     return now + 1
 
 
-@pytest.mark.parametrize("length", [170, 257])
+@pytest.mark.parametrize("length", [170, 270])
 def test_a_long_slot(serve, folder, length):
     """A slot of so many megabytes is read to its end, goes on behind it, and is read again."""
     key, now = (b"t", servers.text_of({"a": "1"})), time.time_ns()

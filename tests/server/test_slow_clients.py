@@ -125,10 +125,13 @@ def test_a_second_request_in_pieces(serve):
             assert client.answer() == (204, b"")
 
 
-def spends(server, seconds=1.0):
-    """Whether a server spends a tenth of a second of a processor within this time."""
-    before = server.processor()
-    return wait_until(lambda: server.processor() - before >= 0.1, seconds, 0.02)
+def spends(server):
+    """Whether a server spends a tenth of a second of a processor while this process spends three quarters of one. So one
+    that spins is seen on a busy machine too."""
+    before, began = server.processor(), time.process_time()
+    while server.processor() - before < 0.1 and time.process_time() - began < 0.75:
+        pass
+    return server.processor() - before >= 0.1
 
 
 def waiting_for_half_a_body(port):
@@ -188,7 +191,7 @@ def test_an_idle_server_sleeps(serve):
     server = serve("log", 1, 1)
     look(server.port)
     before = wakes_of(server.pid)
-    assert not wait_until(lambda: wakes_of(server.pid) - before > 30, 1.0)
+    assert not wait_until(lambda: wakes_of(server.pid) - before > 15, 2.0)
 
 
 def test_memory_of_connections(serve, clock):
