@@ -20,6 +20,11 @@ def preload():
 
 
 @pytest.fixture
+def clock(folder):
+    return servers.SetClock(f"{folder}/clock")
+
+
+@pytest.fixture
 def serve(folder):
     """Starts servers, which end with the test."""
     with contextlib.ExitStack() as ends:

@@ -1,7 +1,8 @@
 // Preloaded, it counts, notes, delays and refuses calls of a program, each by variables of the environment:
 //
 // memory    MEMORY_AT=n: the n-th request is refused, and the file MEMORY_MARK is made. MEMORY_COUNT_TO: before each write
-//           to standard output, how many requests there were is added to this file. BREAK_LARGE=n: none above n bytes.
+//           to standard output, how many requests there were is added to this file. MEMORY_MOST=n or BREAK_LARGE=n: none
+//           above n bytes.
 // threads   THREAD_AT=n: the n-th thread is refused, and the file THREAD_MARK is made.
 // streams   INPUT_FAILS=n or INPUT_STARVES=n: standard input, and each file open for reading alone, fails after n bytes for
 //           the device or for want of memory. OUTPUT_ROOM=n, ERROR_ROOM=n: then there is no space left.
@@ -11,10 +12,13 @@
 //           is made, with the bytes of a write, and once after it, with its result; crash_images.py reads it. RECORD_READS:
 //           reads too, with the thread in place of `at`. RECORD_SLOW=n: what is noted takes n microseconds longer.
 //           FAIL_SYNC=n: each n-th fdatasync (of files whose path has FAIL_NAME) fails. FULL_AT=n: from the n-th
-//           write on none makes its file longer; the first of them writes half.
+//           write on none makes its file longer; the first of them writes half. SYNC_WAITS: each fdatasync waits as long as
+//           this file is there. LOCK_FAILS: no file can be locked.
 // holds     HOLD_SYNC: while this FIFO is there, an fdatasync of a file whose path has HOLD_NAME first reads it to its end.
-// sockets   FAIL_ACCEPT=n: the first n accepts fail, and for each the file ACCEPT_MARK gets a line.
-// time      FAST=n: what the program waits for, and the clock that it waits by, go n times as fast.
+// time      FAST=n: what the program waits for, and the clock that it waits by, go n times as fast. CLOCK_AT: that
+//           clock stands at the nanoseconds (8 bytes) that this file has; FAST then changes what is waited for alone.
+// sockets   FAIL_ACCEPT=n: the first n accepts fail, and for each the file ACCEPT_MARK gets a line. ENDED_FIRST=n: the
+//           first n connections that are accepted have ended: nobody is at their other end.
 // broken    BREAK_..: a server that is wrong in one way, as tests/rows/broken.txt says of each. A
 //           number is that of FAST, or what comes after n, each n-th, or of more than n bytes.
 #include "notes.h"
@@ -31,6 +35,9 @@
 #include <stdio.h>
 #include <string.h>
 #include <sys/epoll.h>
+#include <sys/file.h>
+#include <sys/mman.h>
+#include <sys/resource.h>
 #include <sys/socket.h>
 #include <sys/stat.h>
 
@@ -71,16 +78,35 @@ static void tell(const char *path, uint64_t number) {
 }
 
 static int notes = -1;
+static volatile int64_t *clock_at;
+
+// Maps the file of the clock.
+static void begin_clock(const char *path) {
+    int file = openat(AT_FDCWD, path, O_RDONLY | O_CLOEXEC);
+    clock_at = mmap(NULL, sizeof *clock_at, PROT_READ, MAP_SHARED, file, 0);
+    close(file);
+    if (clock_at == MAP_FAILED) {
+        abort();
+    }
+}
 
 __attribute__((constructor)) static void begin_run(void) {
     const char *to = getenv("RECORD_TO");
+    if (getenv("CLOCK_AT") != NULL) {
+        begin_clock(getenv("CLOCK_AT"));
+    }
     if (to != NULL) {
         int file = openat(AT_FDCWD, to, O_WRONLY | O_CREAT | O_APPEND | O_CLOEXEC, 0600);
         notes = fcntl(file, F_DUPFD_CLOEXEC, 500);
         close(file);
     }
     if (getenv("BREAK_SETTING") != NULL) {
-        unsetenv("NEEDLEAZURE_CAPACITY");
+        unsetenv(getenv("BREAK_SETTING"));
+    }
+    struct rlimit files;
+    if (getenv("BREAK_FILES") != NULL && getrlimit(RLIMIT_NOFILE, &files) == 0) {
+        files.rlim_cur = files.rlim_max;
+        setrlimit(RLIMIT_NOFILE, &files);
     }
 }
 
@@ -88,9 +114,10 @@ static uint64_t requests;
 
 static int is_refused(size_t size) {
     uint64_t number = __atomic_add_fetch(&requests, 1, __ATOMIC_SEQ_CST);
+    uint64_t most = number_of(getenv("BREAK_LARGE") == NULL ? "MEMORY_MOST" : "BREAK_LARGE");
     if (number == number_of("MEMORY_AT")) {
         tell(getenv("MEMORY_MARK"), number);
-    } else if (getenv("BREAK_LARGE") == NULL || size <= number_of("BREAK_LARGE")) {
+    } else if (most == 0 || size <= most) {
         return 0;
     }
     errno = ENOMEM;
@@ -129,7 +156,9 @@ int sched_getaffinity(pid_t whose, size_t size, cpu_set_t *to) {
     int made = NEXT(sched_getaffinity)(whose, size, to);
     if (made == 0 && getenv("BREAK_PROCESSORS") != NULL) {
         memset(to, 0, size);
-        CPU_SET_S(0, size, to);
+        for (uint64_t number = 0; number < number_of("BREAK_PROCESSORS"); number++) {
+            CPU_SET_S(number, size, to);
+        }
     }
     return made;
 }
@@ -161,7 +190,9 @@ ssize_t write(int file, const void *from, size_t count) {
     if (file == STDOUT_FILENO) {
         tell(getenv("MEMORY_COUNT_TO"), requests);
     }
-    if (file == STDERR_FILENO && is_said("BREAK_FAILURE", "quiet")) {
+    static uint64_t lines;
+    int is_quiet = is_said("BREAK_FAILURE", "quiet") || (getenv("BREAK_ONCE") != NULL && lines > 0);
+    if (file == STDERR_FILENO && __atomic_add_fetch(&lines, 1, __ATOMIC_SEQ_CST) > 0 && is_quiet) {
         return (ssize_t)count;
     }
     if (room == NULL || count == 0) {
@@ -176,9 +207,13 @@ ssize_t write(int file, const void *from, size_t count) {
     return done;
 }
 
-static int64_t fast(void) {
-    uint64_t times = number_of(getenv("BREAK_FAST") == NULL ? "FAST" : "BREAK_FAST");
+static int64_t times_of(const char *name) {
+    uint64_t times = number_of(name);
     return times == 0 ? 1 : (int64_t)times;
+}
+
+static int64_t fast(void) {
+    return times_of(getenv("BREAK_FAST") == NULL ? "FAST" : "BREAK_FAST");
 }
 
 static int64_t nanoseconds(const struct timespec *it) {
@@ -192,7 +227,9 @@ static struct timespec span_of(int64_t nanoseconds) {
 int clock_gettime(clockid_t which, struct timespec *to) {
     static struct timespec first;
     int made = (int)syscall(SYS_clock_gettime, which, to);
-    if (which == CLOCK_MONOTONIC && fast() > 1) {
+    if (which == CLOCK_MONOTONIC && clock_at != NULL) {
+        *to = span_of(*clock_at * times_of("BREAK_FAST"));
+    } else if (which == CLOCK_MONOTONIC && fast() > 1) {
         *to = span_of(nanoseconds(to) * fast());
     }
     if (which == CLOCK_REALTIME && getenv("BREAK_CLOCK") != NULL) {
@@ -207,8 +244,49 @@ int nanosleep(const struct timespec *asked, struct timespec *left) {
     return getenv("BREAK_PAUSE") != NULL ? 0 : NEXT(nanosleep)(&span, left);
 }
 
+// The acceptor takes one event at a time.
 int epoll_wait(int file, struct epoll_event *events, int count, int wait) {
-    return NEXT(epoll_wait)(file, events, count, wait <= 0 ? wait : (int)((wait + fast() - 1) / fast()));
+    int most = is_said("BREAK_EVENTS", "one") ? 1 : count;
+    int longest = count == 1 && is_said("BREAK_WAIT", "polls") ? 10 : is_said("BREAK_WAIT", "spins") ? 0 : wait;
+    int found = NEXT(epoll_wait)(file, events, most, wait <= 0 ? wait : (int)((longest + fast() - 1) / fast()));
+    for (int at = 0; is_said("BREAK_EVENTS", "reversed") && at < found / 2; at++) {
+        struct epoll_event first = events[at];
+        events[at] = events[found - 1 - at];
+        events[found - 1 - at] = first;
+    }
+    return found;
+}
+
+int epoll_ctl(int file, int what, int which, struct epoll_event *event) {
+    struct epoll_event changed = event == NULL ? (struct epoll_event){0} : *event;
+    uint64_t unheard = number_of("BREAK_UNHEARD");
+    if (what == EPOLL_CTL_ADD && unheard > 0 && changed.data.u64 == unheard - 1) {
+        return 0;
+    }
+    if (is_said("BREAK_EVENTS", "reading") && (changed.events & EPOLLIN)) {
+        changed.events &= ~(uint32_t)EPOLLOUT;
+    }
+    return NEXT(epoll_ctl)(file, what, which, event == NULL ? NULL : &changed);
+}
+
+// Ends a connection by a reset, and leaves one in its place that has ended.
+static int reset(int it) {
+    struct linger at_once = {1, 0};
+    NEXT(setsockopt)(it, SOL_SOCKET, SO_LINGER, &at_once, sizeof at_once);
+    int ended = socket(AF_INET, SOCK_STREAM | SOCK_NONBLOCK | SOCK_CLOEXEC, 0);
+    int made = dup3(ended, it, O_CLOEXEC);
+    close(ended);
+    return made < 0 ? made : 0;
+}
+
+int shutdown(int it, int how) {
+    if (is_said("BREAK_SHUTDOWN", "reset")) {
+        return reset(it);
+    }
+    if (is_said("BREAK_SHUTDOWN", "none")) {
+        return 0;
+    }
+    return NEXT(shutdown)(it, is_said("BREAK_SHUTDOWN", "both") ? SHUT_RDWR : how);
 }
 
 int bind(int it, const struct sockaddr *address, socklen_t length) {
@@ -226,10 +304,22 @@ int setsockopt(int file, int level, int name, const void *value, socklen_t size)
     return is_broken ? 0 : NEXT(setsockopt)(file, level, name, value, size);
 }
 
+// A connection that has ended.
+static int ended_one(struct sockaddr *address, socklen_t *length, int flags) {
+    struct sockaddr_in from = {.sin_family = AF_INET, .sin_addr.s_addr = htonl(INADDR_LOOPBACK)};
+    memcpy(address, &from, sizeof from);
+    *length = sizeof from;
+    return socket(AF_INET, SOCK_STREAM | flags, 0);
+}
+
 int accept4(int it, struct sockaddr *address, socklen_t *length, int flags) {
-    static uint64_t come, asked;
+    static uint64_t come, asked, ended;
+    if (ended < number_of("ENDED_FIRST") && (getenv("BREAK_END") == NULL || ended < number_of("BREAK_END"))) {
+        ended++;
+        return ended_one(address, length, flags);
+    }
     uint64_t each = number_of("BREAK_CLOSE");
-    if (getenv("BREAK_END") != NULL && come >= number_of("BREAK_END")) {
+    if (getenv("BREAK_END") != NULL && come + ended >= number_of("BREAK_END")) {
         _exit(0);
     }
     if (getenv("BREAK_ACCEPT") != NULL && asked >= number_of("BREAK_ACCEPT")) {
@@ -326,7 +416,19 @@ int open(const char *path, int flags, ...) {
     mode_t mode = flags & (O_CREAT | O_TMPFILE) ? va_arg(more, mode_t) : 0;
     va_end(more);
     struct call call = begin_of(path, 'o', (uint64_t)flags);
-    return (int)end(&call, NEXT(open)(path, flags, mode));
+    int file = (int)end(&call, NEXT(open)(path, flags, mode));
+    struct stat its;
+    uint64_t longest = number_of("BREAK_ANEW");
+    int is_slot = longest > 0 && file >= 0 && (flags & O_ACCMODE) == O_RDWR && fstat(file, &its) == 0;
+    if (is_slot && (uint64_t)its.st_size > longest) {
+        NEXT(ftruncate)(file, 0);
+    }
+    return file;
+}
+
+int flock(int file, int how) {
+    int made = getenv("LOCK_FAILS") == NULL ? NEXT(flock)(file, how) : refuse(ENOLCK);
+    return made < 0 && getenv("BREAK_LOCK") != NULL ? 0 : made;
 }
 
 int mkdir(const char *path, mode_t mode) {
@@ -348,6 +450,10 @@ ssize_t pread(int file, void *to, size_t count, off_t at) {
     struct call call = {.is_noted = 0};
     if (getenv("RECORD_READS") != NULL) {
         call = begin_on(file, 'p', (uint64_t)gettid(), count, NULL);
+    }
+    uint64_t last = number_of("BREAK_BEHIND");
+    if (last > 0 && (uint64_t)at >= last) {
+        return 0;
     }
     int fails = device_fails() && getenv("BREAK_READ") == NULL;
     return (ssize_t)end(&call, fails ? -1 : NEXT(pread)(file, to, count, at));
@@ -401,6 +507,11 @@ static ssize_t write_at(struct call *call, int file, const void *bytes, size_t c
     if (fits < 0) {
         return refuse(ENOSPC);
     }
+    uint64_t most = number_of("BREAK_WRITE");
+    if (most > 0 && count > most) {
+        NEXT(pwrite)(file, bytes, most, at);
+        return (ssize_t)count;
+    }
     char *copy = changed(bytes, count);
     ssize_t made = NEXT(pwrite)(file, copy == NULL ? bytes : copy, (size_t)fits, at);
     free(copy);
@@ -450,8 +561,19 @@ static void wait_for_turn(int file) {
     }
 }
 
+// Whether a file is longer than those of which each sync is made.
+static int is_long(int file) {
+    struct stat its;
+    uint64_t most = number_of("BREAK_SYNC_ABOVE");
+    return most > 0 && fstat(file, &its) == 0 && (uint64_t)its.st_size > most;
+}
+
 int fdatasync(int file) {
     static uint64_t made;
+    const char *waits = getenv("SYNC_WAITS");
+    while (waits != NULL && faccessat(AT_FDCWD, waits, F_OK, 0) == 0) {
+        usleep(1000);
+    }
     uint64_t number = __atomic_add_fetch(&made, 1, __ATOMIC_SEQ_CST);
     wait_for_turn(file);
     struct timespec more = span_of((int64_t)(number_of("BREAK_SPEED") * number));
@@ -459,7 +581,7 @@ int fdatasync(int file) {
         NEXT(nanosleep)(&more, NULL);
     }
     uint64_t each = is_said("BREAK_SYNC", "gate") ? 2 : number_of("BREAK_SYNC");
-    if ((each > 0 && number % each == 0) || (is_said("BREAK_SYNC", "opening") && writes == 0)) {
+    if ((each > 0 && number % each == 0) || (is_said("BREAK_SYNC", "opening") && writes == 0) || is_long(file)) {
         return 0;
     }
     struct call call = begin_on(file, 's', 0, 0, NULL);

@@ -8,12 +8,15 @@ import gzip
 import http.client
 import itertools
 import json
+import mmap
 import os
 import re
 import resource
+import select
 import shutil
 import signal
 import socket
+import struct
 import subprocess
 import sys
 import tempfile
@@ -213,6 +216,22 @@ def memory_of(process, which="VmRSS"):
     return next((int(line.split()[1]) * 1024 for line in lines if line.startswith(which)), 0)
 
 
+class SetClock:
+    """A clock that a server waits by, which stands still until it is set. `settings` are those of such a server."""
+
+    def __init__(self, path):
+        write(path, bytes(8))
+        with open(path, "r+b") as file:
+            self.told = mmap.mmap(file.fileno(), 8)
+        self.settings = {"LD_PRELOAD": library(), "CLOCK_AT": path}
+        self.set(0)
+
+    def set(self, seconds):
+        """Sets it to this many seconds after it was made. A server with one worker has then looked after its connections
+        once a new one of them has had two answers."""
+        self.told[:] = struct.pack("<q", (1_000 + seconds) * 10**9)
+
+
 class NotStarted(Exception):
     """A server ended before it was ready, with this status and these words on standard error."""
 
@@ -256,6 +275,15 @@ class Program(contextlib.AbstractContextManager):
 
     def memory(self, which="VmRSS"):
         return memory_of(self.pid, which)
+
+    def sockets(self):
+        """How many sockets it has open."""
+        found = 0
+        for it in os.listdir(f"/proc/{self.pid}/fd"):
+            # (it may be closed meanwhile)
+            with contextlib.suppress(FileNotFoundError):
+                found += os.readlink(f"/proc/{self.pid}/fd/{it}").startswith("socket:")
+        return found
 
     def processor(self):
         """For how many seconds it has had a processor."""
@@ -312,11 +340,30 @@ def connect(port, seconds=SECONDS):
     return ends
 
 
+def connect_narrowly(port):
+    """A connection with small buffers on both sides: of a long answer most waits in the server until it is taken."""
+    ends = socket.socket()
+    ends.settimeout(SECONDS)
+    ends.setsockopt(socket.SOL_SOCKET, socket.SO_RCVBUF, 32_768)
+    ends.setsockopt(socket.IPPROTO_TCP, socket.TCP_MAXSEG, 1_400)
+    ends.connect(("127.0.0.1", port))
+    ends.setsockopt(socket.IPPROTO_TCP, socket.TCP_NODELAY, 1)
+    return ends
+
+
+def is_open(ends):
+    """Whether the other end of a connection, of which nothing is to be taken, has neither ended nor hung up."""
+    with contextlib.suppress(ConnectionError):
+        return not select.select([ends], [], [], 0)[0] or ends.recv(1, socket.MSG_PEEK) != b""
+    return False
+
+
 class Client(contextlib.AbstractContextManager):
     """A connection to a server. Requests may be sent before the answers to earlier ones are taken."""
 
-    def __init__(self, port, tenant="t", seconds=SECONDS):
-        self.tenant, self.found, self.ends = tenant, bytearray(), connect(port, seconds)
+    def __init__(self, port, tenant="t", seconds=SECONDS, connect=connect):
+        self.tenant, self.found, self.ends = tenant, bytearray(), connect(port)
+        self.ends.settimeout(seconds)
 
     def __exit__(self, *_):
         self.ends.close()

@@ -1,4 +1,4 @@
-"""Servers that preload.c breaks, each of which a test has to find, or a run: that one runs over it once more, by hand."""
+"""Wrong servers, each of which a test has to find, or a run. Those that preload.c breaks are tried anew, by hand."""
 import os
 import re
 import subprocess
@@ -8,10 +8,17 @@ import servers
 
 with open(f"{servers.TOP}/tests/rows/broken.txt", encoding="utf-8") as file:
     FAULTS = [line.rstrip("\n").split(" | ") for line in file if not line.startswith("#")]
+BROKEN = [it for it in FAULTS if it[1].startswith("BREAK_")]
+
+
+@pytest.mark.parametrize("test", sorted({test.partition("[")[0] for *_, test in FAULTS if "::" in test}))
+def test_the_test_is_there(test):
+    path, _, name = test.partition("::")
+    assert f"\ndef {name}(" in servers.text_at(f"tests/server/{path}")
 
 
 @pytest.mark.by_hand
-@pytest.mark.parametrize("name, broken, test", FAULTS)
+@pytest.mark.parametrize("name, broken, test", BROKEN)
 def test_broken(name, broken, test):
     script, *words = ["gate/pytest", f"tests/server/{test}"] if "::" in test else test.split()
     run = {"env": {**os.environ, **dict([broken.split("=")])}, "capture_output": True, "text": True, "check": False}

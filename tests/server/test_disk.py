@@ -132,12 +132,13 @@ def test_failed_reads(serve, preload, folder):
 
 @pytest.mark.skipif(len(os.sched_getaffinity(0)) < 2, reason="a thread for each processor opens shards")
 def test_shards_are_opened_side_by_side(traced, serve):
-    """16 shards are read by more than one thread."""
+    """16 shards are read by as many threads as there are processors, but for one that came too late, and by more than one."""
     first = serve("log", SHARDS)
     with servers.Client(first.port) as client:
         for shard in range(SHARDS):
             assert client.push(labels_of(shard), [(time.time_ns(), "x", ())]) == (204, "")
     first.end()
-    it = traced("log", RECORD_READS="1", RECORD_SLOW="5000")
+    it = traced("log", RECORD_READS="1", RECORD_SLOW="20000")
     readers = {note.slot[0]: note.at for note in it.calls() if note.kind == "p" and note.slot}
-    assert len(readers) == SHARDS and len({*readers.values()}) > 1
+    least = max(2, len(os.sched_getaffinity(0)) - 1)
+    assert len(readers) == SHARDS and len({*readers.values()}) >= min(SHARDS, least)
