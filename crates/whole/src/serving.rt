@@ -32,18 +32,18 @@ pub struct Beginning<D: Disk> {
 
 // A connection that is served for itself.
 #[derive(Drop)]
-struct LoneConnection<D: Disk> {
+struct LoneConnection {
     connection: Connection,
 }
 
-impl<D: Disk> KeepsConnection for LoneConnection<D> {
+impl KeepsConnection for LoneConnection {
     ghost kept = { λ alone. alone.connection };
 
     fn into_connection(self) -> Connection {
         self.connection
     }
 
-    fn of_connection(connection: Connection) -> LoneConnection<D>
+    fn of_connection(connection: Connection) -> LoneConnection
         ensures { result.connection ≡ connection }
     {
         LoneConnection { connection }
