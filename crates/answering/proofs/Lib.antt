@@ -1,3 +1,4 @@
+pub mod Alone
 pub mod Beginning
 pub mod Together
 pub mod Going
@@ -5,6 +6,7 @@ pub mod Joining
 pub mod Noting
 pub mod Pushing
 pub mod Seeing
+pub mod Lone
 pub mod Statuses
 pub mod Stepping
 pub mod Turning

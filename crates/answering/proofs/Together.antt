@@ -10,6 +10,7 @@ use Rattle.accept.specs.declared.call.Reply.{Reply}
 use Rattle.accept.specs.declared.fault.CallFault.{CallFault}
 use Rattle.pushjson.specs.declared.fault.PushFault.{PushFault}
 use Rattle.requests.specs.declared.answer.Answer.{Answer}
+use Rattle.requests.specs.declared.fault.ServeFault.{ServeFault}
 use Rattle.requests.specs.declared.incoming.Message.{Message}
 use Rattle.requests.specs.declared.route.Route.{Route}
 use Rattle.requests.specs.declared.route.Route.TheVariants.{Push}
@@ -21,9 +22,10 @@ use Rattle.answering.specs.Connections.{Unended}
 use Rattle.answering.specs.Courses.{Course, Unread, Whole, Broken, BodyGives, BodyIsLeft, RequestGives, RequestIsLeft, StreamsGiveAfter, said_of}
 use Rattle.answering.specs.Demands.{IsDemand, IsAnsweredBy, SameCalls, StreamsAreTold, WaitsFor, awaited, calls_asked}
 use Rattle.answering.specs.Parts.{UncalledIsAnswered}
-use Rattle.answering.specs.Gathering.{AreGathered, AreVisitedSo, IsVisitedSo, Known, among, any_text, doubt_after, known}
+use Rattle.answering.specs.Gathering.{AreGathered, AreVisitedSo, IsVisitedSo, Known, among, doubt_after, known}
 use Rattle.answering.specs.Responses.{RequestEnds}
 use Rattle.answering.specs.Serving.{World, world}
+use Rattle.answering.specs.Turns.{HasText}
 use Rattle.answering.specs.Windows.{AsksForStreams}
 use Rattle.answering.specs.declared.demands.Demand.{Demand}
 use Rattle.answering.specs.declared.demands.Demand.TheVariants.{Nothing, One, Streams}
@@ -31,7 +33,7 @@ use Rattle.answering.specs.declared.demands.Waiting.{Waiting}
 use Rattle.answering.specs.declared.demands.Waiting.TheVariants as waits
 use Rattle.answering.specs.declared.responding.NoAnswer.{NoAnswer}
 use Rattle.answering.specs.declared.responding.NoAnswer.TheVariants.{Failed, GivenUp}
-use Rattle.answering.proofs.Beginning.{replied_any, turn_told, visit_of_turn, without_calls, without_dues}
+use Rattle.answering.proofs.Beginning.{turn_told, visit_of_turn, without_calls}
 use Rattle.answering.proofs.Going.{nothing, one_made, push, push_made}
 use Rattle.answering.proofs.Pushing.{counted, streams_told}
 
@@ -142,20 +144,23 @@ last_of xs ys all m n are whole count =
       ap₂ take there are ∙ take-append-le (length xs) xs ys least ∙ take-length xs,
     )
 
+room_by : (text : List ℕ) (replied : Result Bool ServeFault) → IfErr replied (HasText text) → IfErr (turn_by replied) (HasText text)
+room_by text (Ok closes) room = tt
+room_by text (Err fault) room = room
+
 module _ {H C : Type 0} (gives : Giving H) (ticks : C → ℕ → C → Type 0) where
   visited_alone : (k : Known H) (clock : C) (old : Unended) (clock' : C) (new : Unended) → IsVisitedWithoutCalls ticks old clock new clock' → IsVisitedSo gives ticks (world k clock) old (world k clock') new
   visited_alone k clock old clock' new v =
-      let t = without_calls (among gives) ticks k any_text any_text (Some old.text) (Some new.text) old.came clock v.rest clock' v.turn (without_dues (Known H) ticks any_text any_text (Some old.text) (Some new.text) old.came clock v.rest clock' v.turn v.is) in
+      let t = without_calls (among gives) ticks k (Some old.text) (Some new.text) old.came clock v.rest clock' v.turn v.is in
       let (result, left, is) = visit_of_turn (among gives) ticks old new (world k clock) (world k clock') v.rest v.turn t v.left in
-      record { result = result; left = left; is = is }
+      record { result = result; left = left; is = is; turned = record { turn = v.turn; rest = v.rest; is = t; left = v.left; room = v.room } }
 
   visited_told : (old new : Unended) (clock clock' : C) (m : Message) (demand : Demand) (w : WaitsForCalls ticks old.came clock clock' m demand) (k k' : Known H) (answered : Result Answer NoAnswer)
       → RequestEnds (among gives) w.route w.now w.tenant (slice_range old.came m.start m.end) k answered k' → IsAnsweredSo m answered old new → IsVisitedSo gives ticks (world k clock) old (world k' clock') new
   visited_told old new clock clock' m demand w k k' answered ends a =
-      let put = replied_any (Known H) any_text any_text (Some old.text) (Some new.text) answered m.closes a.replied a.is in
-      let t = turn_told (among gives) ticks old.came clock clock' m demand w k k' any_text any_text (Some old.text) (Some new.text) answered (drop m.end old.came) a.replied ends put (λ e. refl) in
+      let t = turn_told (among gives) ticks old.came clock clock' m demand w k k' (Some old.text) (Some new.text) answered (drop m.end old.came) a.replied ends a.is (λ e. refl) in
       let (result, left, is) = visit_of_turn (among gives) ticks old new (world k clock) (world k' clock') (drop m.end old.came) (turn_by a.replied) t a.left in
-      record { result = result; left = left; is = is }
+      record { result = result; left = left; is = is; turned = record { turn = turn_by a.replied; rest = drop m.end old.came; is = t; left = a.left; room = room_by old.text a.replied a.room } }
 
   -- no connection is left
   pub none_left : (p p' : H) (clock : C) (calls : List Call) (outcomes : List (Result Reply CallFault)) → CallsGive gives p calls outcomes p' → AreGathered gives ticks (world p clock) calls [] outcomes (world p' clock) []

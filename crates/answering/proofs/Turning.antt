@@ -1,14 +1,14 @@
 -- From one turn of a connection to all of them.
-use Rattle.std.proofs.Common.{◌≡◌, ◌≢◌, ℕ, Bool, true, false, List, [], ◌∷◌, ◌++◌, take, drop, slice_range, Option, None, Some, Result, Ok, Err, refl, sym, ap, ap₂, ◌∙◌, subst, inl, inr, append_assoc}
+use Rattle.std.proofs.Common.{◌≡◌, ◌≢◌, ℕ, Bool, true, false, List, [], ◌∷◌, ◌++◌, take, drop, slice_range, Option, None, Some, Result, Ok, Err, IfErr, refl, sym, ap, ap₂, ◌∙◌, subst, inl, inr}
 use Rattle.std.proofs.lemmas.List.{append-nil}
 use Rattle.std.proofs.lemmas.List.Concat.{flat_map-append}
 use Rattle.std.proofs.Math.Seq.{take-length}
-use Rattle.std.proofs.KnownBytes.{Appends-nil, Appends-trans, Consumes-trans}
+use Rattle.std.proofs.KnownBytes.{Appends-nil, Appends-trans, Consumes-nil, Consumes-trans}
 use Rattle.std.specs.List.{flat_map}
 use Rattle.std.specs.Io.KnownBytes.{Appends, Consumes}
 use Rattle.requests.specs.Answers.{answer_text, fixed_text, failure_text}
 use Rattle.requests.specs.Streams.{Request, ReadsMessage, IsMessage, BeginsRefused, Grows}
-use Rattle.requests.specs.Writing.{WritesBeginning, Dues, Follows}
+use Rattle.requests.specs.Writing.{WritesBeginning}
 use Rattle.requests.specs.declared.answer.Answer.{Answer}
 use Rattle.accept.specs.declared.fault.CallFault.{CallFault}
 use Rattle.requests.specs.declared.fault.ServeFault.{ServeFault}
@@ -23,32 +23,19 @@ use Rattle.requests.proofs.Unique.{keeps_request}
 use Rattle.answering.specs.Calls.{Giving}
 use Rattle.answering.specs.Courses.{Course}
 use Rattle.answering.specs.Beginning.{turn_by}
-use Rattle.answering.specs.Due.{AreDueTo, AreDueTexts, NextIsDue, MessageIsDue}
 use Rattle.answering.specs.Ends.{IsReadOn}
 use Rattle.answering.specs.Replying.{IsPut}
 use Rattle.answering.specs.Responses.{status_for, text_for, content_for, failure_in}
 use Rattle.answering.specs.Showing.{IsShown}
-use Rattle.answering.specs.Serving.{Exchange, World, world, response, closes, called_text, response_text, failure_at, ends_behind, VerdictGives, VerdictIsLeft, IsExchange, ConnectionGives, ConnectionEnds, ConnectionIsServed, IsUnbegun, io}
-use Rattle.answering.specs.Turns.{IsSameVisit, ResponseGives, ResponseIsWritten, ConnectionTurnIsAnswered, ConnectionTurnIsServed, ConnectionProgress, world_of, due_of, taken_of}
+use Rattle.answering.specs.Serving.{Exchange, World, response, closes, called_text, response_text, failure_at, ends_behind, VerdictGives, VerdictIsLeft, IsExchange, ConnectionGives, ConnectionEnds, ConnectionIsServed, IsUnbegun, io}
+use Rattle.answering.specs.Turns.{ResponseGives, ResponseIsWritten, ConnectionTurnIsAnswered, ConnectionTurnIsServed, ConnectionProgress, HasText}
 use Rattle.answering.specs.Visits.{KeepsOn, IsOver, IsVisit}
-use Rattle.answering.specs.declared.visiting.Visit.{Visit}
 use Rattle.answering.specs.declared.visiting.TurnOutcome.{TurnOutcome}
 use Rattle.answering.specs.declared.visiting.TurnOutcome.TheVariants.{Answered, Closed, Unfinished}
 
 not_none : {X : Type 0} (xs : List X) (x : X) → xs ++ x ∷ [] ≢ []
 not_none [] x e = cc
 not_none (y ∷ ys) x e = cc
-
-pub same_trans : {S P C O : Type 0} (through : O → ℕ) (a b c : Visit S P C O) → IsSameVisit through a b → IsSameVisit through b c → IsSameVisit through a c
-same_trans through a b c first more = record {
-  service = more.service ∙ first.service;
-  pass = more.pass ∙ first.pass;
-  clock = more.clock ∙ first.clock;
-  end = more.end ∙ first.end;
-  of = record { writer = more.of.writer ∙ first.of.writer; same = more.of.same ∙ first.of.same };
-  incoming = more.incoming ∙ first.incoming;
-  outgoing = more.outgoing ∙ first.outgoing;
-}
 
 -- a failure of the writer is none of memory
 pub not_memory : (fault : ServeFault) → fault ≡ Write → fault ≡ Memory → ⊥
@@ -64,40 +51,35 @@ module _ (route : Route) (close : Bool) (course : Course) where
   pub said_failed : (failure : CallFault) → failure_in course ≡ Some failure → failure_text failure ≡ called_text route close course (failure_in course)
   said_failed failure fails = ap (called_text route close course) (sym fails)
 
-module _ {H K : Type 0} (gives : Giving H) (now : ℕ) (body : List ℕ) (verdict : Verdict) (close : Bool) (course : Course) (h h' : H) (due due' : Dues K) (before after : Option (List ℕ))
+module _ {H : Type 0} (gives : Giving H) (now : ℕ) (body : List ℕ) (verdict : Verdict) (close : Bool) (course : Course) (h h' : H) (before after : Option (List ℕ))
     (handles : VerdictGives gives now body verdict h course h') where
   -- the response is out
-  pub out : (ends : Bool) (u : Unit {0}) → WritesBeginning before after (response_text verdict close course) (Ok u) → ends ≡ ends_behind verdict close course → Follows due (response_text verdict close course) due' → ResponseIsWritten gives now body due due' before after verdict close h h' (Ok ends)
-  out ends u (n, appends, all) end follows =
+  pub out : (ends : Bool) (u : Unit {0}) → WritesBeginning before after (response_text verdict close course) (Ok u) → ends ≡ ends_behind verdict close course → ResponseIsWritten gives now body before after verdict close h h' (Ok ends)
+  out ends u (n, appends, all) end =
       let whole = ap (λ k. take k (response_text verdict close course)) all ∙ take-length (response_text verdict close course) in
       record {
         text = take n (response_text verdict close course);
         appends = appends;
         replies = (course, handles, whole, end);
-        follows = subst (λ t. Follows due t due') (sym whole) follows;
       }
 
   -- a beginning of it is, or nothing, which is not for want of memory where a failure is told
-  pub not_out : (fault : ServeFault) → WritesBeginning before after (response_text verdict close course) (Err fault) → (fault ≡ Memory → failure_at verdict course ≡ None) → ResponseIsWritten gives now body due due' before after verdict close h h' (Err fault)
-  not_out Write (n, appends, some) said = record { text = take n (response_text verdict close course); appends = appends; replies = (course, handles, (n, refl)); follows = tt }
-  not_out Memory (n, appends, none) said = record { text = take n (response_text verdict close course); appends = appends; replies = (ap (λ k. take k (response_text verdict close course)) none, inl (course, handles, said refl)); follows = tt }
+  pub not_out : (fault : ServeFault) → WritesBeginning before after (response_text verdict close course) (Err fault) → (fault ≡ Memory → failure_at verdict course ≡ None) → ResponseIsWritten gives now body before after verdict close h h' (Err fault)
+  not_out Write (n, appends, some) said = record { text = take n (response_text verdict close course); appends = appends; replies = (course, handles, (n, refl)) }
+  not_out Memory (n, appends, none) said = record { text = take n (response_text verdict close course); appends = appends; replies = (ap (λ k. take k (response_text verdict close course)) none, inl (course, handles, said refl)) }
   not_out fault (n, appends, some) said = absurd some
 
   -- either, by what was put there
   pub put_out : (text : List ℕ) (ends : Bool) (result : Result Bool ServeFault) → text ≡ response_text verdict close course → ends ≡ ends_behind verdict close course → ((fault : ServeFault) → result ≡ Err fault → fault ≡ Memory → failure_at verdict course ≡ None)
-      → IsPut due due' before after text ends result → ResponseIsWritten gives now body due due' before after verdict close h h' result
-  put_out text ends (Ok told) same end said put = out told tt (subst (λ t. WritesBeginning before after t (Ok tt)) same put.writes) (put.told.0 ∙ end) (subst (λ t. Follows due t due') same put.told.1)
+      → IsPut before after text ends result → ResponseIsWritten gives now body before after verdict close h h' result
+  put_out text ends (Ok told) same end said put = out told tt (subst (λ t. WritesBeginning before after t (Ok tt)) same put.writes) (put.told ∙ end)
   put_out text ends (Err fault) same end said put = not_out fault (subst (λ t. WritesBeginning before after t (Err fault)) same put.writes) (said fault refl)
 
 -- the calls were given up, and nothing is written
-pub left_out : {H K : Type 0} (gives : Giving H) (now : ℕ) (body : List ℕ) (verdict : Verdict) (close : Bool) (h h' : H) (due due' : Dues K) (before : Option (List ℕ)) → VerdictIsLeft gives now body verdict h h' → ResponseIsWritten gives now body due due' before before verdict close h h' (Err Memory)
-left_out gives now body verdict close h h' due due' before left = record { text = []; appends = Appends-nil before; replies = (refl, inr left); follows = tt }
+pub left_out : {H : Type 0} (gives : Giving H) (now : ℕ) (body : List ℕ) (verdict : Verdict) (close : Bool) (h h' : H) (before : Option (List ℕ)) → VerdictIsLeft gives now body verdict h h' → ResponseIsWritten gives now body before before verdict close h h' (Err Memory)
+left_out gives now body verdict close h h' before left = record { text = []; appends = Appends-nil before; replies = (refl, inr left) }
 
 module _ {H C : Type 0} (gives : Giving H) (ticks : C → ℕ → C → Type 0) where
-  -- what is refused there is answered so
-  pub refusal_due : (due : Dues H) (bytes : List ℕ) (w : World H C) (why : FixedAnswer) → NextIsDue gives ticks bytes w due → BeginsRefused bytes why → due w.knows (fixed_text why true)
-  refusal_due due bytes w why next refused = next (fixed_text why true) w (inr (why, refused, refl, refl))
-
   -- the exchange of a message
   abbrev exchange : Request → Message → ℕ → Course → Exchange
   exchange r m now course = record { request = r; verdict = m.verdict; now = now; course = course }
@@ -117,11 +99,6 @@ module _ {H C : Type 0} (gives : Giving H) (ticks : C → ℕ → C → Type 0) 
 
     same_end : (course : Course) → ends_behind m.verdict m.closes course ≡ closes (exchange r m now course)
     same_end course = ap (λ k. ends_behind m.verdict k course) is.closes
-
-    -- its response is due once its calls have come back
-    pub response_due : (due : Dues H) (course : Course) → NextIsDue gives ticks bytes w due → VerdictGives gives now body m.verdict w.knows course w'.knows → due w'.knows (response_text m.verdict m.closes course)
-    response_due due course next handles =
-        subst (due w'.knows) (sym (same_text course)) (next (response (exchange r m now course)) w' (inl (exchange r m now course, drop m.end bytes, is_exchange course handles, refl)))
 
     goes : (text : List ℕ) → ResponseGives gives now body m.verdict m.closes w.knows text w'.knows (Ok false) → ConnectionTurnIsAnswered gives ticks bytes w text (drop m.end bytes) w' (Ok Answered)
     goes text (course, handles, out, end) = (exchange r m now course, is_exchange course handles, sym (same_end course) ∙ sym end, out ∙ same_text course)
@@ -148,31 +125,26 @@ module _ {H C : Type 0} (gives : Giving H) (ticks : C → ℕ → C → Type 0) 
     fails text rest fault never = absurd never
 
     -- its response is out, or was not
-    pub turn_by_response : {K : Type 0} (due due' : Dues K) (before after : Option (List ℕ)) (rest : List ℕ) (result : Result Bool ServeFault) → ResponseIsWritten gives now body due due' before after m.verdict m.closes w.knows w'.knows result → (result ≡ Ok false → rest ≡ drop m.end bytes)
-        → ConnectionTurnIsServed gives ticks due due' before after bytes w rest w' (turn_by result)
-    turn_by_response due due' before after rest (Ok false) t dropped = record { text = t.text; appends = t.appends; gives_next = subst (λ l. ConnectionTurnIsAnswered gives ticks bytes w t.text l w' (Ok Answered)) (sym (dropped refl)) (goes t.text t.replies); follows = t.follows }
-    turn_by_response due due' before after rest (Ok true) t dropped = record { text = t.text; appends = t.appends; gives_next = stops t.text rest t.replies; follows = tt }
-    turn_by_response due due' before after rest (Err fault) t dropped = record { text = t.text; appends = t.appends; gives_next = fails t.text rest fault t.replies; follows = tt }
-
-  pub message_due : (due : Dues H) (bytes : List ℕ) (w : World H C) (r : Request) (m : Message) → NextIsDue gives ticks bytes w due → IsMessage bytes r m → ReadsMessage bytes r (drop m.end bytes) → MessageIsDue gives ticks bytes m w due
-  message_due due bytes w r m next is reads now clock tick course knows handles =
-      response_due bytes r m now (slice_range bytes m.start m.end) w (world knows clock) is reads tick refl due course next handles
+    pub turn_by_response : (before after : Option (List ℕ)) (rest : List ℕ) (result : Result Bool ServeFault) → ResponseIsWritten gives now body before after m.verdict m.closes w.knows w'.knows result → (result ≡ Ok false → rest ≡ drop m.end bytes)
+        → ConnectionTurnIsServed gives ticks before after bytes w rest w' (turn_by result)
+    turn_by_response before after rest (Ok false) t dropped = record { text = t.text; appends = t.appends; gives_next = subst (λ l. ConnectionTurnIsAnswered gives ticks bytes w t.text l w' (Ok Answered)) (sym (dropped refl)) (goes t.text t.replies) }
+    turn_by_response before after rest (Ok true) t dropped = record { text = t.text; appends = t.appends; gives_next = stops t.text rest t.replies }
+    turn_by_response before after rest (Err fault) t dropped = record { text = t.text; appends = t.appends; gives_next = fails t.text rest fault t.replies }
 
   -- what came was refused
-  pub turned_away : {K : Type 0} (due due' : Dues K) (bytes rest : List ℕ) (before after : Option (List ℕ)) (w : World H C) (why : FixedAnswer) (u : Unit {0}) → BeginsRefused bytes why → WritesBeginning before after (fixed_text why true) (Ok u)
-      → ConnectionTurnIsServed gives ticks due due' before after bytes w rest w (Ok Closed)
-  turned_away due due' bytes rest before after w why u refused (n, appends, all) = record {
+  pub turned_away : (bytes rest : List ℕ) (before after : Option (List ℕ)) (w : World H C) (why : FixedAnswer) (u : Unit {0}) → BeginsRefused bytes why → WritesBeginning before after (fixed_text why true) (Ok u)
+      → ConnectionTurnIsServed gives ticks before after bytes w rest w (Ok Closed)
+  turned_away bytes rest before after w why u refused (n, appends, all) = record {
     text = take n (fixed_text why true);
     appends = appends;
     gives_next = inr (why, refused, ap (λ k. take k (fixed_text why true)) all ∙ take-length (fixed_text why true), refl);
-    follows = tt;
   }
 
-  pub turned_away_err : {K : Type 0} (due due' : Dues K) (bytes rest : List ℕ) (before after : Option (List ℕ)) (w : World H C) (why : FixedAnswer) (fault : ServeFault) → BeginsRefused bytes why → WritesBeginning before after (fixed_text why true) (Err fault)
-      → ConnectionTurnIsServed gives ticks due due' before after bytes w rest w (Err fault)
-  turned_away_err due due' bytes rest before after w why Write refused (n, appends, out) = record { text = take n (fixed_text why true); appends = appends; gives_next = (n, fixed_text why true, inr (why, refused, refl, refl), refl); follows = tt }
-  turned_away_err due due' bytes rest before after w why Memory refused (n, appends, out) = record { text = take n (fixed_text why true); appends = appends; gives_next = (ap (λ k. take k (fixed_text why true)) out, inr (inl (inr (fixed_text why true, (why, refused, refl, refl))))); follows = tt }
-  turned_away_err due due' bytes rest before after w why fault refused (n, appends, out) = absurd out
+  pub turned_away_err : (bytes rest : List ℕ) (before after : Option (List ℕ)) (w : World H C) (why : FixedAnswer) (fault : ServeFault) → BeginsRefused bytes why → WritesBeginning before after (fixed_text why true) (Err fault)
+      → ConnectionTurnIsServed gives ticks before after bytes w rest w (Err fault)
+  turned_away_err bytes rest before after w why Write refused (n, appends, out) = record { text = take n (fixed_text why true); appends = appends; gives_next = (n, fixed_text why true, inr (why, refused, refl, refl), refl) }
+  turned_away_err bytes rest before after w why Memory refused (n, appends, out) = record { text = take n (fixed_text why true); appends = appends; gives_next = (ap (λ k. take k (fixed_text why true)) out, inr (inl (inr (fixed_text why true, (why, refused, refl, refl))))) }
+  turned_away_err bytes rest before after w why fault refused (n, appends, out) = absurd out
 
   -- more bytes change nothing of the requests before them
   serves_more : (bytes more : List ℕ) (w : World H C) (es : List Exchange) (rest : List ℕ) (w' : World H C) → ConnectionGives gives ticks bytes w es rest w' → ConnectionGives gives ticks (bytes ++ more) w es (rest ++ more) w'
@@ -193,30 +165,15 @@ module _ {H C : Type 0} (gives : Giving H) (ticks : C → ℕ → C → Type 0) 
   serves_push bytes w (d ∷ ds) mid between e rest w' (next, after, first, kept, others) x stays =
       (next, after, first, kept, serves_push next after ds mid between e rest w' others x stays)
 
-  pub starts : (due : Dues H) (before : Option (List ℕ)) (bytes : List ℕ) (w : World H C) → KeepsOn gives ticks due due before before bytes w bytes w
-  starts due before bytes w = record { exchanges = []; appends = Appends-nil before; serves = (refl, refl); follows = λ knows more is. is }
+  pub starts : (before : Option (List ℕ)) (bytes : List ℕ) (w : World H C) → KeepsOn gives ticks before before bytes w bytes w
+  starts before bytes w = record { exchanges = []; appends = Appends-nil before; serves = (refl, refl) }
 
-  module _ (due due1 due2 : Dues H) (before between after : Option (List ℕ)) (bytes old rest : List ℕ) (w mid w' : World H C) (p : KeepsOn gives ticks due due1 before between bytes w old mid) where
-    -- the next response is due, where all were
-    pub next_due : AreDueTo gives ticks bytes w due → NextIsDue gives ticks old mid due1
-    next_due are text last next =
-        p.follows last.knows text (are last.knows (flat_map response p.exchanges ++ text) (record {
-          exchanges = p.exchanges;
-          rest = old;
-          between = mid;
-          last = text;
-          after = last;
-          serves = p.serves;
-          next = next;
-          known = refl;
-          is = refl;
-        }))
-
+  module _ (before between after : Option (List ℕ)) (bytes old rest : List ℕ) (w mid w' : World H C) (p : KeepsOn gives ticks before between bytes w old mid) where
     -- more came
-    pub reads_more : (more : List ℕ) → KeepsOn gives ticks due due1 before between (bytes ++ more) w (old ++ more) mid
-    reads_more more = record { exchanges = p.exchanges; appends = p.appends; serves = serves_more bytes more w p.exchanges old mid p.serves; follows = p.follows }
+    pub reads_more : (more : List ℕ) → KeepsOn gives ticks before between (bytes ++ more) w (old ++ more) mid
+    reads_more more = record { exchanges = p.exchanges; appends = p.appends; serves = serves_more bytes more w p.exchanges old mid p.serves }
 
-    pub goes_on : ConnectionTurnIsServed gives ticks due1 due2 between after old mid rest w' (Ok Answered) → KeepsOn gives ticks due due2 before after bytes w rest w'
+    pub goes_on : ConnectionTurnIsServed gives ticks between after old mid rest w' (Ok Answered) → KeepsOn gives ticks before after bytes w rest w'
     goes_on t =
         let (e, x, stays, out) = t.gives_next in
         let texts : flat_map response p.exchanges ++ t.text ≡ flat_map response (p.exchanges ++ e ∷ []) =
@@ -225,16 +182,15 @@ module _ {H C : Type 0} (gives : Giving H) (ticks : C → ℕ → C → Type 0) 
           exchanges = p.exchanges ++ e ∷ [];
           appends = subst (Appends before after) texts (Appends-trans before between after (flat_map response p.exchanges) t.text p.appends t.appends);
           serves = serves_push bytes w p.exchanges old mid e rest w' p.serves x stays;
-          follows = λ knows more is. t.follows knows more (p.follows knows (t.text ++ more) (subst (due knows) (append_assoc (flat_map response p.exchanges) t.text more) (subst (λ l. due knows (l ++ more)) (sym texts) is)));
         }
 
     -- and some were answered
-    pub goes_on_by_some : ConnectionTurnIsServed gives ticks due1 due2 between after old mid rest w' (Ok Answered) → (k : KeepsOn gives ticks due due2 before after bytes w rest w') × (k.exchanges ≢ [])
+    pub goes_on_by_some : ConnectionTurnIsServed gives ticks between after old mid rest w' (Ok Answered) → (k : KeepsOn gives ticks before after bytes w rest w') × (k.exchanges ≢ [])
     unfolding goes_on
     goes_on_by_some t = (goes_on t, not_none p.exchanges t.gives_next.0)
 
     -- no whole request is left
-    pub stays : (n : ℕ) → ConnectionTurnIsServed gives ticks due1 due2 between after old mid rest w' (Ok (Unfinished n)) → KeepsOn gives ticks due due2 before after bytes w rest w' × IsUnbegun rest
+    pub stays : (n : ℕ) → ConnectionTurnIsServed gives ticks between after old mid rest w' (Ok (Unfinished n)) → KeepsOn gives ticks before after bytes w rest w' × IsUnbegun rest
     stays n t =
         let (unbegun, left, (silent, still)) = t.gives_next in
         let texts : flat_map response p.exchanges ++ t.text ≡ flat_map response p.exchanges = ap (λ l. flat_map response p.exchanges ++ l) silent ∙ append-nil (flat_map response p.exchanges) in (
@@ -242,7 +198,6 @@ module _ {H C : Type 0} (gives : Giving H) (ticks : C → ℕ → C → Type 0) 
             exchanges = p.exchanges;
             appends = subst (Appends before after) texts (Appends-trans before between after (flat_map response p.exchanges) t.text p.appends t.appends);
             serves = subst (λ r. ConnectionGives gives ticks bytes w p.exchanges r w') (sym left) (subst (ConnectionGives gives ticks bytes w p.exchanges old) (sym still) p.serves);
-            follows = λ knows more is. t.follows knows more (p.follows knows (t.text ++ more) (subst (due knows) (append_assoc (flat_map response p.exchanges) t.text more) (subst (λ l. due knows (l ++ more)) (sym texts) is)));
           },
           subst IsUnbegun (sym left) unbegun,
         )
@@ -262,16 +217,16 @@ module _ {H C : Type 0} (gives : Giving H) (ticks : C → ℕ → C → Type 0) 
       };
     }
 
-    pub closed : (left : Option (List ℕ)) → ConnectionTurnIsServed gives ticks due1 due2 between after old mid rest w' (Ok Closed) → IsOver gives ticks before after bytes left w w' (Ok served.Closed)
+    pub closed : (left : Option (List ℕ)) → ConnectionTurnIsServed gives ticks between after old mid rest w' (Ok Closed) → IsOver gives ticks before after bytes left w w' (Ok served.Closed)
     closed left t = over left t.text (Ok served.Closed) t.appends t.gives_next
 
-    pub failed : (left : Option (List ℕ)) (fault : ServeFault) → ConnectionTurnIsServed gives ticks due1 due2 between after old mid rest w' (Err fault) → IsOver gives ticks before after bytes left w w' (Err fault)
+    pub failed : (left : Option (List ℕ)) (fault : ServeFault) → ConnectionTurnIsServed gives ticks between after old mid rest w' (Err fault) → IsOver gives ticks before after bytes left w w' (Err fault)
     failed left Read t = absurd t.gives_next
     failed left CutShort t = absurd t.gives_next
     failed left fault t = over left t.text (Err fault) t.appends t.gives_next
 
     -- and the visit with it
-    pub stopped : (fault : ServeFault) → ConnectionTurnIsServed gives ticks due1 due2 between after old mid rest w' (Err fault) → IsVisit gives ticks due due2 before after bytes w rest w' (Err fault)
+    pub stopped : (fault : ServeFault) → ConnectionTurnIsServed gives ticks between after old mid rest w' (Err fault) → IsVisit gives ticks before after bytes w rest w' (Err fault)
     stopped Read t = absurd t.gives_next
     stopped CutShort t = absurd t.gives_next
     stopped fault t = failed None fault t
@@ -287,74 +242,59 @@ module _ {H C : Type 0} (gives : Giving H) (ticks : C → ℕ → C → Type 0) 
   read_failed bytes left w Memory is = (refl, inl (is, (refl, refl)))
   read_failed bytes left w CutShort is = (is.0, is.1, (refl, refl))
 
+  -- what a turn puts somewhere is the next response, or a beginning of it
+  pub begun_only : (old : List ℕ) (left : Option (List ℕ)) (mid : World H C) (text rest : List ℕ) (w' : World H C) (n : ℕ) (turn : Result TurnOutcome ServeFault) → IfErr turn (HasText []) → ConnectionTurnIsAnswered gives ticks old mid text rest w' turn → text ≢ [] → ConnectionEnds gives ticks old left mid (take n text) w' (Err Write)
+  begun_only old left mid text rest w' n (Ok Answered) room (e, x, stays, out) some = (n, text, inl (e, rest, x, out), refl)
+  begun_only old left mid text rest w' n (Ok Closed) room (inl (e, more, x, ends, out)) some = (n, text, inl (e, more, x, out), refl)
+  begun_only old left mid text rest w' n (Ok Closed) room (inr away) some = (n, text, inr away, refl)
+  begun_only old left mid text rest w' n (Ok (Unfinished k)) room (unbegun, same, silent) some = absurd (some silent.0)
+  begun_only old left mid text rest w' n (Err Write) room t some = absurd (room refl)
+  begun_only old left mid text rest w' n (Err Memory) room (none, why) some = absurd (some none)
+  begun_only old left mid text rest w' n (Err fault) room never some = absurd never
+
   -- what was read and answered so far is the connection, where that is over
   is_served : (unread left before after : Option (List ℕ)) (bytes : List ℕ) (w w' : World H C) (result : Result Served ServeFault) → Consumes unread left bytes → IsOver gives ticks before after bytes left w w' result
       → ConnectionIsServed gives ticks (io unread before) w (io left after) w' result
   is_served unread left before after bytes w w' result consumes o = record { bytes = bytes; text = o.text; consumes = consumes; appends = o.appends; served = o.served }
 
--- a connection that is served turn by turn: where it was at first, and before and after a turn
-module _ {S P C O : Type 0} (gives : S → Giving P) (ticks : C → ℕ → C → Type 0) (due : O → Dues P) (contents : O → Option (List ℕ)) (old mid new : Visit S P C O) (same : mid.service ≡ old.service) (unread left : Option (List ℕ)) where
-  abbrev pub Went : Visit S P C O → Option (List ℕ) → List ℕ → Type 0
-  Went visit end rest = ConnectionProgress (gives old.service.now) ticks (due_of due old) (due_of due visit) (io unread (taken_of contents old)) (world_of old) (io end (taken_of contents visit)) rest (world_of visit)
+-- a connection that is served alone: where it was at first, and now
+module _ {H C : Type 0} (gives : Giving H) (ticks : C → ℕ → C → Type 0) (unread before : Option (List ℕ)) (start : World H C) where
+  abbrev pub Went : Option (List ℕ) → Option (List ℕ) → List ℕ → World H C → Type 0
+  Went left written rest w = ConnectionProgress gives ticks (io unread before) start (io left written) rest w
 
-  abbrev pub Turned : Result TurnOutcome ServeFault → Type 0
-  Turned result = ConnectionTurnIsServed (gives mid.service.now) ticks (due_of due mid) (due_of due new) (taken_of contents mid) (taken_of contents new) mid.incoming.now (world_of mid) new.incoming.now (world_of new) result
+  abbrev pub ServedSo : Option (List ℕ) → Option (List ℕ) → World H C → Result Served ServeFault → Type 0
+  ServedSo left written w result = ConnectionIsServed gives ticks (io unread before) start (io left written) w result
 
-  abbrev pub ServedSo : Option (List ℕ) → Result Served ServeFault → Type 0
-  ServedSo end result = ConnectionIsServed (gives old.service.now) ticks (io unread (taken_of contents old)) (world_of old) (io end (taken_of contents new)) (world_of new) result
+  pub nothing_came : Went unread before [] start
+  nothing_came = record { bytes = []; consumes = Consumes-nil unread; goes = starts gives ticks before [] start }
 
-  -- no whole request came
-  pub turn_unbegun : (turn : TurnOutcome) (n : ℕ) → turn ≡ Unfinished n → Turned (Ok turn) → IsUnbegun new.incoming.now
-  turn_unbegun turn n is t =
-      let s = subst (λ r. Turned (Ok r)) is t in
-      let (unbegun, kept, silent) = s.gives_next in
-      subst IsUnbegun (sym kept) unbegun
-
-  module _ (p : Went mid left mid.incoming.now) where
-    own : (result : Result TurnOutcome ServeFault) → Turned result → ConnectionTurnIsServed (gives old.service.now) ticks (due_of due mid) (due_of due new) (taken_of contents mid) (taken_of contents new) mid.incoming.now (world_of mid) new.incoming.now (world_of new) result
-    own result t = subst (λ s. ConnectionTurnIsServed (gives s.now) ticks (due_of due mid) (due_of due new) (taken_of contents mid) (taken_of contents new) mid.incoming.now (world_of mid) new.incoming.now (world_of new) result) same t
-
-    pub turn_due : AreDueTexts (gives old.service.now) ticks unread (world_of old) (due_of due old) → NextIsDue (gives mid.service.now) ticks mid.incoming.now (world_of mid) (due_of due mid)
-    turn_due are =
-        subst (λ s. NextIsDue (gives s.now) ticks mid.incoming.now (world_of mid) (due_of due mid)) (sym same)
-        (next_due (gives old.service.now) ticks (due_of due old) (due_of due mid) (due_of due mid) (taken_of contents old) (taken_of contents mid) (taken_of contents mid) p.bytes mid.incoming.now mid.incoming.now (world_of old) (world_of mid) (world_of mid) p.goes (are p.bytes left p.consumes))
-
-    pub turn_answered : (turn : TurnOutcome) → turn ≡ Answered → Turned (Ok turn) → Went new left new.incoming.now
-    turn_answered turn is t = record {
-      bytes = p.bytes;
-      consumes = p.consumes;
-      goes = goes_on (gives old.service.now) ticks (due_of due old) (due_of due mid) (due_of due new) (taken_of contents old) (taken_of contents mid) (taken_of contents new) p.bytes mid.incoming.now new.incoming.now (world_of old) (world_of mid) (world_of new) p.goes (own (Ok Answered) (subst (λ r. Turned (Ok r)) is t));
+  module _ (left written : Option (List ℕ)) (old : List ℕ) (mid : World H C) (p : Went left written old mid) where
+    -- more was read
+    pub came_more : (end : Option (List ℕ)) (came : List ℕ) → Grows left end old came → Went end written came mid
+    came_more end came (more, consumes, grown) = record {
+      bytes = p.bytes ++ more;
+      consumes = Consumes-trans unread left end p.bytes more p.consumes consumes;
+      goes = subst (λ l. KeepsOn gives ticks before written (p.bytes ++ more) start l mid) (sym grown) (reads_more gives ticks before written written p.bytes old old start mid mid p.goes more);
     }
 
-    pub turn_closed : (turn : TurnOutcome) → turn ≡ Closed → Turned (Ok turn) → ServedSo left (Ok served.Closed)
-    turn_closed turn is t =
-        let g = gives old.service.now in
-        is_served g ticks unread left (taken_of contents old) (taken_of contents new) p.bytes (world_of old) (world_of new) (Ok served.Closed) p.consumes
-        (closed g ticks (due_of due old) (due_of due mid) (due_of due new) (taken_of contents old) (taken_of contents mid) (taken_of contents new) p.bytes mid.incoming.now new.incoming.now (world_of old) (world_of mid) (world_of new) p.goes left (own (Ok Closed) (subst (λ r. Turned (Ok r)) is t)))
+    -- nothing more was answered
+    pub ends_here : (result : Result Served ServeFault) → ConnectionEnds gives ticks old left mid [] mid result → ServedSo left written mid result
+    ends_here result finishes = is_served gives ticks unread left before written p.bytes start mid result p.consumes (over gives ticks before written written p.bytes old old start mid mid p.goes left [] result (Appends-nil written) finishes)
 
-    pub turn_failed : (fault : ServeFault) → Turned (Err fault) → ServedSo left (Err fault)
-    turn_failed fault t =
-        let g = gives old.service.now in
-        is_served g ticks unread left (taken_of contents old) (taken_of contents new) p.bytes (world_of old) (world_of new) (Err fault) p.consumes
-        (failed g ticks (due_of due old) (due_of due mid) (due_of due new) (taken_of contents old) (taken_of contents mid) (taken_of contents new) p.bytes mid.incoming.now new.incoming.now (world_of old) (world_of mid) (world_of new) p.goes left fault (own (Err fault) t))
+    module _ (rest : List ℕ) (w' : World H C) (after : Option (List ℕ)) where
+      -- a request was answered, or none has come whole
+      pub turned_on : (turn : TurnOutcome) → ConnectionTurnIsServed gives ticks written after old mid rest w' (Ok turn) → (turn ≡ Closed → ⊥) → Went left after rest w'
+      turned_on Answered t on = record { bytes = p.bytes; consumes = p.consumes; goes = goes_on gives ticks before written after p.bytes old rest start mid w' p.goes t }
+      turned_on (Unfinished n) t on = record { bytes = p.bytes; consumes = p.consumes; goes = (stays gives ticks before written after p.bytes old rest start mid w' p.goes n t).0 }
+      turned_on Closed t on = absurd (on refl)
 
-    -- no whole request came, and more was read
-    pub turn_read : (turn : TurnOutcome) (n : ℕ) → turn ≡ Unfinished n → Turned (Ok turn) → (end : Option (List ℕ)) (came : List ℕ) → Grows left end new.incoming.now came → Went new end came
-    turn_read turn n is t end came (more, consumes, grown) =
-        let g = gives old.service.now in
-        let (goes, unbegun) = stays g ticks (due_of due old) (due_of due mid) (due_of due new) (taken_of contents old) (taken_of contents mid) (taken_of contents new) p.bytes mid.incoming.now new.incoming.now (world_of old) (world_of mid) (world_of new) p.goes n (own (Ok (Unfinished n)) (subst (λ r. Turned (Ok r)) is t)) in
-        record {
-          bytes = p.bytes ++ more;
-          consumes = Consumes-trans unread left end p.bytes more p.consumes consumes;
-          goes = subst (λ l. KeepsOn g ticks (due_of due old) (due_of due new) (taken_of contents old) (taken_of contents new) (p.bytes ++ more) (world_of old) l (world_of new)) (sym grown)
-              (reads_more g ticks (due_of due old) (due_of due new) (due_of due new) (taken_of contents old) (taken_of contents new) (taken_of contents new) p.bytes new.incoming.now new.incoming.now (world_of old) (world_of new) (world_of new) goes more);
-        }
+      pub turned_over : ConnectionTurnIsServed gives ticks written after old mid rest w' (Ok Closed) → ServedSo left after w' (Ok served.Closed)
+      turned_over t = is_served gives ticks unread left before after p.bytes start w' (Ok served.Closed) p.consumes (closed gives ticks before written after p.bytes old rest start mid w' p.goes left t)
 
-    -- and the connection is over
-    pub read_over : (turn : TurnOutcome) (n : ℕ) → turn ≡ Unfinished n → Turned (Ok turn) → (end : Option (List ℕ)) (came : List ℕ) → Grows left end new.incoming.now came → (result : Result Served ServeFault) → ConnectionEnds (gives old.service.now) ticks came end (world_of new) [] (world_of new) result → ServedSo end result
-    read_over turn n is t end came grows result finishes =
-        let g = gives old.service.now in
-        let taken = taken_of contents new in
-        let q = turn_read turn n is t end came grows in
-        is_served g ticks unread end (taken_of contents old) taken q.bytes (world_of old) (world_of new) result q.consumes
-        (over g ticks (due_of due old) (due_of due new) (due_of due new) (taken_of contents old) taken taken q.bytes came came (world_of old) (world_of new) (world_of new) q.goes end [] result (Appends-nil taken) finishes)
+      pub turned_down : (fault : ServeFault) → ConnectionTurnIsServed gives ticks written after old mid rest w' (Err fault) → ServedSo left after w' (Err fault)
+      turned_down fault t = is_served gives ticks unread left before after p.bytes start w' (Err fault) p.consumes (failed gives ticks before written after p.bytes old rest start mid w' p.goes left fault t)
+
+    -- a beginning of the answer was written
+    pub cut_off : (text : List ℕ) (rest : List ℕ) (w' : World H C) (n : ℕ) (after : Option (List ℕ)) (turn : Result TurnOutcome ServeFault) → IfErr turn (HasText []) → ConnectionTurnIsAnswered gives ticks old mid text rest w' turn → text ≢ [] → Appends written after (take n text) → ServedSo left after w' (Err Write)
+    cut_off text rest w' n after turn room t some appends =
+        is_served gives ticks unread left before after p.bytes start w' (Err Write) p.consumes (over gives ticks before written after p.bytes old rest start mid w' p.goes left (take n text) (Err Write) appends (begun_only gives ticks old left mid text rest w' n turn room t some))

@@ -1,8 +1,7 @@
 -- A turn in two parts: until its request waits for its calls, and after they have come back; for private clauses.
-use Rattle.std.specs.Prelude.{◌≡◌, ℕ, ◌≤◌, Bool, true, false, All, List, [], ◌∷◌, length, drop, slice_range, Option, None, Some, Result, Ok, Err}
+use Rattle.std.specs.Prelude.{◌≡◌, ℕ, ◌≤◌, Bool, true, false, All, List, [], length, drop, slice_range, Option, None, Some, Result, Ok, Err, IfErr}
 use Rattle.accept.specs.Calls.{AreNumbers}
 use Rattle.requests.specs.Streams.{Request, ReadsMessage, IsMessage, max_head}
-use Rattle.requests.specs.Writing.{Dues}
 use Rattle.requests.specs.declared.answer.Answer.{Answer}
 use Rattle.requests.specs.declared.fault.ServeFault.{ServeFault}
 use Rattle.requests.specs.declared.incoming.Message.{Message}
@@ -11,10 +10,9 @@ use Rattle.requests.specs.declared.verdict.Verdict.TheVariants.{Call}
 use Rattle.answering.specs.Calls.{Giving}
 use Rattle.answering.specs.Connections.{Unended}
 use Rattle.answering.specs.Demands.{IsDemand, calls_asked}
-use Rattle.answering.specs.Gathering.{any_text}
 use Rattle.answering.specs.Replying.{IsReplied}
 use Rattle.answering.specs.Serving.{world}
-use Rattle.answering.specs.Turns.{MayComeAfter, ConnectionTurnIsServed}
+use Rattle.answering.specs.Turns.{MayComeAfter, ConnectionTurnIsServed, HasText, IsLeftByTurn, room_behind}
 use Rattle.answering.specs.declared.demands.Demand.{Demand}
 use Rattle.answering.specs.declared.responding.NoAnswer.{NoAnswer}
 use Rattle.answering.specs.declared.visiting.TurnBegun.{TurnBegun}
@@ -59,11 +57,11 @@ module _ {C : Type 0} (ticks : C → ℕ → C → Type 0) where
     pub tick : ticks clock now clock'
     pub demands : IsDemand route now tenant (slice_range bytes m.start m.end) demand
 
-  module _ {H : Type 0} (due due' : Dues H) (before after : Option (List ℕ)) where
+  module _ (before after : Option (List ℕ)) where
     -- a turn in which no call was made, whatever is known of calls
     abbrev pub IsTurnWithoutCalls : List ℕ → C → List ℕ → C → Result TurnOutcome ServeFault → Type 0
-    IsTurnWithoutCalls bytes clock rest clock' result = ConnectionTurnIsServed NoCalls ticks due due'
-        before after bytes (world tt clock) rest (world tt clock') result
+    IsTurnWithoutCalls bytes clock rest clock' result = ConnectionTurnIsServed NoCalls ticks before after bytes
+        (world tt clock) rest (world tt clock') result
 
     -- the turn is over without a call, or its request waits, and nothing was put where answers go
     abbrev pub IsTurnBegun : List ℕ → C → List ℕ → C → Result TurnBegun ServeFault → Type 0
@@ -73,19 +71,6 @@ module _ {C : Type 0} (ticks : C → ℕ → C → Type 0) where
         IsTurnWithoutCalls bytes clock rest clock' (Err fault)
     IsTurnBegun bytes clock rest clock' (Ok (Waits m demand)) =
         WaitsForCalls bytes clock clock' m demand × (rest ≡ bytes) × (after ≡ before)
-        × ((knows : H) (text : List ℕ) → due knows text → due' knows text)
-
--- how much may come where this is left of what came, after a request that was answered
-abbrev pub room_behind : List ℕ → ℕ
-room_behind [] = max_head
-room_behind (x ∷ xs) = 0
-
--- what a turn leaves of a connection, where this is left of what came
-abbrev pub IsLeftByTurn : Result TurnOutcome ServeFault → List ℕ → Unended → Unended → Type 0
-IsLeftByTurn (Ok (Unfinished n)) rest old new = (new.came ≡ rest) × (new.room ≡ n) × (new.closes ≡ old.closes)
-IsLeftByTurn (Ok Answered) rest old new = (new.came ≡ rest) × (new.room ≡ room_behind rest)
-    × (new.closes ≡ old.closes)
-IsLeftByTurn turn rest old new = (new.came ≡ []) × (new.room ≡ 0) × (new.closes ≡ true)
 
 -- the same of what has come, and how much more may; none where the connection ends
 abbrev pub IsRoomAfter : Result TurnOutcome ServeFault → List ℕ → List ℕ → Option ℕ → Type 0
@@ -98,12 +83,13 @@ pub record IsVisitedWithoutCalls {C : Type 0} (ticks : C → ℕ → C → Type 
     (clock : C) (new : Unended) (clock' : C) : Type 0 where
   pub turn : Result TurnOutcome ServeFault
   pub rest : List ℕ
-  pub is : IsTurnWithoutCalls ticks (any_text {H = Unit {0}}) any_text (Some old.text) (Some new.text)
-      old.came clock rest clock' turn
+  pub is : IsTurnWithoutCalls ticks (Some old.text) (Some new.text) old.came clock rest clock' turn
   pub left : IsLeftByTurn turn rest old new
+  pub room : IfErr turn (HasText old.text)
 
 -- the request of this message was answered so, and dropped
 pub record IsAnsweredSo (m : Message) (answered : Result Answer NoAnswer) (old new : Unended) : Type 0 where
   pub replied : Result Bool ServeFault
-  pub is : IsReplied (any_text {H = Unit {0}}) any_text (Some old.text) (Some new.text) answered m.closes replied
+  pub is : IsReplied (Some old.text) (Some new.text) answered m.closes replied
   pub left : IsLeftByTurn (turn_by replied) (drop m.end old.came) old new
+  pub room : IfErr replied (HasText old.text)

@@ -3,11 +3,11 @@ use Rattle.std.specs.Prelude.{◌≡◌, ◌⊎◌, ℕ, Bool, true, List, [], O
 use Rattle.std.specs.Io.KnownBytes.{IsAtEnd}
 use Rattle.requests.specs.Streams.{IsCut}
 use Rattle.requests.specs.declared.fault.ServeFault.{ServeFault}
-use Rattle.requests.specs.declared.fault.ServeFault.TheVariants.{Read, Write, Memory, CutShort}
+use Rattle.requests.specs.declared.fault.ServeFault.TheVariants.{Read, Write, CutShort}
 use Rattle.requests.specs.declared.fault.Served.{Served}
 use Rattle.requests.specs.declared.fault.Served.TheVariants.{Ended, Closed}
+use Rattle.answering.specs.Connections.{Unended}
 use Rattle.answering.specs.declared.ends.Ends.{Ends}
-use Rattle.answering.specs.declared.ends.WriteEnd.{WriteEnd}
 
 module _ {I O : Type 0} where
   -- they are of the same reader and writer, which may have changed
@@ -21,17 +21,9 @@ IsOfOneEnd reads writes Read = reads ≡ true
 IsOfOneEnd reads writes Write = writes ≡ true
 IsOfOneEnd reads writes fault = Unit {0}
 
-module _ {O : Type 0} where
-  -- for private clauses: it is of the same writer, which goes through the same reference
-  pub record IsSameEnd (through : O → ℕ) (old new : WriteEnd O) : Type 0 where
-    pub writer : new.writer.ghost_name ≡ old.writer.ghost_name
-    pub same : through new.writer.now ≡ through old.writer.now
-
-  -- for private clauses: the fault is of the writer, or of memory
-  abbrev pub IsOfAnswer : WriteEnd O → ServeFault → Type 0
-  IsOfAnswer end Write = end.failed ≡ true
-  IsOfAnswer end Memory = Unit {0}
-  IsOfAnswer end fault = ⊥
+-- for private clauses: but for what came and how much may, it is the same
+abbrev pub IsSameBut : Unended → Unended → Type 0
+IsSameBut old new = (new.text ≡ old.text) × (new.closes ≡ old.closes) × (new.unanswered ≡ old.unanswered)
 
 -- for private clauses: more was read, or the stream ended, or reading failed; these bytes have come, and are no whole
 -- request unless more was read

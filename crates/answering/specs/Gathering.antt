@@ -4,11 +4,11 @@ use Rattle.accept.specs.Doubts.{is_doubt}
 use Rattle.accept.specs.declared.call.Call.{Call}
 use Rattle.accept.specs.declared.call.Reply.{Reply}
 use Rattle.accept.specs.declared.fault.CallFault.{CallFault}
-use Rattle.requests.specs.Writing.{Dues}
 use Rattle.requests.specs.declared.fault.ServeFault.{ServeFault}
 use Rattle.answering.specs.Calls.{Giving, CallsGive}
 use Rattle.answering.specs.Connections.{Unended, IsLeftSo}
 use Rattle.answering.specs.Serving.{World, world}
+use Rattle.answering.specs.Turns.{IsOneTurn}
 use Rattle.answering.specs.Visits.{IsVisit}
 use Rattle.answering.specs.declared.visiting.Visited.{Visited}
 
@@ -34,18 +34,14 @@ abbrev pub doubt_after : Bool → List (Result Reply CallFault) → Bool
 doubt_after doubt [] = doubt
 doubt_after doubt (r ∷ rs) = doubt_after (is_doubt r) rs
 
--- whatever is to be sent
-abbrev pub any_text : {H : Type 0} → Dues H
-any_text knows text = Unit {0}
-
 module _ {H C : Type 0} (gives : Giving H) (ticks : C → ℕ → C → Type 0) where
-  -- from one connection to another by a visit
+  -- from one connection to another by a visit, which is one turn: it answers one request at most
   pub record IsVisitedSo (w : World (Known H) C) (old : Unended) (w' : World (Known H) C)
       (new : Unended) : Type 0 where
     pub result : Result Visited ServeFault
     pub left : IsLeftSo result old new
-    pub is : IsVisit (among gives) ticks any_text any_text (Some old.text) (Some new.text)
-        old.came w new.came w' result
+    pub is : IsVisit (among gives) ticks (Some old.text) (Some new.text) old.came w new.came w' result
+    pub turned : IsOneTurn (among gives) ticks w old w' new
 
   -- each connection was visited, one after another
   abbrev pub AreVisitedSo : World (Known H) C → List Unended → World (Known H) C → List Unended → Type 0

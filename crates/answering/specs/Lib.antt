@@ -4,7 +4,6 @@ pub mod Calls
 pub mod Connections
 pub mod Courses
 pub mod Demands
-pub mod Due
 pub mod Ends
 pub mod Gathering
 pub mod Joining

@@ -20,8 +20,8 @@ use std::collections::VecDeque;
 use std::mem;
 use std::sync::Wait;
 
-/// What is kept of a connection by those that serve it. `P` is the pass by which its calls are made.
-pub trait KeepsConnection<P>: Sized {
+/// What is kept of a connection by those that serve it.
+pub trait KeepsConnection: Sized {
     ghost use Rattle.std.specs.Prelude.{◌≡◌};
     ghost use Rattle.answering.specs.Connections.{Unended};
 
@@ -29,12 +29,24 @@ pub trait KeepsConnection<P>: Sized {
     ghost kept: { Self → Unended };
 
     /// The connection in it.
-    fn into_connection(self) -> Connection<P>
+    fn into_connection(self) -> Connection
         ensures { result ≡ kept self };
 
     /// Keeps a connection.
-    fn of_connection(connection: Connection<P>) -> Self
+    fn of_connection(connection: Connection) -> Self
         ensures { kept result ≡ connection };
+}
+
+impl KeepsConnection for Connection {
+    ghost kept = { λ connection. connection };
+
+    fn into_connection(self) -> Connection {
+        self
+    }
+
+    fn of_connection(connection: Connection) -> Connection {
+        connection
+    }
 }
 
 /// Where answers are put together, and calls. It keeps its memory from use to use.
@@ -190,11 +202,11 @@ impl Window {
 
 // Answers a request of each connection, after the calls that stand in the window: all are made together. What came of
 // those that stood there is left in the window.
-fn answer_each<S: Calls<Pass = P>, P, R: Wait, C: Clock, T: KeepsConnection<P> + Drop>(
+fn answer_each<S: Calls, R: Wait, C: Clock, T: KeepsConnection + Drop>(
     rt: &R,
     alloc: Global,
     service: &S,
-    pass: &mut P,
+    pass: &mut S::Pass,
     clock: &mut C,
     connections: &mut VecDeque<T>,
     workspace: &mut Workspace,
@@ -216,18 +228,18 @@ fn answer_each<S: Calls<Pass = P>, P, R: Wait, C: Clock, T: KeepsConnection<P> +
         return;
     };
     let mut connection = first.into_connection();
-    match connection.begin(alloc, pass, clock, &mut workspace.outgoing) {
+    match connection.begin(alloc, clock, &mut workspace.outgoing) {
         None => answer_each(rt, alloc, service, pass, clock, connections, workspace),
         Some((message, demand)) => match workspace.window.take_in(demand) {
             Ok(waiting) => {
                 answer_each(rt, alloc, service, pass, clock, connections, workspace);
                 let answered = workspace.window.tell(alloc, waiting);
-                connection.end(alloc, pass, &mut workspace.outgoing, message, answered);
+                connection.end(alloc, &mut workspace.outgoing, message, answered);
             }
             Err(demand) => {
                 workspace.window.make(rt, alloc, service, pass);
                 let answered = make_calls(rt, alloc, service, pass, demand);
-                connection.end(alloc, pass, &mut workspace.outgoing, message, answered);
+                connection.end(alloc, &mut workspace.outgoing, message, answered);
                 let made = mem::replace(&mut workspace.window, Window::new(alloc));
                 answer_each(rt, alloc, service, pass, clock, connections, workspace);
                 workspace.window = made;
@@ -243,12 +255,13 @@ fn answer_each<S: Calls<Pass = P>, P, R: Wait, C: Clock, T: KeepsConnection<P> +
 /// request have come back: a failure is told to the requests whose calls failed, and to no other. Where a call is in
 /// doubt, those made together with it that come after it may be, too.
 ///
-/// A connection whose answer closes it, or for whose answer there was no memory, ends once its text is sent.
-pub fn answer_connections<S: Calls<Pass = P>, P, R: Wait, C: Clock, T: KeepsConnection<P> + Drop>(
+/// A connection whose answer closes it, or for whose answer there was no memory, ends once its text is sent. The answer
+/// of a failure needs no memory where nothing else waits to be sent.
+pub fn answer_connections<S: Calls, R: Wait, C: Clock, T: KeepsConnection + Drop>(
     rt: &R,
     alloc: Global,
     service: &S,
-    pass: &mut P,
+    pass: &mut S::Pass,
     clock: &mut C,
     connections: &mut VecDeque<T>,
     workspace: &mut Workspace,
@@ -258,6 +271,8 @@ pub fn answer_connections<S: Calls<Pass = P>, P, R: Wait, C: Clock, T: KeepsConn
     ensures visits { (doubt : Bool) × AreVisitedSo (S.gives service.now) C.ticks
         (world (known pass.old false) clock.old) (map T.kept connections.old.items)
         (world (known pass.new doubt) clock.new) (map T.kept connections.new.items) }
+    ensures room { (deque_len connections.new ≡ deque_len connections.old)
+        × (deque_capacity connections.new ≡ deque_capacity connections.old) }
 {
     workspace.window.clear();
     answer_each(rt, alloc, service, pass, clock, connections, workspace);

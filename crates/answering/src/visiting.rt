@@ -1,21 +1,16 @@
-//! The requests of a connection that have come: their calls made, and their answers put where they go.
-ghost use Rattle.std.specs.Prelude.{◌≡◌, ◌≤◌, length, drop, IfErr, IfOk};
+//! The request at the front of a connection: what it asks for, or its answer where that needs no call.
+ghost use Rattle.std.specs.Prelude.{◌≡◌, ◌≤◌, Some, length, drop, IfErr, IfOk};
 ghost use Rattle.requests.specs.Streams.{Request, IsMessage, MayStand, ReadsMessage};
-ghost use Rattle.answering.specs.Beginning.{NoCalls, HasNumbersBegun, MayComeAfterBegun, IsTurnBegun, turn_after};
-ghost use Rattle.answering.specs.Due.{NextIsDue, MessageIsDue};
-ghost use Rattle.answering.specs.Ends.{IsOfAnswer, IsSameEnd};
-ghost use Rattle.answering.specs.Serving.{world};
-ghost use Rattle.answering.specs.Turns.{MayComeAfter, IsSameVisit, ConnectionTurnIsServed, world_of, due_of, taken_of};
+ghost use Rattle.answering.specs.Beginning.{HasNumbersBegun, MayComeAfterBegun, IsTurnBegun, turn_after};
+ghost use Rattle.answering.specs.Turns.{HasText};
 
-use crate::calls::Calls;
 use crate::clock::Clock;
 use crate::demands::{Demand, demand_of};
-use crate::ends::WriteEnd;
-use crate::responding::{RequestBody, make_calls};
+use crate::putting::{put_failure, put_fixed};
+use crate::responding::RequestBody;
 use accept::CallFault;
-use requests::{Answers, Incoming, MAX_HEAD, Message, Next, Outgoing, ServeFault, Verdict};
+use requests::{Incoming, MAX_HEAD, Message, Next, Outbox, Outgoing, ServeFault, Verdict};
 use std::alloc::Global;
-use std::sync::Wait;
 
 /// What came of a turn.
 #[derive(Clone, Copy)]
@@ -60,11 +55,10 @@ pub(crate) fn turn_after(closes: bool) -> TurnOutcome
 }
 
 // Begins to answer a whole request that stands at the front. One that needs no call is answered, and dropped.
-fn begin_message<P, C: Clock, O: Answers<Knows = P>>(
+fn begin_message<C: Clock>(
     alloc: Global,
-    knows: &P,
     clock: &mut C,
-    end: &mut WriteEnd<'_, O>,
+    outbox: &mut Outbox,
     incoming: &mut Incoming,
     outgoing: &mut Outgoing,
     message: Message,
@@ -72,16 +66,12 @@ fn begin_message<P, C: Clock, O: Answers<Knows = P>>(
     requires ordered { message.start ≤ message.end }
     requires within { message.end ≤ length incoming.old }
     requires little { length (drop message.end incoming.old) ≤ MAX_HEAD }
-    requires due { MessageIsDue NoCalls C.ticks incoming.old message (world tt clock.old)
-        (λ _ text. O.due end.old.writer.now knows.now text) }
-    ensures same { IsSameEnd O.through end.old end.new }
-    ensures told { IfErr result (λ fault. IsOfAnswer end.new fault) }
+    ensures text { IfErr result (HasText outbox.old) }
     ensures numbers { HasNumbersBegun result }
     ensures room { IfOk result (λ begun. MayComeAfterBegun begun incoming.new) }
     ensures begins { (r : Request) → IsMessage incoming.old r message
         → ReadsMessage incoming.old r (drop message.end incoming.old)
-        → IsTurnBegun C.ticks (O.due end.old.writer.now) (O.due end.new.writer.now)
-        (O.contents end.old.writer.now) (O.contents end.new.writer.now)
+        → IsTurnBegun C.ticks (Some outbox.old) (Some outbox.new)
         incoming.old clock.old incoming.new clock.new result }
 {
     let now = clock.now();
@@ -97,11 +87,11 @@ fn begin_message<P, C: Clock, O: Answers<Knows = P>>(
             return Ok(TurnBegun::Waits(message, demand));
         }
         Verdict::Fixed(answer) => {
-            end.fixed(knows, outgoing, *answer, message.closes)?;
+            put_fixed(outbox, outgoing, *answer, message.closes)?;
             answer.always_closes() | message.closes
         }
         Verdict::NoMemory => {
-            end.failure(knows, CallFault::Memory)?;
+            put_failure(outbox, CallFault::Memory)?;
             true
         }
     };
@@ -110,88 +100,26 @@ fn begin_message<P, C: Clock, O: Answers<Knows = P>>(
 }
 
 /// Looks at what stands at the front, and answers it where that needs no call.
-pub(crate) fn begin_turn<P, C: Clock, O: Answers<Knows = P>>(
+pub(crate) fn begin_turn<C: Clock>(
     alloc: Global,
-    knows: &P,
     clock: &mut C,
-    end: &mut WriteEnd<'_, O>,
+    outbox: &mut Outbox,
     incoming: &mut Incoming,
     outgoing: &mut Outgoing,
 ) -> Result<TurnBegun, ServeFault>
     requires unread { MayStand incoming.old }
-    requires due { NextIsDue NoCalls C.ticks incoming.old (world tt clock.old)
-        (λ _ text. O.due end.old.writer.now knows.now text) }
-    ensures same { IsSameEnd O.through end.old end.new }
-    ensures told { IfErr result (λ fault. IsOfAnswer end.new fault) }
+    ensures text { IfErr result (HasText outbox.old) }
     ensures numbers { HasNumbersBegun result }
     ensures room { IfOk result (λ begun. MayComeAfterBegun begun incoming.new) }
-    ensures begins { IsTurnBegun C.ticks (O.due end.old.writer.now) (O.due end.new.writer.now)
-        (O.contents end.old.writer.now) (O.contents end.new.writer.now)
+    ensures begins { IsTurnBegun C.ticks (Some outbox.old) (Some outbox.new)
         incoming.old clock.old incoming.new clock.new result }
 {
     match incoming.next(alloc) {
         Next::Unfinished(most) => Ok(TurnBegun::Over(TurnOutcome::Unfinished(most))),
         Next::Refused(why) => {
-            end.fixed(knows, outgoing, why, true)?;
+            put_fixed(outbox, outgoing, why, true)?;
             Ok(TurnBegun::Over(TurnOutcome::Closed))
         }
-        Next::Whole(message) => {
-            begin_message(alloc, knows, clock, end, incoming, outgoing, message)
-        }
-    }
-}
-
-/// A visit of a connection: what makes its calls, its clock, where its answers go, what has come, and where answers are
-/// put together. Nothing is read here.
-#[derive(Drop)]
-pub(crate) struct Visit<'a, 'b, S, P, C, O> {
-    pub(crate) service: &'a S,
-    pub(crate) pass: &'a mut P,
-    pub(crate) clock: &'a mut C,
-    pub(crate) end: &'a mut WriteEnd<'b, O>,
-    pub(crate) incoming: &'a mut Incoming,
-    pub(crate) outgoing: &'a mut Outgoing,
-}
-
-impl<'a, 'b, S: Calls<Pass = P>, P, C: Clock, O: Answers<Knows = P>> Visit<'a, 'b, S, P, C, O> {
-    // Answers what stands at the front.
-    pub(crate) fn take_turn<R: Wait>(
-        &mut self,
-        rt: &R,
-        alloc: Global,
-    ) -> Result<TurnOutcome, ServeFault>
-        requires ready { S.is_ready self.old.service.now self.old.pass.now }
-        requires unread { MayStand self.old.incoming.now }
-        requires due { NextIsDue (S.gives self.old.service.now) C.ticks self.old.incoming.now
-            (world_of self.old) (due_of O.due self.old) }
-        ensures same { IsSameVisit O.through self.old self.new }
-        ensures told { IfErr result (λ fault. IsOfAnswer self.new.end.now fault) }
-        ensures ready { S.is_ready self.new.service.now self.new.pass.now }
-        ensures room { IfOk result (λ turn. MayComeAfter turn self.new.incoming.now) }
-        ensures turns { ConnectionTurnIsServed (S.gives self.old.service.now) C.ticks
-            (due_of O.due self.old) (due_of O.due self.new)
-            (taken_of O.contents self.old) (taken_of O.contents self.new)
-            self.old.incoming.now (world_of self.old) self.new.incoming.now (world_of self.new)
-            result }
-    {
-        let begun = begin_turn(
-            alloc,
-            self.pass,
-            self.clock,
-            self.end,
-            self.incoming,
-            self.outgoing,
-        )?;
-        match begun {
-            TurnBegun::Over(turn) => Ok(turn),
-            TurnBegun::Waits(message, demand) => {
-                let answered = make_calls(rt, alloc, self.service, self.pass, demand);
-                let closes = self
-                    .end
-                    .reply(self.pass, self.outgoing, answered, message.closes)?;
-                self.incoming.finish(&message);
-                Ok(turn_after(closes))
-            }
-        }
+        Next::Whole(message) => { begin_message(alloc, clock, outbox, incoming, outgoing, message) }
     }
 }

@@ -4,7 +4,7 @@ use crate::opened::OnePassIngester;
 use anyhow::Result;
 use connection_rows::{
     Came, CasePlan, ConnectionCase, Each, Groups, Manner, STORED, Script, Told, run_alone,
-    run_listed,
+    run_listed, run_together,
 };
 use rows::Said;
 use std::alloc::Global;
@@ -19,6 +19,9 @@ pub fn serve_plan<R>(rt: &R, alloc: Global, plan: &CasePlan, said: &mut Said) ->
 where
     R: Threads + Wait + Copy + Send + Sync + 'static,
 {
+    if plan.is_together {
+        return run_together(rt, alloc, plan, said);
+    }
     if !plan.has_shards() {
         return serve_visits(rt, alloc, &mut None, plan, said);
     }

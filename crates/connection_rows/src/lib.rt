@@ -11,6 +11,7 @@ mod plan;
 mod script;
 mod sink;
 mod source;
+mod together;
 mod visits;
 
 pub use connection::ConnectionInput;
@@ -22,4 +23,5 @@ pub use plan::{CasePlan, ConnectionCase};
 pub use script::{Script, Told};
 pub use sink::Sink;
 pub use source::Source;
+pub use together::run_together;
 pub use visits::{Came, Ticking};

@@ -78,6 +78,8 @@ pub struct CasePlan {
     alloc: Global,
     /// Whether it says that no connection without a list makes a call.
     is_alone: bool,
+    /// Whether its connections are visited together.
+    pub is_together: bool,
     /// How many bytes a segment may have. More than 2^30 count as 2^30.
     pub capacity: u64,
     /// How many shards there are.
@@ -99,6 +101,7 @@ impl CasePlan {
         let mut plan = CasePlan {
             alloc,
             is_alone: false,
+            is_together: false,
             capacity: WIDE,
             shards: 1,
             stops: 0,
@@ -123,6 +126,7 @@ impl CasePlan {
     fn take_line(&mut self, line: &str) -> Result<()> {
         match word_of(line) {
             ("alone", _) => self.is_alone = true,
+            ("together", _) => self.is_together = true,
             ("capacity", bytes) => self.capacity = bytes.parse::<u64>()?,
             ("shards", count) => self.shards = count.parse::<u32>()?,
             ("stops", call) => self.stops = call.parse::<u64>()?,

@@ -67,7 +67,7 @@ impl Came {
         let mut came = Said::new(alloc);
         self.sink.say_beginning_of(whole.sink.text(), &mut came);
         came.put(", ");
-        self.say_end(&mut came);
+        say_end(&self.end, &mut came);
         let (gained, counted) = (self.gained, self.counted);
         came.tell(format_args!(", {gained} {counted} more"));
         Ok(came.end()?)
@@ -88,16 +88,17 @@ impl Came {
     }
 
     fn say_count(&self, into: &mut Said) {
-        self.say_end(into);
+        say_end(&self.end, into);
         let (count, counted) = (self.count, self.counted);
         into.tell(format_args!(", {counted} {count}"));
     }
+}
 
-    fn say_end(&self, into: &mut Said) {
-        match &self.end {
-            Ok(Served::Ended) => into.put("ended"),
-            Ok(Served::Closed) => into.put("closed"),
-            Err(fault) => into.tell(format_args!("{fault}")),
-        }
+/// Says how a connection ended.
+pub(crate) fn say_end(end: &Result<Served, ServeFault>, into: &mut Said) {
+    match end {
+        Ok(Served::Ended) => into.put("ended"),
+        Ok(Served::Closed) => into.put("closed"),
+        Err(fault) => into.tell(format_args!("{fault}")),
     }
 }

@@ -13,7 +13,7 @@ use Rattle.answering.proofs.Stepping as stepping
 use Rattle.front.specs.Calls.{CallGives}
 use Rattle.front.specs.Laws.{Gains, MakesTheirCalls, MakesItsCalls, MakesItsFirstCalls}
 
-none : (h h' : Passed) → h' ≡ h → Gains h [] h'
+pub none : (h h' : Passed) → h' ≡ h → Gains h [] h'
 none h h' same = ap (λ p. p.caller.made) same ∙ sym (append-nil h.caller.made)
 
 made_kept : (h h' : Passed) (call : Call) (fault : CallFault) → IsRefused h call h' fault → h'.caller.made ≡ h.caller.made
@@ -23,13 +23,13 @@ made_kept h h' call LogSpent is = ap (λ p. p.caller.made) is
 made_kept h h' call InDoubt (inl withdrawn) = ap (λ p. p.caller.made) withdrawn
 made_kept h h' call InDoubt (inr stays) = ap (λ p. p.caller.made) stays
 
-both : (h m h' : Passed) (first others : List Step) → Gains h first m → Gains m others h' → Gains h (first ++ others) h'
+pub both : (h m h' : Passed) (first others : List Step) → Gains h first m → Gains m others h' → Gains h (first ++ others) h'
 both h m h' first others a b = b ∙ ap (λ l. l ++ others) a ∙ append_assoc h.caller.made first others
 
 one_by : (h h' : Passed) (call : Call) (reply : Reply) → IsGiven h call (Ok reply) h' → (step : Step) × (step.ask.call ≡ call) × (step.reply ≡ reply) × Gains h (step ∷ []) h'
 one_by h h' call reply is = (next_step h.caller call reply, refl, refl, ap (λ p. p.caller.made) is.answered.pass)
 
-one : (doubt : Bool) (h h' : Passed) (call : Call) (reply : Reply) → CallGives doubt h call (Ok reply) h' → (step : Step) × (step.ask.call ≡ call) × (step.reply ≡ reply) × Gains h (step ∷ []) h'
+pub one : (doubt : Bool) (h h' : Passed) (call : Call) (reply : Reply) → CallGives doubt h call (Ok reply) h' → (step : Step) × (step.ask.call ≡ call) × (step.reply ≡ reply) × Gains h (step ∷ []) h'
 one false h h' call reply is = one_by h h' call reply is
 one true h h' call reply (inl is) = one_by h h' call reply is
 one true h h' call reply (inr (lost, stays)) = absurd (cc)
@@ -37,7 +37,7 @@ one true h h' call reply (inr (lost, stays)) = absurd (cc)
 kept_by : (h h' : Passed) (call : Call) (failure : CallFault) → IsGiven h call (Err failure) h' → Gains h [] h'
 kept_by h h' call failure is = made_kept h h' call failure is.refused ∙ sym (append-nil h.caller.made)
 
-kept : (doubt : Bool) (h h' : Passed) (call : Call) (failure : CallFault) → CallGives doubt h call (Err failure) h' → Gains h [] h'
+pub kept : (doubt : Bool) (h h' : Passed) (call : Call) (failure : CallFault) → CallGives doubt h call (Err failure) h' → Gains h [] h'
 kept false h h' call failure is = kept_by h h' call failure is
 kept true h h' call failure (inl is) = kept_by h h' call failure is
 kept true h h' call failure (inr (lost, stays)) = ap (λ p. p.caller.made) stays ∙ sym (append-nil h.caller.made)

@@ -7,7 +7,7 @@ use Rattle.std.specs.List.{flat_map}
 use Rattle.history.specs.Handles.{Passed}
 use Rattle.requests.specs.declared.fault.ServeFault.{ServeFault}
 use Rattle.answering.specs.Connections.{Unended, IsLeftSo}
-use Rattle.answering.specs.Gathering.{Known, among, any_text}
+use Rattle.answering.specs.Gathering.{Known, among}
 use Rattle.answering.specs.Serving.{World}
 use Rattle.answering.specs.Visits.{IsVisit}
 use Rattle.answering.specs.declared.visiting.Visited.{Visited}
@@ -71,7 +71,7 @@ module _ {C : Type 0} where
 
   -- a visit of one that goes on
   module _ (ticks : C → ℕ → C → Type 0) (old new : Unended) (w w' : World (Known Passed) C) (result : Result Visited ServeFault) (left : IsLeftSo result old new)
-      (is : IsVisit (among CallGives) ticks any_text any_text (Some old.text) (Some new.text) old.came w new.came w' result) where
+      (is : IsVisit (among CallGives) ticks (Some old.text) (Some new.text) old.came w new.came w' result) where
     abbrev Added : List ℕ → List (Visit C) → List ℕ → Type 0
     Added held vs later = (v : Visit C) × (v.taken ≡ later) × (new.text ≡ old.text ++ v.text) × IsVisited ticks v × Stands held (vs ++ v ∷ []) [] (session_seen new)
 
@@ -84,11 +84,11 @@ module _ {C : Type 0} where
     last : (held later : List ℕ) → old.came ≡ held ++ later → old.closes ≡ false → Added held [] later
     last held later came goes_on =
         let (text, more) = appended ticks old.text new.text old.came w new.came w' result is in
-        let read = subst (λ b. IsVisit (among CallGives) ticks any_text any_text (Some old.text) (Some new.text) b w new.came w' result) came is in (
+        let read = subst (λ b. IsVisit (among CallGives) ticks (Some old.text) (Some new.text) b w new.came w' result) came is in (
           record { held = held; taken = later; waiting = old.text; text = text; rest = new.came; before = w; after = w'; result = result },
           refl,
           more,
-          subst (λ t. IsVisit (among CallGives) ticks any_text any_text (Some old.text) (Some t) (held ++ later) w new.came w' result) more read,
+          subst (λ t. IsVisit (among CallGives) ticks (Some old.text) (Some t) (held ++ later) w new.came w' result) more read,
           (refl, left_standing result left goes_on),
         )
 

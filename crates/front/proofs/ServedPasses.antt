@@ -6,7 +6,7 @@ use Rattle.history.specs.Handles.{Passed}
 use Rattle.requests.specs.declared.fault.ServeFault.{ServeFault}
 use Rattle.requests.specs.declared.fault.ServeFault.TheVariants as faults
 use Rattle.answering.specs.Connections.{Unended}
-use Rattle.answering.specs.Gathering.{Known, MayGoOn, IsVisitedSo, AreVisitedSo, among, any_text, known}
+use Rattle.answering.specs.Gathering.{Known, MayGoOn, IsVisitedSo, AreVisitedSo, among, known}
 use Rattle.answering.specs.Serving.{World, world, response}
 use Rattle.answering.specs.Visits.{IsVisit}
 use Rattle.answering.specs.declared.visiting.Visited.{Visited}
@@ -27,7 +27,7 @@ use Rattle.front.specs.Endings.{HasServedAsAsked}
 use Rattle.front.specs.Sessions.{WereVisited}
 
 module _ {C : Type 0} (ticks : C → ℕ → C → Type 0) where
-  pub appended : (a b bytes : List ℕ) (w : World (Known Passed) C) (rest : List ℕ) (w' : World (Known Passed) C) (result : Result Visited ServeFault) → IsVisit (among CallGives) ticks any_text any_text (Some a) (Some b) bytes w rest w' result → (text : List ℕ) × (b ≡ a ++ text)
+  pub appended : (a b bytes : List ℕ) (w : World (Known Passed) C) (rest : List ℕ) (w' : World (Known Passed) C) (result : Result Visited ServeFault) → IsVisit (among CallGives) ticks (Some a) (Some b) bytes w rest w' result → (text : List ℕ) × (b ≡ a ++ text)
   appended a b bytes w rest w' (Ok visited.More) is = (flat_map response is.0.exchanges, is.0.appends)
   appended a b bytes w rest w' (Ok (visited.Unfinished n)) is = (flat_map response is.0.exchanges, is.0.appends)
   appended a b bytes w rest w' (Ok visited.Closed) is = (is.text, is.appends)
@@ -42,7 +42,7 @@ module _ {C : Type 0} (ticks : C → ℕ → C → Type 0) where
         record { held = []; taken = old.came; waiting = old.text; text = text; rest = new.came; before = w; after = w'; result = it.result },
         refl,
         refl,
-        subst (λ t. IsVisit (among CallGives) ticks any_text any_text (Some old.text) (Some t) old.came w new.came w' it.result) more it.is,
+        subst (λ t. IsVisit (among CallGives) ticks (Some old.text) (Some t) old.came w new.came w' it.result) more it.is,
       )
 
   each : (w : World (Known Passed) C) (olds : List Unended) (w' : World (Known Passed) C) (news : List Unended) → AreVisitedSo CallGives ticks w olds w' news → (vs : List (Visit C)) × AreVisits ticks w.knows vs w'.knows

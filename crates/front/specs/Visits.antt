@@ -4,7 +4,7 @@ use Rattle.std.specs.List.{flat_map}
 use Rattle.history.specs.Handles.{Passed}
 use Rattle.history.specs.Histories.{IsBeginning}
 use Rattle.requests.specs.declared.fault.ServeFault.{ServeFault}
-use Rattle.answering.specs.Gathering.{Known, MayGoOn, among, any_text}
+use Rattle.answering.specs.Gathering.{Known, MayGoOn, among}
 use Rattle.answering.specs.Serving.{World}
 use Rattle.answering.specs.Visits.{IsVisit}
 use Rattle.answering.specs.declared.visiting.Visited.{Visited}
@@ -54,7 +54,7 @@ AreJoined held (v ∷ vs) later = (v.held ≡ held)
 module _ {C : Type 0} (ticks : C → ℕ → C → Type 0) where
   -- one of the visits that `Service::visit_all` makes
   abbrev pub IsVisited : Visit C → Type 0
-  IsVisited v = IsVisit (among CallGives) ticks any_text any_text (Some v.waiting) (Some (v.waiting ++ v.text))
+  IsVisited v = IsVisit (among CallGives) ticks (Some v.waiting) (Some (v.waiting ++ v.text))
       (v.held ++ v.taken) v.before v.rest v.after v.result
 
   -- visits by one pass, one after another

@@ -19,7 +19,7 @@ use talks::{Serve, Session};
 /// A connection as its worker keeps it. `C` is the clock by which it is served.
 #[derive(Drop)]
 pub struct KeptConnection<C> {
-    connection: Connection<Pass>,
+    connection: Connection,
     of: PhantomData<C>,
 }
 
@@ -60,14 +60,14 @@ impl<C: Clock> Session for KeptConnection<C> {
     }
 }
 
-impl<C> KeepsConnection<Pass> for KeptConnection<C> {
+impl<C> KeepsConnection for KeptConnection<C> {
     ghost kept = { λ kept. kept.connection };
 
-    fn into_connection(self) -> Connection<Pass> {
+    fn into_connection(self) -> Connection {
         self.connection
     }
 
-    fn of_connection(connection: Connection<Pass>) -> KeptConnection<C>
+    fn of_connection(connection: Connection) -> KeptConnection<C>
         ensures { result.connection ≡ connection }
     {
         KeptConnection {

@@ -1,14 +1,12 @@
 //! Each function does nothing: its contract is a law.
-ghost use Rattle.std.specs.Prelude.{◌≡◌, ◌++◌, ℕ, Bool, List};
+ghost use Rattle.std.specs.Prelude.{◌≡◌, ◌++◌, ℕ, Bool, List, OnOk};
 ghost use Rattle.history.specs.Handles.{Passed};
 ghost use Rattle.answering.specs.Serving.{Exchange, World};
-ghost use Rattle.answering.specs.Due.{IsDueText};
 ghost use Rattle.talks.specs.Sockets.{SocketCall, heard_in, said_in};
 ghost use Rattle.talks.specs.Talks.{IsOfTalk};
-ghost use Rattle.front.specs.Calls.{CallGives};
 ghost use Rattle.front.specs.Laws.{MakesItsCalls, MakesItsFirstCalls, MakesTheirCalls, AnswersAfterSteps};
 ghost use Rattle.front.specs.Sessions.{session_seen, WasVisited};
-ghost use Rattle.front.specs.Visits.{Line, IsVisitedLine, bytes_of};
+ghost use Rattle.front.specs.Visits.{Line, Visit, IsVisited, IsVisitedLine, bytes_of};
 ghost use Rattle.front.specs.declared.connections.KeptConnection.{KeptConnection};
 
 use answering::Clock;
@@ -28,12 +26,11 @@ pub fn one_step_a_call<C: Clock>()
         (w' : World Passed C) → MakesTheirCalls C.ticks bytes w es rest w' }
 {}
 
-/// The law of order: what is due are the responses to requests that have come, and the pass has made a step for each of
-/// their calls that got a reply, and no other. So when it is sent, these steps are there.
+/// The law of order: what a visit puts to be sent are the responses to requests that have come, and the pass has made a
+/// step for each of their calls that got a reply, and no other. So when it is sent, these steps are there.
 pub fn answers_after_steps<C: Clock>()
-    ensures { (bytes : List ℕ) (w : World Passed C) (knows : Passed)
-        (text : List ℕ) → IsDueText CallGives C.ticks bytes w knows text
-        → AnswersAfterSteps w.knows knows text }
+    ensures { (v : Visit C) → IsVisited C.ticks v
+        → OnOk v.result (AnswersAfterSteps v.before.knows.knows v.after.knows.knows v.text) }
 {}
 
 /// What a socket of the server took of a connection is a beginning of what visits of it put to be sent. Each visit

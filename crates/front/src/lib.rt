@@ -20,8 +20,8 @@ mod setting;
 mod system_limits;
 
 pub use answering::{
-    Answer, Answers, Clock, Connection, KeepsConnection, Route, ServeFault, Served, Status,
-    Workspace, answer_of_read,
+    Answer, Clock, Connection, KeepsConnection, Route, ServeFault, Served, Status, Workspace,
+    answer_of_read,
 };
 pub use clock::SystemClock;
 pub use connections::{Connections, KeptConnection};
@@ -31,5 +31,5 @@ pub use program_fault::ProgramFault;
 pub use program_shards::{close_shards, open_shards};
 pub use programs::{Environment, environment_of, tell_about, words_of};
 pub use server::run_server;
-pub use serving::{Service, answer, serve, serve_to};
+pub use serving::{Service, answer, serve};
 pub use setting::{capacity_by, limits_by};

@@ -2,7 +2,6 @@
 ghost use Rattle.std.specs.Prelude.{◌≡◌, ◌<◌, Bool, false, map};
 ghost use Rattle.accept.specs.OneStream.{end_of_time};
 ghost use Rattle.ingester.specs.Calls.{IsPassOf};
-ghost use Rattle.answering.specs.Due.{AreDueTexts};
 ghost use Rattle.answering.specs.Gathering.{AreVisitedSo, known};
 ghost use Rattle.answering.specs.Responses.{RequestIsAnswered};
 ghost use Rattle.answering.specs.Serving.{ConnectionIsServed, world, io};
@@ -11,8 +10,8 @@ ghost use Rattle.front.specs.Calls.{CallGives};
 use crate::full::{FullShards, Untold};
 use accept::{Call, CallFault, Reply};
 use answering::{
-    Answer, Answers, Calls, Clock, Ends, KeepsConnection, RequestBody, Route, ServeFault, Served,
-    Workspace, answer_connections,
+    Answer, Calls, Clock, Ends, KeepsConnection, RequestBody, Route, ServeFault, Served, Workspace,
+    answer_connections,
 };
 use disk::Disk;
 use ingester::{Ingester, Pass};
@@ -80,7 +79,7 @@ impl<'a, D: Disk + Drop, F: FullShards> Calls for Service<'a, D, F> {
 
 impl<'a, D: Disk + Drop, F: FullShards> Service<'a, D, F> {
     /// Answers a request of each connection: `answering::answer_connections` by the calls of this ingester.
-    pub fn visit_all<R: Wait, C: Clock, T: KeepsConnection<Pass> + Drop>(
+    pub fn visit_all<R: Wait, C: Clock, T: KeepsConnection + Drop>(
         &self,
         rt: &R,
         alloc: Global,
@@ -169,36 +168,4 @@ pub fn serve<D: Disk + Drop, R: Wait, C: Clock, I: Read, O: Write>(
     };
     let mut ends = Ends::new(reader, writer);
     answering::serve(rt, alloc, &service, pass, clock, &mut ends)
-}
-
-/// Answers the requests of a connection as `serve` does, to where answers are put. Nothing is put there but by `say`,
-/// and only what is due then: the responses to whole requests that have come, once their calls have come back.
-///
-/// # Errors
-///
-/// As `serve`.
-pub fn serve_to<D: Disk + Drop, R: Wait, C: Clock, I: Read, A: Answers<Knows = Pass>>(
-    rt: &R,
-    alloc: Global,
-    ingester: &Ingester<D>,
-    pass: &mut Pass,
-    clock: &mut C,
-    reader: &mut I,
-    answers: &mut A,
-) -> Result<Served, ServeFault>
-    requires pass { IsPassOf ingester.now pass.old }
-    requires due { AreDueTexts CallGives C.ticks (I.remaining reader.old)
-        (world pass.old clock.old) (A.due answers.old) }
-    ensures pass { IsPassOf ingester.now pass.new }
-    ensures same { A.through answers.new ≡ A.through answers.old }
-    ensures serves { ConnectionIsServed CallGives C.ticks
-        (io (I.remaining reader.old) (A.contents answers.old)) (world pass.old clock.old)
-        (io (I.remaining reader.new) (A.contents answers.new)) (world pass.new clock.new) result }
-{
-    let service = Service {
-        ingester,
-        full: &Untold,
-    };
-    let mut ends = Ends::new(reader, answers);
-    answering::serve_to(rt, alloc, &service, pass, clock, &mut ends)
 }

@@ -1,5 +1,5 @@
 -- What is out of a text that was to be written.
-use Rattle.std.specs.Prelude.{◌≡◌, ℕ, ◌≤◌, List, ◌++◌, length, take, Option, Result, Ok, Err}
+use Rattle.std.specs.Prelude.{◌≡◌, ℕ, ◌≤◌, List, length, take, Option, Result, Ok, Err}
 use Rattle.std.specs.Io.KnownBytes.{Appends}
 use Rattle.requests.specs.declared.fault.ServeFault.{ServeFault}
 use Rattle.requests.specs.declared.fault.ServeFault.TheVariants.{Read, Write, Memory, CutShort}
@@ -16,12 +16,3 @@ IsOut text n (Err CutShort) = ⊥
 abbrev pub WritesBeginning : Option (List ℕ) → Option (List ℕ) → List ℕ
     → Result (Unit {0}) ServeFault → Type 0
 WritesBeginning old new text result = (n : ℕ) × Appends old new (take n text) × IsOut text n result
-
--- what may be sent, by what is known of the calls
-abbrev pub Dues : Type 0 → Type 1
-Dues H = H → List ℕ → Type 0
-
--- once this text is sent, what might have been sent after it may be sent next
-abbrev pub Follows : {H : Type 0} → Dues H → List ℕ → Dues H → Type 0
-Follows {H} before text after = (knows : H) (more : List ℕ) → before knows (text ++ more)
-    → after knows more

@@ -1,5 +1,5 @@
 //! The bytes that have come of a connection, as requests.
-ghost use Rattle.std.specs.Prelude.{◌≡◌, ◌⊎◌, ◌<◌, ◌≤◌, ◌++◌, [], length, drop, slice_range, All, take, IfOk, OnOk, OnErr, IfErr};
+ghost use Rattle.std.specs.Prelude.{◌≡◌, ◌⊎◌, ◌+◌, ◌<◌, ◌≤◌, ◌++◌, [], length, drop, slice_range, All, take, IfOk, OnOk, OnErr, IfErr};
 ghost use Rattle.std.specs.Io.KnownBytes.{IsAtEnd};
 ghost use Rattle.httparse.specs.Grammar.{RequestHead};
 ghost use Rattle.httparse.specs.Spans.{IsRequestAt, IsRequestOf, IsRequestWithin};
@@ -199,6 +199,7 @@ impl Incoming {
         requires room { MayGrow self.old most }
         ensures grows { Grows (R.remaining reader.old) (R.remaining reader.new) self.old self.new }
         ensures unread { MayStand self.new }
+        ensures len { IfOk result (λ n. (length self.new ≡ length self.old + n) × (n ≤ most)) }
         ensures none { IfOk result (λ n. n ≡ 0 → IsAtEnd (R.remaining reader.new)
             × (self.new ≡ self.old)) }
         ensures err { OnErr result (self.new ≡ self.old) }

@@ -6,7 +6,6 @@
 #![tactic(auto)]
 
 mod answer;
-mod answers;
 mod failure;
 mod fault;
 mod fields;
@@ -14,6 +13,7 @@ mod fixed;
 mod framing;
 mod incoming;
 mod laws;
+mod outbox;
 mod outgoing;
 mod reading;
 mod route;
@@ -22,14 +22,15 @@ mod verdict;
 mod writing;
 
 pub use answer::{Answer, Content};
-pub use answers::{Answers, Outbox, Sent};
 pub use failure::{LONGEST_FAILURE, failure_body, failure_text};
 pub use fault::{ServeFault, Served};
 pub use fixed::{FixedAnswer, Method};
 pub use framing::MAX_BODY;
 pub use incoming::{Incoming, MAX_FIELDS, MAX_HEAD, Message, Next};
 pub use laws::{one_request, one_split};
+pub use outbox::Outbox;
 pub use outgoing::{Outgoing, ROOM_FOR_HEAD, push_number};
 pub use route::Route;
 pub use status::Status;
 pub use verdict::Verdict;
+pub use writing::write_text;

@@ -1,3 +1,4 @@
+//! A text to a writer.
 ghost use Rattle.std.specs.Prelude.{◌≡◌, IfErr};
 ghost use Rattle.requests.specs.Writing.{WritesBeginning};
 
@@ -5,7 +6,11 @@ use crate::fault::ServeFault;
 use std::io::{ErrorKind, Write};
 
 /// Writes all the bytes, in one write where the writer takes them all.
-pub(crate) fn write_text<W: Write>(writer: &mut W, text: &[u8]) -> Result<(), ServeFault>
+///
+/// # Errors
+///
+/// `Write`: a beginning of them was taken.
+pub fn write_text<W: Write>(writer: &mut W, text: &[u8]) -> Result<(), ServeFault>
     ensures writes { WritesBeginning (W.contents writer.old)
         (W.contents writer.new) text.now result }
     ensures fault { IfErr result (λ e. e ≡ ServeFault.Write) }

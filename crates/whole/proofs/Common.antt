@@ -4,7 +4,7 @@ pub use Rattle.requests.specs.declared.verdict.Verdict.{Verdict}
 pub use Rattle.answering.specs.Asking.{Asked, AsksFor, IsCallOf, asked_push, pushes_of}
 pub use Rattle.answering.specs.Calls.{Came, Refused, Replied, Failed, CallsGiveAfter, CallsGive}
 pub use Rattle.answering.specs.Courses.{Course, Unread, Whole, Broken, said_of, StreamsGiveAfter, BodyGives, BodyIsLeft, first_failure}
-pub use Rattle.answering.specs.Gathering.{Known, MayGoOn, among, known, IsVisitedSo, AreVisitedSo, any_text}
+pub use Rattle.answering.specs.Gathering.{Known, MayGoOn, among, known, IsVisitedSo, AreVisitedSo}
 pub use Rattle.answering.specs.Serving.{Exchange, World, VerdictGives, VerdictIsLeft, ConnectionGives, IsExchange, IsAbandoned, response, world, IsSilent, IsNextResponse, ConnectionEnds, ConnectionIsAnswered}
 pub use Rattle.answering.specs.Steps.{AreSteps, AreStepsOf, AreStepsBy}
 pub use Rattle.answering.specs.declared.visiting.Visited.{Visited}

@@ -2,7 +2,7 @@
 use Rattle.std.proofs.Common.{◌≡◌, ℕ, zero, suc, Bool, false, List, [], ◌∷◌, Result, Ok, Err, Some, None, refl, sym, ap, ◌∙◌, subst, inl, inr, ⊎_elim, append-nil, arith, slice_get}
 use Rattle.atomic_table.specs.Seated.{TableId}
 use Rattle.headline.proofs.Common.{Limits, Call, InDoubt, About, Sight, Follow, Sharded, Lead, Opening, IsBeginning, Passed, HaveMet, with_seen, opened_shard, with_next, closed_now, IsTold, Called, Met, Happening, Thread, IsThread, IsMet, IsOneOf, Between, Within, IsInTime, Stretch, IsStretch, Life, ShardEnd, CutAt, IsEnd, IsLife}
-use Rattle.whole.proofs.Common.{ServeFault, Known, IsVisitedSo, AreVisitedSo, among, any_text, known, World, world, Visited, Closed, CallGives, Visit, Line, IsKeptOrNot, IsVisited, Two, IsIdle, AreOfOpening, AreOpened, HaveMetIn, IsCutTurn, opening_with, Worker, IsWorker, IsLine, AreThreadsOf, AreServing, FirstGives, IsFirstVisited, IsServedOnce, first_visit, line_sent}
+use Rattle.whole.proofs.Common.{ServeFault, Known, IsVisitedSo, AreVisitedSo, among, known, World, world, Visited, Closed, CallGives, Visit, Line, IsKeptOrNot, IsVisited, Two, IsIdle, AreOfOpening, AreOpened, HaveMetIn, IsCutTurn, opening_with, Worker, IsWorker, IsLine, AreThreadsOf, AreServing, FirstGives, IsFirstVisited, IsServedOnce, first_visit, line_sent}
 use Rattle.answering.specs.Connections.{Unended}
 use Rattle.answering.specs.Visits.{IsVisit}
 use Rattle.one_life.proofs.Ending.{in_doubt, of_start, told_closed, time}
@@ -23,9 +23,9 @@ module _ {D C : Type 0} (ticks : C → ℕ → C → Type 0) (bytes : List ℕ) 
       let before : World (Known Passed) C = world (of_first w.knows) w.clock in
       let after : World (Known Passed) C = world (of_first w'.knows) w'.clock in (
         is.result,
-        subst (λ (b : List ℕ). IsVisit (among CallGives) ticks any_text any_text (Some []) (Some left.text) b before left.came after is.result) came
-            (subst (λ (t : List ℕ). IsVisit (among CallGives) ticks any_text any_text (Some t) (Some left.text) come.came before left.came after is.result) none
-            (visit_seen (of_first {D = D}) (among (FirstGives {D = D})) (among CallGives) (λ doubt k k' call outcome given. given) ticks any_text any_text any_text (λ knows text. tt) (Some come.text) (Some left.text) come.came w left.came w' is.result is.is)),
+        subst (λ (b : List ℕ). IsVisit (among CallGives) ticks (Some []) (Some left.text) b before left.came after is.result) came
+            (subst (λ (t : List ℕ). IsVisit (among CallGives) ticks (Some t) (Some left.text) come.came before left.came after is.result) none
+            (visit_seen (of_first {D = D}) (among (FirstGives {D = D})) (among CallGives) (λ doubt k. Unit {0}) (λ doubt k k' call outcome at given. (given, tt)) ticks (λ k. tt) (Some come.text) (Some left.text) come.came w left.came w' is.result is.is)),
       )
 
   alone : (w w' : World (Known (Two D)) C) (rest : List Unended) → w.knows.doubt ≡ false → AreVisitedSo FirstGives ticks w (come ∷ []) w' (left ∷ rest) → IsFirstVisited ticks bytes left (world (of_first w.knows) w.clock) (world (of_first w'.knows) w'.clock)

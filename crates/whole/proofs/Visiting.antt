@@ -4,7 +4,7 @@ use Rattle.std.proofs.Math.Seq.{take-length}
 use Rattle.std.specs.List.{flat_map}
 use Rattle.headline.proofs.Common.{Step, Passed, Opening, Happening, IsOneOf, among_split}
 use Rattle.pushjson.specs.declared.fault.PushFault.TheVariants as bodies
-use Rattle.whole.proofs.Common.{ServeFault, Verdict, Came, Course, Unread, Whole, Broken, first_failure, Known, among, any_text, Exchange, World, response, VerdictGives, IsSilent, IsNextResponse, ConnectionGives, ConnectionEnds, ConnectionIsAnswered, AreStepsBy, Visited, More, Unfinished, Closed, CallGives, Visit, IsKeptOrNot, IsVisited, steps_among, IsAskedIn, IsNextOf}
+use Rattle.whole.proofs.Common.{ServeFault, Verdict, Came, Course, Unread, Whole, Broken, first_failure, Known, among, Exchange, World, response, VerdictGives, IsSilent, IsNextResponse, ConnectionGives, ConnectionEnds, ConnectionIsAnswered, AreStepsBy, Visited, More, Unfinished, Closed, CallGives, Visit, IsKeptOrNot, IsVisited, steps_among, IsAskedIn, IsNextOf}
 use Rattle.requests.specs.declared.fault.ServeFault.TheVariants.{Read, Write, Memory, CutShort}
 use Rattle.requests.specs.declared.fault.Served.{Served}
 use Rattle.requests.specs.declared.fault.Served.TheVariants as served
@@ -173,7 +173,7 @@ module _ {D C : Type 0} (ticks : C → ℕ → C → Type 0) (opening : Opening 
     pub answers : Answers ticks v (steps_among happened)
     pub asked : (s : Step) → IsOneOf s (steps_among happened) → IsAskedIn (v.held ++ v.taken) s.ask.call
 
-  kept_happened : (v : Visit C) → KeepsOn (among CallGives) ticks any_text any_text (Some v.waiting) (Some (v.waiting ++ v.text)) (v.held ++ v.taken) v.before v.rest v.after → IsKeptOrNot v.result (Unit {0}) ⊥ → Happened v
+  kept_happened : (v : Visit C) → KeepsOn (among CallGives) ticks (Some v.waiting) (Some (v.waiting ++ v.text)) (v.held ++ v.taken) v.before v.rest v.after → IsKeptOrNot v.result (Unit {0}) ⊥ → Happened v
   kept_happened v k kept =
       let its = went (v.held ++ v.taken) v.before k.exchanges v.rest v.after k.serves in
       record {

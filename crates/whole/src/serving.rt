@@ -32,18 +32,18 @@ pub struct Beginning<D: Disk> {
 
 // A connection that is served for itself.
 #[derive(Drop)]
-struct LoneConnection<D: Disk> {
-    connection: Connection<Two<D>>,
+struct LoneConnection {
+    connection: Connection,
 }
 
-impl<D: Disk> KeepsConnection<Two<D>> for LoneConnection<D> {
+impl KeepsConnection for LoneConnection {
     ghost kept = { λ alone. alone.connection };
 
-    fn into_connection(self) -> Connection<Two<D>> {
+    fn into_connection(self) -> Connection {
         self.connection
     }
 
-    fn of_connection(connection: Connection<Two<D>>) -> LoneConnection<D>
+    fn of_connection(connection: Connection) -> LoneConnection
         ensures { result.connection ≡ connection }
     {
         LoneConnection { connection }
@@ -60,7 +60,7 @@ impl<'a, D: Disk + Drop> ByTurns<'a, D> {
         it: &mut Two<D>,
         clock: &mut C,
         bytes: &[u8],
-    ) -> Option<Connection<Two<D>>>
+    ) -> Option<Connection>
         requires { AreServing D.sight D.follows self.now.history.now
             (opening_with self.now.start.value) it.old }
         ensures serving { IfSome result (λ _. AreServing D.sight D.follows self.now.history.now
@@ -104,7 +104,7 @@ pub fn serve_once<D: Disk + Drop, R: Wait, C: Clock>(
     clock: &mut C,
     bytes: &[u8],
     last: Call,
-) -> Option<(Two<D>, Connection<Two<D>>)>
+) -> Option<(Two<D>, Connection)>
     requires limits { AreLimits beginning.limits }
     requires shard { IsOn 0 last }
     requires numbers { AreNumbers last }

@@ -7,10 +7,10 @@ use Rattle.whole.proofs.by_turns.ByTurns.visit.Goals as goal
 pub returns-in-Some : goal.returns-in-Some
 returns-in-Some g c =
     let come = c.in-Ok.ensures.ok ∙ ap (with_bytes c.args.bytes.now) c.new-connection.ensures in
-    let come_so : LoneConnection g.row.D.Denot = record { connection = c.take_in.new.self } in
-    let pushed : List (LoneConnection g.row.D.Denot) = c.push_back.new.self.items in
-    let one : pushed ≡ come_so ∷ [] = subst (λ (l : List (LoneConnection g.row.D.Denot)). pushed ≡ l ++ come_so ∷ []) c.new-connections.ensures.items c.in-Ok-push_back.ensures.items in
-    let kept = λ (alone : LoneConnection g.row.D.Denot). alone.connection in
+    let come_so : LoneConnection = record { connection = c.take_in.new.self } in
+    let pushed : List LoneConnection = c.push_back.new.self.items in
+    let one : pushed ≡ come_so ∷ [] = subst (λ (l : List LoneConnection). pushed ≡ l ++ come_so ∷ []) c.new-connections.ensures.items c.in-Ok-push_back.ensures.items in
+    let kept = λ (alone : LoneConnection). alone.connection in
     let (doubt, are) = c.answer_connections.ensures.visits in
     record {
       serving = c.answer_connections.ensures.pass;
