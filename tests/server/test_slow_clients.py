@@ -161,13 +161,13 @@ def waiting_for_half_a_body(port):
 
 
 def waiting_for_a_client_to_leave(port):
-    """A body that is too large is refused, and the client neither reads on nor leaves."""
-    client = servers.Client(port)
+    """Bodies that are too large are refused, and their clients do not leave, whether they have sent some or none."""
+    clients = [servers.Client(port) for _ in range(3)]
     head = servers.request(servers.PUSH, {}).replace(b"Content-Length: 2", b"Content-Length: 5000000")[:-2]
-    client.ends.sendall(head + b"x" * 65_536)
-    assert client.answer()[0] == 413
-    client.ends.sendall(b"x" * 100)
-    return [client]
+    for it, length in zip(clients, (0, 100, 65_536)):
+        it.ends.sendall(head + b"x" * length)
+        assert it.answer()[0] == 413
+    return clients
 
 
 @pytest.mark.parametrize("waits", [waiting_for_half_a_body, waiting_for_a_client_to_leave])
