@@ -1,6 +1,7 @@
 """Clients that take long answers slowly, leave while they still send, or only wait: what they get, and what they cost."""
 import contextlib
 import os
+import re
 import resource
 import socket
 import threading
@@ -62,24 +63,39 @@ def test_a_read_of_40000_entries(long_answer):
         assert client.push({"a": "1"}, [entry()]) == (204, "")
 
 
-@pytest.mark.parametrize("way", ["it sends nothing more", "it still sends"])
-def test_the_last_answer_is_whole(long_answer, way):
-    """The last answer of a connection arrives to its end, where the client half closed it, and where the request asked
-    for its end and the client still sends."""
+def goes_on(port, client):
+    """Whether the server's end of a connection has not sent its end, by its state (1 and 8 in hexadecimal)."""
+    lines = [it.split() for it in servers.bytes_of("/proc/net/tcp").decode().splitlines()[1:]]
+    ends = [it[3] for it in lines if it[1].endswith(f":{port:04X}") and it[2].endswith(f":{client:04X}")]
+    return bool({*ends} & {"01", "08"})
+
+
+def test_a_half_closed_client(long_answer):
+    """It gets all of its answer. (The server reads the client's end while a part of so short an answer waits.)"""
     server, lines = long_answer
     with narrow(server.port) as client:
-        if way == "it still sends":
-            client.ends.sendall(read_request("Connection: close") + READY * 1_000)
-            while len(client.found) < 40_000 or not client.found.endswith(b"]]}"):
-                client.more()
-                client.ends.sendall(READY)
-        else:
-            # (so short an answer that its end is read while it waits to be sent)
-            ask, lines = servers.read_body({"a": "long"}, 0, lines[5_000][0]), lines[:5_000]
-            client.ends.sendall(servers.request(servers.READ, ask))
-            client.ends.shutdown(socket.SHUT_WR)
-        assert servers.entries_of(*client.answer()) == lines
-        assert client.ends.recv(1) == b""
+        ask = servers.read_body({"a": "long"}, 0, lines[5_000][0])
+        client.ends.sendall(servers.request(servers.READ, ask))
+        client.ends.shutdown(socket.SHUT_WR)
+        look(server.port)
+        assert servers.entries_of(*client.answer()) == lines[:5_000] and client.ends.recv(1) == b""
+
+
+def test_the_last_answer_is_whole(long_answer):
+    """Where a request asks for the end of its connection, its answer arrives whole though the client still sends."""
+    server, lines = long_answer
+    with narrow(server.port) as client:
+        own = client.ends.getsockname()[1]
+        client.ends.sendall(read_request("Connection: close") + READY * 1_000)
+        while (head := client.found.find(b"\r\n\r\n") + 4) < 4:
+            client.more()
+        length = head + int(re.search(rb"Content-Length: (\d+)", client.found)[1])
+        while len(client.found) < length - 150_000:
+            client.found += client.ends.recv(65_536)
+        # (what is left of it has been handed to the system)
+        assert wait_until(lambda: not goes_on(server.port, own), 20)
+        client.ends.sendall(READY)
+        assert servers.entries_of(*client.answer()) == lines and client.ends.recv(1) == b""
 
 
 def test_a_slow_reader_is_not_silent(long_answer, clock):
@@ -145,13 +161,13 @@ def waiting_for_half_a_body(port):
 
 
 def waiting_for_a_client_to_leave(port):
-    """A body that is too large is refused, and the client neither reads on nor leaves."""
-    client = servers.Client(port)
+    """Bodies that are too large are refused, and their clients do not leave, whether they have sent some or none."""
+    clients = [servers.Client(port) for _ in range(3)]
     head = servers.request(servers.PUSH, {}).replace(b"Content-Length: 2", b"Content-Length: 5000000")[:-2]
-    client.ends.sendall(head + b"x" * 65_536)
-    assert client.answer()[0] == 413
-    client.ends.sendall(b"x" * 100)
-    return [client]
+    for it, length in zip(clients, (0, 100, 65_536)):
+        it.ends.sendall(head + b"x" * length)
+        assert it.answer()[0] == 413
+    return clients
 
 
 @pytest.mark.parametrize("waits", [waiting_for_half_a_body, waiting_for_a_client_to_leave])
