@@ -95,8 +95,8 @@ func keepLine(in context.Context, line net.Conn) context.Context {
 	return context.WithValue(in, lineKey{}, line)
 }
 
-// setDeadline is for reading the rest of a request. (http.Server.ReadTimeout would also end a push whose body has come and
-// that waits for the server's answer.)
+// setDeadline is for reading the rest of a request. (http.Server.ReadTimeout would also end a push whose body has come
+// and that waits for the server's answer.)
 func setDeadline(from *http.Request, at time.Time) {
 	if line, is := from.Context().Value(lineKey{}).(net.Conn); is {
 		line.SetReadDeadline(at)

@@ -59,8 +59,8 @@ func (it *buffer) room() int64 { return int64(cap(it.bytes) - len(it.bytes)) }
 // Once a buffer is full, it grows to what was announced, but to no more than so many times of what came.
 const mostGrowth = 16
 
-// readAll reads to the end, if that is at most this many bytes. What is held grows with what came, and not with what was
-// announced.
+// readAll reads to the end, if that is at most this many bytes. What is held grows with what came, and not with what
+// was announced.
 func (it *held) readAll(from io.Reader, announced, most int64) (*buffer, error) {
 	found, err := it.buffer(0)
 	if err != nil {

@@ -6,9 +6,9 @@ import (
 	"unicode/utf8"
 )
 
-// A labelCache has the JSON of labels by Loki's text of them: shippers send the same few again and again. It has at most
-// so many bytes, in shares with a lock each. A share has two maps: once the newer one is full, it is the older one, and
-// what was in that is forgotten if nobody has asked for it since.
+// A labelCache has the JSON of labels by Loki's text of them: shippers send the same few again and again. It has at
+// most so many bytes, in shares with a lock each. A share has two maps: once the newer one is full, it is the older
+// one, and what was in that is forgotten if nobody has asked for it since.
 type labelCache struct {
 	seed   maphash.Seed
 	most   int
@@ -68,7 +68,8 @@ func (it *labelCache) put(share *cacheShare, text, found string) {
 	share.newer[text], share.bytes = found, share.bytes+bytes
 }
 
-// labelsJSON is the JSON of labels with names of their own, which the server would not refuse for their number or lengths.
+// labelsJSON is the JSON of labels with names of their own, which the server would not refuse for their number or
+// lengths.
 func labelsJSON(text []byte) string {
 	if !utf8.Valid(text) {
 		return ""

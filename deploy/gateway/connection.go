@@ -24,8 +24,8 @@ const (
 	leastWritten = 65_536
 )
 
-// A connection to the server is kept from one push to the next. One push at a time uses it: an answer of 500, or its end,
-// would take the answers of those behind it along.
+// A connection to the server is kept from one push to the next. One push at a time uses it: an answer of 500, or its
+// end, would take the answers of those behind it along.
 type connection struct {
 	net.Conn
 	// what it is below TLS, and whether bytes may come that are no answer
@@ -127,7 +127,8 @@ func (it *connection) more() error {
 	}
 }
 
-// setLook has the next read end in time. It leaves a time that is near enough, since a new one takes longer than a look.
+// setLook has the next read end in time. It leaves a time that is near enough, since a new one takes longer than a
+// look.
 func (it *connection) setLook() {
 	now := time.Now()
 	if it.look.Sub(now) > lookTime/2 && !it.until.Before(it.look) {

@@ -141,8 +141,8 @@ func unanswered(err error) error {
 // (which nobody is told, but the metrics, by nginx's number for it)
 const clientGone = 499
 
-// A verdict is the answer to a push, out of those to its parts: the worst status, and all lines, numbered as the streams
-// and entries of the body that came.
+// A verdict is the answer to a push, out of those to its parts: the worst status, and all lines, numbered as the
+// streams and entries of the body that came.
 type verdict struct {
 	status int
 	kind   string

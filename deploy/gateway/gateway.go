@@ -239,8 +239,8 @@ func (it *pushed) translate() (*buffer, counts, error) {
 
 // read is what a body asks for.
 func (it *pushed) read() ([]stream, error) {
-	// (its texts once more, and the part that is made of it: six times as long if it is all control characters, and as long
-	// as a part may be where records share what their resource has)
+	// (its texts once more, and the part that is made of it: six times as long if it is all control characters, and as
+	// long as a part may be where records share what their resource has)
 	length, part := int64(len(it.body.bytes)), int64(mostBody)
 	if !it.body.isOTLP {
 		part = smaller(mostEscaped*length, mostBody)

@@ -9,8 +9,8 @@ import (
 	"time"
 )
 
-// The connections to the server that no push uses. There are no more in all than pushes at a time, for each of which the
-// gateway has a place.
+// The connections to the server that no push uses. There are no more in all than pushes at a time, for each of which
+// the gateway has a place.
 type keptConnections struct {
 	address string
 	// nil without TLS

@@ -7,9 +7,9 @@ import (
 	"unicode/utf8"
 )
 
-// A reader of labels as text, such as `{job="demo", host='a'}`, in the grammar by which Loki reads them: Prometheus' of a
-// metric. So there may be a name in front, which is the label __name__, a comma at the end, comments, and texts in any of
-// the three quotes.
+// A reader of labels as text, such as `{job="demo", host='a'}`, in the grammar by which Loki reads them: Prometheus'
+// of a metric. So there may be a name in front, which is the label __name__, a comma at the end, comments, and texts
+// in any of the three quotes.
 type labelText struct {
 	text string
 	at   int
@@ -140,8 +140,8 @@ func (it *labelText) pair() (name, value string, err error) {
 	return name, value, err
 }
 
-// quoted reads a text in single or double quotes, with Go's escapes. A \x or \377 gives a byte, which may be no UTF-8. Of
-// a long text it keeps no more than the server needs to refuse it.
+// quoted reads a text in single or double quotes, with Go's escapes. A \x or \377 gives a byte, which may be no UTF-8.
+// Of a long text it keeps no more than the server needs to refuse it.
 func (it *labelText) quoted() (string, error) {
 	quote := it.next()
 	it.at++

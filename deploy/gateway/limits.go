@@ -194,7 +194,8 @@ func (it *limits) limiter(tenant string, now time.Time) *rate.Limiter {
 	return found
 }
 
-// forget forgets tenants that have used up nothing, and where there are still too many, those without a line of their own.
+// forget forgets tenants that have used up nothing, and where there are still too many, those without a line of their
+// own.
 func (it *limits) forget(now time.Time) {
 	for tenant, each := range it.tenants {
 		if each.TokensAt(now) >= float64(each.Burst()) {
@@ -231,9 +232,10 @@ func (it *limits) take(tenant string, found counts) error {
 }
 
 func limited(tenant string, by *rate.Limiter, found counts) error {
-	return &fault{http.StatusTooManyRequests, fmt.Sprintf("Ingestion rate limit exceeded for user %s (limit: %d bytes/sec) "+
-		"while attempting to ingest '%d' lines totaling '%d' bytes, reduce log volume or contact your Loki administrator "+
-		"to see if the limit can be increased", tenant, int64(by.Limit()), found.entries, found.bytes)}
+	const words = "Ingestion rate limit exceeded for user %s (limit: %d bytes/sec) while attempting to ingest '%d' lines " +
+		"totaling '%d' bytes, reduce log volume or contact your Loki administrator to see if the limit can be increased"
+	text := fmt.Sprintf(words, tenant, int64(by.Limit()), found.entries, found.bytes)
+	return &fault{http.StatusTooManyRequests, text}
 }
 
 // countsOf is what the streams of a push have.

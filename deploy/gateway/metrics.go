@@ -12,7 +12,8 @@ import (
 	"github.com/prometheus/client_golang/prometheus/promhttp"
 )
 
-// The metrics of a gateway. A form is `protobuf`, `json` or `otlp`, or `none` where a head was refused before it was looked at.
+// The metrics of a gateway. A form is `protobuf`, `json` or `otlp`, or `none` where a head was refused before it was
+// looked at.
 type metrics struct {
 	registry *prometheus.Registry
 	requests *prometheus.CounterVec

@@ -11,8 +11,8 @@ import (
 	"unicode/utf8"
 )
 
-// Logs by OpenTelemetry's protocol, as Loki's documentation maps them: attributes of a resource that are in Loki's default
-// list are labels, and all else that a record, its scope and its resource have is structured metadata.
+// Logs by OpenTelemetry's protocol, as Loki's documentation maps them: attributes of a resource that are in Loki's
+// default list are labels, and all else that a record, its scope and its resource have is structured metadata.
 
 const otlpPath = "/otlp/v1/logs"
 
@@ -40,8 +40,8 @@ var labelAttributes = setOf("service.name", "service.namespace", "service.instan
 	"k8s.statefulset.name", "k8s.daemonset.name", "k8s.cronjob.name", "k8s.job.name")
 
 // Loki's default list of the labels by which a service without a name is named (`discover_service_name`).
-var serviceLabels = setOf("service", "app", "application", "name", "app_kubernetes_io_name", "container", "container_name",
-	"k8s_container_name", "component", "workload", "job", "k8s_job_name")
+var serviceLabels = setOf("service", "app", "application", "name", "app_kubernetes_io_name", "container",
+	"container_name", "k8s_container_name", "component", "workload", "job", "k8s_job_name")
 
 const (
 	serviceLabel   = "service_name"
@@ -163,8 +163,8 @@ func flatten(above string, it attribute, each func(name, value string)) {
 	each(name, asText(it.value, mostValue))
 }
 
-// labelName is an attribute's key as Loki writes it: with `_` in the place of all that no label name has, and with `key_`
-// before a digit, or `key` before a single `_`.
+// labelName is an attribute's key as Loki writes it: with `_` in the place of all that no label name has, and with
+// `key_` before a digit, or `key` before a single `_`.
 func labelName(above, key string) string {
 	if above != "" {
 		key = above + "_" + key
@@ -186,7 +186,8 @@ func labelName(above, key string) string {
 	return key
 }
 
-// asText is a value as OpenTelemetry's collector writes it. What is longer than this many bytes is cut to one more or so.
+// asText is a value as OpenTelemetry's collector writes it. What is longer than this many bytes is cut to one more or
+// so.
 func asText(value any, most int) string {
 	switch it := value.(type) {
 	case nil:
@@ -264,8 +265,8 @@ func appendFloat(to []byte, it float64) []byte {
 	return append(to, text...)
 }
 
-// otlpStatus is the status by which OpenTelemetry's clients do what the server's asks for: they send again after 429, 502,
-// 503 and 504 alone.
+// otlpStatus is the status by which OpenTelemetry's clients do what the server's asks for: they send again after 429,
+// 502, 503 and 504 alone.
 func otlpStatus(status int) int {
 	switch status {
 	case http.StatusNotImplemented, http.StatusBadGateway, http.StatusGatewayTimeout, clientGone:

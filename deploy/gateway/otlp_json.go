@@ -140,7 +140,8 @@ func (it *messages) jsonStream(number int, from *jsonResourceLogs, arrival time.
 
 func (it *jsonScopeLogs) metadata(before []label) []label {
 	scope := &it.Scope
-	return scopeMetadata(before, scope.Name, scope.Version, uint64(scope.DroppedAttributesCount), attributesIn(scope.Attributes))
+	attributes, dropped := attributesIn(scope.Attributes), uint64(scope.DroppedAttributesCount)
+	return scopeMetadata(before, scope.Name, scope.Version, dropped, attributes)
 }
 
 func readJSONRecord(text json.RawMessage) (record, error) {

@@ -32,8 +32,8 @@ var (
 	pushShape = shape{1: {protowire.BytesType, streamShape}}
 )
 
-// check goes through all fields of a message before any of it takes memory: whether lengths are true, and known fields of
-// their type, which the generated code would take for unknown ones. It counts the messages.
+// check goes through all fields of a message before any of it takes memory: whether lengths are true, and known fields
+// of their type, which the generated code would take for unknown ones. It counts the messages.
 func (it shape) check(body []byte, found *messages) error {
 	for len(body) > 0 {
 		number, kind, length := protowire.ConsumeTag(body)

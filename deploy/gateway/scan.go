@@ -5,9 +5,10 @@ import (
 	"unicode/utf8"
 )
 
-// A scan goes once through a body of JSON, takes no memory, and finds whether the server reads it as Loki would: in Loki's
-// form and no more, with each key once, and within the server's limits. Such a body is sent on as it came. Any other is
-// left to decodeJSON: one with a number, a null, another key, a label without a value, or a body that is none at all.
+// A scan goes once through a body of JSON, takes no memory, and finds whether the server reads it as Loki would: in
+// Loki's form and no more, with each key once, and within the server's limits. Such a body is sent on as it came. Any
+// other is left to decodeJSON: one with a number, a null, another key, a label without a value, or a body that is none
+// at all.
 type scan struct {
 	body   []byte
 	at     int
@@ -126,7 +127,8 @@ func isLabelName(name []byte) bool {
 	return len(name) > 0
 }
 
-// name reads the name of a member, without escapes and unlike the others of its object, and what stands before its value.
+// name reads the name of a member, without escapes and unlike the others of its object, and what stands before its
+// value.
 func (it *scan) name() ([]byte, bool) {
 	it.counts.messages++
 	it.space()

@@ -8,8 +8,8 @@ import (
 	jsoniter "github.com/json-iterator/go"
 )
 
-// A span is the entries of a stream that are in a part: the stream's number in the body that came, and that of its first
-// entry there.
+// A span is the entries of a stream that are in a part: the stream's number in the body that came, and that of its
+// first entry there.
 type span struct{ stream, first int }
 
 // A part of a push is a body that the server takes. Its spans stand in the order of its streams.
@@ -34,8 +34,8 @@ const (
 	streamEnd = "]}"
 )
 
-// newSplitter leaves out streams without entries, as Loki does, and refuses those with two labels of one name, which the
-// server's form can't have.
+// newSplitter leaves out streams without entries, as Loki does, and refuses those with two labels of one name, which
+// the server's form can't have.
 func newSplitter(streams []stream, refuse func(number int, why string)) *splitter {
 	it := &splitter{}
 	for _, next := range streams {

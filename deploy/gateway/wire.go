@@ -25,8 +25,8 @@ const (
 )
 
 // A translation writes the server's JSON straight from the Protobuf of a push. It takes what shippers send: fields in
-// their order and once each, all within the server's limits, and no more than one part. Whatever else a body has is left
-// to decodeProtobuf, which says what is wrong with it or makes parts.
+// their order and once each, all within the server's limits, and no more than one part. Whatever else a body has is
+// left to decodeProtobuf, which says what is wrong with it or makes parts.
 type translation struct {
 	held   *held
 	cache  *labelCache

@@ -21,15 +21,15 @@ type words struct {
 	limits             *limits
 }
 
-// (what the largest push may take: what came and what it unpacks to thrice each, its texts, 8 times for its messages, and a
-// part that is 6 times as long; so that none is answered 503 for ever)
+// (what the largest push may take: what came and what it unpacks to thrice each, its texts, 8 times for its messages,
+// and a part that is 6 times as long; so that none is answered 503 for ever)
 const memoryEach = 24
 
 const mostTenant = 150
 
-// badTenant is why the server has no tenant of this name, or nothing. Loki takes a dot and some other characters, too. Each
-// name of the server's characters is already a tenant's, so that no other name could be written as one of them without
-// being another tenant's.
+// badTenant is why the server has no tenant of this name, or nothing. Loki takes a dot and some other characters, too.
+// Each name of the server's characters is already a tenant's, so that no other name could be written as one of them
+// without being another tenant's.
 func badTenant(name string) string {
 	for _, it := range name {
 		if it >= utf8.RuneSelf || !isLetter(byte(it)) && !isDigit(byte(it)) && it != '-' {

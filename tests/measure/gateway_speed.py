@@ -77,8 +77,8 @@ def run(work, size, way, seconds):
 def show(size, found):
     rows = [(name, *map(statistics.median, zip(*runs))) for name, runs in found.items()]
     _, alone, _, processor, _ = rows[0]
-    print(f"\n| {size.replace('-', ' ') + ' pushed to':26} | pushes/s | of the server alone | 99th percentile | server a push | gateway a push "
-          "| processor, server alone over all |")
+    print(f"\n| {size.replace('-', ' ') + ' pushed to':26} | pushes/s | of the server alone | 99th percentile "
+          "| server a push | gateway a push | processor, server alone over all |")
     for name, pushes, late, server, gateway in rows:
         gateway = 0 if name == rows[0][0] else gateway
         print(f"| {name:26} | {pushes:8,.0f} | {pushes / alone:19.2f} | {late:12.1f} ms | {server:10.0f} us "

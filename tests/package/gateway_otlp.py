@@ -20,7 +20,8 @@ class OTLPDraw:
 
     def record(self):
         chance = self.random.random
-        found = {"body": self.random.choice([*VALUES, "a line", None]), "attributes": self.attributes(["a.b", "c", "host.name"], 2)}
+        attributes = self.attributes(["a.b", "c", "host.name"], 2)
+        found = {"body": self.random.choice([*VALUES, "a line", None]), "attributes": attributes}
         found["observed" if chance() < 0.2 else "time"] = self.draw.time()
         if "time" in found and chance() < 0.3:
             found["observed"] = found["time"] + 5
@@ -32,7 +33,8 @@ class OTLPDraw:
 
     def resource(self):
         """The attributes of a resource and its scopes, each with its name, attributes and records."""
-        scopes = [(self.random.choice(["", "scope"]), self.attributes(["s.x"], 1), [self.record() for _ in range(self.random.randint(0, 5))])
+        records = lambda: [self.record() for _ in range(self.random.randint(0, 5))]
+        scopes = [(self.random.choice(["", "scope"]), self.attributes(["s.x"], 1), records())
                   for _ in range(self.random.randint(1, 2))]
         return {**self.attributes(LABELS, 4), **self.attributes(OTHERS, 2)}, scopes
 
@@ -48,7 +50,9 @@ def text_of(value):
     """A value as OpenTelemetry's collector, which is written in Go, writes it."""
     if value is None:
         return ""
-    return value if isinstance(value, str) else base64.b64encode(value).decode() if isinstance(value, bytes) else json_of(value)
+    if isinstance(value, bytes):
+        return base64.b64encode(value).decode()
+    return value if isinstance(value, str) else json_of(value)
 
 
 def json_of(value):
@@ -155,15 +159,21 @@ class OTLPWriter:
                   for name, to in {"time": "timeUnixNano", "observed": "observedTimeUnixNano"}.items() if name in record}
         if "trace" in record:
             found |= {"traceId": record["trace"].hex(), "spanId": record["span"].hex()}
-        return {**found, "body": self.json_value(record["body"]), "attributes": self.json_attributes(record["attributes"])}
+        body, attributes = self.json_value(record["body"]), self.json_attributes(record["attributes"])
+        return {**found, "body": body, "attributes": attributes}
 
     def json(self, resources):
-        shown = [{"resource": {"attributes": self.json_attributes(attributes)}, "scopeLogs": [
-            {"scope": {"name": name, "attributes": self.json_attributes(its)}, "logRecords": list(map(self.json_record, records))}
-            for name, its, records in scopes]} for attributes, scopes in resources]
+        shown = [{"resource": {"attributes": self.json_attributes(attributes)}, "scopeLogs": list(map(self.json_scope, scopes))}
+                 for attributes, scopes in resources]
         return json.dumps({"resourceLogs": shown}).encode()
 
+    def json_scope(self, scope):
+        name, attributes, records = scope
+        shown = {"name": name, "attributes": self.json_attributes(attributes)}
+        return {"scope": shown, "logRecords": list(map(self.json_record, records))}
+
     def draw(self, resources, is_json):
-        body, kind = (self.json(resources), "application/json") if is_json else (self.protobuf(resources), "application/x-protobuf")
+        body = self.json(resources) if is_json else self.protobuf(resources)
+        kind = "application/json" if is_json else "application/x-protobuf"
         body, encoding = pack(body, self.random.choice([None, "gzip"]))
         return body, {"Content-Type": kind, **({"Content-Encoding": encoding} if encoding else {})}
