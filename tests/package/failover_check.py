@@ -103,8 +103,8 @@ class Pusher(Repeated):
         self.since = begun = time.monotonic()
         while (status := self.client.ask(PUSH, body)[0]) != 204:
             self.refused[status] = self.refused.get(status, 0) + 1
-            if self.is_done.is_set() and time.monotonic() > begun + SECONDS:
-                self.fault = f"a push is not answered for {SECONDS} s: {self.refused}"
+            if self.is_done.is_set() and time.monotonic() > self.since + 5 * SECONDS:
+                self.fault = f"a push is not answered for {5 * SECONDS} s: {self.refused}"
                 return
             time.sleep(0.1)
             begun = time.monotonic()
@@ -252,7 +252,7 @@ def keep(pair):
 def start_again(pair):
     for it in (pair.serving, pair.other):
         it.wait_for()
-    need(servers.wait_until(pair.is_whole, 2 * SECONDS), "both disks are up to date")
+    need(servers.wait_until(pair.is_whole, 10 * SECONDS), "both disks are up to date")
     pair.serving.do(block_of("on the machine that takes over"))
 
 
@@ -316,7 +316,7 @@ class Run:
     def go_on(self):
         """Promotes the other one, and waits until clients have answers again."""
         self.pair.promote()
-        is_so = servers.wait_until(lambda: any(at > self.lost_at for at, _ in self.times()), SECONDS)
+        is_so = servers.wait_until(lambda: any(at > self.lost_at for at, _ in self.times()), 5 * SECONDS)
         need(is_so, "pushes are answered")
         self.without = min(at for at, _ in self.times() if at > self.lost_at) - self.lost_at
         time.sleep(AFTER)
@@ -378,7 +378,7 @@ def bring_back(pair, is_new):
     pair.other.wait_for()
     if is_new:
         follow(pair.other, "on a machine with an empty disk")
-    need(servers.wait_until(pair.is_whole, 2 * SECONDS, 0.3), f"{pair.other.name} is up to date again: "
+    need(servers.wait_until(pair.is_whole, 10 * SECONDS, 0.3), f"{pair.other.name} is up to date again: "
          + pair.serving.says("cat /proc/drbd"))
     return time.monotonic() - begun
 
@@ -514,7 +514,7 @@ def lose_other(pair):
     refuses(pair.other, "--other-is-off", "not UpToDate: it may lack acknowledged lines")
     pair.serving.start()
     pair.serving.wait_for()
-    need(servers.wait_until(pair.is_whole, 2 * SECONDS), "both are up to date")
+    need(servers.wait_until(pair.is_whole, 10 * SECONDS), "both are up to date")
     pair.serving.do(block_of("on the machine that takes over"))
     hold(compare([pusher], {})[1:] == (0, 0, 0), "the machine that was alone comes back, and has each line once")
     trim_all([pusher])
