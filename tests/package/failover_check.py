@@ -89,7 +89,7 @@ class Pusher(Repeated):
 
     def __init__(self, name, streams, lines):
         super().__init__(self.push, 0.01)
-        self.client, self.lines, self.count, self.since = Client(), lines, 0, None
+        self.patience, self.client, self.lines, self.count, self.since = PATIENCE, Client(), lines, 0, None
         self.name, self.streams = name, [{"from": name, "begun": BEGUN, "at": str(at)} for at in range(streams)]
         self.acknowledged, self.times, self.refused = [[] for _ in range(streams)], [], {}
 
@@ -101,7 +101,7 @@ class Pusher(Repeated):
         entries = self.fresh()
         body = json.dumps(push_body(zip(self.streams, entries))).encode()
         self.since = begun = time.monotonic()
-        while (status := self.client.ask(PUSH, body)[0]) != 204:
+        while (status := self.client.ask(PUSH, body, self.patience)[0]) != 204:
             self.refused[status] = self.refused.get(status, 0) + 1
             if self.is_done.is_set() and time.monotonic() > self.since + 5 * SECONDS:
                 self.fault = f"a push is not answered for {5 * SECONDS} s: {self.refused}"
@@ -140,6 +140,8 @@ class Roller(Pusher):
     def __init__(self, shard):
         super().__init__("roller", 1, self.long_lines)
         self.streams, self.pause = [next(servers.labels_in(shard, SHARDS, TENANT, "roller"))], 0.2
+        # (its pushes are long)
+        self.patience = 10 * PATIENCE
 
     def long_lines(self, count):
         Roller.at += 3 * 10**9
