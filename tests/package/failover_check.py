@@ -89,7 +89,7 @@ class Pusher(Repeated):
 
     def __init__(self, name, streams, lines):
         super().__init__(self.push, 0.01)
-        self.client, self.lines, self.count, self.since = Client(), lines, 0, None
+        self.patience, self.client, self.lines, self.count, self.since = PATIENCE, Client(), lines, 0, None
         self.name, self.streams = name, [{"from": name, "begun": BEGUN, "at": str(at)} for at in range(streams)]
         self.acknowledged, self.times, self.refused = [[] for _ in range(streams)], [], {}
 
@@ -101,10 +101,10 @@ class Pusher(Repeated):
         entries = self.fresh()
         body = json.dumps(push_body(zip(self.streams, entries))).encode()
         self.since = begun = time.monotonic()
-        while (status := self.client.ask(PUSH, body)[0]) != 204:
+        while (status := self.client.ask(PUSH, body, self.patience)[0]) != 204:
             self.refused[status] = self.refused.get(status, 0) + 1
-            if self.is_done.is_set() and time.monotonic() > begun + SECONDS:
-                self.fault = f"a push is not answered for {SECONDS} s: {self.refused}"
+            if self.is_done.is_set() and time.monotonic() > self.since + 5 * SECONDS:
+                self.fault = f"a push is not answered for {5 * SECONDS} s: {self.refused}"
                 return
             time.sleep(0.1)
             begun = time.monotonic()
@@ -140,6 +140,8 @@ class Roller(Pusher):
     def __init__(self, shard):
         super().__init__("roller", 1, self.long_lines)
         self.streams, self.pause = [next(servers.labels_in(shard, SHARDS, TENANT, "roller"))], 0.2
+        # (its pushes are long)
+        self.patience = 10 * PATIENCE
 
     def long_lines(self, count):
         Roller.at += 3 * 10**9
@@ -252,7 +254,7 @@ def keep(pair):
 def start_again(pair):
     for it in (pair.serving, pair.other):
         it.wait_for()
-    need(servers.wait_until(pair.is_whole, 2 * SECONDS), "both disks are up to date")
+    need(servers.wait_until(pair.is_whole, 10 * SECONDS), "both disks are up to date")
     pair.serving.do(block_of("on the machine that takes over"))
 
 
@@ -316,7 +318,7 @@ class Run:
     def go_on(self):
         """Promotes the other one, and waits until clients have answers again."""
         self.pair.promote()
-        is_so = servers.wait_until(lambda: any(at > self.lost_at for at, _ in self.times()), SECONDS)
+        is_so = servers.wait_until(lambda: any(at > self.lost_at for at, _ in self.times()), 5 * SECONDS)
         need(is_so, "pushes are answered")
         self.without = min(at for at, _ in self.times() if at > self.lost_at) - self.lost_at
         time.sleep(AFTER)
@@ -378,7 +380,7 @@ def bring_back(pair, is_new):
     pair.other.wait_for()
     if is_new:
         follow(pair.other, "on a machine with an empty disk")
-    need(servers.wait_until(pair.is_whole, 2 * SECONDS, 0.3), f"{pair.other.name} is up to date again: "
+    need(servers.wait_until(pair.is_whole, 10 * SECONDS, 0.3), f"{pair.other.name} is up to date again: "
          + pair.serving.says("cat /proc/drbd"))
     return time.monotonic() - begun
 
@@ -514,7 +516,7 @@ def lose_other(pair):
     refuses(pair.other, "--other-is-off", "not UpToDate: it may lack acknowledged lines")
     pair.serving.start()
     pair.serving.wait_for()
-    need(servers.wait_until(pair.is_whole, 2 * SECONDS), "both are up to date")
+    need(servers.wait_until(pair.is_whole, 10 * SECONDS), "both are up to date")
     pair.serving.do(block_of("on the machine that takes over"))
     hold(compare([pusher], {})[1:] == (0, 0, 0), "the machine that was alone comes back, and has each line once")
     trim_all([pusher])

@@ -150,16 +150,18 @@ class Machine:
                  "con0=null,fd:1", "quiet"]
         with open(f"{self.folder}/console", "ab") as console:
             self.running = subprocess.Popen(words, stdin=subprocess.DEVNULL, stdout=console, stderr=console,
-                                            env={**os.environ, "TMPDIR": "/dev/shm"})
+                                            env={**os.environ, "TMPDIR": "/dev/shm"}, start_new_session=True)
 
     def kill(self):
-        """The machine is lost."""
-        self.running.send_signal(signal.SIGKILL)
+        """The machine is lost, with all of its processes: one that is left would hold its disks."""
+        if self.running.poll() is None:
+            os.killpg(self.running.pid, signal.SIGKILL)
         self.running.wait()
 
     def wait_for(self):
         """Until it takes commands."""
-        need(servers.wait_until(lambda: self.says("echo here", 5) == "here", 180, 0.3), f"{self.name} starts")
+        if not servers.wait_until(lambda: self.says("echo here", 30) == "here", 600, 0.5):
+            servers.hold(False, f"{self.name} starts: {servers.bytes_of(f'{self.folder}/console')[-2000:].decode()}")
 
     def says(self, script, seconds=600):
         """What a script prints, and nothing where it fails or the machine isn't there."""
@@ -170,7 +172,7 @@ class Machine:
 
     def run(self, script, seconds=600):
         """Status and output of a script of bash."""
-        with socket.create_connection((self.address, SHELL_PORT), min(seconds, 10)) as ends:
+        with socket.create_connection((self.address, SHELL_PORT), min(seconds, 30)) as ends:
             ends.settimeout(seconds)
             ends.sendall(f"( {script}\n) < /dev/null 2>&1\necho \"status $?\"\n".encode())
             ends.shutdown(socket.SHUT_WR)
@@ -192,7 +194,7 @@ class Machine:
         """A file of this machine in that one."""
         with open(source, "rb") as file:
             data = file.read()
-        with socket.create_connection((self.address, SHELL_PORT), 10) as ends:
+        with socket.create_connection((self.address, SHELL_PORT), 30) as ends:
             ends.settimeout(60)
             ends.sendall(f"head -c {len(data)} > {path}\n".encode() + data + b"\nexit\n")
             ends.shutdown(socket.SHUT_WR)
