@@ -115,8 +115,8 @@ func (it *batch) add(one piece) {
 	it.bytes += len(one.text)
 }
 
-// split is a piece in two, of which the first has so many entries. What that is of the last time before the second stays
-// until the second is kept too.
+// split is a piece in two, of which the first has so many entries. What that is of the last time before the second
+// stays until the second is kept too.
 func (it piece) split(count int) (piece, piece) {
 	first, second := it, it
 	first.part, second.part = it.cut(0, count), it.cut(count, len(it.spans))

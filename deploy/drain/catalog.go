@@ -118,9 +118,9 @@ func slotsOf(folder string, shard int) ([]string, error) {
 	return paths[:], nil
 }
 
-// listSlot counts the entries of each stream in a slot. It returns whether that is all that the shard has, and the bytes
-// in use. Beside a server walcat may see a slot in the middle of a write (3): what it printed before is there, and the
-// next round sees the rest.
+// listSlot counts the entries of each stream in a slot. It returns whether that is all that the shard has, and the
+// bytes in use. Beside a server walcat may see a slot in the middle of a write (3): what it printed before is there,
+// and the next round sees the rest.
 func (it *slotCatalog) listSlot(path string, shard int) (isAll bool, end int64, err error) {
 	running := exec.Command("walcat", path, strconv.Itoa(shard), strconv.Itoa(it.shards))
 	said := &bytes.Buffer{}

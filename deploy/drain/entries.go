@@ -9,7 +9,8 @@ import (
 	"unicode/utf8"
 )
 
-// The place of an entry in a text, as it stands there: `["TIME","LINE"]`, or with metadata `["TIME","LINE",{"NAME":"VALUE"}]`.
+// The place of an entry in a text, as it stands there: `["TIME","LINE"]`, or with metadata
+// `["TIME","LINE",{"NAME":"VALUE"}]`.
 type span struct {
 	time             int64
 	begin, end       uint32
@@ -164,8 +165,8 @@ type window struct {
 	isEnd bool
 }
 
-// fill reads on behind what was found last, and fails at an answer that ends early. It finds at least an entry, unless the
-// answer is over.
+// fill reads on behind what was found last, and fails at an answer that ends early. It finds at least an entry, unless
+// the answer is over.
 func (it *window) fill(size int) error {
 	begin := len(valuesBegin)
 	if it.next > 0 {
@@ -221,7 +222,8 @@ func appendUnescaped(to, text []byte) []byte {
 	}
 }
 
-// appendCodeUnits appends the character of an escape `\u1234`, or of two that belong together, and returns how long these are.
+// appendCodeUnits appends the character of an escape `\u1234`, or of two that belong together, and returns how long
+// these are.
 func appendCodeUnits(to, text []byte) ([]byte, int) {
 	first, size := hexUnit(text), 6
 	if utf16.IsSurrogate(first) {

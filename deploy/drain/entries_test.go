@@ -19,7 +19,8 @@ type judged struct {
 	metadata map[string]string
 }
 
-var pieces = []string{"a", `"`, `\`, "\n", "\t", "\b", "\f", "\r", "\x01", "ö", "\U0001F600", `["`, `"]`, `]}`, `{"`, ",", "é"}
+var pieces = []string{"a", `"`, `\`, "\n", "\t", "\b", "\f", "\r", "\x01", "ö", "\U0001F600",
+	`["`, `"]`, `]}`, `{"`, ",", "é"}
 
 func drawText(draw *rand.Rand, most int) string {
 	var found strings.Builder
@@ -122,7 +123,8 @@ func TestAnswersThatAreCutAreNoAnswers(t *testing.T) {
 }
 
 func TestAnswersOfAnotherShapeAreRefused(t *testing.T) {
-	for _, text := range []string{`{"value":[]}        `, `{"values":[[1,"x"]]}`, `{"values":[["1x","x"]]}`, `{"values":[["1","x"}]}`,
+	for _, text := range []string{`{"value":[]}        `, `{"values":[[1,"x"]]}`, `{"values":[["1x","x"]]}`,
+		`{"values":[["1","x"}]}`,
 		`{"values":[["1",{}]]}`, `{"values":[{"1":"x"}]}`} {
 		if _, err := readThrough(t, strings.NewReader(text), 64); !errors.Is(err, errShape) {
 			t.Errorf("%s: %v", text, err)

@@ -38,8 +38,8 @@ type pages struct {
 	lines int64
 }
 
-// Files have lines in a folder: a file a tenant and day of the line, with an object of JSON a line. What was put is there
-// for good after a flush.
+// Files have lines in a folder: a file a tenant and day of the line, with an object of JSON a line. What was put is
+// there for good after a flush.
 type files struct {
 	root   string
 	lock   sync.Mutex

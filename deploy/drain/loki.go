@@ -56,8 +56,8 @@ type pause struct {
 }
 
 // A loki has lines sent to one, each stream's in their order. What it answers 2xx is kept. A stream that it answers 429
-// waits, and others go on. What is answered 5xx, or not at all, is tried again with growing pauses, for `patience` from its
-// first try, or from the last answer that anybody got if that is longer ago; then the round ends.
+// waits, and others go on. What is answered 5xx, or not at all, is tried again with growing pauses, for `patience` from
+// its first try, or from the last answer that anybody got if that is longer ago; then the round ends.
 type loki struct {
 	to       address
 	client   *http.Client
@@ -105,7 +105,8 @@ func (it *loki) counts() counts {
 
 func keyOf(of *stream) string { return of.tenant + " " + of.text }
 
-// waits is how long a stream that was answered 429 has to wait. One that has waited for longer than the patience is left.
+// waits is how long a stream that was answered 429 has to wait. One that has waited for longer than the patience is
+// left.
 func (it *loki) waits(of *stream) (time.Duration, error) {
 	it.lock.Lock()
 	defer it.lock.Unlock()

@@ -1,5 +1,5 @@
-// needleazure-drain takes lines out of a running server, into files or to a Loki. Its manual page has its words, and says
-// what it leaves where.
+// needleazure-drain takes lines out of a running server, into files or to a Loki. Its manual page has its words, and
+// says what it leaves where.
 package main
 
 import (
@@ -24,8 +24,6 @@ const (
 	processors = 2
 	// how long the rounds of a service count together
 	toldTogether = time.Minute
-	// a service says a fault that stays again after so long
-	saidAgain = 10 * time.Minute
 )
 
 func main() {
@@ -44,7 +42,7 @@ func main() {
 		fmt.Fprintf(os.Stderr, "cannot write to %s: %s\n", to.folder(), cause(err))
 		os.Exit(1)
 	}
-	it := &drain{words: given, to: to, did: newTold(to)}
+	it := &drain{words: given, to: to, did: newTold(to), voice: newVoice(given.every > 0)}
 	go it.endBySignal()
 	if given.every > 0 {
 		it.serve()
@@ -61,8 +59,7 @@ type drain struct {
 	// the round under way
 	now   *round
 	began time.Time
-	last  string
-	said  time.Time
+	voice *voice
 }
 
 // endBySignal ends the process. A round that it cuts short is told.
@@ -107,7 +104,9 @@ func (it *drain) serve() {
 			}
 			held.Close()
 		}
-		it.sayOnce(err)
+		if err != nil {
+			it.voice.say(err.Error())
+		}
 		time.Sleep(it.every - time.Since(it.began))
 	}
 }
@@ -118,26 +117,13 @@ func (it *drain) begin() {
 	it.began = time.Now()
 }
 
-// sayOnce says a fault, unless it is that of the round before.
-func (it *drain) sayOnce(fault error) {
-	text := ""
-	if fault != nil {
-		text = fault.Error()
-	}
-	if text != "" && (text != it.last || time.Since(it.said) > saidAgain) {
-		fmt.Fprintln(os.Stderr, text)
-		it.said = time.Now()
-	}
-	it.last = text
-}
-
 // round makes a round, and returns what ended it before its end.
 func (it *drain) round(isOnly bool) error {
 	connections := make([]*connection, workers)
 	for at := range connections {
 		connections[at] = newConnection(it.port, it.patience)
 	}
-	now := newRound(it.to, windowTrim{int64(it.window)}, isOnly)
+	now := newRound(it.to, windowTrim{int64(it.window)}, isOnly, it.voice)
 	it.lock.Lock()
 	it.now = now
 	it.lock.Unlock()

@@ -42,7 +42,8 @@ func (it *reading) request(low, high int64) request {
 	return request{"/ingester/v1/read", it.of.tenant, body}
 }
 
-// read returns the lines from a time on and before another one, or false where their answer has more than so many bytes.
+// read returns the lines from a time on and before another one, or false where their answer has more than so many
+// bytes.
 func (it *reading) read(low, high, most int64) (found part, isWhole bool, err error) {
 	err = it.by.exchange([]request{it.request(low, high)}, func(_ int, got *answer) (err error) {
 		found, isWhole, err = it.by.take(got, most)
@@ -51,7 +52,8 @@ func (it *reading) read(low, high, most int64) (found part, isWhole bool, err er
 	return found, isWhole, err
 }
 
-// newest is the newest time, or never. It looks ever farther back from the clock, and where that is too much, in halves.
+// newest is the newest time, or never. It looks ever farther back from the clock, and where that is too much, in
+// halves.
 func (it *reading) newest() (int64, error) {
 	now := time.Now().UnixNano()
 	low, high, floor := max(now-second, it.of.reached), ever, never
@@ -119,8 +121,8 @@ func (it *reading) guess(low, high, newest int64) int64 {
 // A range of times, from the first one on and before the second.
 type times struct{ low, high int64 }
 
-// pieces reads the lines of a range in rising time, by answers of at most so many bytes. It has each used with the bound
-// below which nothing of the range is left, or with 0 where its last time has more.
+// pieces reads the lines of a range in rising time, by answers of at most so many bytes. It has each used with the
+// bound below which nothing of the range is left, or with 0 where its last time has more.
 func (it *reading) pieces(over times, newest, most int64, use func(found part, bound int64) error) error {
 	todo := []times{over}
 	for len(todo) > 0 {
@@ -207,7 +209,8 @@ func (it *reading) parts(got *answer, high int64, use func(found part, bound int
 	return nil
 }
 
-// holdBack leaves the entries of the last time for the next part. Where these are all, it leaves none, and the bound is 0.
+// holdBack leaves the entries of the last time for the next part. Where these are all, it leaves none, and the bound is
+// 0.
 func (it *window) holdBack() (part, int64) {
 	last := it.spans[len(it.spans)-1]
 	found := part{it.text, it.spans}

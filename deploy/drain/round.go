@@ -4,7 +4,6 @@ import (
 	"context"
 	"errors"
 	"fmt"
-	"os"
 	"sync"
 	"time"
 )
@@ -37,7 +36,8 @@ type place interface {
 	put(it piece) error
 	// flush returns once all that was put is kept, refused, or waits.
 	flush() error
-	// waits is how long a stream has to wait until it may be put, and why; the error is a refusal where that is for too long.
+	// waits is how long a stream has to wait until it may be put, and why; the error is a refusal where that is for too
+	// long.
 	waits(of *stream) (time.Duration, error)
 	// begin tells whom to tell what is kept.
 	begin(told keeper)
@@ -66,7 +66,7 @@ type keeper interface {
 type round struct {
 	place place
 	by    taker
-	// whether it waits for streams that a Loki limits, and asks nothing further of the next round
+	// whether no other round comes, so that it waits for streams that a Loki limits
 	isOnly bool
 
 	lock   sync.Mutex
@@ -76,6 +76,7 @@ type round struct {
 	busy, able                     int
 	isOver, hasFlushed             bool
 	errors                         int64
+	voice                          *voice
 	said                           map[string]int
 	order                          []string
 	fault                          error
@@ -84,8 +85,8 @@ type round struct {
 	running                        sync.WaitGroup
 }
 
-func newRound(to place, by taker, isOnly bool) *round {
-	it := &round{place: to, by: by, isOnly: isOnly, said: map[string]int{}}
+func newRound(to place, by taker, isOnly bool, says *voice) *round {
+	it := &round{place: to, by: by, isOnly: isOnly, voice: says, said: map[string]int{}}
 	it.change = sync.NewCond(&it.lock)
 	it.inTime, it.cancel = context.WithCancel(context.Background())
 	to.begin(it)
@@ -270,8 +271,8 @@ func (it *round) step(by *connection) error {
 	return err
 }
 
-// nextStreams are small streams, or one that isn't. (The first ones come alone, so that no others are put until the server
-// has let them go.)
+// nextStreams are small streams, or one that isn't. (The first ones come alone, so that no others are put until the
+// server has let them go.)
 func (it *round) nextStreams() []*stream {
 	count := 1
 	if it.queue[0].size <= smallBytes {
@@ -377,7 +378,7 @@ func (it *round) say(kind, text string, errors int64, most int) {
 		it.order = append(it.order, kind)
 	}
 	if it.said[kind]++; it.said[kind] <= most {
-		fmt.Fprintln(os.Stderr, text)
+		it.voice.say(text)
 	}
 }
 
@@ -388,11 +389,12 @@ func (it *round) countUndone() {
 	}
 	if undone := len(it.queue) + len(it.trims); undone > 0 && it.fault == nil {
 		it.errors += int64(undone)
-		fmt.Fprintf(os.Stderr, "the server doesn't answer: %d streams are not read, %d not trimmed\n", len(it.queue), len(it.trims))
+		it.voice.say(fmt.Sprintf("the server doesn't answer: %d streams are not read, %d not trimmed",
+			len(it.queue), len(it.trims)))
 	}
 	for _, kind := range it.order {
 		if count := it.said[kind]; count > mostFaults {
-			fmt.Fprintf(os.Stderr, "in all %d streams: %s\n", count, kind)
+			it.voice.say(fmt.Sprintf("in all %d streams: %s", count, kind))
 		}
 	}
 }

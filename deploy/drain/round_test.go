@@ -55,7 +55,7 @@ func fillStreams(now int64) (kept map[string][]judged, listed []*stream, due map
 }
 
 func runOver(t *testing.T, server *fakeServer, listed []*stream, to place) *round {
-	now := newRound(to, windowTrim{3600 * second}, true)
+	now := newRound(to, windowTrim{3600 * second}, true, newVoice(false))
 	connections := make([]*connection, workers)
 	for at := range connections {
 		connections[at] = server.connection(t)
@@ -169,9 +169,10 @@ func fieldsOf(message []byte, wanted protowire.Number) (found [][]byte) {
 	return found
 }
 
-func TestARoundToALoki(t *testing.T) {
+// waysOfLokis are how some answer pushes, before they take them.
+func waysOfLokis() map[string]func(number int, labels []string) (int, string) {
 	limited := map[string]int{}
-	ways := map[string]func(number int, labels []string) (int, string){
+	return map[string]func(number int, labels []string) (int, string){
 		"one that takes all": func(int, []string) (int, string) { return 0, "" },
 		"one that fails at times": func(number int, _ []string) (int, string) {
 			if number%5 == 0 {
@@ -194,7 +195,10 @@ func TestARoundToALoki(t *testing.T) {
 			return 0, ""
 		},
 	}
-	for name, answer := range ways {
+}
+
+func TestARoundToALoki(t *testing.T) {
+	for name, answer := range waysOfLokis() {
 		t.Run(name, func(t *testing.T) {
 			all, listed, due := fillStreams(time.Now().UnixNano())
 			server := startServer(t, copyOf(all))

@@ -34,8 +34,8 @@ type answer struct {
 	body   *io.LimitedReader
 }
 
-// A refusal is what the server answers of a stream that it doesn't read or trim, or a Loki of a tenant or a stream whose
-// lines it doesn't take.
+// A refusal is what the server answers of a stream that it doesn't read or trim, or a Loki of a tenant or a stream
+// whose lines it doesn't take.
 type refusal struct{ text string }
 
 func (it *refusal) Error() string { return it.text }
@@ -96,8 +96,8 @@ func (it *connection) wait() error {
 	})
 }
 
-// exchange sends requests at once, and has each answer used in turn. A connection that the server has closed meanwhile is
-// made anew, and what wasn't answered is sent again. What `use` fails with ends it.
+// exchange sends requests at once, and has each answer used in turn. A connection that the server has closed meanwhile
+// is made anew, and what wasn't answered is sent again. What `use` fails with ends it.
 func (it *connection) exchange(asked []request, use func(at int, got *answer) error) error {
 	for done := 0; done < len(asked); {
 		wasUsed := it.line != nil
@@ -110,7 +110,8 @@ func (it *connection) exchange(asked []request, use func(at int, got *answer) er
 	return nil
 }
 
-// judge is what a try failed with, and nothing where it is to be made again since a connection broke that was good before.
+// judge is what a try failed with, and nothing where it is to be made again since a connection broke that was good
+// before.
 func (it *connection) judge(err error, wasGood bool) error {
 	var said *refusal
 	var cut *broken
@@ -130,8 +131,8 @@ func (it *connection) judge(err error, wasGood bool) error {
 	return nil
 }
 
-// tryOnce returns how many requests were answered. Where the answer is one after which the server closes, or so long that
-// its rest isn't read, these are not all.
+// tryOnce returns how many requests were answered. Where the answer is one after which the server closes, or so long
+// that its rest isn't read, these are not all.
 func (it *connection) tryOnce(asked []request, use func(at int, got *answer) error) (int, error) {
 	if it.line == nil {
 		line, err := net.DialTimeout("tcp", it.address, it.patience)
@@ -160,7 +161,8 @@ func (it *connection) send(asked []request) error {
 			it.out = append(append(append(it.out, "GET "...), one.route...), " HTTP/1.1\r\nHost: 127.0.0.1\r\n\r\n"...)
 			continue
 		}
-		it.out = append(append(append(it.out, "POST "...), one.route...), " HTTP/1.1\r\nHost: 127.0.0.1\r\nX-Scope-OrgID: "...)
+		it.out = append(append(append(it.out, "POST "...), one.route...), " HTTP/1.1\r\nHost: 127.0.0.1\r\n"...)
+		it.out = append(it.out, "X-Scope-OrgID: "...)
 		it.out = append(append(it.out, one.tenant...), "\r\nContent-Type: application/json\r\nContent-Length: "...)
 		it.out = append(append(strconv.AppendInt(it.out, int64(len(one.body)), 10), "\r\n\r\n"...), one.body...)
 	}
@@ -192,8 +194,8 @@ func (it *connection) receive(use func(got *answer) error) error {
 	return fault
 }
 
-// readHead reads the head of an answer, and whether the server closes after it. (Go's own reader takes five times as long,
-// which is most of what an answer takes that has few lines.)
+// readHead reads the head of an answer, and whether the server closes after it. (Go's own reader takes five times as
+// long, which is most of what an answer takes that has few lines.)
 func readHead(from *bufio.Reader) (found *answer, closes bool, err error) {
 	found = &answer{length: never}
 	for line, isFirst := []byte(nil), true; ; isFirst = false {

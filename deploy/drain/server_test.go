@@ -111,8 +111,9 @@ func drawTimes(draw *rand.Rand, now int64) (found []int64) {
 	return found
 }
 
-// Each read finds what a whole read would: the newest line, all lines of a range in order, and the first line after it. No
-// answer is used that is longer than a piece but that of a narrow range, and what is asked for in vain stays within bounds.
+// Each read finds what a whole read would: the newest line, all lines of a range in order, and the first line after it.
+// No answer is used that is longer than a piece but that of a narrow range, and what is asked for in vain stays within
+// bounds.
 func TestRangesFindAll(t *testing.T) {
 	const most = 4000
 	for seed := int64(0); seed < 400; seed++ {
@@ -165,7 +166,8 @@ func checkPieces(t *testing.T, from *reading, lines []judged, over times, most i
 	}
 }
 
-// A range that is read by one answer comes in parts that are no longer than they have to be, and goes on where it was cut.
+// A range that is read by one answer comes in parts that are no longer than they have to be, and goes on where it was
+// cut.
 func TestLongAnswersComeInParts(t *testing.T) {
 	var lines []judged
 	for number := 0; number < 9000; number++ {

@@ -11,8 +11,8 @@ import (
 	"golang.org/x/sys/unix"
 )
 
-// What rounds did, as deploy/metrics reads it: names with numbers, times in seconds. Rounds of a service count together, as
-// long as nobody has looked at them, which is about a minute.
+// What rounds did, as deploy/metrics reads it: names with numbers, times in seconds. Rounds of a service count
+// together, as long as nobody has looked at them, which is about a minute.
 type told struct {
 	place   place
 	path    string
