@@ -162,7 +162,7 @@ class Request(http.server.BaseHTTPRequestHandler):
 
     def answer(self, body):
         tenant, loki, kind = self.headers["X-Scope-OrgID"], self.server, self.headers["Content-Type"]
-        if self.path != PUSH or not tenant or kind != "application/x-protobuf":
+        if self.path != PUSH or not tenant or kind not in ("application/x-protobuf", "application/json"):
             return 404, "no push"
         if loki.is_blind:
             return 204, ""
@@ -170,7 +170,7 @@ class Request(http.server.BaseHTTPRequestHandler):
             return loki.status[tenant], "as the test says"
         if loki.authorization and self.headers["Authorization"] != loki.authorization:
             return 401, "no credentials"
-        length, body = unpacked(body)
+        length, body = unpacked(body) if "protobuf" in kind else (len(body), json.loads(body))
         if length > loki.most:
             return 413, "too large"
         return self.go(loki.way(), tenant, body)
