@@ -6,7 +6,7 @@ WORKERS ?= $(shell sed -n s/^WORKERS=//p deploy/needleazure.default)
 ALL = ingesterd ingestctl ingest1 walcat walsplit
 
 .PHONY: help run prove release demo sample test quick server edits faults check check-docs fmt bench kill power-loss filesystem-loss program-rows measure \
-	deb deb-lint gateway pictures
+	deb deb-lint gateway drain pictures
 
 help: ## prints this
 	@sed -nE 's/^([a-z%][a-z-]*):.*## (.*)/\1\t\2/p' Makefile | while IFS='	' read -r name words; do \
@@ -75,7 +75,9 @@ deb-check failover-check: PROGRAMS = $(ALL)
 deb-check: WORDS = "$$(deploy/deb)"
 failover-check: WORDS = "$$(deploy/deb)" $(RUNS)
 gateway-check: BEFORE = deploy/gateway/build race && tests/package/gateway_quick race
+drain-check: BEFORE = tests/package/drain_quick race
 deb-check edge-check failover-check gateway-check container-check: gateway
+deb-check failover-check drain-check after-check metrics-check: drain
 
 %-check: CHECK = $(subst -,_,$*)_check
 %-check: ## tests/*/NAME_check over built programs: clients gateway drain sweep after syslog memory edge scale-out metrics fill, as root deb filesystem container failover (RUNS=100), alone kit theorem
@@ -83,7 +85,7 @@ deb-check edge-check failover-check gateway-check container-check: gateway
 	@$(BEFORE)
 	@RT='$(RT)' $(or $(wildcard tests/*/$(CHECK)),$(if $(wildcard tests/*/$(CHECK).py),tests/run $(CHECK)),$(error there is no $(CHECK))) $(WORDS)
 
-measure: ## what is timed: soak scale roll start default_shards metrics_cost drain_cost gateway_speed window (NAME=soak WORDS=2)
+measure: $(if $(filter drain_cost scale window,$(NAME)),drain) ## what is timed: soak scale roll start default_shards metrics_cost drain_cost gateway_speed window (NAME=soak WORDS=2)
 	@RT='$(RT)' tests/gate/build ingesterd walcat
 	@tests/run $(NAME) $(WORDS)
 
@@ -108,17 +110,20 @@ pictures: ## draws the pictures and figures of the documents (graphviz, gnuplot-
 	@docs/pictures/slots.py | dot -Tsvg -o docs/pictures/slots.svg
 	@docs/figures/plot
 
-deb: gateway ## the Debian package, in deploy/out
+deb: gateway drain ## the Debian package, in deploy/out
 	@RT='$(RT)' tests/gate/take $(ALL)
 	@deploy/deb
 
-deb-lint: gateway ## the Debian packages made twice, which gives the same bytes, and looked at by lintian
+deb-lint: gateway drain ## the Debian packages made twice, which gives the same bytes, and looked at by lintian
 	@RT='$(RT)' tests/gate/take $(ALL)
 	@tests/package/deb_lint
 
 filesystem-loss: ## losses of power on real file systems, block by block (as root; IMAGES=1000 SEED=1 FILESYSTEMS="ext4 xfs btrfs")
 	@RT='$(RT)' tests/gate/build ingesterd
 	@tests/server/filesystem_loss $(if $(SEED),--seed $(SEED)) $(or $(IMAGES),1000) $(FILESYSTEMS)
+
+drain: ## needleazure-drain, in deploy/out, from Go and libraries of Debian
+	@deploy/drain/build
 
 gateway: ## needleazure-gateway for Promtail and Alloy, in deploy/out, from Go and libraries of Debian
 	@deploy/gateway/build

@@ -1,4 +1,4 @@
-"""scale: once at a scale that no row has, over the built server, walcat and deploy/drain: a shard with 120,000 lines in
+"""scale: once at a scale that no row has, over the built server, walcat and the drain: a shard with 120,000 lines in
 one stream and 25,000 streams, and one with ten streams of 12 MB and a log of more than 100 MB that has rolled, which is
 drained. Of both the server is killed and started again, and walcat lists the slot in use. Each line is there once after
 each of these. It needs curl and jq, 1 GB of memory, and as much of temporary files."""

@@ -1,4 +1,4 @@
-"""after_check: each block of docs/AFTER.md, over files that deploy/drain wrote of a server. A block
+"""after_check: each block of docs/AFTER.md, over files that needleazure-drain wrote of a server. A block
 has to print what its comments say, on the day before this one and in a folder of this run; the
 object store is a local server of rclone, and the Loki a stub, which at first refuses a line. It
 needs rclone, lnav, sqlite3 and jq."""
@@ -35,7 +35,7 @@ class Place:
         for it in ("home", "tmpfiles.d", "system", "store", "programs", "bin"):
             os.mkdir(f"{work}/{it}")
         os.symlink(servers.program("walcat"), f"{work}/programs/walcat")
-        os.symlink(f"{TOP}/deploy/drain", f"{work}/programs/needleazure-drain")
+        os.symlink(servers.DRAIN, f"{work}/programs/needleazure-drain")
         servers.write_program(f"{work}/programs/systemctl", "#!/bin/sh\n")
 
     def environment(self):
@@ -68,7 +68,7 @@ def push_and_drain(place):
     """The lines of the page. Each stream also has one two hours later, so that the drain takes the others."""
     for job, lines in LINES.items():
         push(place, job, [*lines, (7200, "the last line", ())])
-    ended = place.run(f"{TOP}/deploy/drain", f"{place.work}/log", str(place.server.port), str(SHARDS), place.lines)
+    ended = place.run(servers.DRAIN, f"{place.work}/log", str(place.server.port), str(SHARDS), place.lines)
     hold(ended.returncode == 0, f"they are drained {ended.stderr}".strip())
 
 

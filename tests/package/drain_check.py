@@ -1,10 +1,12 @@
-"""drain_check [files|loki]: deploy/drain over a server under load, again and again, and killed in the middle.
+"""drain_check [files|loki|both]: needleazure-drain over a server under load, again and again, and killed in the middle.
 
 files: 64 clients push lines of 2,000 streams whose times run fast; each line that was answered stands in the files or
 is still in the server. loki: the same to a stub of a Loki that limits, fails, dies, waits, and refuses some lines,
-which are then in files; to others that take nothing, small bodies, or only of who is known; and to a second
-server."""
+which are then in files; to others that take nothing, small bodies, or only of who is known, that limit a stream for a
+minute, or refuse lines of some streams; and to a second server. both: server and drain are killed by turns, KILLS times (10),
+while the drain runs as a service, to files or to a Loki. It needs protoc, python3-protobuf and python3-snappy."""
 import collections
+import contextlib
 import glob
 import json
 import os
@@ -17,7 +19,7 @@ import loki_stub
 import servers
 from servers import hold
 
-KILLS, CLIENTS, SHARDS = {"files": 10, "loki": 6}, 64, 4
+KILLS, CLIENTS, SHARDS = {"files": 10, "loki": 6, "both": int(os.environ.get("KILLS", "10"))}, 64, 4
 # seconds from one push of a client to its next, pushes of a connection
 PAUSE, KEPT = 1, 5
 SPECIAL = [("one", {"job": 'quoted " and \\', "from": "ö"}), ("two", {"job": "of\ttwo\nlines"})]
@@ -310,7 +312,7 @@ def over_tls(place):
     servers.write(certificate, servers.bytes_of(certificate) + servers.bytes_of(f"{certificate}.crt"))
     with loki_stub.Loki(certificate=certificate) as loki:
         status, said = place.drain(loki.address, NEEDLEAZURE_LOKI_PATIENCE="1s")
-        hold(status == 1 and "certificate verify failed" in said and place.left() == before,
+        hold(status == 1 and "certificate signed by unknown authority" in said and place.left() == before,
              f"a Loki whose certificate nobody knows gets nothing: {said.strip()}")
         status, said = place.drain(loki.address, SSL_CERT_FILE=f"{certificate}.crt")
         is_so = status == 0 and loki.taken == before - place.left()
@@ -328,6 +330,91 @@ def second_server(place):
          f"its {len(there)} lines are there once, and {len(left)} left")
 
 
+class Tenant:
+    """Streams of a tenant, into which some hours of lines are pushed."""
+
+    def __init__(self, place, name, count, lines, pushes=1, hours=3):
+        self.port, self.streams = place.port, [(name, {"job": "many", "pod": str(it)}) for it in range(count)]
+        pusher = Pusher(place.port, self.streams, lines)
+        pusher.step = hours * servers.HOUR // (lines * pushes)
+        with servers.Client(place.port) as client:
+            for _ in range(pushes):
+                pusher.push(client, lines)
+        servers.need(not pusher.fault, f"a push is answered {pusher.fault}")
+        self.all = set(pusher.answered)
+        self.due = {it for it in self.all if int(it[2]) < pusher.stamp - pusher.step - servers.HOUR}
+
+    def key(self, at):
+        return json.dumps(self.streams[at][1], sort_keys=True)
+
+    def left(self):
+        return set(in_server(self.port, self.streams))
+
+
+@contextlib.contextmanager
+def service(place, loki, **settings):
+    """The drain as a service, to a Loki."""
+    settings = {"STATE_DIRECTORY": place.state, "NEEDLEAZURE_LOKI_PATIENCE": "60s", **settings}
+    running = servers.drain(f"{place.work}/log", place.port, SHARDS, loki.address, ("--every", "1s"), **settings)
+    try:
+        yield running
+    finally:
+        running.kill()
+        running.wait()
+
+
+def limited_stream(place, seconds=60):
+    """One stream of twenty is answered 429 for a minute: the others are drained within a round, and nothing is sent twice."""
+    tenant = Tenant(place, "limited", 20, 400, 5)
+    theirs = {it for it in tenant.due if it[1] == tenant.key(7)}
+    with loki_stub.Loki() as loki:
+        loki.limited = [tenant.streams[7][1]]
+        with service(place, loki) as running:
+            began = time.monotonic()
+            is_so = servers.wait_until(lambda: tenant.due - theirs <= loki.taken, 40, 0.5)
+            hold(is_so and servers.wait_until(lambda: tenant.left() == tenant.all - tenant.due | theirs, 2),
+                 f"the {len(tenant.due - theirs)} lines of the others are drained after {time.monotonic() - began:.1f} s")
+            time.sleep(max(0, seconds - (time.monotonic() - began)))
+            tries, loki.limited = [at - began for at, _ in loki.tries], []
+            hold(not theirs & loki.taken and 4 <= len(tries) <= 15,
+                 f"it is tried {len(tries)} times in a minute, at {' '.join(f'{it:.0f}' for it in tries)} s")
+            is_so = servers.wait_until(lambda: theirs <= loki.taken and tenant.left() == tenant.all - tenant.due, 40)
+            hold(is_so, f"then its {len(theirs)} lines are taken too")
+            os.kill(running.pid, signal.SIGTERM)
+            said = running.communicate(timeout=60)[1]
+        is_so = running.returncode == 143 and not loki.answers["lines that came again"] and not sum(loki.orders.values())
+        hold(is_so, f"nothing is sent twice: {dict(loki.answers)}, and a stop is no fault {said[:200]}".strip())
+
+
+def partial_refusals(place):
+    """A Loki that refuses lines of two streams of thirty: no other stream is split."""
+    tenant, lines = Tenant(place, "partial", 30, 100), ("line 17", "line 31")
+    unwanted = {it for it in tenant.due if it[1] in (tenant.key(3), tenant.key(11)) and it[3] in lines}
+    with loki_stub.Loki() as loki:
+        loki.refuses_of = lambda key, line: line in lines and key[1] in (tenant.key(3), tenant.key(11))
+        status, said = place.drain(loki.address)
+        twice, pushes = loki.answers["lines that came again"], loki.answers[204] + loki.answers[400]
+        taken = {it for it in loki.taken if it[0] == "partial"}
+        hold(status == 0 and len(unwanted) == 4 and taken == tenant.due - unwanted and tenant.left() == tenant.all - tenant.due,
+             f"{len(taken)} lines are taken and {len(unwanted)} refused {said if status else ''}".strip())
+        hold(unwanted <= set(in_files(f"{place.state}/refused")), "which are in the files")
+        # (what isn't named is sent again, once at most for each of the two, and whole)
+        hold(pushes <= 60 and twice <= 3 * len(taken), f"by {pushes} pushes, {twice} lines of them again: {dict(loki.answers)}")
+
+
+def too_old(place):
+    """A Loki that refuses what is older than a time, and says so: few requests."""
+    tenant = Tenant(place, "old", 1, 4000, 3, 6)
+    times = sorted(int(it[2]) for it in tenant.due)
+    with loki_stub.Loki() as loki:
+        loki.oldest = times[len(times) * 2 // 3] // 10**9 * 10**9
+        status, _ = place.drain(loki.address)
+        taken, pushes = {it for it in loki.taken if it[0] == "old"}, loki.answers[204] + loki.answers[400]
+    old = {it for it in tenant.due if int(it[2]) < loki.oldest}
+    is_so = status == 0 and old <= set(in_files(f"{place.state}/refused")) and tenant.due - old == taken and len(old) > 5000
+    hold(is_so and pushes <= 20, f"{len(old)} lines that are too old are refused by {pushes} pushes, {len(taken)} are taken")
+
+
 def wrong_words(place):
     for address in ("http://127.0.0.1:9", "https:///loki/api/v1/push", "http://127.0.0.1:x/loki/api/v1/push"):
         status, said = place.drain(address)
@@ -336,11 +423,109 @@ def wrong_words(place):
 
 def to_loki(work, server):
     place = Place(work, server)
-    for step in (under_load, one_tenant, no_loki, small_bodies, over_tls, second_server, wrong_words):
+    for step in (under_load, one_tenant, no_loki, small_bodies, over_tls, limited_stream, partial_refusals, too_old,
+                 second_server, wrong_words):
         step(place)
 
 
-PARTS = {"files": to_files, "loki": to_loki}
+class Life:
+    """A server and a drain that runs on beside it, each of which is killed and started again."""
+
+    settings = {"NEEDLEAZURE_MAX_CHUNK_AGE": "2s", "NEEDLEAZURE_LOKI_PATIENCE": "2s", "NEEDLEAZURE_DRAIN_TIMEOUT": "5s"}
+
+    def __init__(self, work, to):
+        self.work, self.to, self.kills = work, to, collections.Counter()
+        self.server = servers.Server(f"{work}/log", SHARDS, 16, {**servers.allocator(), **self.settings})
+        self.start()
+
+    def start(self):
+        self.drain = servers.drain(f"{self.work}/log", self.server.port, SHARDS, self.to, ("--every", "1s"),
+                                   STATE_DIRECTORY=f"{self.work}/state", **self.settings)
+
+    def kill_drain(self):
+        os.killpg(self.drain.pid, signal.SIGKILL)
+        self.drain.communicate()
+        self.kills["drain"] += 1
+
+    def kill(self):
+        """Kills one of them, or both, and starts it again."""
+        which = random.choice(["server", "drain", "both"])
+        if which != "server":
+            self.kill_drain()
+        if which != "drain":
+            self.server.end()
+            self.server.start()
+            self.kills["server"] += 1
+        if which != "server":
+            self.start()
+
+    def end(self):
+        self.server.end()
+        self.drain.kill()
+
+    def last(self):
+        """The last rounds, after which nothing is to be taken any more."""
+        self.kill_drain()
+        ended = servers.drain(f"{self.work}/log", self.server.port, SHARDS, self.to, STATE_DIRECTORY=f"{self.work}/state",
+                              **self.settings)
+        return ended.communicate(timeout=120)[1], ended.returncode
+
+
+def in_order(lines):
+    """Whether the lines of each stream come in rising time, but for those that came before."""
+    newest, seen = {}, set()
+    for it in lines:
+        if it in seen:
+            continue
+        seen.add(it)
+        if newest.get(it[:2], 0) > int(it[2]):
+            return False
+        newest[it[:2]] = int(it[2])
+    return True
+
+
+def live_through(work, to, kept):
+    """Pushers, and kills of both sides; `kept` are the lines that are elsewhere at the end."""
+    life = Life(work, to)
+    with contextlib.ExitStack() as ends:
+        ends.callback(life.end)
+        judge_life(life, kept)
+
+
+def judge_life(life, kept):
+    streams = [[{"job": "killed", "pod": f"{pusher}-{it}"} for it in range(5)] for pusher in range(4)]
+    pushers = [servers.Pusher(lambda body: servers.pushed(life.server.port, body), it, 0.01) for it in streams]
+    for it in pushers:
+        it.start()
+    while sum(life.kills.values()) < KILLS["both"]:
+        time.sleep(random.uniform(0, 1.5))
+        life.kill()
+    time.sleep(2)
+    for it in pushers:
+        it.end()
+    said, status = life.last()
+    hold(status == 0, f"the last run ends well {said}".strip())
+    answered = {name_of("t", labels, str(line[0]), line[1]) for it in pushers for labels, line in it.answered}
+    left, taken = set(in_server(life.server.port, [("t", it) for of in streams for it in of])), collections.Counter(kept())
+    lost, strange = answered - left - taken.keys(), (left | taken.keys()) - answered
+    twice = sum(taken.values()) - len(taken)
+    hold(not lost and not strange and len(taken) > len(answered) / 2, f"{len(answered)} lines answered over {dict(life.kills)} "
+         f"kills, {len(taken)} outside, {len(left)} left, {twice} twice, {len(lost)} lost, {len(strange)} of nobody")
+
+
+def both(work, _):
+    os.makedirs(f"{work}/first")
+    lines = lambda: list(in_files(f"{work}/first/lines"))
+    live_through(f"{work}/first", f"{work}/first/lines", lines)
+    hold(in_order(lines()), "each stream is in its order in the files")
+    os.makedirs(f"{work}/second")
+    with loki_stub.Loki() as loki:
+        live_through(f"{work}/second", loki.address, lambda: loki.taken)
+        hold(not sum(loki.orders.values()), f"each stream came in its order to the Loki, "
+             f"{loki.answers['lines that came again']} lines again")
+
+
+PARTS = {"files": to_files, "loki": to_loki, "both": both}
 
 
 def check(work, _, *words):

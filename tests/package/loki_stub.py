@@ -1,30 +1,72 @@
-"""A stand-in of a Loki: it takes pushes, and on the way refuses lines, limits tenants, fails, lets
-clients wait, and dies in the middle of an answer. It knows of Loki what its documentation says: 204
-for what was taken; 400 where lines were refused, while the others of the body are kept; 429 and 500
-for what may be sent again; lines of one stream with one time and one text are one line."""
+"""A stand-in of a Loki: it takes pushes, and on the way refuses lines, limits tenants and streams, fails, lets
+clients wait, and dies in the middle of an answer. It knows of Loki what its documentation and its source say: 204
+for what was taken; 400 where lines were refused, and 429 where streams were limited, while the others of the body are
+kept, with a text that names the last such stream or all of them; 500 for what may be sent again; lines of one stream with
+one time and one text are one line. It reads Protobuf by Google's library: it needs protoc, python3-protobuf and
+python3-snappy."""
 import collections
+import datetime
+import functools
 import http.server
 import json
 import random
+import re
 import socket
 import ssl
+import tempfile
 import threading
 import time
-import zlib
+
+import gateway_bodies
+import snappy
 
 PUSH = "/loki/api/v1/push"
+LABEL = re.compile(r'([^=,{} ]+)="((?:[^"\\]|\\.)*)"')
+
+
+@functools.cache
+def messages():
+    with tempfile.TemporaryDirectory() as folder:
+        return gateway_bodies.load_messages(folder)
+
+
+def labels_of(text):
+    return {name: re.sub(r"\\(.)", lambda it: "\n" if it[1] == "n" else it[1], value) for name, value in LABEL.findall(text)}
+
+
+def shown(labels):
+    """How Loki names a stream."""
+    return "{" + ", ".join(f"{name}={json.dumps(labels[name], ensure_ascii=False)}" for name in sorted(labels)) + "}"
+
+
+def unpacked(body):
+    """A body of Protobuf in the form of JSON, and how many bytes it has."""
+    plain, push = snappy.uncompress(body), messages().PushRequest()
+    push.ParseFromString(plain)
+    return len(plain), {"streams": [{"stream": labels_of(it.labels.decode()), "values": [value_of(of) for of in it.entries]}
+                                    for it in push.streams]}
+
+
+def value_of(entry):
+    more = {it.name.decode(): it.value.decode() for it in entry.structuredMetadata}
+    # (the library's own ToNanoseconds takes longer than all else)
+    stamp = entry.timestamp
+    return [str(stamp.seconds * 10**9 + stamp.nanos), entry.line.decode(), *([more] if more else [])]
 
 
 class Loki(http.server.ThreadingHTTPServer):
     """`ways` are what it does beside taking, each with its share of the requests: `limit`, `fail`, `die` before it has
-    taken anything, `die_after`, `sleep`. `refuses` says whether it refuses a line by 400. `status` has what answers a tenant.
-    `certificate` is a file with one and its key."""
+    taken anything, `die_after`, `sleep`. `refuses` says whether it refuses a line by 400, `oldest` is the time before which
+    it does so, and says so. `status` has what answers a tenant, `limited` the labels of streams that it answers 429.
+    `certificate` is a file with one and its key. One that is `blind` takes all, and reads nothing."""
 
     daemon_threads, request_queue_size = True, 128
 
     def __init__(self, ways=None, refuses=lambda line: False, seconds=3, most=1 << 30,
-                 authorization=None, certificate=None):
+                 authorization=None, certificate=None, is_blind=False):
         self.ways, self.refuses, self.seconds, self.most = ways or {}, refuses, seconds, most
+        self.oldest, self.limited, self.tries, self.is_blind = 0, [], [], is_blind
+        self.refuses_of = lambda key, line: self.refuses(line)
         self.authorization, self.status, self.chance = authorization, {}, random.Random(1)
         self.lock, self.answers = threading.Lock(), collections.Counter()
         # by tenant and labels: what was taken, in the order in which it came
@@ -54,24 +96,48 @@ class Loki(http.server.ThreadingHTTPServer):
         return "take"
 
     def take(self, tenant, body):
-        """Takes the lines of a body. Returns how many it refuses."""
-        refused = 0
+        """Takes the lines of a body. Returns what answers it."""
+        said, status = [], 204
         with self.lock:
             for stream in body["streams"]:
-                key = tenant, json.dumps(stream["stream"], sort_keys=True)
-                kept = self.streams.setdefault(key, [])
-                for stamp, line, *metadata in stream["values"]:
-                    if self.refuses(line):
-                        refused += 1
-                        continue
-                    name = (*key, stamp, line, json.dumps(metadata[0] if metadata else None, sort_keys=True))
-                    if name in self.taken:
-                        self.answers["lines that came again"] += 1
-                        continue
-                    if kept and int(kept[-1][2]) > int(stamp):
-                        self.orders[key] += 1
-                    self.taken.add(name)
-                    kept.append(name)
+                if stream["stream"] in self.limited:
+                    self.tries.append((time.monotonic(), len(body["streams"])))
+                    status, count = 429, len(stream["values"])
+                    said.append(self.ignored(tenant, stream, count, "Per stream rate limit exceeded (limit: 3MB/sec)"))
+                elif refused := self.take_stream(tenant, stream):
+                    status = max(status, 400)
+                    said.append(self.ignored(tenant, stream, len(refused), "entry too far behind"))
+                    if any(int(it[0]) < self.oldest for it in refused):
+                        at = datetime.datetime.fromtimestamp(self.oldest / 10**9, datetime.timezone.utc)
+                        said[-1] = (f"entry for stream '{shown(stream['stream'])}' has timestamp too old: 2026-01-01T00:00:00Z, "
+                                    f"oldest acceptable timestamp is: {at:%Y-%m-%dT%H:%M:%SZ}")
+            # (an ingester says its last fault alone, a distributor all)
+            is_last = self.chance.random() < 0.5
+        if not said:
+            return 204, ""
+        return status, said[-1] if is_last else f"{len(said)} errors: {'; '.join(said)}"
+
+    @staticmethod
+    def ignored(tenant, stream, count, why):
+        return (f"entry with timestamp 2026-11-28 10:00:00 +0000 UTC ignored, reason: '{why}',\nuser '{tenant}', "
+                f"total ignored: {count} out of {len(stream['values'])} for stream: {shown(stream['stream'])}")
+
+    def take_stream(self, tenant, stream):
+        """Takes the lines of a stream. Returns those that it refuses."""
+        key, refused = (tenant, json.dumps(stream["stream"], sort_keys=True)), []
+        kept = self.streams.setdefault(key, [])
+        for stamp, line, *metadata in stream["values"]:
+            if self.refuses_of(key, line) or int(stamp) < self.oldest:
+                refused.append((stamp, line))
+                continue
+            name = (*key, stamp, line, json.dumps(metadata[0] if metadata else None, sort_keys=True))
+            if name in self.taken:
+                self.answers["lines that came again"] += 1
+                continue
+            if kept and int(kept[-1][2]) > int(stamp):
+                self.orders[key] += 1
+            self.taken.add(name)
+            kept.append(name)
         return refused
 
 
@@ -95,18 +161,19 @@ class Request(http.server.BaseHTTPRequestHandler):
         self.wfile.write(text.encode())
 
     def answer(self, body):
-        tenant, loki = self.headers["X-Scope-OrgID"], self.server
-        if self.path != PUSH or not tenant or self.headers["Content-Type"] != "application/json":
+        tenant, loki, kind = self.headers["X-Scope-OrgID"], self.server, self.headers["Content-Type"]
+        if self.path != PUSH or not tenant or kind not in ("application/x-protobuf", "application/json"):
             return 404, "no push"
+        if loki.is_blind:
+            return 204, ""
         if tenant in loki.status:
             return loki.status[tenant], "as the test says"
         if loki.authorization and self.headers["Authorization"] != loki.authorization:
             return 401, "no credentials"
-        if self.headers["Content-Encoding"] == "gzip":
-            body = zlib.decompress(body, 31)
-        if len(body) > loki.most:
+        length, body = unpacked(body) if "protobuf" in kind else (len(body), json.loads(body))
+        if length > loki.most:
             return 413, "too large"
-        return self.go(loki.way(), tenant, json.loads(body))
+        return self.go(loki.way(), tenant, body)
 
     def go(self, way, tenant, body):
         loki = self.server
@@ -114,10 +181,8 @@ class Request(http.server.BaseHTTPRequestHandler):
             return {"limit": 429, "fail": 500, "die": "died"}[way], "ingestion rate limit exceeded"
         if way == "sleep":
             time.sleep(loki.seconds)
-        refused = loki.take(tenant, body)
-        if way == "die_after":
-            return "died", ""
-        return (400, f"{refused} entries were refused: entry too far behind") if refused else (204, "")
+        answer = loki.take(tenant, body)
+        return ("died", "") if way == "die_after" else answer
 
     def log_message(self, *_):
         pass

@@ -444,14 +444,17 @@ class Pusher(Repeated):
             self.answered.append((labels, line))
 
 
-# (deploy/drain and deploy/sweep run walcat)
+# (the drain and deploy/sweep run walcat)
 WITH_WALCAT = f"{os.path.dirname(program('walcat'))}:{os.environ['PATH']}"
 
 
-def drain(folder, port, shards, to=None, **settings):
-    """A run of deploy/drain over a log, whose lines go to the folder `lines` beside it, or elsewhere."""
+DRAIN = os.environ.get("DRAIN", f"{TOP}/deploy/out/needleazure-drain")
+
+
+def drain(folder, port, shards, to=None, more=(), **settings):
+    """A run of the drain over a log, whose lines go to the folder `lines` beside it, or elsewhere."""
     above = os.path.dirname(folder)
-    words = [f"{TOP}/deploy/drain", folder, str(port), str(shards), to or f"{above}/lines"]
+    words = [DRAIN, folder, str(port), str(shards), to or f"{above}/lines", *more]
     environment = {**os.environ, "PATH": WITH_WALCAT, "TMPDIR": above, **settings}
     return subprocess.Popen(words, env=environment, stderr=subprocess.PIPE, text=True, start_new_session=True)
 

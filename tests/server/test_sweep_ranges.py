@@ -1,4 +1,4 @@
-"""How deploy/drain reads long streams by ranges of time, over drawn streams in memory."""
+"""How deploy/sweep_lines.py reads long streams by ranges of time, over drawn streams in memory."""
 import importlib.machinery
 import importlib.util
 import json
@@ -12,9 +12,9 @@ PIECE = 4_000
 
 
 @pytest.fixture(scope="module")
-def drain():
-    loader = importlib.machinery.SourceFileLoader("drain", f"{TOP}/deploy/drain")
-    it = importlib.util.module_from_spec(importlib.util.spec_from_loader("drain", loader))
+def sweep_lines():
+    loader = importlib.machinery.SourceFileLoader("sweep_lines", f"{TOP}/deploy/sweep_lines.py")
+    it = importlib.util.module_from_spec(importlib.util.spec_from_loader("sweep_lines", loader))
     loader.exec_module(it)
     it.PIECE = PIECE
     return it
@@ -52,7 +52,7 @@ def draw_times(draw, now):
 
 
 @pytest.mark.parametrize("seed", range(400))
-def test_ranges(drain, seed):
+def test_ranges(sweep_lines, seed):
     """Each read finds what a whole read would: the newest line, all lines of a range in order, the
     first line after it. No answer is longer than a piece but that of a single nanosecond, and what
     is asked for in vain stays within bounds."""
@@ -61,8 +61,8 @@ def test_ranges(drain, seed):
              for number, at in enumerate(draw_times(draw, now))]
     memory, whole = Memory(lines), len(json.dumps(lines))
     known = int(draw.choice(lines)[0]) if draw.randrange(2) else 0
-    stream = drain.Stream("t", '{a="1"}', int(whole * draw.choice([0.1, 1, 1, 3])), known)
-    reading = drain.Reading(memory, stream)
+    stream = sweep_lines.Stream("t", '{a="1"}', int(whole * draw.choice([0.1, 1, 1, 3])), known)
+    reading = sweep_lines.Reading(memory, stream)
     newest = reading.newest()
     assert newest == int(lines[-1][0])
     bound = max(0, newest - draw.choice([0, 1, 10**9, HOUR]))

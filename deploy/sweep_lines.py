@@ -1,38 +1,22 @@
-#!/usr/bin/python3 -IS
-"""drain DIR PORT SHARDS TO: takes out of a running server the lines that it lets go: of each stream all but the window
-before its newest line. They go to TO/TENANT/DAY.jsonl.gz, a file a tenant and day of the line (UTC), a JSON object a line,
-and are trimmed once those files are synced. Killed at any moment it loses no line; what was written and not trimmed yet is
-written again. A stream that can't be read or trimmed is named and left for the next run, and the exit status is 1. What a
-run did stands in TO/.last-run, for deploy/metrics. It needs walcat on the path.
-
-Where TO is the push route of a Loki, http(s)://HOST/loki/api/v1/push, lines are sent there in place of files, and trimmed
-once that answered 2xx. What it refuses by 400 goes to files below `refused`. These and .last-run are in the folder
-STATE_DIRECTORY, else in `drained`."""
-import base64
+"""How deploy/sweep reads streams from a server, by ranges of time where they are long, writes their lines to files, and trims
+them: in the form of the files of needleazure-drain."""
 import collections
-import contextlib
 import fcntl
 import http.client
 import json
 import math
 import os
 import re
-import signal
 import struct
 import subprocess
 import sys
 import threading
 import time
-import urllib.parse
 import zlib
 
 SECOND, EVER = 10**9, 2**63 - 1
-# connections, bytes of an answer (a longer one is asked for by shorter ranges of time), bytes written between two syncs
-WORKERS, PIECE, BATCH = 8, 4 << 20, 16 << 20
-# of a Loki: connections, lines and bytes of a body, seconds of the first pause before it is tried again, and of the longest
-SENDERS, LINES, BODY = 4, 5000, 1 << 20
-PAUSE, LONGEST_PAUSE = 0.25, 15
-NAMED = re.compile(r"stream ([0-9]+)(?: entry ([0-9]+))?: (.*)")
+# bytes of an answer (a longer one is asked for by shorter ranges of time), bytes written between two syncs
+PIECE, BATCH = 4 << 20, 16 << 20
 # a shorter range of time is not cut in two, and few lines are as much older than the newest
 NARROW, LONG_AGO = SECOND // 1000, 48 * 3600 * SECOND
 # how many lines a run says of one kind of fault
@@ -48,7 +32,7 @@ class Fault(Exception):
 
 
 class Refused(Exception):
-    """What the server answers of a stream that it doesn't read or trim, or a Loki of a tenant whose lines it doesn't take."""
+    """What the server answers of a stream that it doesn't read or trim."""
 
 
 class Unreachable(Exception):
@@ -58,14 +42,10 @@ class Unreachable(Exception):
 # ---- where lines go ------------------------------------------------------------------------------------------------
 
 class Files:
-    """Lines in files of a folder. Whatever takes lines in its place has what this class has: `put` takes lines of a stream,
-    in rising time, and may keep them back; after `flush` all that was put is kept for good, and may be trimmed. One thread
-    at a time calls them. What they raise ends the run, and nothing is trimmed that was put since the last flush; but a `Refused`
-    of `put` is of that stream alone, and the tenants that `flush` returns are those whose lines it could not keep. `size` is
-    how many bytes were put since the last flush, `lines` and `bytes` how many were flushed in all, and `refused` how many
-    lines are in files of their own, since nobody else takes them."""
-
-    refused = 0
+    """Lines in files of a folder: `put` takes lines of a stream, in rising time, and may keep them back; after `flush` all
+    that was put is kept for good, and may be trimmed. One thread at a time calls them. What they raise ends the run, and
+    nothing is trimmed that was put since the last flush. `size` is how many bytes were put since the last flush, `lines` and
+    `bytes` how many were flushed in all."""
 
     def __init__(self, folder):
         self.folder, self.days = folder, collections.defaultdict(list)
@@ -86,7 +66,6 @@ class Files:
             self.lines += len(texts)
         self.days.clear()
         self.size = 0
-        return ()
 
     def append(self, folder, name, text):
         """Adds to a file. Its length stands beside it: what stands after that was cut off by a kill, and goes."""
@@ -203,213 +182,6 @@ class Server:
     def close(self):
         self.connection.close()
         self.is_used = False
-
-
-# ---- a Loki ---------------------------------------------------------------------------------------------------------
-
-class Address:
-    """A Loki's push route, and what a client says there who it is."""
-
-    def __init__(self, text):
-        found = urllib.parse.urlsplit(text)
-        self.is_safe, self.host, self.path = found.scheme == "https", found.hostname, found.path
-        self.port = found.port or (443 if self.is_safe else 80)
-        if not self.host or self.path in ("", "/"):
-            raise ValueError("name the whole push route, such as https://HOST/loki/api/v1/push")
-        self.shown = f"{found.scheme}://{self.host}:{self.port}{self.path}"
-        login = urllib.parse.unquote(found.netloc.rpartition("@")[0])
-        self.authorization = os.environ.get("NEEDLEAZURE_LOKI_AUTHORIZATION")
-        if login and not self.authorization:
-            self.authorization = "Basic " + base64.b64encode(login.encode()).decode()
-
-    def connect(self, seconds):
-        kind = http.client.HTTPSConnection if self.is_safe else http.client.HTTPConnection
-        return kind(self.host, self.port, timeout=seconds)
-
-
-class Sender(Server):
-    """A connection to a Loki."""
-
-    hint = ""
-
-    def __init__(self, address, seconds):
-        self.address, self.seconds, self.is_used = address, seconds, False
-        self.connection = address.connect(seconds)
-
-    def push(self, tenant, entries, is_packed):
-        """Status and text of the answer to entries of a tenant, which are pairs of labels and a value."""
-        head = {"X-Scope-OrgID": tenant, "Content-Type": "application/json"}
-        if self.address.authorization:
-            head["Authorization"] = self.address.authorization
-        streams = []
-        for labels, value in entries:
-            if not streams or streams[-1]["stream"] is not labels:
-                streams.append({"stream": labels, "values": []})
-            streams[-1]["values"].append(value)
-        body = encode({"streams": streams}).encode()
-        if is_packed:
-            packer = zlib.compressobj(3, zlib.DEFLATED, 31)
-            body, head["Content-Encoding"] = packer.compress(body) + packer.flush(), "gzip"
-        status, text = self.exchange("POST", self.address.path, body, head, None)
-        return status, text.decode(errors="replace").strip()
-
-
-class Cluster:
-    """Lines in a Loki, in the place of Files. A flush sends what was put by several connections, a stream by one of them and
-    in its order. What is answered 429 or 5xx, or not at all, is tried again with growing pauses, for `patience` seconds from
-    its first try, or from the last answer that anybody got if that is longer ago. Then the tenant is given up for this run if
-    it was limited, else the run ends. Of a body that is refused (400, 413) the halves are sent, down to single entries: these
-    go to files beside."""
-
-    def __init__(self, folder, address, seconds, patience):
-        self.folder, self.address, self.patience = folder, address, patience
-        self.senders = [Sender(address, seconds) for _ in range(SENDERS)]
-        self.files, self.streams, self.given_up = Files(f"{folder}/refused"), {}, {}
-        self.size, self.lines, self.bytes, self.refused, self.is_packed = 0, 0, 0, 0, True
-        self.counting, self.jobs, self.answered, self.fault = threading.Lock(), collections.deque(), 0, None
-
-    def put(self, tenant, labels, values):
-        if tenant in self.given_up:
-            raise Refused(self.given_up[tenant])
-        kept = self.streams.setdefault((tenant, encode(labels)), [])
-        # (entries of a stream share their labels)
-        labels = kept[0][0] if kept else labels
-        kept += [(labels, it) for it in values]
-        self.size += sum(size_of(it) for it in values)
-
-    def flush(self):
-        self.jobs, self.fault, self.answered = collections.deque(self.split()), None, time.monotonic()
-        senders = [threading.Thread(target=self.send, args=(it,), daemon=True) for it in self.senders[:len(self.jobs)]]
-        for it in senders:
-            it.start()
-        for it in senders:
-            it.join()
-        if self.files.size:
-            if not os.path.isdir(self.files.folder):
-                os.mkdir(self.files.folder)
-                sync_folder(self.folder)
-            self.files.flush()
-        self.streams.clear()
-        self.size = 0
-        if self.fault:
-            raise self.fault
-        return self.given_up
-
-    def split(self):
-        """What is to be sent, as jobs: a tenant, and bodies that are sent in turn. A stream is in one job."""
-        small = collections.defaultdict(list)
-        for (tenant, _), entries in self.streams.items():
-            bodies = list(cut(entries))
-            if len(bodies) > 1:
-                yield tenant, bodies
-            else:
-                small[tenant] += entries
-        for tenant, entries in small.items():
-            for group in cut(entries, is_whole=True):
-                yield tenant, [group]
-
-    def send(self, sender):
-        while self.fault is None:
-            try:
-                tenant, bodies = self.jobs.popleft()
-            except IndexError:
-                return
-            try:
-                for it in bodies:
-                    if tenant not in self.given_up:
-                        self.push(sender, tenant, it)
-            except Refused as fault:
-                self.given_up[tenant] = f"the Loki at {self.address.shown} answers {fault}"
-            except Unreachable as fault:
-                self.fault = Fault(f"the Loki at {self.address.shown} does not take lines: {fault}")
-            # (whatever it is, the run ends, and nothing of this flush is trimmed)
-            except Exception as fault:  # pylint: disable=broad-except
-                self.fault = Fault(f"{type(fault).__name__}: {fault}")
-
-    def push(self, sender, tenant, entries):
-        """Sends entries until each is taken or refused."""
-        status, text = self.until_answered(sender, tenant, entries)
-        if 200 <= status < 300:
-            self.count(tenant, entries, {})
-        elif status not in (400, 413):
-            raise Refused(f"{status} {text[:300]}")
-        elif named := named_in(text, entries) if status == 400 else {}:
-            self.count(tenant, entries, named)
-        elif len(entries) > 1:
-            self.push(sender, tenant, entries[:len(entries) // 2])
-            self.push(sender, tenant, entries[len(entries) // 2:])
-        else:
-            self.count(tenant, entries, {0: f"{status} {text[:300]}"})
-
-    def count(self, tenant, entries, refused):
-        """Counts entries that were answered. Those that are refused, by their places and with why, go to the files."""
-        with self.counting:
-            for at, (labels, value) in enumerate(entries):
-                if at not in refused:
-                    self.lines, self.bytes = self.lines + 1, self.bytes + size_of(value)
-                    continue
-                self.files.put(tenant, labels, [value])
-                self.refused += 1
-                if self.refused <= MOST_SAID:
-                    print(f"refused, and kept in {self.files.folder}: {tenant} {encode(labels)} {value[0]}: {refused[at]}",
-                          file=sys.stderr)
-
-    def until_answered(self, sender, tenant, entries):
-        """The first answer other than that it may be sent again."""
-        begun, pause = time.monotonic(), PAUSE
-        while True:
-            is_packed = self.is_packed
-            try:
-                status, text = sender.push(tenant, entries, is_packed)
-                if status == 415 and is_packed:
-                    self.is_packed = False
-                    continue
-                if status != 429 and status < 500:
-                    self.answered = time.monotonic()
-                    return status, text
-                fault = (Refused if status == 429 else Unreachable)(f"{status} {text[:300]}")
-            except Unreachable as found:
-                fault = found
-            if time.monotonic() + pause > min(begun, self.answered) + self.patience:
-                raise fault
-            time.sleep(pause)
-            pause = min(2 * pause, LONGEST_PAUSE)
-
-
-def named_in(text, entries):
-    """The places of the entries that an answer of another server of this kind names, with why. None of them where the
-    text is another one: of a Loki's own it isn't known which entries it refused."""
-    lines = [NAMED.fullmatch(it) for it in text.splitlines()]
-    if not lines or not all(lines):
-        return {}
-    why = {(int(it[1]), int(it[2]) if it[2] else None): it[3] for it in lines}
-    named, stream, entry = {}, -1, 0
-    for at, (labels, _) in enumerate(entries):
-        is_next = at == 0 or labels is not entries[at - 1][0]
-        stream, entry = (stream + 1, 0) if is_next else (stream, entry + 1)
-        found = why.get((stream, entry)) or why.get((stream, None))
-        if found:
-            named[at] = found
-    return named
-
-
-def size_of(value):
-    """About how many bytes an entry has in a body."""
-    return len(value[1]) + 40 + (len(encode(value[2])) if len(value) > 2 else 0)
-
-
-def cut(entries, is_whole=False):
-    """Entries as bodies. Where streams are to stay whole, a body ends with one."""
-    group, size = [], 0
-    for labels, value in entries:
-        is_full = size >= BODY or len(group) >= LINES
-        if is_full and not (is_whole and group[-1][0] is labels):
-            yield group
-            group, size = [], 0
-        group.append((labels, value))
-        size += size_of(value)
-    if group:
-        yield group
 
 
 # ---- the streams ---------------------------------------------------------------------------------------------------
@@ -671,15 +443,12 @@ class Drain:
                 self.flush()
 
     def flush(self):
-        refused = self.place.flush()
+        self.place.flush()
         self.has_flushed = True
         pending, self.pending = self.pending, {}
         with self.change:
-            self.trims.extend(it for it in pending.items() if it[0].tenant not in refused)
+            self.trims.extend(pending.items())
             self.change.notify_all()
-        for stream in (it for it in pending if it.tenant in refused):
-            stream.is_refused = True
-            self.say(f"not drained: {refused[stream.tenant]}", f"not drained: {stream}: {refused[stream.tenant]}")
 
     def trim(self, server, job):
         stream, bound = job
@@ -713,57 +482,6 @@ class Drain:
         for kind, count in self.said.items():
             if count > MOST_SAID:
                 print(f"in all {count} streams: {kind}", file=sys.stderr)
-
-
-def shown(nanoseconds):
-    return f"{nanoseconds // SECOND}.{nanoseconds % SECOND:09}"
-
-
-class Told:
-    """What a run did, for TO/.last-run, as names with numbers; times in seconds. A run that was cut short has one error
-    more."""
-
-    def __init__(self, folder):
-        self.path, self.began, self.is_whole = f"{folder}/.last-run", time.time_ns(), False
-
-    def last_good(self):
-        with contextlib.suppress(OSError), open(self.path, encoding="ascii", errors="replace") as file:
-            return next((it[5:].strip() for it in file if it.startswith("good ")), "0")
-        return "0"
-
-    def write(self, place, drain):
-        now, errors = time.time_ns(), (drain.errors if drain else 0) + (not self.is_whole)
-        streams = drain.all if drain else []
-        said = {"ended": shown(now), "good": self.last_good() if errors else shown(now), "seconds": shown(now - self.began),
-                "streams": len(streams), "lines": place.lines, "bytes": place.bytes, "refused": place.refused, "errors": errors}
-        left = [(it.oldest(), it.newest) for it in streams if it.oldest() is not None]
-        if left:
-            said["oldest"] = shown(min(left)[0])
-        # (nothing takes the newest line of a stream)
-        takeable = [oldest for oldest, newest in left if oldest < newest]
-        if takeable:
-            said["takeable"] = shown(min(takeable))
-        for shard in sorted({it.shard for it in streams if it.oldest() is not None}):
-            found = [it.oldest() for it in streams if it.shard == shard and it.oldest() is not None]
-            said[f"oldest-{shard:02}"] = shown(min(found))
-        try:
-            write_whole(self.path, "".join(f"{name} {value}\n" for name, value in said.items()))
-        except OSError as fault:
-            print(f"cannot write {self.path}: {fault.strerror}", file=sys.stderr)
-
-
-class Progress:
-    """A line on a terminal that says where a run is."""
-
-    def __init__(self, is_shown):
-        self.is_shown, self.began = is_shown, time.monotonic()
-
-    def __call__(self, drain, end=""):
-        if self.is_shown:
-            read = len(drain.all) - len(drain.streams)
-            text = (f"{read} of {len(drain.all)} streams read, {drain.place.lines} lines written, {len(drain.trims)} trims to do, "
-                    f"{time.monotonic() - self.began:.0f} s")
-            print(f"\r\033[K{text}", end=end, file=sys.stderr, flush=True)
 
 
 # ---- words and settings --------------------------------------------------------------------------------------------
@@ -809,54 +527,3 @@ def lock(folder, patience=0):
             if time.monotonic() >= until:
                 stop(f"another drain is at {folder}", 1)
             time.sleep(0.1)
-
-
-def run(folder, port, shards, place, settings):
-    window, seconds = settings
-    told, drain, progress = Told(place.folder), None, Progress(sys.stderr.isatty())
-    try:
-        drain = Drain(streams_of(folder, shards), place, window)
-        drain.run([Server(port, seconds) for _ in range(min(WORKERS, max(len(drain.all), 1)))], progress)
-        progress(drain, "\n")
-        if drain.fault:
-            raise drain.fault
-        told.is_whole = True
-    except (Fault, OSError) as fault:
-        print(fault, file=sys.stderr)
-    finally:
-        told.write(place, drain)
-    return 0 if told.is_whole and not drain.errors else 1
-
-
-def place_of(to, seconds):
-    """Where lines go."""
-    if not re.match("https?://", to):
-        return Files(to)
-    patience = setting("NEEDLEAZURE_LOKI_PATIENCE", "60s", True) / SECOND
-    try:
-        return Cluster(os.environ.get("STATE_DIRECTORY", "drained"), Address(to), seconds, patience)
-    except ValueError as fault:
-        # (without the address, which may have a password)
-        return stop(f"TO is not the push route of a Loki: {fault}", 2)
-
-
-def main(words):
-    if len(words) != 4:
-        stop("usage: drain DIR PORT SHARDS TO", 2)
-    folder, port, shards = words[0], number_in(words[1], 65535, "PORT"), number_in(words[2], 64, "SHARDS")
-    window = setting("NEEDLEAZURE_MAX_CHUNK_AGE", "2h", True) // 2
-    seconds = setting("NEEDLEAZURE_DRAIN_TIMEOUT", "60s", False) / SECOND
-    signal.signal(signal.SIGTERM, lambda number, _: sys.exit(128 + number))
-    signal.signal(signal.SIGINT, lambda number, _: sys.exit(128 + number))
-    place = place_of(words[3], seconds)
-    try:
-        os.makedirs(place.folder, exist_ok=True)
-        held = lock(place.folder)
-    except OSError as fault:
-        stop(f"cannot write to {place.folder}: {fault.strerror}", 1)
-    with held:
-        return run(folder, port, shards, place, (window, seconds))
-
-
-if __name__ == "__main__":
-    sys.exit(main(sys.argv[1:]))
