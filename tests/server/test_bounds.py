@@ -3,6 +3,7 @@ that, and what is said how often. Clocks stand still but where a test sets them:
 import os
 import resource
 import signal
+import socket
 import time
 
 import pytest
@@ -202,6 +203,20 @@ def test_1050_connections_at_once(serve):
     assert {it.answer() for it in clients} == {(200, b"ready")}
     for it in clients:
         it.ends.close()
+
+
+def test_600_connections_wait(serve):
+    """Past what may be open connections wait in the system's backlog, which takes as many as it allows."""
+    if int(servers.bytes_of("/proc/sys/net/core/somaxconn")) < 1_000:
+        pytest.skip("this system lets fewer connections wait")
+    server = serve("log", 1, 1, {OPEN: "1"})
+    waiting = [socket.create_connection(("127.0.0.1", server.port), timeout=2) for _ in range(601)]
+    for it in waiting[:3]:
+        it.sendall(READY)
+        assert it.recv(1_000).startswith(b"HTTP/1.1 200 OK")
+        it.close()
+    for it in waiting[3:]:
+        it.close()
 
 
 def test_connections_without_end(serve, clock):

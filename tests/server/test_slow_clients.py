@@ -99,12 +99,12 @@ def test_the_last_answer_is_whole(long_answer):
 
 
 def test_a_slow_reader_is_not_silent(long_answer, clock):
-    """A client that takes a part of its answer every 20 seconds gets all of it, for more than two minutes."""
+    """A client that takes a part of its answer every 20 seconds is heard for four minutes, and then gets the rest."""
     server, lines = long_answer
     with narrow(server.port) as client:
         client.ends.sendall(read_request())
-        for step in range(1, 8):
-            while len(client.found) < step * 800_000:
+        for step in range(1, 13):
+            while len(client.found) < step * 150_000:
                 client.more()
             clock.set(20 * step)
             look(server.port)
@@ -191,6 +191,8 @@ def test_an_accept_that_fails_costs_nothing(serve):
         assert not spends(server) and is_open(client.ends)
         resource.prlimit(server.pid, resource.RLIMIT_NOFILE, usual)
         assert client.answer() == (204, b"")
+    server.end()
+    assert server.errors().count("cannot accept a connection: Too many open files") == 1
 
 
 def wakes_of(process):

@@ -2,7 +2,7 @@
 
 use programs::say_line;
 use std::fmt::Display;
-use std::io::Stderr;
+use std::io::{Error, Stderr};
 use std::rt::Clock;
 use std::sync::atomic::{AtomicU64, Ordering};
 use std::time::Instant;
@@ -11,8 +11,8 @@ use workers::Watch;
 /// For this many seconds after a line of a kind no other one of it is written.
 const QUIET: u64 = 60;
 
-/// Says on standard error, where that is given, that no more connections are accepted, or that all workers wait for
-/// shards: of each once a minute at most.
+/// Says on standard error, where that is given, that no more connections are accepted, that the system refuses one, or
+/// that all workers wait for shards: of each once a minute at most.
 #[derive(Drop)]
 pub struct BusyLines<'a, R: Clock> {
     rt: &'a R,
@@ -21,6 +21,7 @@ pub struct BusyLines<'a, R: Clock> {
     start: Option<Instant>,
     no_room: SaidAt,
     all_busy: SaidAt,
+    not_accepted: SaidAt,
 }
 
 // The second after the start in which the last line of a kind was written, and one more; 0 where none was.
@@ -57,6 +58,7 @@ impl<'a, R: Clock> BusyLines<'a, R> {
             start: Instant::now(rt).ok(),
             no_room: SaidAt::new(),
             all_busy: SaidAt::new(),
+            not_accepted: SaidAt::new(),
         }
     }
 
@@ -95,6 +97,15 @@ impl<'a, R: Clock> Watch for BusyLines<'a, R> {
             format_args!(
                 "all workers have waited for shards for 10 seconds: the disk is slow, or hangs. docs/OPERATING.md says \
 under \"Connections\" what to look at."
+            ),
+        );
+    }
+    fn not_accepted(&self, cause: &Error) {
+        self.say(
+            &self.not_accepted,
+            format_args!(
+                "cannot accept a connection: {cause}. Others wait until it can. docs/OPERATING.md says under \
+\"Connections\" what bounds them."
             ),
         );
     }

@@ -22,6 +22,7 @@ use crate::system_limits::open_files;
 use accept::Limits;
 use disk::Disk;
 use ingester::{Ingester, Pass};
+use mio::net;
 use programs::{Environment, ServerWords, open_slots, server_in, terminal_in};
 use std::alloc::Global;
 use std::fs::{File, Files};
@@ -269,9 +270,11 @@ fn listen<R: Net<Listener = TcpListener, Stream = TcpStream>, W: Write>(
     ensures running { IfErr result (λ stop. stop_status stop ≡ 1) }
 {
     let address = SocketAddr::new(IpAddr::V4(Ipv4Addr::LOCALHOST), port);
-    let Ok(listener) = TcpListener::bind(rt, address) else {
+    // (as many may wait as the system allows; std's own would let 128 wait)
+    let Ok(listener) = net::TcpListener::bind(rt, address) else {
         return Err(ProgramFault::Listen);
     };
+    let listener = TcpListener::from(listener);
     let Ok(bound) = listener.local_addr() else {
         return Err(ProgramFault::Listen);
     };

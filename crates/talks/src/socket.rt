@@ -1,13 +1,16 @@
 //! A connection's socket, with a record of what the system did with it. What a reader has to trust is this: `read_some`
-//! and `write_some` each make one call of the system, and `of` two, and each notes what the system answered.
+//! and `write_some` each make one call of the system, and `of` two, and each notes what the system answered. How much the
+//! system may hold of what is sent, which `of` sets too, is not noted: no clause depends on it.
 ghost use Rattle.std.specs.Prelude.{◌≡◌, ◌≤◌, List, [], ◌∷◌, length, take, IfOk, OnErr};
 ghost use Rattle.std.specs.Borrow.{ftrue};
 ghost use Rattle.talks.specs.Sockets.{SocketCall, Heard, Said, NoDelay, NoWaiting, socket_call_of};
 
+use libc::net as c;
 use mio::net::TcpStream;
 use std::io::{Error, ErrorKind, Read, Write};
 use std::marker::{Model, PhantomData};
 use std::net;
+use std::os::fd::AsRawFd;
 
 const HEARD: u64 = 0;
 
@@ -16,6 +19,10 @@ const SAID: u64 = 1;
 const NO_DELAY: u64 = 2;
 
 const NO_WAITING: u64 = 3;
+
+/// How many bytes of answers the system may hold for a client; it takes twice as many for its own needs. By itself it
+/// would hold megabytes, and a client that takes them slowly would seem silent for minutes.
+const SEND_BUFFER: i32 = 262_144;
 
 /// What the system did with a socket, the last first. It holds no byte: only clauses read it.
 #[derive(Drop)]
@@ -93,9 +100,18 @@ impl NewSocket {
         }
         noted.note(&[NO_WAITING], &[]);
         let stream = TcpStream::from_std(stream);
+        bound_sending(&stream);
         let socket = Socket { stream, noted };
         Some(NewSocket { socket })
     }
+}
+
+// Has the system hold no more than `SEND_BUFFER`. Where it doesn't, a client that takes its answers slowly may be closed
+// as silent.
+fn bound_sending(stream: &TcpStream) {
+    let mut size = [0u8; 16];
+    size[..4].copy_from_slice(&SEND_BUFFER.to_ne_bytes());
+    let _ = unsafe { c::setsockopt(stream.as_raw_fd(), c::SOL_SOCKET, c::SO_SNDBUF, &size, 4) };
 }
 
 impl Socket {

@@ -7,7 +7,7 @@ use crate::shared::{Shared, WorkerLoad};
 use crossbeam_channel::{Sender, TrySendError};
 use mio::{Events, Interest, Poll, Token, net};
 use std::alloc::Global;
-use std::io::ErrorKind;
+use std::io::{Error, ErrorKind};
 use std::net::{Net, TcpListener};
 use std::rt::Clock;
 use std::sync::Wait;
@@ -28,6 +28,10 @@ pub trait Watch {
 
     /// Each worker has been at one turn for ten seconds, waiting for shards. It is told each second.
     fn all_busy(&self);
+
+    /// The system does not let a connection be accepted, for example for want of file descriptors. It is told each time
+    /// that one was to be.
+    fn not_accepted(&self, cause: &Error);
 }
 
 /// What is served, and what it may cost.
@@ -159,7 +163,7 @@ impl<'a> Door<'a> {
 
     // Accepts a connection. Where none has come, it waits for a second at most. Where none can be accepted, for example
     // for want of file descriptors, it waits a little.
-    fn accept_one<R: Clock + Wait>(&mut self, rt: &R) -> Option<NewSocket> {
+    fn accept_one<R: Clock + Wait, W: Watch>(&mut self, rt: &R, watch: &W) -> Option<NewSocket> {
         match self.listener.accept() {
             Ok((stream, _)) => {
                 if let Some(socket) = NewSocket::of(stream) {
@@ -171,11 +175,18 @@ impl<'a> Door<'a> {
                 let _ = self.poll.poll(&mut self.events, Some(longest));
                 return None;
             }
-            Err(_) => {}
+            // (the client left, or a signal came)
+            Err(error) if is_passing(error.kind()) => {}
+            Err(error) => watch.not_accepted(&error),
         }
         thread::sleep(rt, Duration::from_millis(PAUSE_MILLIS));
         None
     }
+}
+
+// Whether a failure to accept says nothing of the next connection.
+fn is_passing(kind: ErrorKind) -> bool {
+    matches!(kind, ErrorKind::ConnectionAborted | ErrorKind::Interrupted)
 }
 
 /// What the acceptor works with.
@@ -230,7 +241,7 @@ impl<'a, W: Watch> Acceptor<'a, W> {
             if !self.wait_for_room(rt) {
                 return false;
             }
-            if let Some(socket) = self.door.accept_one(rt) {
+            if let Some(socket) = self.door.accept_one(rt, self.bounds.watch) {
                 return self.hand_over(rt, socket);
             }
             self.look(rt);
