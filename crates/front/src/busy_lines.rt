@@ -100,6 +100,7 @@ under \"Connections\" what to look at."
             ),
         );
     }
+
     fn not_accepted(&self, cause: &Error) {
         self.say(
             &self.not_accepted,
