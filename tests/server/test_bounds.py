@@ -48,6 +48,7 @@ def test_silence_of_a_minute(serve, clock):
     late = clients[60:]
     assert all_open(server.port, late, 58, clock) == [True] * 40
     late[12].sendall(b"G")
+    look(server.port)
     assert all_open(server.port, late, 62, clock) == [at == 12 for at in range(40)]
     assert all_open(server.port, late[12:13], 116, clock) == [True]
     assert all_open(server.port, late[12:13], 120, clock) == [False]
@@ -286,6 +287,12 @@ def test_open_connections_once_a_minute(saying, clock):
     assert clients[-1].answer()[0] == 200
 
 
+def has_read_all(port):
+    """Whether a server has read what clients sent, by the queues of its ends."""
+    lines = [it.split() for it in servers.bytes_of("/proc/net/tcp").decode().splitlines()[1:]]
+    return all(it[4].endswith(":00000000") for it in lines if it[1].endswith(f":{port:04X}"))
+
+
 def test_busy_workers_once_a_minute(saying, clock, hanging):
     """After ten seconds in which each worker waits for a sync a line says so, and another one each minute."""
     settings, hang, go_on = hanging
@@ -294,7 +301,7 @@ def test_busy_workers_once_a_minute(saying, clock, hanging):
     clients = [servers.Client(server.port) for _ in range(2)]
     for at, it in enumerate(clients):
         it.send(servers.PUSH, servers.push_body([({"a": str(at)}, [entry()])]))
-    wait_until(lambda: server.sockets() >= 4)
+    wait_until(lambda: server.sockets() >= 4 and has_read_all(server.port))
     for seconds, count in ((9, 0), (12, 1), (70, 1), (74, 2), (136, 3)):
         clock.set(seconds)
         assert said_lines(path, " workers have waited for shards for 10 seconds: ", count) == ["all"] * count, seconds

@@ -30,6 +30,7 @@ def test_a_long_roll(serve, folder, preload, length):
     stored = [(at, line.encode()) for at, line, _ in lines]
     states = [state_bytes(1, (b"t", servers.text_of(it)), stored[-1][0], stored[-1], stored) for it in labels]
     os.mkdir(f"{folder}/log")
+    servers.write(f"{folder}/log/shard-00-0.wal", b"")
     servers.write(f"{folder}/log/shard-00-1.wal", segment_bytes(b"1", 1, 0, 1, [b"".join(states)]))
     settings = {CAPACITY: str(128 * MEGABYTE)}
     noted = {"LD_PRELOAD": preload, "RECORD_UNDER": f"{folder}/log", "RECORD_TO": notes}
@@ -76,6 +77,7 @@ def test_a_long_slot(serve, folder, length):
     """A slot of so many megabytes is read to its end, goes on behind it, and is read again."""
     key, now = (b"t", servers.text_of({"a": "1"})), time.time_ns()
     os.mkdir(f"{folder}/log")
+    servers.write(f"{folder}/log/shard-00-0.wal", b"")
     last = write_long_slot(f"{folder}/log/shard-00-1.wal", length * MEGABYTE, key, now)
     settings, due = {CAPACITY: str(1024 * MEGABYTE)}, [(last, "last", ())]
     for turn in range(2):
