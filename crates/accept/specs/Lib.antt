@@ -2,8 +2,9 @@ pub mod Codes
 pub mod StreamMaps
 pub mod OneStream
 pub mod Rooms
-pub mod Histories
 pub mod Calls
+pub mod Histories
+pub mod Lasting
 pub mod Doubts
 pub mod States
 pub mod OneKey

@@ -1,16 +1,9 @@
 -- What is one of a list.
 use Rattle.std.proofs.Common.{◌≡◌, ◌⊎◌, List, [], ◌∷◌, ◌++◌, refl, inl, inr, ⊎_elim, flat_map}
 use Rattle.headline.specs.Headline.{IsOneOf}
+pub use Rattle.accept.proofs.Lasting.{among_left, among_right}
 
 module _ {A : Type 0} (x : A) where
-  pub among_left : (xs ys : List A) → IsOneOf x xs → IsOneOf x (xs ++ ys)
-  among_left [] ys h = absurd h
-  among_left (y ∷ xs) ys h = ⊎_elim (λ (e : x ≡ y). inl e) (λ (t : IsOneOf x xs). inr (among_left xs ys t)) h
-
-  pub among_right : (xs ys : List A) → IsOneOf x ys → IsOneOf x (xs ++ ys)
-  among_right [] ys h = h
-  among_right (y ∷ xs) ys h = inr (among_right xs ys h)
-
   pub among_split : (xs ys : List A) → IsOneOf x (xs ++ ys) → IsOneOf x xs ⊎ IsOneOf x ys
   among_split [] ys h = inr h
   among_split (y ∷ xs) ys h = ⊎_elim

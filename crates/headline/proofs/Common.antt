@@ -1,6 +1,6 @@
 -- The names that most proofs of this crate and of those above it cite, passed on from one place. Declares nothing.
 pub use Rattle.accept.specs.Calls.{AreNumbers}
-pub use Rattle.accept.specs.Histories.{is_step_of, is_marked, changes, meaning, answer, answered_to, MayFollow, is_new, stream_of, reply_to, Terms, IsLegal, IsWithin, then_step, key_of, stored_by, bound_by, stored_in, bound_in, stored, greatest_bound, base_of}
+pub use Rattle.accept.specs.Histories.{is_step_of, is_marked, changes, meaning, answer, answered_to, MayFollow, is_new, stream_of, reply_to, Terms, IsLegal, then_step, key_of, stored_by, bound_by, stored_in, bound_in, stored, greatest_bound, base_of}
 pub use Rattle.accept.specs.OneStream.{AreLimits, stored_of, last_or, base_last, base_kept, highest_of, last_of, kept_of, image_of, same_entry, outcome, outcomes}
 pub use Rattle.segment.specs.ShardPlaces.{place_of}
 pub use Rattle.wal.specs.Covers.{Covers, IsAfter, Allows}

@@ -2,7 +2,6 @@
 use Rattle.std.proofs.Common.{◌≡◌, ℕ, zero, suc, ◌+◌, ◌<◌, List, [], ◌∷◌, ◌++◌, length, refl, sym, ap, ◌∙◌, subst, inl, length-append, arith, Option}
 use Rattle.std.specs.FinMap as finite
 use Rattle.headline.proofs.Common.{Streams, Limits, Ask, Item, History, About, Sight, Wal, place_of, Recovers, Covers, IsAfter, slots_of, AllFollow, AreOpenedFrom, IsLegalAt, base_at, terms_of, history_of, RefusedShard, IsForDeviceOrMemory, IsReplay, Life, ShardEnd, IsLife, AreLeftAt, LogsFollow, writing_at, writing_in, legal_front}
-use Rattle.accept.proofs.Growing.{within-nothing}
 use Rattle.accept.proofs.Meanings.{meaning-nothing}
 use Rattle.wal.proofs.OneImage.{one_image}
 use Rattle.wal.proofs.Opened.{seen_stay}
@@ -89,7 +88,7 @@ module _ {D : Type 0} (sight : D → Sight) (follows : D → Type 0) (only_now :
           base = refl;
           part = record { beginning = r.beginning; more = r.more };
           part_is = part_of life k its (after k) r;
-          the_state_after = r.the_state_after ∙ plain_more (terms_of about k) (base_at about k) r.beginning r.more (alone (base_at about k)) legal.is (within-nothing about.limits (base_at about k)) (meaning-nothing (base_at about k));
+          the_state_after = r.the_state_after ∙ plain_more (terms_of about k) (base_at about k) r.beginning r.more (alone (base_at about k)) legal.is (meaning-nothing (base_at about k));
         }
 
     life_found : (limits : Limits) (h : ℕ → History) (doubt : ℕ → List Ask) (n : ℕ) → Keep limits h doubt n life.given → AreAfter limits h doubt n (base_at about)

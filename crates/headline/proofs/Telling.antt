@@ -1,9 +1,8 @@
 -- The calls of all openings, one after another.
-use Rattle.std.proofs.Common.{◌≡◌, ◌⊎◌, ℕ, zero, suc, ◌+◌, ◌<◌, true, false, cond, List, [], ◌∷◌, ◌++◌, length, refl, sym, ap, ◌∙◌, subst, inl, inr, ⊎_elim, append_assoc, append-nil, arith, Some, slice_get, slice_index_or}
+use Rattle.std.proofs.Common.{◌≡◌, ◌⊎◌, ℕ, zero, suc, ◌+◌, ◌<◌, true, false, cond, List, [], ◌∷◌, ◌++◌, length, refl, sym, ap, ◌∙◌, subst, ⊎_elim, append_assoc, append-nil, arith, Some, slice_get, slice_index_or}
 use Rattle.std.specs.FinMap as finite
-use Rattle.headline.proofs.Common.{Streams, Limits, Reply, NoRoom, Unavailable, Ask, Step, Item, Answered, Failed, History, About, Sight, Wal, Terms, IsLegal, IsWithin, MayFollow, answer, reply_to, meaning, answered_to, then_step, IsLegalAt, base_at, terms_of, history_of, AreOpenedFrom, is_refusal, IsReplay, Life, IsLife, IsHeadlineOf, MayBeReplayed, writing_in, false≢true, cases_Bool, legal_front}
-use Rattle.accept.proofs.Growing.{within-nothing, within-answer, within-answered_to, within-NoRoom, within-Unavailable, within-Failed}
-use Rattle.accept.proofs.Legal.{legal-beginning, legal-last, legal-within}
+use Rattle.headline.proofs.Common.{Streams, Limits, Reply, NoRoom, Unavailable, Ask, Step, Item, Answered, Failed, History, About, Sight, Wal, Terms, IsLegal, MayFollow, answer, reply_to, meaning, answered_to, then_step, IsLegalAt, base_at, terms_of, history_of, AreOpenedFrom, is_refusal, IsReplay, Life, IsLife, IsHeadlineOf, MayBeReplayed, writing_in, false≢true, cases_Bool, legal_front}
+use Rattle.accept.proofs.Legal.{legal-beginning, legal-last}
 use Rattle.accept.proofs.Meanings.{meaning-nothing, meaning-answered, meaning-NoRoom, meaning-Unavailable, meaning-Failed, meaning-answered_to, answered_to-append, equal_after}
 use Rattle.headline.specs.Chains.{Part, answered_in, calls_found, IsPart, AreParts, base_in, IsContinued, AreLives, IsFoundLast, AreHeadlines, IsHeadlineOfLives}
 use Rattle.headline.proofs.Saying.{not_refused}
@@ -12,50 +11,26 @@ use Rattle.headline.proofs.Ending.{histories, says}
 abbrev over : Streams → List Item → History
 over base items = record { base = base; items = items }
 
-is_one_of : (r : Reply) → is_refusal r ≡ true → (r ≡ NoRoom) ⊎ (r ≡ Unavailable)
-is_one_of NoRoom e = inl (λ i. NoRoom)
-is_one_of Unavailable e = inr (λ i. Unavailable)
-is_one_of reply e = absurd (false≢true e)
+refused : (h : History) (ask : Ask) (r : Reply) → is_refusal r ≡ true → meaning (then_step h ask r) ≡ meaning h
+refused h ask NoRoom e = meaning-NoRoom h ask
+refused h ask Unavailable e = meaning-Unavailable h ask
+refused h ask r e = absurd (false≢true e)
 
 module _ (terms : Terms) (base : Streams) where
-  -- two histories that are within their limits and mean the same
-  record AreAlike (items : List Item) (h : History) : Type 0 where
-    pub first : IsWithin terms.limits (over base items)
-    pub second : IsWithin terms.limits h
-    pub alike : meaning (over base items) ≡ meaning h
-
-  refused : (done : List Item) (h : History) (s : Step) → AreAlike done h → is_refusal s.reply ≡ true → AreAlike (done ++ Answered s ∷ []) h
-  refused done h s a e = ⊎_elim
-      (λ (r : s.reply ≡ NoRoom). record {
-        first = subst (λ (x : Reply). IsWithin terms.limits (then_step (over base done) s.ask x)) (sym r) (within-NoRoom terms.limits (over base done) s.ask a.first);
-        second = a.second;
-        alike = ap (λ (x : Reply). meaning (then_step (over base done) s.ask x)) r ∙ meaning-NoRoom (over base done) s.ask ∙ a.alike;
-      })
-      (λ (r : s.reply ≡ Unavailable). record {
-        first = subst (λ (x : Reply). IsWithin terms.limits (then_step (over base done) s.ask x)) (sym r) (within-Unavailable terms.limits (over base done) s.ask a.first);
-        second = a.second;
-        alike = ap (λ (x : Reply). meaning (then_step (over base done) s.ask x)) r ∙ meaning-Unavailable (over base done) s.ask ∙ a.alike;
-      })
-      (is_one_of s.reply e)
-
-  answered : (done : List Item) (h : History) (s : Step) → AreAlike done h → s.reply ≡ reply_to terms (over base done) s.ask.call → is_refusal s.reply ≡ false → AreAlike (done ++ Answered s ∷ []) (then_step h s.ask (answer terms.limits h s.ask.call))
+  answered : (done : List Item) (h : History) (s : Step) → meaning (over base done) ≡ meaning h → s.reply ≡ reply_to terms (over base done) s.ask.call → is_refusal s.reply ≡ false → meaning (over base (done ++ Answered s ∷ [])) ≡ meaning (then_step h s.ask (answer terms.limits h s.ask.call))
   answered done h s a due e =
       let r : s.reply ≡ answer terms.limits (over base done) s.ask.call = not_refused _ _ s.reply (answer terms.limits (over base done) s.ask.call) due e in
-      record {
-        first = subst (λ (x : Reply). IsWithin terms.limits (then_step (over base done) s.ask x)) (sym r) (within-answer terms.limits (over base done) s.ask a.first);
-        second = within-answer terms.limits h s.ask a.second;
-        alike = ap (λ (x : Reply). meaning (then_step (over base done) s.ask x)) r ∙ meaning-answered terms.limits (over base done) s.ask
-            ∙ equal_after terms.limits (over base done) h s.ask.call a.first a.second a.alike ∙ sym (meaning-answered terms.limits h s.ask);
-      }
+      ap (λ (x : Reply). meaning (then_step (over base done) s.ask x)) r ∙ meaning-answered terms.limits (over base done) s.ask
+      ∙ equal_after terms.limits (over base done) h s.ask.call a ∙ sym (meaning-answered terms.limits h s.ask)
 
   -- a legal history means what its answered calls mean, each with its answer
-  plain : (done items : List Item) (h : History) → IsLegal terms (over base (done ++ items)) → AreAlike done h → meaning (over base (done ++ items)) ≡ meaning (answered_to terms.limits h (answered_in items))
-  plain done [] h legal a = ap (λ l. meaning (over base l)) (append-nil done) ∙ a.alike
+  plain : (done items : List Item) (h : History) → IsLegal terms (over base (done ++ items)) → meaning (over base done) ≡ meaning h → meaning (over base (done ++ items)) ≡ meaning (answered_to terms.limits h (answered_in items))
+  plain done [] h legal a = ap (λ l. meaning (over base l)) (append-nil done) ∙ a
   plain done (Failed doubt ∷ items) h legal a =
       let same : (done ++ Failed doubt ∷ []) ++ items ≡ done ++ Failed doubt ∷ items = append_assoc done (Failed doubt ∷ []) items in
       ap (λ l. meaning (over base l)) (sym same)
       ∙ plain (done ++ Failed doubt ∷ []) items h (subst (λ l. IsLegal terms (over base l)) (sym same) legal)
-      (record { first = within-Failed terms.limits (over base done) doubt a.first; second = a.second; alike = meaning-Failed (over base done) doubt ∙ a.alike })
+      (meaning-Failed (over base done) doubt ∙ a)
   plain done (Answered s ∷ items) h legal a =
       let same : (done ++ Answered s ∷ []) ++ items ≡ done ++ Answered s ∷ items = append_assoc done (Answered s ∷ []) items in
       let here : IsLegal terms (over base ((done ++ Answered s ∷ []) ++ items)) = subst (λ l. IsLegal terms (over base l)) (sym same) legal in
@@ -63,7 +38,7 @@ module _ (terms : Terms) (base : Streams) where
       ⊎_elim
       (λ (e : is_refusal s.reply ≡ true).
       ap (λ l. meaning (over base l)) (sym same)
-      ∙ plain (done ++ Answered s ∷ []) items h here (refused done h s a e)
+      ∙ plain (done ++ Answered s ∷ []) items h here (refused (over base done) s.ask s.reply e ∙ a)
       ∙ ap (λ b. meaning (answered_to terms.limits h (cond b (answered_in items) (s.ask ∷ answered_in items)))) (sym e))
       (λ (e : is_refusal s.reply ≡ false).
       ap (λ l. meaning (over base l)) (sym same)
@@ -72,11 +47,11 @@ module _ (terms : Terms) (base : Streams) where
       (cases_Bool (is_refusal s.reply))
 
   -- and so with calls in doubt after it
-  pub plain_more : (items : List Item) (more : List Ask) (h : History) → IsLegal terms (over base items) → IsWithin terms.limits h → meaning h ≡ base → meaning (answered_to terms.limits (over base items) more) ≡ meaning (answered_to terms.limits h (answered_in items ++ more))
-  plain_more items more h legal within is =
+  pub plain_more : (items : List Item) (more : List Ask) (h : History) → IsLegal terms (over base items) → meaning h ≡ base → meaning (answered_to terms.limits (over base items) more) ≡ meaning (answered_to terms.limits h (answered_in items ++ more))
+  plain_more items more h legal is =
       let same : meaning (over base items) ≡ meaning (answered_to terms.limits h (answered_in items)) =
-      plain [] items h legal (record { first = within-nothing terms.limits base; second = within; alike = meaning-nothing base ∙ sym is }) in
-      meaning-answered_to terms.limits (over base items) (answered_to terms.limits h (answered_in items)) more (legal-within terms (over base items) legal) (within-answered_to terms.limits h (answered_in items) within) same
+      plain [] items h legal (meaning-nothing base ∙ sym is) in
+      meaning-answered_to terms.limits (over base items) (answered_to terms.limits h (answered_in items)) more same
       ∙ ap meaning (sym (answered_to-append terms.limits h (answered_in items) more))
 
 joined : (limits : Limits) (h : History) (calls rest : List Ask) → meaning (answered_to limits (answered_to limits h calls) rest) ≡ meaning (answered_to limits h (calls ++ rest))
@@ -125,13 +100,13 @@ module _ {D : Type 0} (sight : D → Sight) (follows : D → Type 0) (only_now :
     pub state_is : state ≡ meaning (answered_to limits h (answered_in part.beginning ++ part.more))
 
   one_more : (limits : Limits) (k : ℕ) (e : Life D) (history : ℕ → List Item) (h : History) (state : Streams) → IsHeadlineOf sight follows e history → k < e.opening.about.shards
-      → e.opening.about.limits ≡ limits → IsWithin limits h → meaning h ≡ base_at e.opening.about k → MayBeReplayed sight follows e.ends k state → IsOneMore limits k e history h state
-  one_more limits k e history h state says lt same within base replay =
+      → e.opening.about.limits ≡ limits → meaning h ≡ base_at e.opening.about k → MayBeReplayed sight follows e.ends k state → IsOneMore limits k e history h state
+  one_more limits k e history h state says lt same base replay =
       let about : About = e.opening.about in
       let r : IsReplay about e.threads k (history k) (writing_in e.ends history k) state = says.whatever_crash_comes k lt state replay in
       let legal : IsLegalAt about k r.beginning = legal_front about k r.beginning (history k) r.a_beginning_of_that_history (says.each_shards_calls k lt).0 in
       let its : meaning (answered_to about.limits (history_of about k r.beginning) r.more) ≡ meaning (answered_to about.limits h (answered_in r.beginning ++ r.more)) =
-      plain_more (terms_of about k) (base_at about k) r.beginning r.more h legal.is (subst (λ (l : Limits). IsWithin l h) (sym same) within) base in
+      plain_more (terms_of about k) (base_at about k) r.beginning r.more h legal.is base in
       record {
         part = record { beginning = r.beginning; more = r.more };
         is_part = part_of e k history state r;
@@ -144,26 +119,26 @@ module _ {D : Type 0} (sight : D → Sight) (follows : D → Type 0) (only_now :
     pub parts_are : AreParts k lives hs parts
     pub state_is : state ≡ meaning (answered_to limits h (calls_found parts))
 
-  tells : (n : ℕ) (limits : Limits) (k : ℕ) (lives : List (Life D)) (hs : List (ℕ → List Item)) (h : History) (state : Streams) → AreLives sight follows n limits lives → AreHeadlines sight follows lives hs → k < n → IsWithin limits h → meaning h ≡ base_in k lives state
+  tells : (n : ℕ) (limits : Limits) (k : ℕ) (lives : List (Life D)) (hs : List (ℕ → List Item)) (h : History) (state : Streams) → AreLives sight follows n limits lives → AreHeadlines sight follows lives hs → k < n → meaning h ≡ base_in k lives state
       → IsFoundLast sight follows lives k state → IsTold limits k lives hs h state
-  tells n limits k [] hs h state are says lt within base found = absurd found
-  tells n limits k (e ∷ []) [] h state are says lt within base found = absurd says
-  tells n limits k (e ∷ []) (x ∷ y ∷ hs) h state are says lt within base found = absurd says.1
-  tells n limits k (e ∷ []) (x ∷ []) h state are says lt within base found =
+  tells n limits k [] hs h state are says lt base found = absurd found
+  tells n limits k (e ∷ []) [] h state are says lt base found = absurd says
+  tells n limits k (e ∷ []) (x ∷ y ∷ hs) h state are says lt base found = absurd says.1
+  tells n limits k (e ∷ []) (x ∷ []) h state are says lt base found =
       let here : k < e.opening.about.shards = let s = are.0.shards in let c = are.1 in omega arith in
-      let one = one_more limits k e x h state says.0 here are.2 within base found in
+      let one = one_more limits k e x h state says.0 here are.2 base found in
       record {
         parts = one.part ∷ [];
         parts_are = (one.is_part, tt);
         state_is = one.state_is ∙ alone limits h (answered_in one.part.beginning ++ one.part.more);
       }
-  tells n limits k (e ∷ f ∷ lives) [] h state are says lt within base found = absurd says
-  tells n limits k (e ∷ f ∷ lives) (x ∷ hs) h state are says lt within base found =
+  tells n limits k (e ∷ f ∷ lives) [] h state are says lt base found = absurd says
+  tells n limits k (e ∷ f ∷ lives) (x ∷ hs) h state are says lt base found =
       let here : k < e.opening.about.shards = let s = are.0.shards in let c = are.1 in omega arith in
       let there : k < length f.given = let c = are.4.1 in omega arith in
-      let one = one_more limits k e x h (base_at f.opening.about k) says.0 here are.2 within base (next_base e f k are.4.0 are.3 there) in
+      let one = one_more limits k e x h (base_at f.opening.about k) says.0 here are.2 base (next_base e f k are.4.0 are.3 there) in
       let calls : List Ask = answered_in one.part.beginning ++ one.part.more in
-      let more = tells n limits k (f ∷ lives) hs (answered_to limits h calls) state are.4 says.1 lt (within-answered_to limits h calls within) (sym one.state_is) found in
+      let more = tells n limits k (f ∷ lives) hs (answered_to limits h calls) state are.4 says.1 lt (sym one.state_is) found in
       record {
         parts = one.part ∷ more.parts;
         parts_are = (one.is_part, more.parts_are);
@@ -187,6 +162,6 @@ module _ {D : Type 0} (sight : D → Sight) (follows : D → Type 0) (only_now :
         each = hs.1;
         whatever_crash_comes = λ k lt state found.
             let base : Streams = base_in k lives state in
-            let told = tells n limits k lives hs.0 (over base []) state are hs.1 lt (within-nothing limits base) (meaning-nothing base) found in
+            let told = tells n limits k lives hs.0 (over base []) state are hs.1 lt (meaning-nothing base) found in
             record { parts = told.parts; parts_are = told.parts_are; the_state_after = told.state_is };
       }

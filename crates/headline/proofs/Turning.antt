@@ -1,8 +1,7 @@
 -- What a crash leaves of a shard between its opening and its end.
 use Rattle.std.proofs.Common.{◌≡◌, ◌⊎◌, ℕ, zero, suc, Bool, true, false, List, [], ◌∷◌, ◌++◌, length, take, drop, refl, sym, ap, ◌∙◌, subst, inl, inr, ⊎_elim, append_assoc, append-nil, arith, Some, None, slice_get, slice_index_or}
 use Rattle.std.proofs.Math.Seq.{take-length, take-nil}
-use Rattle.headline.proofs.Common.{Unavailable, Ask, Item, Answered, Failed, About, Sight, Wal, ShardPlace, Sharded, Opening, meaning, answered_to, is_marked, IsWithin, place_of, Follow, slots, owner, IsOnDisk, Allows, Covers, is_even, Recovers, pair, slots_of, IsLegalAt, IsByPasses, base_at, terms_of, history_of, reply_of, step_of, doubt_of, doubt_or, Booked, history_in, asks_of, fresh_book, MayLeave, IsCommitted, IsMarkedInDoubt, items_with, with_steps, changing_of, marked_by, MayLeaveAll, Turn, AreTogether, IsAlone, IsTurn, Thread, IsMade, Lead, Moment, Between, Within, Stretch, shard_then, calls_with_steps, made_in, writing_then, IsMoment, FollowThen, IsStretch, MayBeLeft, IsLeftThen, cases_Bool, doubt_marked, doubt_unmarked, legal_none}
-use Rattle.accept.proofs.Legal.{legal-within}
+use Rattle.headline.proofs.Common.{Unavailable, Ask, Item, Answered, Failed, About, Sight, Wal, ShardPlace, Sharded, Opening, meaning, answered_to, is_marked, place_of, Follow, slots, owner, IsOnDisk, Allows, Covers, is_even, Recovers, pair, slots_of, IsLegalAt, IsByPasses, base_at, history_of, reply_of, step_of, doubt_of, doubt_or, Booked, history_in, asks_of, fresh_book, MayLeave, IsCommitted, IsMarkedInDoubt, items_with, with_steps, changing_of, marked_by, MayLeaveAll, Turn, AreTogether, IsAlone, IsTurn, Thread, IsMade, Lead, Moment, Between, Within, Stretch, shard_then, calls_with_steps, made_in, writing_then, IsMoment, FollowThen, IsStretch, MayBeLeft, IsLeftThen, cases_Bool, doubt_marked, doubt_unmarked, legal_none}
 use Rattle.accept.proofs.Meanings.{meaning-nothing}
 use Rattle.wal.proofs.OneImage.{settled_covers}
 use Rattle.shard.specs.Keeping.{owner_in, IsAllowed, KeepsHistory}
@@ -57,23 +56,23 @@ allowed_or book asks a b (j, le, found) = ⊎_elim
     (cases_Bool (is_marked book.items))
 
 -- the streams after all calls of a group are those after the calls that it writes
-all_allowed : (book : Booked) (asks : List Ask) (a b : List ℕ) → IsWithin book.about.limits (history_in book) → Recovers (owner_in book) a b (meaning (history_in (with_steps book asks))) → IsAllowed book (doubt_or book.items (changing_of book asks)) a b
-all_allowed book asks a b within found = ⊎_elim
-    (λ (m : is_marked book.items ≡ true). (0, omega arith, subst (Recovers (owner_in book) a b) (failed_means book asks within m) found))
+all_allowed : (book : Booked) (asks : List Ask) (a b : List ℕ) → Recovers (owner_in book) a b (meaning (history_in (with_steps book asks))) → IsAllowed book (doubt_or book.items (changing_of book asks)) a b
+all_allowed book asks a b found = ⊎_elim
+    (λ (m : is_marked book.items ≡ true). (0, omega arith, subst (Recovers (owner_in book) a b) (failed_means book asks m) found))
     (λ (m : is_marked book.items ≡ false).
     let written : List Ask = changing_of book asks in
     let its : IsAllowed book written a b = (
       length written,
       omega arith,
       subst (λ (d : List Ask). Recovers (owner_in book) a b (meaning (answered_to book.about.limits (history_in book) d))) (sym (take-length written))
-          (subst (Recovers (owner_in book) a b) (sym (steps_mean book asks within)) found),
+          (subst (Recovers (owner_in book) a b) (sym (steps_mean book asks)) found),
     ) in
     subst (λ (d : List Ask). IsAllowed book d a b) (sym (doubt_unmarked book.items written m)) its)
     (cases_Bool (is_marked book.items))
 
-group_allowed : (book : Booked) (asks : List Ask) (a b : List ℕ) → IsWithin book.about.limits (history_in book) → MayLeaveAll book asks a b → IsAllowed book (doubt_or book.items (changing_of book asks)) a b
-group_allowed book asks a b within (inl old) = allowed_or book (changing_of book asks) a b old
-group_allowed book asks a b within (inr new) = all_allowed book asks a b within new
+group_allowed : (book : Booked) (asks : List Ask) (a b : List ℕ) → MayLeaveAll book asks a b → IsAllowed book (doubt_or book.items (changing_of book asks)) a b
+group_allowed book asks a b (inl old) = allowed_or book (changing_of book asks) a b old
+group_allowed book asks a b (inr new) = all_allowed book asks a b new
 
 -- a call that goes alone is a group of one
 one_group : (book : Booked) (ask : Ask) (a b : List ℕ) → MayLeave book ask.call a b → MayLeaveAll book (ask ∷ []) a b
@@ -168,17 +167,17 @@ module _ {D : Type 0} (sight : D → Sight) (follows : D → Type 0) (only_now :
       h.applied.step)
 
   -- in the middle of a turn a crash leaves the history before it and a beginning of the calls that it writes
-  within_turn : (about : About) (k : ℕ) (t : Turn D) (a b : List ℕ) → Rests about k t.old → IsMade sight follows t → Follow follows t.new.log → IsWithin t.old.book.about.limits (history_in t.old.book)
+  within_turn : (about : About) (k : ℕ) (t : Turn D) (a b : List ℕ) → Rests about k t.old → IsMade sight follows t → Follow follows t.new.log
       → MayBeLeft sight follows (Within t) a b → IsAllowed t.old.book (writing_then (Within t)) a b
-  within_turn about k t a b r m f within left = by m.turn
+  within_turn about k t a b r m f left = by m.turn
     where
       by : IsTurn sight follows t → IsAllowed t.old.book (writing_then (Within t)) a b
       by (inl h) =
           subst (λ (asks : List Ask). IsAllowed t.old.book (doubt_or t.old.book.items (changing_of t.old.book asks)) a b) (sym (group_makes t h))
-          (group_allowed t.old.book (asks_of h.front) a b within ((h.applied.any_moment f).each a b left.0 left.1))
+          (group_allowed t.old.book (asks_of h.front) a b ((h.applied.any_moment f).each a b left.0 left.1))
       by (inr (inl h)) =
           subst (λ (asks : List Ask). IsAllowed t.old.book (doubt_or t.old.book.items (changing_of t.old.book asks)) a b) (sym (alone_makes t h))
-          (group_allowed t.old.book (h.job.ticket.ask ∷ []) a b within (one_group t.old.book h.job.ticket.ask a b ((h.applied.any_moment f).each a b left.0 left.1)))
+          (group_allowed t.old.book (h.job.ticket.ask ∷ []) a b (one_group t.old.book h.job.ticket.ask a b ((h.applied.any_moment f).each a b left.0 left.1)))
       by (inr (inr h)) =
           let g : Follow follows t.old.log = subst (λ (s : Sharded D). Follow follows s.log) h.same f in
           let there = subst (λ (s : Sharded D). (slots sight s.log).first.left_since (slots sight t.old.log).first.moment a × (slots sight s.log).second.left_since (slots sight t.old.log).second.moment b) h.same left in
@@ -186,13 +185,13 @@ module _ {D : Type 0} (sight : D → Sight) (follows : D → Type 0) (only_now :
           allowed_or t.old.book (changing_of t.old.book (made_in t)) a b (r.covers g a b now.0 now.1)
 
   -- at any moment
-  pub moment_covers : (about : About) (k : ℕ) (m : Moment D) (left : List D) → Rests about k (shard_then m) → IsMoment sight follows m → FollowThen sight follows m → IsWithin (shard_then m).book.about.limits (history_in (shard_then m).book)
+  pub moment_covers : (about : About) (k : ℕ) (m : Moment D) (left : List D) → Rests about k (shard_then m) → IsMoment sight follows m → FollowThen sight follows m
       → IsLeftThen sight follows m left → Covers (place_of k about.shards) about.limits (slots_of sight left) (history_of about k (shard_then m).book.items) (writing_then m)
-  moment_covers about k (Between s) left r is f within l = λ a b x y.
+  moment_covers about k (Between s) left r is f l = λ a b x y.
       let c = l.crash a b x y in
       as_opening about k s.book (doubt_of s.book.items) a b r.about_is r.number (r.covers f a b c.0 c.1)
-  moment_covers about k (Within t) left r is f within l = λ a b x y.
-      as_opening about k t.old.book (writing_then (Within t)) a b r.about_is r.number (within_turn about k t a b r is f within (l.crash a b x y))
+  moment_covers about k (Within t) left r is f l = λ a b x y.
+      as_opening about k t.old.book (writing_then (Within t)) a b r.about_is r.number (within_turn about k t a b r is f (l.crash a b x y))
 
   pub stretch_rests : (opening : Opening D) (threads : List Thread) (count capacity k : ℕ) (st : Stretch D) (is : IsStretch sight follows opening threads k st) → opening.about.shards ≡ count → IsOpenedAt sight follows count capacity k is.opened opening.about.bases → Rests opening.about k (shard_then st.moment)
   stretch_rests opening threads count capacity k st is counted o = lead_rests opening.about k _ (shard_then st.moment) st.turns (start_rests opening count capacity k is.opened counted o) is.turned
@@ -201,8 +200,4 @@ module _ {D : Type 0} (sight : D → Sight) (follows : D → Type 0) (only_now :
       → Covers (place_of k opening.about.shards) opening.about.limits (slots_of sight left) (history_of opening.about k (shard_then st.moment).book.items) (writing_then st.moment)
   stretch_covers opening threads count capacity k st left is counted o l =
       let r = stretch_rests opening threads count capacity k st is counted o in
-      let book : Booked = (shard_then st.moment).book in
-      let legal : IsWithin opening.about.limits (history_of opening.about k book.items) = legal-within (terms_of opening.about k) (history_of opening.about k book.items) r.legal.is in
-      let within : IsWithin book.about.limits (history_in book) =
-      subst (λ (x : About). IsWithin x.limits (history_of x book.shard book.items)) (sym r.about_is) (subst (λ (j : ℕ). IsWithin opening.about.limits (history_of opening.about j book.items)) (sym r.number) legal) in
-      moment_covers opening.about k st.moment left r is.moment is.follow within l
+      moment_covers opening.about k st.moment left r is.moment is.follow l

@@ -3,14 +3,11 @@ use Rattle.std.specs.Prelude.{◌≡◌, ◌≢◌, ◌⊎◌, ℕ, ◌+◌, ◌
 use Rattle.headline.specs.Types.{Streams, Reply, NoRoom, Unavailable, Ask, Step, Item, Answered, History, About, OpenFault}
 use Rattle.accept.specs.Histories.{key_of, answer, meaning, reply_to, answered_to, is_step_of, is_marked}
 use Rattle.accept.specs.OneKey.{only_about}
+pub use Rattle.accept.specs.Lasting.{IsOneOf}
 use Rattle.wal.specs.declared.fault.OpenFault.TheVariants.{Device, Memory}
 use Rattle.history.specs.Histories.{IsBeginning, IsLegalAt, IsByPasses, base_at, terms_of, history_of, shard_in, step_of}
 use Rattle.history.specs.Plays.{seen_at, ask_of, HasStepsOf}
 use Rattle.headline.specs.Threads.{Happening, Thread, AnsweredCall, happened_to, calls_answered_to, calls_made_by}
-
-abbrev pub IsOneOf : {A : Type 0} → A → List A → Type 0
-IsOneOf x [] = ⊥
-IsOneOf x (y ∷ ys) = (x ≡ y) ⊎ IsOneOf x ys
 
 abbrev pub is_refusal : Reply → Bool
 is_refusal NoRoom = true

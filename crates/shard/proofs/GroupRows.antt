@@ -17,7 +17,6 @@ use Rattle.accept.specs.OneStream.{outcomes, image_of}
 use Rattle.accept.specs.Rooms.{segment_bytes, room, room_at}
 use Rattle.accept.specs.Histories.{changes, set_stream}
 use Rattle.accept.specs.Calls.{answer_from, stream_after}
-use Rattle.accept.proofs.Growing.{image_of-nothing, within-nothing}
 use Rattle.accept.proofs.Meanings.{after-set_stream, meaning-nothing}
 use Rattle.accept.proofs.RoomLaws.{room-empty, room-insert}
 use Rattle.history.specs.declared.views.About.{About}
@@ -83,8 +82,8 @@ module _ (table : TableId) where
 
   after_push : after_in empty push.call ≡ finite.insert finite.empty k one
   after_push =
-      after-set_stream limits (history_in empty) push.call (within-nothing limits finite.empty)
-      ∙ (λ i. set_stream (meaning-nothing finite.empty i) k (stream_after ((image_of-nothing (finite.get finite.empty k) ∙ no_base) i) push.call (answer_to_push i)))
+      after-set_stream limits (history_in empty) push.call
+      ∙ (λ i. set_stream (meaning-nothing finite.empty i) k (stream_after (no_base i) push.call (answer_to_push i)))
 
   due_to_push : reply_in empty push.call ≡ Verdict (Stored ∷ [])
   unfolding reply_of
@@ -113,7 +112,7 @@ module _ (table : TableId) where
   due_to_again : reply_in twice again.call ≡ Verdict (Repeat ∷ [])
   unfolding reply_of
   due_to_again =
-      ap (λ s. cond (changes (Verdict (outcomes limits s (x ∷ []) 20 (x ∷ []))) && nat_lt 4096 (room (after_in twice again.call))) NoRoom (Verdict (outcomes limits s (x ∷ []) 20 (x ∷ [])))) no_base
+      ap (λ s. cond (changes (Verdict (outcomes limits (image_of s (x ∷ []) 0) [] 20 (x ∷ []))) && nat_lt 4096 (room (after_in twice again.call))) NoRoom (Verdict (outcomes limits (image_of s (x ∷ []) 0) [] 20 (x ∷ [])))) no_base
 
   -- each is judged after those before it
   replies : dues empty asks ≡ Verdict (Stored ∷ []) ∷ Entries (x ∷ []) ∷ Verdict (Repeat ∷ []) ∷ []

@@ -9,9 +9,8 @@ use Rattle.accept.specs.declared.history.Ask.{Ask}
 use Rattle.accept.specs.declared.history.Item.{Item}
 use Rattle.accept.specs.declared.history.Item.TheVariants.{Answered, Failed}
 use Rattle.accept.specs.Rooms.{Streams, room}
-use Rattle.accept.specs.Histories.{meaning, changes, is_marked, IsWithin, then_step, answered_to}
+use Rattle.accept.specs.Histories.{meaning, changes, is_marked, then_step, answered_to}
 use Rattle.accept.proofs.Meanings.{meaning-answered, meaning-NoRoom, meaning-Unavailable, meaning-Failed, meaning-answered_to}
-use Rattle.accept.proofs.Growing.{within-Failed}
 use Rattle.accept.proofs.Unchanged.{after-unchanged}
 use Rattle.wal.specs.Recovery.{Recovers, IsEither}
 use Rattle.wal.specs.Moments.{Pair}
@@ -22,7 +21,8 @@ use Rattle.shard.specs.Keeping.{owner_in, KeepsHistory}
 use Rattle.shard.specs.Calls.{answer_in, after_in, reply_in, NeedsWrite, IsMarkedInDoubt, MayLeave}
 use Rattle.shard.specs.Groups.{with_step, with_steps, changing_of, HaveStepsOr, AreInTurn, marked_by, AreMarkedInDoubt, MayLeaveAll}
 use Rattle.shard.proofs.Growing.{doubt_step, doubt_mark}
-use Rattle.shard.proofs.Replies.{due_written, due_marked, within_due}
+use Rattle.shard.proofs.Replies.{due_written, due_marked}
+use Rattle.shard.proofs.Shards.{keeps_alike}
 
 -- of the three replies
 which : (marked full : Bool) (r : Reply)
@@ -56,44 +56,36 @@ changes_writes book call e =
 pub writes_changes : (book : Booked) (call : Call) → NeedsWrite book call → changes (reply_in book call) ≡ true
 writes_changes book call w = ap changes (sym (due_written book call w)) ∙ w.changing
 
--- a step keeps the history within its limits
-pub within_step : (book : Booked) (ask : Ask) → IsWithin book.about.limits (history_in book) → IsWithin book.about.limits (history_in (with_step book ask))
-within_step book ask within = within_due book ask (reply_in book ask.call) refl within
-
 -- what a step of a call that writes, and of one that doesn't, makes of the meaning
 pub step_written : (book : Booked) (ask : Ask) → NeedsWrite book ask.call → meaning (history_in (with_step book ask)) ≡ after_in book ask.call
 step_written book ask w =
     ap (λ (r : Reply). meaning (then_step (history_in book) ask r)) (sym (due_written book ask.call w)) ∙ meaning-answered book.about.limits (history_in book) ask
 
-pub step_same : (book : Booked) (ask : Ask) → IsWithin book.about.limits (history_in book) → changes (reply_in book ask.call) ≡ false → meaning (history_in (with_step book ask)) ≡ meaning (history_in book)
-step_same book ask within same =
+pub step_same : (book : Booked) (ask : Ask) → changes (reply_in book ask.call) ≡ false → meaning (history_in (with_step book ask)) ≡ meaning (history_in book)
+step_same book ask same =
     elim (which_due book ask.call) [
       | inl e ↦ ap (λ (r : Reply). meaning (then_step (history_in book) ask r)) e ∙ meaning-Unavailable (history_in book) ask
       | inr (inl e) ↦ ap (λ (r : Reply). meaning (then_step (history_in book) ask r)) e ∙ meaning-NoRoom (history_in book) ask
       | inr (inr e) ↦ ap (λ (r : Reply). meaning (then_step (history_in book) ask r)) e
-          ∙ (meaning-answered book.about.limits (history_in book) ask ∙ after-unchanged book.about.limits (history_in book) ask.call within (ap changes (sym e) ∙ same))
+          ∙ (meaning-answered book.about.limits (history_in book) ask ∙ after-unchanged book.about.limits (history_in book) ask.call (ap changes (sym e) ∙ same))
     ]
 
 -- the calls that change something, each with its answer, lead to what all steps mean
-pub steps_mean : (book : Booked) (asks : List Ask) → IsWithin book.about.limits (history_in book)
+pub steps_mean : (book : Booked) (asks : List Ask)
     → meaning (answered_to book.about.limits (history_in book) (changing_of book asks)) ≡ meaning (history_in (with_steps book asks))
-steps_mean book [] within = refl
-steps_mean book (a ∷ asks) within =
+steps_mean book [] = refl
+steps_mean book (a ∷ asks) =
     let limits = book.about.limits in
     let h = history_in book in
     let next = with_step book a in
     let rest = changing_of next asks in
-    let then : meaning (answered_to limits (history_in next) rest) ≡ meaning (history_in (with_steps next asks)) = steps_mean next asks (within_step book a within) in
+    let then : meaning (answered_to limits (history_in next) rest) ≡ meaning (history_in (with_steps next asks)) = steps_mean next asks in
     elim (changes (reply_in book a.call)) as (λ b. changes (reply_in book a.call) ≡ b → meaning (answered_to limits h (cond b (a ∷ rest) rest)) ≡ meaning (history_in (with_steps next asks))) [
       | true ↦ λ e. ap (λ (r : Reply). meaning (answered_to limits (then_step h a r) rest)) (due_written book a.call (changes_writes book a.call e)) ∙ then
-      | false ↦ λ e. meaning-answered_to limits h (history_in next) rest within (within_step book a within) (sym (step_same book a within e)) ∙ then
+      | false ↦ λ e. meaning-answered_to limits h (history_in next) rest (sym (step_same book a e)) ∙ then
     ] refl
 
--- steps keep the history within its limits, the mark and the doubt
-pub within_steps : (book : Booked) (asks : List Ask) → IsWithin book.about.limits (history_in book) → IsWithin book.about.limits (history_in (with_steps book asks))
-within_steps book [] within = within
-within_steps book (a ∷ asks) within = within_steps (with_step book a) asks (within_step book a within)
-
+-- steps keep the mark and the doubt
 pub steps_marked : (book : Booked) (asks : List Ask) → is_marked (with_steps book asks).items ≡ is_marked book.items
 steps_marked book [] = refl
 steps_marked book (a ∷ asks) = steps_marked (with_step book a) asks ∙ marked_step book.items (step_of a (reply_in book a.call))
@@ -109,42 +101,36 @@ marked_after book ask marked = marked_step book.items (step_of ask (reply_in boo
 still_after : (book : Booked) (ask : Ask) → is_marked book.items ≡ true → changes (reply_in book ask.call) ≡ false
 still_after book ask marked = ap changes (sym (due_marked book ask.call marked))
 
-pub failed_means : (book : Booked) (asks : List Ask) → IsWithin book.about.limits (history_in book) → is_marked book.items ≡ true → meaning (history_in (with_steps book asks)) ≡ meaning (history_in book)
-failed_means book [] within marked = refl
-failed_means book (a ∷ asks) within marked =
-    failed_means (with_step book a) asks (within_step book a within) (marked_after book a marked) ∙ step_same book a within (still_after book a marked)
+pub failed_means : (book : Booked) (asks : List Ask) → is_marked book.items ≡ true → meaning (history_in (with_steps book asks)) ≡ meaning (history_in book)
+failed_means book [] marked = refl
+failed_means book (a ∷ asks) marked =
+    failed_means (with_step book a) asks (marked_after book a marked) ∙ step_same book a (still_after book a marked)
 
 -- what is kept of all steps is kept of none of them, with those that change something in doubt: so the doubt shrinks by one at each
-pub rest_kept : (now : Pair) (book : Booked) (asks : List Ask) → IsWithin book.about.limits (history_in book) → is_marked book.items ≡ false
+pub rest_kept : (now : Pair) (book : Booked) (asks : List Ask) → is_marked book.items ≡ false
     → KeepsHistory now (with_steps book asks) [] → KeepsHistory now book (changing_of book asks)
-rest_kept now book asks within unmarked keeps a b x y =
+rest_kept now book asks unmarked keeps a b x y =
     let all = changing_of book asks in
     let last = history_in (with_steps book asks) in
     let limits = book.about.limits in
     let k = keeps a b x y in
     let same : meaning (answered_to limits last (take k.0 [])) ≡ meaning (answered_to limits (history_in book) (take (length all) all)) =
-    ap (λ (l : List Ask). meaning (answered_to limits last l)) (take-nil k.0) ∙ sym (steps_mean book asks within)
+    ap (λ (l : List Ask). meaning (answered_to limits last l)) (take-nil k.0) ∙ sym (steps_mean book asks)
     ∙ ap (λ (l : List Ask). meaning (answered_to limits (history_in book) l)) (sym (take-length all)) in
     (length all, omega arith, subst (λ (m : Streams). Recovers (owner_in book) a b m) same k.2)
 
 -- after a mark it is kept with the mark's list
-pub marked_kept : (now : Pair) (book : Booked) (asks doubt : List Ask) → IsWithin book.about.limits (history_in book) → is_marked book.items ≡ true
+pub marked_kept : (now : Pair) (book : Booked) (asks doubt : List Ask) → is_marked book.items ≡ true
     → KeepsHistory now (with_steps book asks) doubt → KeepsHistory now book doubt
-marked_kept now book asks doubt within marked keeps a b x y =
-    let k = keeps a b x y in (
-      k.0,
-      k.1,
-      subst (λ (m : Streams). Recovers (owner_in book) a b m)
-          (meaning-answered_to book.about.limits (history_in (with_steps book asks)) (history_in book) (take k.0 doubt) (within_steps book asks within) within (failed_means book asks within marked)) k.2,
-    )
+marked_kept now book asks doubt marked keeps = keeps_alike now (owner_in book) book.about.limits (history_in (with_steps book asks)) (history_in book) doubt (failed_means book asks marked) keeps
 
-pub part_kept : (now : Pair) (book : Booked) (asks : List Ask) → IsWithin book.about.limits (history_in book)
+pub part_kept : (now : Pair) (book : Booked) (asks : List Ask)
     → KeepsHistory now (with_steps book asks) (doubt_of book.items) → KeepsHistory now book (doubt_or book.items (changing_of book asks))
-part_kept now book asks within keeps =
+part_kept now book asks keeps =
     elim (is_marked book.items) as (λ b. is_marked book.items ≡ b → KeepsHistory now book (doubt_or book.items (changing_of book asks))) [
-      | true ↦ λ e. subst (λ (d : List Ask). KeepsHistory now book d) (sym (doubt_marked book.items (changing_of book asks) e)) (marked_kept now book asks (doubt_of book.items) within e keeps)
+      | true ↦ λ e. subst (λ (d : List Ask). KeepsHistory now book d) (sym (doubt_marked book.items (changing_of book asks) e)) (marked_kept now book asks (doubt_of book.items) e keeps)
       | false ↦ λ e. subst (λ (d : List Ask). KeepsHistory now book d) (sym (doubt_unmarked book.items (changing_of book asks) e))
-          (rest_kept now book asks within e (subst (λ (d : List Ask). KeepsHistory now (with_steps book asks) d) (doubt_unmarked book.items [] e) keeps))
+          (rest_kept now book asks e (subst (λ (d : List Ask). KeepsHistory now (with_steps book asks) d) (doubt_unmarked book.items [] e) keeps))
     ] refl
 
 -- after a failure the calls that change something are in doubt
@@ -152,10 +138,10 @@ pub failed_doubt : (book : Booked) (asks : List Ask) → is_marked book.items �
 failed_doubt book asks unmarked = steps_doubt (marked_by book asks) asks ∙ doubt_mark book.items (changing_of book asks) unmarked
 
 -- the old streams or the new: the history with the mark, or with all calls in doubt after it
-pub failed_allows : (now : Pair) (book : Booked) (asks : List Ask) → IsWithin book.about.limits (history_in book)
+pub failed_allows : (now : Pair) (book : Booked) (asks : List Ask)
     → ((a b : List ℕ) → now.first.may_leave a → now.second.may_leave b → IsEither (owner_in book) (meaning (history_in book)) (meaning (history_in (with_steps book asks))) a b)
     → KeepsHistory now (marked_by book asks) (changing_of book asks)
-failed_allows now book asks within either a b x y =
+failed_allows now book asks either a b x y =
     let all = changing_of book asks in
     let h = history_in book in
     let g = history_in (marked_by book asks) in
@@ -163,7 +149,7 @@ failed_allows now book asks within either a b x y =
     let still : meaning g ≡ meaning h = meaning-Failed h all in
     let next : meaning (answered_to limits g (take (length all) all)) ≡ meaning (history_in (with_steps book asks)) =
     ap (λ (l : List Ask). meaning (answered_to limits g l)) (take-length all)
-    ∙ (meaning-answered_to limits g h all (within-Failed limits h all within) within still ∙ steps_mean book asks within) in
+    ∙ (meaning-answered_to limits g h all still ∙ steps_mean book asks) in
     elim (either a b x y) [
       | inl old ↦ (0, omega arith, subst (λ (m : Streams). Recovers (owner_in book) a b m) (sym still) old)
       | inr new ↦ (length all, omega arith, subst (λ (m : Streams). Recovers (owner_in book) a b m) (sym next) new)
@@ -192,14 +178,14 @@ one_lost old new book ticket behind reply writes lost = record {
 }
 
 -- and a crash leaves of it what it may leave of the call
-pub one_may_leave : (book : Booked) (ask : Ask) (a b : List ℕ) → IsWithin book.about.limits (history_in book) → MayLeaveAll book (ask ∷ []) a b → MayLeave book ask.call a b
-one_may_leave book ask a b within (inl allowed) = inl allowed
-one_may_leave book ask a b within (inr recovers) =
+pub one_may_leave : (book : Booked) (ask : Ask) (a b : List ℕ) → MayLeaveAll book (ask ∷ []) a b → MayLeave book ask.call a b
+one_may_leave book ask a b (inl allowed) = inl allowed
+one_may_leave book ask a b (inr recovers) =
     elim (changes (reply_in book ask.call)) as (λ c. changes (reply_in book ask.call) ≡ c → MayLeave book ask.call a b) [
       | true ↦ λ e.
           let writes = changes_writes book ask.call e in
           inr (writes, subst (λ (m : Streams). Recovers (owner_in book) a b m) (step_written book ask writes) recovers)
-      | false ↦ λ e. inl (0, omega arith, subst (λ (m : Streams). Recovers (owner_in book) a b m) (step_same book ask within e) recovers)
+      | false ↦ λ e. inl (0, omega arith, subst (λ (m : Streams). Recovers (owner_in book) a b m) (step_same book ask e) recovers)
     ] refl
 
 -- Turns.

@@ -61,7 +61,7 @@ module _ {D : Type 0} (sight : D → Sight) (follows : D → Type 0) (p : Parts 
   first_quiet : (r : Reply) → j.ticket.ask.call ≡ j.call → IsUnchanged p.limits p.log.wal.cap p.states.streams j.call r → group.judged.items ≡ [] → NeedsWrite p.book j.call → ⊥
   first_quiet r same unchanged none writes =
       let s = as_shard none in
-      (no_change p.book p.limits p.states.streams p.log.wal.cap j.ticket.ask r s.same_limits s.within (s.means refl) (sym s.marked) s.same_capacity
+      (no_change p.book p.limits p.states.streams p.log.wal.cap j.ticket.ask r s.same_limits (s.means refl) (sym s.marked) s.same_capacity
       (subst (λ (k : Call). IsUnchanged p.limits p.log.wal.cap p.states.streams k r) (sym same) unchanged)).quiet (subst (λ (k : Call). NeedsWrite p.book k) (sym same) writes)
 
   -- one whose record is in the block fits after the segment in use
@@ -69,7 +69,7 @@ module _ {D : Type 0} (sight : D → Sight) (follows : D → Type 0) (p : Parts 
   first_fits new r joined none =
       let s = as_shard none in
       let no_ts = matched_none group.judged.items group.changing.items g.matched none in
-      let stands = stands_in p.book p.limits p.states.streams j.call s.same_limits s.within (s.means refl) in
+      let stands = stands_in p.book p.limits p.states.streams j.call s.same_limits (s.means refl) in
       let its = its_change p.limits p.states.streams j.call joined.changing in
       let sized : block_length (change_of j.call (answer_of p.limits p.states.streams j.call)) ≡ length p.buffer.items + length (record_text latest its.0) =
       ap block_length its.1 ∙ one_long its.0 p.buffer.items g.records (g.as_many ∙ ap length no_ts) g.block_is.is_open in

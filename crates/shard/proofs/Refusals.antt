@@ -26,7 +26,7 @@ use Rattle.shard.specs.Jobs.{max_turn, tickets_of, jobs_by, jobs_but}
 use Rattle.shard.specs.Parts.{seen_of, ArePartsOf}
 use Rattle.shard.specs.Turns.{AreApplied, AreTogether, given_back_of, AreReady}
 use Rattle.shard.proofs.Slots.{IsClocked, no_time, none_yet}
-use Rattle.shard.proofs.Replies.{within_due, refused_after}
+use Rattle.shard.proofs.Replies.{refused_after}
 use Rattle.shard.proofs.Shards.{shard_answered, kept_step}
 use Rattle.shard.proofs.Applied.{since_now}
 use Rattle.shard.proofs.Groups.{turn_first}
@@ -157,7 +157,7 @@ pub refused_shard : {D : Type 0} (sight : D → Sight) (follows : D → Type 0) 
     → IsShard sight follows log book opened states flag limits → flag ≡ true → IsShard sight follows log (longer book (Answered (step_of ask Unavailable))) opened states flag limits
 refused_shard sight follows log book opened states flag limits ask s marked =
     let none = refused_after book ask Unavailable (sym s.marked ∙ marked) refl in
-    shard_answered sight follows log book opened states flag limits ask Unavailable s none.same (within_due book ask Unavailable none.due s.within)
+    shard_answered sight follows log book opened states flag limits ask Unavailable s none.same
 
 pub refused_kept : {D : Type 0} (sight : D → Sight) (follows : D → Type 0) (log : Wal D) (book : Booked) (opened : Wal D) (states : Mapped) (flag : Bool) (limits : Limits) (ask : Ask)
     → IsShard sight follows log book opened states flag limits → flag ≡ true → Follow follows log → KeepsHistory (slots sight log) (longer book (Answered (step_of ask Unavailable))) (doubt_of book.items)

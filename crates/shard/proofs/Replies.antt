@@ -8,14 +8,13 @@ use Rattle.accept.specs.declared.call.Reply.TheVariants.{NoRoom, Unavailable}
 use Rattle.accept.specs.declared.history.Ask.{Ask}
 use Rattle.accept.specs.declared.history.Item.TheVariants.{Answered}
 use Rattle.accept.specs.Rooms.{Streams, room}
-use Rattle.accept.specs.Histories.{key_of, meaning, changes, is_marked, IsWithin, then_step}
+use Rattle.accept.specs.Histories.{key_of, meaning, changes, is_marked, then_step}
 use Rattle.accept.proofs.Maps.{stands}
 use Rattle.accept.proofs.Meanings.{meaning-answered, meaning-NoRoom, meaning-Unavailable}
-use Rattle.accept.proofs.Legal.{within-reply_to}
 use Rattle.accept.proofs.Unchanged.{after-unchanged, changes-same}
 use Rattle.segment.specs.Spelling.{IsHere}
 use Rattle.history.specs.Shards.{shard_of}
-use Rattle.history.specs.Histories.{terms_of, reply_of, shard_in, step_of}
+use Rattle.history.specs.Histories.{reply_of, shard_in, step_of}
 use Rattle.history.specs.Handles.{Booked, history_in, longer}
 use Rattle.history.proofs.Books.{refuses}
 use Rattle.shard.specs.Keeping.{owner_in}
@@ -60,31 +59,25 @@ due_full book call unmarked changing full = sym (refused (is_marked book.items) 
 pub due_marked : (book : Booked) (call : Call) → is_marked book.items ≡ true → Unavailable ≡ reply_in book call
 due_marked book call marked = sym (refuses book.about book.shard book.items call marked)
 
--- the reply that is due leaves nothing trimmed above the oldest time of its stream
-pub within_due : (book : Booked) (ask : Ask) (reply : Reply) → reply ≡ reply_in book ask.call → IsWithin book.about.limits (history_in book) → IsWithin book.about.limits (history_in (longer book (Answered (step_of ask reply))))
-unfolding reply_of
-within_due book ask reply due within =
-    subst (λ (r : Reply). IsWithin book.about.limits (then_step (history_in book) ask r)) (sym due) (within-reply_to (terms_of book.about book.shard) (history_in book) ask within)
-
 -- a call that writes is none that is refused or changes nothing
-pub writes_not_quiet : (book : Booked) (call : Call) → IsWithin book.about.limits (history_in book) → NeedsWrite book call → IsQuiet book call → ⊥
-writes_not_quiet book call within w (inl e) =
+pub writes_not_quiet : (book : Booked) (call : Call) → NeedsWrite book call → IsQuiet book call → ⊥
+writes_not_quiet book call w (inl e) =
     let f : changes Unavailable ≡ true = ap changes (sym (due_written book call w ∙ e)) ∙ w.changing in
     absurd (cc)
-writes_not_quiet book call within w (inr (inl e)) =
+writes_not_quiet book call w (inr (inl e)) =
     let f : changes NoRoom ≡ true = ap changes (sym (due_written book call w ∙ e)) ∙ w.changing in
     absurd (cc)
-writes_not_quiet book call within w (inr (inr e)) =
-    let f : changes (answer_in book call) ≡ false = changes-same book.about.limits (history_in book) call within e in
+writes_not_quiet book call w (inr (inr e)) =
+    let f : changes (answer_in book call) ≡ false = changes-same book.about.limits (history_in book) call e in
     let h : changes (answer_in book call) ≡ true = w.changing in
     absurd (cc)
 
 -- a map that stands for the history answers as it does, and goes on to what it then means
-pub stands_in : (book : Booked) (limits : Limits) (m : Streams) (call : Call) → limits ≡ book.about.limits → IsWithin book.about.limits (history_in book) → meaning (history_in book) ≡ m
+pub stands_in : (book : Booked) (limits : Limits) (m : Streams) (call : Call) → limits ≡ book.about.limits → meaning (history_in book) ≡ m
     → (answer_of limits m call ≡ answer_in book call) × (after_of limits m call ≡ after_in book call)
-stands_in book limits m call same within means =
+stands_in book limits m call same means =
     subst (λ (l : Limits). (answer_of l m call ≡ answer_in book call) × (after_of l m call ≡ after_in book call)) (sym same)
-    (stands book.about.limits (history_in book) call m (after_of book.about.limits m call) (answer_of book.about.limits m call) within means refl refl)
+    (stands book.about.limits (history_in book) call m (after_of book.about.limits m call) (answer_of book.about.limits m call) means refl refl)
 
 -- what a call that writes nothing is to the book
 pub record IsNoChange (book : Booked) (ask : Ask) (reply : Reply) : Type 0 where
@@ -92,10 +85,10 @@ pub record IsNoChange (book : Booked) (ask : Ask) (reply : Reply) : Type 0 where
   pub same : meaning (history_in (longer book (Answered (step_of ask reply)))) ≡ meaning (history_in book)
   pub quiet : ¬ NeedsWrite book ask.call
 
-pub no_change : (book : Booked) (limits : Limits) (m : Streams) (cap : ℕ) (ask : Ask) (reply : Reply) → limits ≡ book.about.limits → IsWithin book.about.limits (history_in book) → meaning (history_in book) ≡ m
+pub no_change : (book : Booked) (limits : Limits) (m : Streams) (cap : ℕ) (ask : Ask) (reply : Reply) → limits ≡ book.about.limits → meaning (history_in book) ≡ m
     → is_marked book.items ≡ false → cap ≡ book.about.capacity → IsUnchanged limits cap m ask.call reply → IsNoChange book ask reply
-no_change book limits m cap ask reply same within means unmarked caps u =
-    let s = stands_in book limits m ask.call same within means in
+no_change book limits m cap ask reply same means unmarked caps u =
+    let s = stands_in book limits m ask.call same means in
     elim u.why [
       | inl why ↦ no_change-same s why
       | inr why ↦ no_change-full s why
@@ -107,7 +100,7 @@ no_change book limits m cap ask reply same within means unmarked caps u =
         let is : reply ≡ answer_in book ask.call = why.1 ∙ s.0 in
         record {
           due = is ∙ due_unchanged book ask.call unmarked still;
-          same = ap (λ (r : Reply). meaning (then_step (history_in book) ask r)) is ∙ (meaning-answered book.about.limits (history_in book) ask ∙ after-unchanged book.about.limits (history_in book) ask.call within still);
+          same = ap (λ (r : Reply). meaning (then_step (history_in book) ask r)) is ∙ (meaning-answered book.about.limits (history_in book) ask ∙ after-unchanged book.about.limits (history_in book) ask.call still);
           quiet = λ (w : NeedsWrite book ask.call). let h : changes (answer_in book ask.call) ≡ true = w.changing in absurd (cc);
         }
 

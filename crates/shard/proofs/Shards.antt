@@ -3,15 +3,17 @@ use Rattle.std.proofs.Common.{◌≡◌, length-append, Bool, List, [], ◌∷�
 use Rattle.accept.specs.declared.limits.Limits.{Limits}
 use Rattle.accept.specs.declared.call.Reply.{Reply}
 use Rattle.accept.specs.declared.history.Ask.{Ask}
-use Rattle.accept.specs.declared.history.Item.{Item}
 use Rattle.accept.specs.declared.history.Item.TheVariants.{Answered}
+use Rattle.accept.specs.declared.history.History.{History}
 use Rattle.accept.specs.Rooms.{Streams}
-use Rattle.accept.specs.Histories.{meaning, IsWithin}
+use Rattle.accept.specs.Histories.{meaning}
 use Rattle.accept.proofs.Meanings.{meaning-answered_to}
 use Rattle.disk.specs.Sight.{Sight}
+use Rattle.segment.specs.ShardPlaces.{ShardPlace}
 use Rattle.wal.specs.declared.log.Wal.{Wal}
 use Rattle.wal.specs.Recovery.{Recovers}
 use Rattle.wal.specs.Moments.{Pair}
+use Rattle.wal.specs.Covers.{Covers}
 use Rattle.wal.specs.Logs.{Follow, slots, IsOnDisk}
 use Rattle.history.specs.Histories.{doubt_of, step_of}
 use Rattle.history.specs.Handles.{Booked, history_in, longer}
@@ -21,20 +23,18 @@ use Rattle.shard.specs.Keeping.{owner_in, KeepsHistory}
 use Rattle.shard.specs.Shards.{IsShard}
 use Rattle.shard.proofs.Growing.{doubt_step}
 
--- an item that changes no meaning
-keeps_more : (now : Pair) (book : Booked) (item : Item) (doubt : List Ask) → meaning (history_in (longer book item)) ≡ meaning (history_in book) → IsWithin book.about.limits (history_in book)
-    → IsWithin book.about.limits (history_in (longer book item)) → KeepsHistory now book doubt → KeepsHistory now (longer book item) doubt
-keeps_more now book item doubt same within within_more keeps a b x y =
+-- what is kept of a history is kept of one that means the same
+pub keeps_alike : (now : Pair) (owner : ShardPlace) (limits : Limits) (g h : History) (doubt : List Ask) → meaning g ≡ meaning h → Covers owner limits now g doubt → Covers owner limits now h doubt
+keeps_alike now owner limits g h doubt same keeps a b x y =
     let w = keeps a b x y in
-    (w.0, w.1, subst (λ (m : Streams). Recovers (owner_in book) a b m) (meaning-answered_to book.about.limits (history_in book) (history_in (longer book item)) (take w.0 doubt) within within_more (sym same)) w.2)
+    (w.0, w.1, subst (λ (m : Streams). Recovers owner a b m) (meaning-answered_to limits g h (take w.0 doubt) same) w.2)
 
 -- a step that changes no meaning
 pub shard_answered : {D : Type 0} (sight : D → Sight) (follows : D → Type 0) (log : Wal D) (book : Booked) (opened : Wal D) (states : Mapped) (flag : Bool) (limits : Limits) (ask : Ask) (reply : Reply)
     → IsShard sight follows log book opened states flag limits → meaning (history_in (longer book (Answered (step_of ask reply)))) ≡ meaning (history_in book)
-    → IsWithin book.about.limits (history_in (longer book (Answered (step_of ask reply)))) → IsShard sight follows log (longer book (Answered (step_of ask reply))) opened states flag limits
-shard_answered sight follows log book opened states flag limits ask reply s same within = record {
+    → IsShard sight follows log (longer book (Answered (step_of ask reply))) opened states flag limits
+shard_answered sight follows log book opened states flag limits ask reply s same = record {
   marked = s.marked ∙ sym (marked_step book.items (step_of ask reply));
-  within = within;
   same_limits = s.same_limits;
   small_limits = s.small_limits;
   same_capacity = s.same_capacity;
@@ -46,7 +46,7 @@ shard_answered sight follows log book opened states flag limits ask reply s same
   usable = s.usable;
   holds = λ u f. subst (λ (m : Streams). IsOnDisk sight log m) (sym same) (s.holds u f);
   covers = λ f. subst (λ (d : List Ask). KeepsHistory (slots sight log) (longer book (Answered (step_of ask reply))) d) (sym (doubt_step book.items (step_of ask reply)))
-      (keeps_more (slots sight log) book (Answered (step_of ask reply)) (doubt_of book.items) same s.within within (s.covers f));
+      (keeps_alike (slots sight log) (owner_in book) book.about.limits (history_in book) (history_in (longer book (Answered (step_of ask reply)))) (doubt_of book.items) (sym same) (s.covers f));
   not_failed = s.not_failed;
   failed = s.failed;
   before = s.before;

@@ -4,13 +4,13 @@ use Rattle.accept.specs.declared.call.Reply.{Reply}
 use Rattle.accept.specs.declared.call.Reply.TheVariants.{Unavailable}
 use Rattle.accept.specs.declared.history.Ask.{Ask}
 use Rattle.accept.specs.declared.history.Item.{Item}
-use Rattle.accept.specs.Histories.{changes, is_marked, IsWithin}
+use Rattle.accept.specs.Histories.{changes, is_marked}
 use Rattle.std.specs.VecDeque.{deque_capacity}
 use Rattle.disk.specs.Sight.{Sight}
 use Rattle.wal.specs.declared.log.Wal.{Wal}
 use Rattle.wal.specs.Logs.{Follow, slots}
 use Rattle.history.specs.Histories.{doubt_of, step_of}
-use Rattle.history.specs.Handles.{Booked, Announced, Received, history_in}
+use Rattle.history.specs.Handles.{Booked, Announced, Received}
 use Rattle.shard.specs.declared.group.Group.{Group}
 use Rattle.shard.specs.declared.group.Settled.{Settled}
 use Rattle.shard.specs.declared.group.Settled.TheVariants as settled
@@ -77,7 +77,6 @@ pub record AreDueOrLost {D : Type 0} (sight : D → Sight) (follows : D → Type
   pub due : is_lost ≡ false → HaveDueReplies book waiting
   pub marked : is_lost ≡ true → is_marked book.items ≡ true
   pub next : AreNext book (tickets_in waiting)
-  pub within : IsWithin book.about.limits (history_in book)
   pub kept : Follow follows log
       → KeepsHistory (slots sight log) (with_steps book (asks_in waiting)) (doubt_of book.items)
 
@@ -89,7 +88,6 @@ pub record MayBeLost {D : Type 0} (sight : D → Sight) (follows : D → Type 0)
   pub unmarked : is_marked book.items ≡ false
   pub due : HaveDueReplies book waiting
   pub next : AreNext book (tickets_in waiting)
-  pub within : IsWithin book.about.limits (history_in book)
   pub kept : Follow follows log
       → KeepsHistory (slots sight log) (marked_by book (asks_in waiting))
       (changing_of book (asks_in waiting))

@@ -3,7 +3,7 @@ use Rattle.std.specs.Prelude.{◌≡◌, ◌≤◌, ◌+◌, ◌^◌, Bool, true
 use Rattle.accept.specs.declared.limits.Limits.{Limits}
 use Rattle.accept.specs.OneStream.{AreLimits}
 use Rattle.accept.specs.Rooms.{Streams, segment_bytes, room}
-use Rattle.accept.specs.Histories.{meaning, is_marked, IsWithin}
+use Rattle.accept.specs.Histories.{meaning, is_marked}
 use Rattle.disk.specs.Sight.{Sight}
 use Rattle.segment.specs.Fitting.{FitStreams}
 use Rattle.wal.specs.declared.log.Wal.{Wal}
@@ -42,7 +42,6 @@ pub record IsShard {D : Type 0} (sight : D → Sight) (follows : D → Type 0) (
     (book : Booked)
     (opened : Wal D) (states : Mapped) (flag : Bool) (limits : Limits) : Type 0 where
   pub marked : flag ≡ is_marked book.items
-  pub within : IsWithin book.about.limits (history_in book)
   pub same_limits : limits ≡ book.about.limits
   pub small_limits : AreLimits limits
   pub same_capacity : log.cap ≡ book.about.capacity

@@ -15,4 +15,4 @@ pub use Rattle.one_life.specs.Cut.{IsOn, IsBookOf, IsIdle, AreOfOpening, AreOpen
 pub use Rattle.one_life.specs.declared.opening.Two.{Two}
 pub use Rattle.whole.specs.ServedOnce.{HasTurned, AreServing, FirstGives, IsFirstVisited, IsServedOnce, first_visit, line_sent}
 pub use Rattle.whole.specs.Visits.{its_step, answered_among, steps_among, Worker, IsWorker, IsLine, AreThreadsOf, IsThreadOf, visits_by}
-pub use Rattle.whole.specs.Whole.{IsAskedIn, IsNextOf, HasItsSteps, IsLineAnswered, IsAcknowledged, MayBeTrimmed, IsSameLine, IsLineKept, StandsOnce, IsOfRequest, IsWhole}
+pub use Rattle.whole.specs.Whole.{IsAskedIn, IsNextOf, HasItsSteps, IsLineAnswered, IsAcknowledged, MayBeTrimmed, WasStoredFor, IsSameLine, IsLineKept, StandsOnce, IsOfRequest, IsWhole}

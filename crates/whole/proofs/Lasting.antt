@@ -1,28 +1,22 @@
 -- A line that a push stored, or that repeats the last one of its stream, stays in the stream until it is trimmed.
-use Rattle.std.proofs.Common.{◌≡◌, ◌⊎◌, ℕ, ◌<◌, ◌≤◌, Bool, true, false, cond, not, max, List, [], ◌∷◌, ◌++◌, filter, Option, None, Some, option_map, refl, sym, ap, ◌∙◌, subst, inl, inr, ⊎_elim, append_assoc, append-nil, arith, nat_le}
+use Rattle.std.proofs.Common.{◌≡◌, ◌⊎◌, ℕ, ◌<◌, Bool, true, false, cond, ◌||◌, List, [], ◌∷◌, ◌++◌, Option, None, Some, refl, sym, ap, ◌∙◌, subst, inl, inr, ⊎_elim, append_assoc, append-nil, arith}
 use Rattle.std.specs.FinMap as finite
+use Rattle.std.specs.List.{list_any}
 use Rattle.labels.specs.Keys.{same_key}
-use Rattle.headline.proofs.Common.{StreamKey, Limits, Call, Push, Trim, Reply, Verdict, Trimmed, Ask, Step, Item, Answered, Failed, History, About, stored_of, last_or, base_last, base_kept, highest_of, last_of, kept_of, image_of, same_entry, outcome, outcomes, stored_by, bound_by, stored_in, bound_in, stored, greatest_bound, base_of, answer, then_step, answered_to, MayFollow, IsLegalAt, base_at, terms_of, history_of, IsOneOf, is_refusal, false≢true, cases_lt, cases_Bool, leb-false, legal_front, among_left, among_right, cond_both}
+use Rattle.headline.proofs.Common.{StreamKey, Limits, Call, Push, Trim, Reply, Verdict, Trimmed, Ask, Step, Item, Answered, Failed, History, About, stored_of, last_or, base_last, highest_of, last_of, same_entry, outcome, outcomes, stored_by, bound_by, stored_in, bound_in, stored, stream_of, answer, then_step, answered_to, MayFollow, IsLegalAt, base_at, terms_of, history_of, IsOneOf, is_refusal, false≢true, ltb-true, cases_Bool, legal_front, among_left, among_right}
 use Rattle.entries.specs.declared.entry.Entry.{Entry}
+use Rattle.accept.specs.Lasting.{WasStored, takes}
 use Rattle.accept.specs.declared.outcome.Outcome.{Outcome}
 use Rattle.accept.specs.declared.outcome.Outcome.TheVariants.{Repeat, Stored}
 use Rattle.accept.specs.declared.image.StreamImage.{StreamImage}
-use Rattle.accept.proofs.Growing.{stored-append}
 use Rattle.accept.proofs.KeyOrder.{same_key_itself, same_key-is}
+use Rattle.accept.proofs.Lasting.{last-stored}
 use Rattle.accept.proofs.Legal.{legal-last}
 use Rattle.accept.proofs.Outcomes.{outcome_at-Repeat}
 use Rattle.headline.proofs.Saying.{not_refused}
-use Rattle.whole.specs.Whole.{IsTrimAbove, IsSameLine}
+use Rattle.whole.specs.Whole.{IsTrimAbove, WasStoredFor, IsSameLine}
 
 -- Of one stream.
-
-some_last : (e : Entry) (es : List Entry) → (f : Entry) × (last_or (Some e) es ≡ Some f)
-some_last e [] = (e, refl)
-some_last e (x ∷ es) = some_last x es
-
-some_of : (before : Option Entry) (es : List Entry) (x : Entry) → IsOneOf x es → (f : Entry) × (last_or before es ≡ Some f)
-some_of before [] x one = absurd one
-some_of before (e ∷ es) x one = some_last e es
 
 last_within : (before : Option Entry) (es : List Entry) (y : Entry) → last_or before es ≡ Some y → IsOneOf y es ⊎ (before ≡ Some y)
 last_within before [] y e = inr e
@@ -30,23 +24,6 @@ last_within before (x ∷ es) y e = ⊎_elim
     (λ (t : IsOneOf y es). inl (inr t))
     (λ (s : Some x ≡ Some y). let same : x ≡ y = cc in inl (inl (sym same)))
     (last_within (Some x) es y e)
-
-one_filtered : (p : Entry → Bool) (xs : List Entry) (x : Entry) → IsOneOf x xs → p x ≡ true → IsOneOf x (filter p xs)
-one_filtered p [] x one holds = absurd one
-one_filtered p (y ∷ ys) x (inl e) holds = subst (λ (b : Bool). IsOneOf x (cond b (y ∷ filter p ys) (filter p ys))) (sym (ap p (sym e) ∙ holds)) (inl e)
-one_filtered p (y ∷ ys) x (inr t) holds = cond_both (p y) (y ∷ filter p ys) (filter p ys) (IsOneOf x) (λ f. inr (one_filtered p ys x t holds)) (λ f. one_filtered p ys x t holds)
-
--- what was stored is kept, or below a bound
-pub kept_or_below : (base : Option StreamImage) (all : List Entry) (bound : ℕ) (x : Entry) → IsOneOf x all → IsOneOf x (base_kept (image_of base all bound)) ⊎ (x.time < bound)
-kept_or_below base all bound x one =
-    let last = some_of (base_last base) all x one in
-    ⊎_elim
-    (λ (holds : nat_le bound x.time ≡ true). inl (subst
-    (λ (o : Option Entry). IsOneOf x (base_kept (option_map (λ e. record { highest = highest_of base all; last = e; kept = kept_of base all bound }) o)))
-    (sym last.1)
-    (one_filtered (λ e. nat_le bound e.time) (base_kept base ++ all) x (among_right x (base_kept base) all one) holds)))
-    (λ (fails : nat_le bound x.time ≡ false). inr (leb-false bound x.time fails))
-    (cases_Bool (nat_le bound x.time))
 
 -- each entry of a batch was stored, or repeated the last one
 abbrev pub IsTaken : Outcome → Type 0
@@ -91,29 +68,26 @@ module _ (limits : Limits) (base : Option StreamImage) (now : ℕ) where
 
 -- Of a history.
 
-lt_max : (n a b : ℕ) → n < max a b → (n < a) ⊎ (n < b)
-lt_max n a b lt = ⊎_elim (λ (l : n < a). inl l) (λ (le : a ≤ n). inr (omega arith)) (cases_lt n a)
-
 module _ (key : StreamKey) (n : ℕ) where
   by_key : (k : StreamKey) (bound : ℕ) (b : Bool) → same_key key k ≡ b → n < cond b bound 0 → IsTrimAbove key n (Trim k bound)
   by_key k bound true e l = (bound, ap (λ q. Trim q bound) (sym (same_key-is key k e)), l)
   by_key k bound false e l = absurd (omega arith)
 
-  by_call : (call : Call) (r : Reply) → n < bound_by key call r → IsTrimAbove key n call
-  by_call (Trim k bound) (Trimmed m) l = by_key k bound (same_key key k) refl l
+  by_call : (call : Call) (r : Reply) → n < bound_by key call r → IsTrimAbove key n call × ((removed : ℕ) × (r ≡ Trimmed removed))
+  by_call (Trim k bound) (Trimmed m) l = (by_key k bound (same_key key k) refl l, (m, refl))
   by_call call r l = absurd (omega arith)
 
-  by_item : (i : Item) → n < bound_in key i → (s : Step) × (Answered s ≡ i) × IsTrimAbove key n s.ask.call
+  by_item : (i : Item) → n < bound_in key i → (s : Step) × (Answered s ≡ i) × IsTrimAbove key n s.ask.call × ((removed : ℕ) × (s.reply ≡ Trimmed removed))
   by_item (Failed doubt) l = absurd (omega arith)
-  by_item (Answered s) l = (s, refl, by_call s.ask.call s.reply l)
+  by_item (Answered s) l = let t = by_call s.ask.call s.reply l in (s, refl, t.0, t.1)
 
-  -- where there is a bound above, there is a trim
-  pub trimmed_by : (items : List Item) → n < greatest_bound items key → (s : Step) × IsOneOf (Answered s) items × IsTrimAbove key n s.ask.call
-  trimmed_by [] l = absurd (omega arith)
-  trimmed_by (i ∷ items) l = ⊎_elim
-      (λ (a : n < bound_in key i). let t = by_item i a in (t.0, inl t.1, t.2))
-      (λ (b : n < greatest_bound items key). let t = trimmed_by items b in (t.0, inr t.1, t.2))
-      (lt_max n (bound_in key i) (greatest_bound items key) l)
+  -- where items take an entry, there is a trim that was answered so
+  pub trimmed_in : (items : List Item) → list_any (takes key n) items ≡ true → (s : Step) × IsOneOf (Answered s) items × IsTrimAbove key n s.ask.call × ((removed : ℕ) × (s.reply ≡ Trimmed removed))
+  trimmed_in [] e = absurd (false≢true e)
+  trimmed_in (i ∷ items) e = ⊎_elim
+      (λ (a : takes key n i ≡ true). let t = by_item i (ltb-true n (bound_in key i) a) in (t.0, inl t.1, t.2, t.3))
+      (λ (b : takes key n i ≡ false). let t = trimmed_in items (sym (ap (λ f. f || list_any (takes key n) items) b) ∙ e) in (t.0, inr t.1, t.2, t.3))
+      (cases_Bool (takes key n i))
 
 -- the items of a history with calls answered after it
 pub record IsLonger (h : History) (asks : List Ask) (new : History) : Type 0 where
@@ -142,10 +116,10 @@ split_at i [] one = absurd one
 split_at i (j ∷ items) (inl e) = ([], items, ap (λ x. x ∷ items) (sym e))
 split_at i (j ∷ items) (inr t) = let s = split_at i items t in (j ∷ s.0, s.1, ap (λ l. j ∷ l) s.2)
 
--- in a legal history, each line of a push that was not refused, and of which each line was taken, is stored, or repeats
--- the last one of the base
+-- in a legal history, each line of a push that was not refused, and of which each line was taken, was stored for its
+-- step, or repeats the last one of the base
 pub line_stored : (about : About) (k : ℕ) (items : List Item) (s : Step) (key : StreamKey) (now : ℕ) (entries : List Entry) → IsLegalAt about k items → IsOneOf (Answered s) items → s.ask.call ≡ Push key now entries → is_refusal s.reply ≡ false → ((os : List Outcome) → s.reply ≡ Verdict os → AreTaken os)
-    → (x : Entry) → IsOneOf x entries → (y : Entry) × IsSameLine x y × (IsOneOf y (stored items key) ⊎ (base_last (finite.get (base_at about k) key) ≡ Some y))
+    → (x : Entry) → IsOneOf x entries → (y : Entry) × IsSameLine x y × (WasStoredFor items key s y ⊎ (base_last (finite.get (base_at about k) key) ≡ Some y))
 line_stored about k items s key now entries legal one call answered taken x of =
     let at = split_at (Answered s) items one in
     let front : List Item = at.0 in
@@ -154,19 +128,28 @@ line_stored about k items s key now entries legal one call answered taken x of =
     let parts : items ≡ (front ++ Answered s ∷ []) ++ back = at.2 ∙ sym (append_assoc front (Answered s ∷ []) back) in
     let upto : IsLegalAt about k (front ++ Answered s ∷ []) = legal_front about k (front ++ Answered s ∷ []) items (record { rest = back; is = parts }) legal in
     let may : MayFollow (terms_of about k) h (Answered s) = legal-last (terms_of about k) h (Answered s) upto.is in
-    let os : List Outcome = outcomes about.limits (base_of h key) (stored front key) now entries in
+    let was : Option StreamImage = stream_of h key in
+    let os : List Outcome = outcomes about.limits was [] now entries in
     let reply : s.reply ≡ Verdict os = not_refused _ _ s.reply (answer about.limits h s.ask.call) may.0 answered ∙ ap (answer about.limits h) call in
-    let there = all_taken about.limits (base_of h key) now (stored front key) entries (taken os reply) x of in
+    let there = all_taken about.limits was now [] entries (taken os reply) x of in
     let own : stored_in key (Answered s) ≡ stored_of entries os =
-    ap (λ (c : Call). stored_by key c s.reply) call ∙ ap (stored_by key (Push key now entries)) reply ∙ ap (λ b. cond b (stored_of entries os) []) (same_key_itself key) in
-    let all : stored items key ≡ (stored front key ++ stored_of entries os) ++ stored back key =
-    ap (λ l. stored l key) at.2 ∙ stored-append front (Answered s ∷ back) key
-    ∙ ap (λ l. stored front key ++ (l ++ stored back key)) own
-    ∙ sym (append_assoc (stored front key) (stored_of entries os) (stored back key)) in (
+    ap (λ (c : Call). stored_by key c s.reply) call ∙ ap (stored_by key (Push key now entries)) reply ∙ ap (λ b. cond b (stored_of entries os) []) (same_key_itself key) in (
       there.0,
       there.1,
       ⊎_elim
-          (λ (l : IsOneOf there.0 (stored front key ++ stored_of entries os)). inl (subst (IsOneOf there.0) (sym all) (among_left there.0 (stored front key ++ stored_of entries os) (stored back key) l)))
-          (λ (e : base_last (base_of h key) ≡ Some there.0). inr e)
+          (λ (l : IsOneOf there.0 (stored_of entries os)). inl (record { before = front; item = Answered s; later = back; parts = at.2; there = subst (IsOneOf there.0) (sym own) l; its_own = inl refl }))
+          (λ (e : base_last was ≡ Some there.0). of_last there.0 front back at.2 (last-stored h key there.0 e))
           there.2,
     )
+  where
+    of_last : (y : Entry) (front back : List Item) → items ≡ front ++ Answered s ∷ back → ((stored front key ≡ []) × (base_last (finite.get (base_at about k) key) ≡ Some y)) ⊎ WasStored key y front
+        → WasStoredFor items key s y ⊎ (base_last (finite.get (base_at about k) key) ≡ Some y)
+    of_last y front back parts (inl b) = inr b.1
+    of_last y front back parts (inr w) = inl (record {
+      before = w.before;
+      item = w.item;
+      later = w.later ++ Answered s ∷ back;
+      parts = parts ∙ ap (λ l. l ++ Answered s ∷ back) w.parts ∙ append_assoc w.before (w.item ∷ w.later) (Answered s ∷ back);
+      there = w.there;
+      its_own = inr (w.later, back, refl, w.latest);
+    })

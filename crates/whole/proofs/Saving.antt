@@ -1,16 +1,17 @@
 -- The lines of a push that is answered with 204 are in what is replayed.
-use Rattle.std.proofs.Common.{◌≡◌, ◌⊎◌, ℕ, ◌<◌, Bool, true, false, cond, nat_lt, ◌&&◌, List, [], ◌∷◌, map, None, Some, Result, Ok, Err, Vec, refl, sym, ap, ◌∙◌, subst, inl, inr, ⊎_elim, arith}
+use Rattle.std.proofs.Common.{◌≡◌, ◌⊎◌, ℕ, ◌<◌, Bool, true, false, cond, nat_lt, List, [], ◌∷◌, map, None, Some, Result, Ok, Err, Vec, refl, sym, ap, ◌∙◌, subst, inl, inr, ⊎_elim, arith, ◌++◌, append_assoc}
 use Rattle.std.specs.declared.alloc.Global.{Global}
 use Rattle.std.specs.FinMap as finite
-use Rattle.std.specs.List.{fold, list_all}
+use Rattle.std.specs.List.{fold, list_all, list_any}
 use Rattle.std.proofs.lemmas.Bool.{false≢true, ltb-true, ltb-false}
 use Rattle.labels.specs.Canonical.{IsTextOf}
-use Rattle.headline.proofs.Common.{StreamKey, Streams, Call, Reply, NoRoom, Unavailable, Ask, Step, Item, Answered, History, About, base_last, base_kept, key_of, stored, greatest_bound, base_of, stream_of, answered_to, IsBeginning, IsLegalAt, base_at, history_of, shard_in, shard_of, Thread, happened_to, IsOneOf, IsHeadline, IsReplay, RefusedShard, is_refusal, eqb-true, legal_front, shard_below, among_left, among_split, and_parts}
+use Rattle.headline.proofs.Common.{StreamKey, Streams, Call, Reply, NoRoom, Unavailable, Ask, Step, Item, Answered, History, About, base_last, base_kept, key_of, stored, stream_of, answered_to, IsBeginning, IsLegalAt, base_at, history_of, shard_in, shard_of, Thread, happened_to, IsOneOf, IsHeadline, IsReplay, RefusedShard, is_refusal, cases_Bool, legal_front, shard_below, among_left, among_split, and_parts}
 use Rattle.entries.specs.declared.entry.Entry.{Entry}
 use Rattle.accept.specs.declared.call.Call.TheVariants as calls
 use Rattle.accept.specs.declared.outcome.Outcome.{Outcome}
 use Rattle.accept.specs.declared.outcome.Outcome.TheVariants.{Repeat, Stored}
-use Rattle.accept.proofs.Growing.{stored-append}
+use Rattle.accept.specs.Lasting.{takes}
+use Rattle.accept.proofs.Lasting.{stored-stays}
 use Rattle.accept.proofs.Meanings.{get-meaning}
 use Rattle.pushjson.specs.Reads.{ReadsPush, IsPushAnswer}
 use Rattle.pushjson.specs.declared.push.RawBatch.{RawBatch}
@@ -21,9 +22,9 @@ use Rattle.requests.specs.declared.route.Route.TheVariants.{Push}
 use Rattle.requests.specs.declared.status.Status.{Status}
 use Rattle.requests.specs.declared.status.Status.TheVariants.{NoContent, BadRequest}
 use Rattle.requests.specs.declared.verdict.Verdict.TheVariants as verdicts
-use Rattle.whole.proofs.Common.{Asked, AsksFor, IsCallOf, asked_push, pushes_of, Came, Refused, Replied, Failed, Whole, first_failure, Exchange, AreSteps, AreStepsBy, answered_among, steps_among, IsAcknowledged, MayBeTrimmed, IsSameLine, IsLineKept}
+use Rattle.whole.proofs.Common.{Asked, AsksFor, IsCallOf, asked_push, pushes_of, Came, Refused, Replied, Failed, Whole, first_failure, Exchange, AreSteps, AreStepsBy, answered_among, steps_among, IsAcknowledged, MayBeTrimmed, WasStoredFor, IsLineKept}
 use Rattle.answering.specs.Lines.{severity, worse_of, is_taken, came_status}
-use Rattle.whole.proofs.Lasting.{IsTaken, AreTaken, IsLonger, answered_longer, kept_or_below, trimmed_by, line_stored}
+use Rattle.whole.proofs.Lasting.{IsTaken, AreTaken, IsLonger, answered_longer, trimmed_in, line_stored}
 use Rattle.whole.proofs.Standing.{step_answered}
 use Rattle.whole.proofs.Visiting.{IsCalledBy}
 
@@ -124,52 +125,70 @@ acknowledged steps e tenant batches c ack b one =
 
 -- In what is replayed.
 
-same_time : (x y : Entry) → IsSameLine x y → x.time ≡ y.time
-same_time x y (inl e) = ap (λ (z : Entry). z.time) e
-same_time x y (inr e) = eqb-true x.time y.time (first_of _ _ _ e)
-  where
-    first_of : (a b c : Bool) → ((a && b) && c) ≡ true → a ≡ true
-    first_of a b c f = (and_parts a b (and_parts (a && b) c f).0).0
-
 one_of_front : {A : Type 0} (x : A) (front all : List A) → IsBeginning front all → IsOneOf x front → IsOneOf x all
 one_of_front x front all h one = subst (IsOneOf x) (sym h.is) (among_left x front h.rest one)
 
 module _ (about : About) (threads : List Thread) (k : ℕ) (history : List Item) (writing : List Ask) (state : Streams) (r : IsReplay about threads k history writing state) (legal : IsLegalAt about k history) where
-  trimmed : (key : StreamKey) (time : ℕ) → time < greatest_bound (answered_to about.limits (history_of about k r.beginning) r.more).items key → MayBeTrimmed history writing key time
-  trimmed key time lt =
-      let longer : IsLonger (history_of about k r.beginning) r.more (answered_to about.limits (history_of about k r.beginning) r.more) = answered_longer about.limits (history_of about k r.beginning) r.more in
-      let it = trimmed_by key time (answered_to about.limits (history_of about k r.beginning) r.more).items lt in
-      ⊎_elim
-      (λ (l : IsOneOf (Answered it.0) r.beginning). inl (it.0, one_of_front (Answered it.0) r.beginning history r.a_beginning_of_that_history l, it.2))
-      (λ (m : IsOneOf (Answered it.0) longer.more). inr (it.0.ask, one_of_front it.0.ask r.more writing r.continued_only_by_calls_being_written (longer.asked it.0 m), it.2))
-      (among_split (Answered it.0) r.beginning longer.more (subst (IsOneOf (Answered it.0)) longer.items it.1))
+  abbrev rest : List Item
+  rest = r.a_beginning_of_that_history.rest
 
-  -- a line that was stored is in the state, or trimmed
-  stored_kept : (key : StreamKey) (x y : Entry) → IsSameLine x y → IsOneOf y (stored r.beginning key) → IsLineKept about k history writing state key x
-  stored_kept key x y same one =
+  trimmed : (key : StreamKey) (time : ℕ) (later more : List Item) → ((s : Step) → IsOneOf (Answered s) more → IsOneOf s.ask r.more) → list_any (takes key time) (later ++ more) ≡ true → MayBeTrimmed (later ++ rest) writing key time
+  trimmed key time later more asked e =
+      let it = trimmed_in key time (later ++ more) e in
+      ⊎_elim
+      (λ (l : IsOneOf (Answered it.0) later). inl (it.0, among_left (Answered it.0) later rest l, it.2, it.3))
+      (λ (m : IsOneOf (Answered it.0) more). inr (it.0.ask, one_of_front it.0.ask r.more writing r.continued_only_by_calls_being_written (asked it.0 m), it.2))
+      (among_split (Answered it.0) later more it.1)
+
+  abbrev in_history : (key : StreamKey) (s : Step) (y : Entry) → WasStoredFor r.beginning key s y → WasStoredFor history key s y
+  in_history key s y w = record {
+    before = w.before;
+    item = w.item;
+    later = w.later ++ rest;
+    parts = r.a_beginning_of_that_history.is ∙ ap (λ l. l ++ rest) w.parts ∙ append_assoc w.before (w.item ∷ w.later) rest;
+    there = w.there;
+    its_own = ⊎_elim
+        (λ (e : w.item ≡ Answered s). inl e)
+        (λ (e : (between : List Item) × (after : List Item) × (w.later ≡ between ++ Answered s ∷ after) × (stored between key ≡ [])).
+        inr (e.0, e.1 ++ rest, ap (λ l. l ++ rest) e.2 ∙ append_assoc e.0 (Answered s ∷ e.1) rest, e.3))
+        w.its_own;
+  }
+
+  abbrev Kept : StreamKey → Step → Entry → Type 0
+  Kept key s y = IsOneOf y (base_kept (finite.get state key)) ⊎ ((w : WasStoredFor history key s y) × MayBeTrimmed w.later writing key y.time) ⊎ (base_last (finite.get (base_at about k) key) ≡ Some y)
+
+  -- what was stored is in the state, or trimmed since
+  kept_for : (key : StreamKey) (s : Step) (y : Entry) → WasStoredFor r.beginning key s y → Kept key s y
+  kept_for key s y w =
       let h : History = answered_to about.limits (history_of about k r.beginning) r.more in
       let longer : IsLonger (history_of about k r.beginning) r.more h = answered_longer about.limits (history_of about k r.beginning) r.more in
-      let all : IsOneOf y (stored h.items key) = subst (IsOneOf y) (sym (ap (λ l. stored l key) longer.items ∙ stored-append r.beginning longer.more key)) (among_left y (stored r.beginning key) (stored longer.more key) one) in
-      let here : finite.get state key ≡ stream_of h key = ap (λ m. finite.get m key) r.the_state_after ∙ get-meaning h key in
+      let items : List Item = w.later ++ longer.more in
+      let all : h.items ≡ w.before ++ w.item ∷ items = longer.items ∙ ap (λ l. l ++ longer.more) w.parts ∙ append_assoc w.before (w.item ∷ w.later) longer.more in
+      let here : finite.get state key ≡ stream_of (history_of about k (w.before ++ w.item ∷ items)) key =
+      ap (λ m. finite.get m key) r.the_state_after ∙ get-meaning h key ∙ (λ j. stream_of (record { base = longer.base j; items = all j }) key) in
       ⊎_elim
-      (λ (kept : IsOneOf y (base_kept (stream_of h key))). inl (y, same, subst (λ o. IsOneOf y (base_kept o)) (sym here) kept))
-      (λ (below : y.time < greatest_bound h.items key). inr (inl (trimmed key x.time (subst (λ n. n < greatest_bound h.items key) (sym (same_time x y same)) below))))
-      (kept_or_below (base_of h key) (stored h.items key) (greatest_bound h.items key) y all)
+      (λ (e : list_any (takes key y.time) items ≡ true). inr (inl (in_history key s y w, trimmed key y.time w.later longer.more longer.asked e)))
+      (λ (e : list_any (takes key y.time) items ≡ false).
+      inl (subst (λ o. IsOneOf y (base_kept o)) (sym here) (stored-stays (base_at about k) w.before w.item items key y w.there e)))
+      (cases_Bool (list_any (takes key y.time) items))
 
-  pub line_kept : (s : Step) (key : StreamKey) (now : ℕ) (entries : List Entry) → IsOneOf (Answered s) r.beginning → s.ask.call ≡ calls.Push key now entries → came_status (Replied s.reply) ≡ NoContent → (x : Entry) → IsOneOf x entries → IsLineKept about k history writing state key x
+  pub line_kept : (s : Step) (key : StreamKey) (now : ℕ) (entries : List Entry) → IsOneOf (Answered s) r.beginning → s.ask.call ≡ calls.Push key now entries → came_status (Replied s.reply) ≡ NoContent → (x : Entry) → IsOneOf x entries → IsLineKept about k history writing state key s x
   line_kept s key now entries one call best x of =
       let front : IsLegalAt about k r.beginning = legal_front about k r.beginning history r.a_beginning_of_that_history legal in
-      let it = line_stored about k r.beginning s key now entries front one call (not_refusal s.reply best) (λ os e. taken_by os (list_all is_taken os) refl (sym (ap (λ r. came_status (Replied r)) e) ∙ best)) x of in
-      ⊎_elim
-      (λ (l : IsOneOf it.0 (stored r.beginning key)). stored_kept key x it.0 it.1 l)
-      (λ (e : base_last (finite.get (base_at about k) key) ≡ Some it.0). inr (inr (it.0, it.1, e)))
-      it.2
+      let it = line_stored about k r.beginning s key now entries front one call (not_refusal s.reply best) (λ os e. taken_by os (list_all is_taken os) refl (sym (ap (λ r. came_status (Replied r)) e) ∙ best)) x of in (
+        it.0,
+        it.1,
+        ⊎_elim
+            (λ (w : WasStoredFor r.beginning key s it.0). kept_for key s it.0 w)
+            (λ (e : base_last (finite.get (base_at about k) key) ≡ Some it.0). inr (inr e))
+            it.2,
+      )
 
 module _ (about : About) (threads : List Thread) (history : ℕ → List Item) (writing : ℕ → List Ask) (read : ℕ → Streams → Type 0) (failed : ℕ → Type 0) (replay : ℕ → Streams → Type 0) (refusal : ℕ → RefusedShard → Type 0)
     (headline : IsHeadline about threads history writing read failed replay refusal) (some_shard : 0 < about.shards) where
   -- a line of a push of status 204
   step_kept : (s : Step) (key : StreamKey) (now : ℕ) (entries : List Entry) → IsOneOf s (steps_among (happened_to threads)) → s.ask.call ≡ calls.Push key now entries → came_status (Replied s.reply) ≡ NoContent → (x : Entry) → IsOneOf x entries
-      → (k : ℕ) → k ≡ shard_of key about.shards → (state : Streams) → replay k state → IsLineKept about k (history k) (writing k) state key x
+      → (k : ℕ) → k ≡ shard_of key about.shards → (state : Streams) → replay k state → IsLineKept about k (history k) (writing k) state key s x
   step_kept s key now entries one call best x of k here state replayed =
       let it = step_answered s (answered_among (happened_to threads)) one in
       let its : shard_in about s.ask ≡ k = ap (λ (c : Call). shard_of (key_of c) about.shards) call ∙ sym here in
@@ -178,14 +197,18 @@ module _ (about : About) (threads : List Thread) (history : ℕ → List Item) (
       let there : IsOneOf (Answered s) r.beginning = subst (λ t. IsOneOf (Answered t) r.beginning) (sym it.2) (r.holds_every_answered_call it.0 it.1 (sym (ap (λ t. shard_in about t.ask) it.2) ∙ its)) in
       line_kept about threads k (history k) (writing k) state r (headline.each_shards_calls k lt).0 s key now entries there call best x of
 
-  pub lines_safe : (e : Exchange) → IsCalledBy (steps_among (happened_to threads)) e → (tenant : List ℕ) (batches : List RawBatch) → IsAcknowledged e tenant batches → (b : RawBatch) → IsOneOf b batches
-      → (labels : List ℕ) × IsTextOf labels b.pairs
+  pub lines_safe : (e : Exchange) (c : IsCalledBy (steps_among (happened_to threads)) e) (tenant : List ℕ) (batches : List RawBatch) → IsAcknowledged e tenant batches → (b : RawBatch) → IsOneOf b batches
+      → (labels : List ℕ) × IsTextOf labels b.pairs × (s : Step) × IsOneOf s c.its
+      × (s.ask.call ≡ calls.Push (record { tenant = tenant; labels = labels }) e.now b.entries)
       × ((x : Entry) → IsOneOf x b.entries → (k : ℕ) → k ≡ shard_of (record { tenant = tenant; labels = labels }) about.shards → (state : Streams) → replay k state
-      → IsLineKept about k (history k) (writing k) state (record { tenant = tenant; labels = labels }) x)
+      → IsLineKept about k (history k) (writing k) state (record { tenant = tenant; labels = labels }) s x)
   lines_safe e c tenant batches ack b one =
       let its = acknowledged (steps_among (happened_to threads)) e tenant batches c ack b one in (
         its.call.labels,
         its.call.text,
+        its.step,
+        its.one,
+        its.call.is,
         λ x of k here state replayed.
             step_kept its.step (record { tenant = tenant; labels = its.call.labels }) e.now b.entries (c.among its.step its.one) its.call.is its.best x of k here state replayed,
       )

@@ -29,7 +29,7 @@ module _ {D : Type 0} (sight : D → Sight) (follows : D → Type 0) (only_now :
     some_shard : 0 < opening.about.shards
     some_shard = let a = life.some_shard in let b = life.shards in omega arith
 
-    steps : (e : Exchange) → IsCalledBy (steps_among (happened_to crew_of.threads)) e → HasItsSteps opening.about history e
+    abbrev steps : (e : Exchange) → IsCalledBy (steps_among (happened_to crew_of.threads)) e → HasItsSteps opening.about history e
     steps e c = record {
       steps = c.its;
       steps_are = c.its_are;

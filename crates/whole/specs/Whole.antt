@@ -7,8 +7,9 @@ use Rattle.labels.specs.Canonical.{IsTextOf}
 use Rattle.headline.specs.Types.{StreamKey, Streams, Call, Ask, Step, Item, Answered, About, Sight, Passed}
 use Rattle.entries.specs.declared.entry.Entry.{Entry}
 use Rattle.accept.specs.OneStream.{same_entry, base_last, base_kept}
-use Rattle.accept.specs.Histories.{is_step_of, reply_to}
+use Rattle.accept.specs.Histories.{is_step_of, reply_to, stored, stored_in}
 use Rattle.accept.specs.declared.call.Call.TheVariants as calls
+use Rattle.accept.specs.declared.call.Reply.TheVariants.{Trimmed}
 use Rattle.pushjson.specs.Reads.{ReadsPush}
 use Rattle.pushjson.specs.declared.push.RawBatch.{RawBatch}
 use Rattle.history.specs.Histories.{IsAmong, IsBeginning, base_at, terms_of, history_of, shard_in}
@@ -65,23 +66,35 @@ pub record IsAcknowledged (e : Exchange) (tenant : List ℕ) (batches : List Raw
 abbrev pub IsTrimAbove : StreamKey → ℕ → Call → Type 0
 IsTrimAbove key time call = (bound : ℕ) × (call ≡ calls.Trim key bound) × (time < bound)
 
--- a trim above it is in the history, or being written
+-- a trim above it was answered so in these items, or is being written
 abbrev pub MayBeTrimmed : List Item → List Ask → StreamKey → ℕ → Type 0
-MayBeTrimmed history writing key time =
-    ((s : Step) × IsOneOf (Answered s) history × IsTrimAbove key time s.ask.call)
+MayBeTrimmed items writing key time =
+    ((s : Step) × IsOneOf (Answered s) items × IsTrimAbove key time s.ask.call
+    × ((removed : ℕ) × (s.reply ≡ Trimmed removed)))
     ⊎ ((a : Ask) × IsOneOf a writing × IsTrimAbove key time a.call)
+
+-- the item that stored an entry for a step: the step itself, or the latest one before it that stored on the stream
+pub record WasStoredFor (history : List Item) (key : StreamKey) (s : Step) (y : Entry) : Type 0 where
+  pub before : List Item
+  pub item : Item
+  pub later : List Item
+  pub parts : history ≡ before ++ item ∷ later
+  pub there : IsOneOf y (stored_in key item)
+  pub its_own : (item ≡ Answered s) ⊎ ((between : List Item) × (after : List Item)
+      × (later ≡ between ++ Answered s ∷ after) × (stored between key ≡ []))
 
 -- the same time, line and metadata
 abbrev pub IsSameLine : Entry → Entry → Type 0
 IsSameLine x y = (x ≡ y) ⊎ (same_entry x (Some y) ≡ true)
 
--- The line is in the stream. Or a trim above its time is in the history, or being written. Or it repeats the last line
--- that its stream had when the shard was opened, which an earlier opening may have trimmed.
-abbrev pub IsLineKept : About → ℕ → List Item → List Ask → Streams → StreamKey → Entry → Type 0
-IsLineKept about k history writing state key x =
-    ((y : Entry) × IsSameLine x y × IsOneOf y (base_kept (finite.get state key)))
-    ⊎ MayBeTrimmed history writing key x.time
-    ⊎ ((y : Entry) × IsSameLine x y × (base_last (finite.get (base_at about k) key) ≡ Some y))
+-- The line of this step is in the stream. Or a trim above its time was answered since it was stored, by the step or as
+-- the last line, which it repeats; or is being written. Or it repeats the last line that its stream had when the shard
+-- was opened, which an earlier opening may have trimmed.
+abbrev pub IsLineKept : About → ℕ → List Item → List Ask → Streams → StreamKey → Step → Entry → Type 0
+IsLineKept about k history writing state key s x = (y : Entry) × IsSameLine x y
+    × (IsOneOf y (base_kept (finite.get state key))
+    ⊎ ((w : WasStoredFor history key s y) × MayBeTrimmed w.later writing key y.time)
+    ⊎ (base_last (finite.get (base_at about k) key) ≡ Some y))
 
 -- a request among these bytes asks for this call, on one of the streams of its body
 pub record IsAskedIn (bytes : List ℕ) (call : Call) : Type 0 where
@@ -120,19 +133,20 @@ IsNextOf ticks rest (e ∷ d ∷ es) refusal = ⊥
 
 module _ {D : Type 0} (sight : D → Sight) (follows : D → Type 0) {C : Type 0}
     (ticks : C → ℕ → C → Type 0) (life : Life D) (history : ℕ → List Item) where
-  -- whatever crash comes, this line of a stream is in what is replayed
-  abbrev pub IsLineSafe : StreamKey → Entry → Type 0
-  IsLineSafe key x = (k : ℕ) → k ≡ shard_of key life.opening.about.shards → (state : Streams)
+  -- whatever crash comes, this line of a step is in what is replayed
+  abbrev pub IsLineSafe : StreamKey → Step → Entry → Type 0
+  IsLineSafe key s x = (k : ℕ) → k ≡ shard_of key life.opening.about.shards → (state : Streams)
       → MayBeReplayed sight follows life.ends k state
-      → IsLineKept life.opening.about k (history k) (writing_in life.ends history k) state key x
+      → IsLineKept life.opening.about k (history k) (writing_in life.ends history k) state key s x
 
-  -- so is each line of a push that is answered with 204
-  abbrev pub AreLinesSafe : Exchange → Type 0
-  AreLinesSafe e = (tenant : List ℕ) (batches : List RawBatch) → IsAcknowledged e tenant batches
-      → (b : RawBatch) → IsOneOf b batches
-      → (labels : List ℕ) × IsTextOf labels b.pairs
+  -- so is each line of a push that is answered with 204, by that one of these steps in which it was called
+  abbrev pub AreLinesSafe : Exchange → List Step → Type 0
+  AreLinesSafe e steps = (tenant : List ℕ) (batches : List RawBatch)
+      → IsAcknowledged e tenant batches → (b : RawBatch) → IsOneOf b batches
+      → (labels : List ℕ) × IsTextOf labels b.pairs × (s : Step) × IsOneOf s steps
+      × (s.ask.call ≡ calls.Push (record { tenant = tenant; labels = labels }) e.now b.entries)
       × ((x : Entry) → IsOneOf x b.entries
-      → IsLineSafe (record { tenant = tenant; labels = labels }) x)
+      → IsLineSafe (record { tenant = tenant; labels = labels }) s x)
 
   -- What was sent of a connection is a beginning of the responses to the requests at the front of the bytes that were
   -- read of it, in their order: to some that keep the connection, and to the next, or to what is refused there. Of all
@@ -147,7 +161,8 @@ module _ {D : Type 0} (sight : D → Sight) (follows : D → Type 0) {C : Type 0
     pub sent : IsBeginning line.sent (flat_map response (exchanges ++ last) ++ refusal)
     pub calls : (e : Exchange) → IsOneOf e (exchanges ++ last)
         → HasItsSteps life.opening.about history e
-    pub lines : (e : Exchange) → IsOneOf e (exchanges ++ last) → AreLinesSafe e
+    pub lines : (e : Exchange) → (one : IsOneOf e (exchanges ++ last))
+        → AreLinesSafe e (calls e one).steps
 
 module _ {D : Type 0} (sight : D → Sight) (follows : D → Type 0) {C : Type 0}
     (ticks : C → ℕ → C → Type 0) where

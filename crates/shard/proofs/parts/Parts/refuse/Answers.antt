@@ -6,7 +6,7 @@ use Rattle.history.specs.Handles.{Booked, Received}
 use Rattle.shard.specs.Keeping.{moments}
 use Rattle.shard.specs.Shards.{IsShard}
 use Rattle.shard.specs.Parts.{seen_of, IsApplied}
-use Rattle.shard.proofs.Replies.{due_marked, refused_after, within_due}
+use Rattle.shard.proofs.Replies.{due_marked, refused_after}
 use Rattle.shard.proofs.Shards.{shard_answered}
 use Rattle.shard.proofs.Applied.{applied_quiet}
 use Rattle.shard.proofs.Refusals.{refused_shard, refused_kept, refused_step, refused_settled}
@@ -43,9 +43,8 @@ returns-clause-applied g c =
     let sight = g.D.Disk.sight in
     let follows = g.D.Disk.follows in
     let none = refused_after p.book ask Unavailable (sym c.requires.parts.marked ∙ c.requires.marked) refl in
-    let within = within_due p.book ask Unavailable none.due c.requires.parts.within in
     let received_at : Booked → Received = λ b. record { table = c.args.ticket.table; step = step_of ask Unavailable; upto = b.items; moment = moments (slots sight p.log.wal) } in
     subst (λ (b : Booked). IsApplied sight follows (seen_of p) (record { log = p.log.wal; book = b; opened = p.opened.value }) c.args.ticket c.refuse.result.0 c.refuse.result.1) (sym c.refuse.ensures.book)
     (applied_quiet sight follows (record { counts_now = g.met.D.Disk.counts_now; only_now = g.met.D.Disk.only_now }) p.log.wal p.book p.opened.value p.states p.is_marked p.limits c.args.ticket Unavailable c.refuse.result.0 c.refuse.result.1
-    c.requires.parts (shard_answered sight follows p.log.wal p.book p.opened.value p.states p.is_marked p.limits ask Unavailable c.requires.parts none.same within)
+    c.requires.parts (shard_answered sight follows p.log.wal p.book p.opened.value p.states p.is_marked p.limits ask Unavailable c.requires.parts none.same)
     none.due none.quiet c.refuse.ensures.reply (c.refuse.ensures.receipt ∙ ap received_at c.refuse.ensures.book))
