@@ -1,8 +1,8 @@
 -- What a pass knows stays right at each step.
-use Rattle.std.proofs.Common.{◌≡◌, ◌≢◌, ◌⊎◌, ℕ, zero, suc, ◌+◌, ◌<◌, ◌≤◌, List, [], ◌∷◌, ◌++◌, length, Bool, true, false, refl, sym, ap, ◌∙◌, subst, inl, inr, ⊎_elim, append_assoc, append-nil, arith, length-append, length-set, slice_index_or, slice_set, get_or-set_same, get_or-set_other}
+use Rattle.std.proofs.Common.{◌≡◌, ◌≢◌, ◌⊎◌, ℕ, zero, suc, ◌+◌, ◌<◌, ◌≤◌, List, [], ◌∷◌, ◌++◌, length, Bool, true, false, cond, eqb, refl, sym, ap, ◌∙◌, subst, inl, inr, ⊎_elim, append_assoc, append-nil, arith, length-append, length-set, slice_index_or, slice_set, get_or-set_same, get_or-set_other}
 use Rattle.std.proofs.lemmas.List.{append_cancel_left, length-replicate}
-use Rattle.history.proofs.Common.{Call, Reply, Ask, Step, Item, Answered, About, Caller, Token, Nothing, Open, Done, IsBeginning, shard_in, step_of, steps_by, steps_on, asks_by, HaveNumbersBelow, HaveNumbersAbove, IsRising, IsUnused, AreUnused, HasStep, HaveSteps, IsAmong, AreAmong, IsFirst, IsFirstIfAmong, behind_first, bound, AccountOk, HasOwn, IsOfOpenCall, AreOfOpenCalls, IsOrdered, IsQueue, TokenOk, newcomer, floor_of, IsOnItsWay, AreTold, seen_at, ask_of, before_of, announce_to, withdraw_to, collect_to, look_to, AreHis, HasStepsOf, IsRested, Extends, cases_eq, put, put_at, put_else, put_all, begins_same, begins_more, begins_trans, in_line, replicate_at, last_or_none, last_same}
-use Rattle.history.proofs.Past.{AreFrom, steps_append, asks_step, steps_mine, steps_begin, on_here, on_else, below_on, below_more, below_last, below_middle, rising_last, rising_back, rising_front, parted, under_more, under_last, unused_below, unused_number, unused_step, unused_both, made_left, made_last, not_made, has_step, among_left, among_last, among_on, among_floor, queue_last, queue_behind, floor_first, among_behind, first_by_number, few_behind}
+use Rattle.history.proofs.Common.{Call, Reply, Ask, Step, Item, Answered, About, Caller, Token, Nothing, Open, Done, IsBeginning, shard_in, step_of, steps_by, steps_on, asks_by, HaveNumbersBelow, HaveNumbersAbove, IsRising, IsUnused, AreUnused, HasStep, HaveSteps, IsAmong, AreAmong, IsFirst, IsFirstNumber, IsFirstIfAmong, behind_on, asks_on, asks_beside, numbers_of, AreSpent, bound, AccountOk, HasOwn, IsOfOpenCall, AreOfOpenCalls, IsOrdered, IsQueue, TokenOk, newcomer, floor_of, IsOnItsWay, AreTold, seen_at, ask_of, before_of, announce_to, look_to, AreHis, HasStepsOf, IsRestedAt, IsRested, IsNextOn, IsFirstOf, IsFirstSaid, IsNextSaid, StaysRested, collect_at, Extends, cases_eq, put, put_at, put_else, put_all, begins_same, begins_more, begins_trans, in_line, replicate_at, last_or_none, last_same}
+use Rattle.history.proofs.Past.{AreFrom, among_all, among_there, same_number, first_numbered, steps_append, asks_step, steps_mine, steps_begin, on_here, on_else, below_more, below_last, below_middle, rising_last, rising_back, rising_front, parted, unused_number, unused_step, unused_both, unused_made, unused_on, numbers_last, made_left, made_last, not_made, has_step, among_left, among_last, among_on, among_floor, queue_last, floor_first, first_by_number, asks_on_append, queue_on, queue_left, few_left, left_here, among_left_on, first_there, length_left, spent_left, own_free, floor_stays, spent_last, spent_more}
 
 -- what is told of calls, after a change of the one with number n
 pub told_put : (made made' : List Step) (ts : ℕ → Token) (n : ℕ) (t' : Token) → ((a : Ask) → HasStep a made → HasStep a made') → ((a : Ask) → IsOnItsWay a (ts n) → HasStep a made' ⊎ IsOnItsWay a t') → (asks : List Ask) → AreTold made ts asks → AreTold made' (put ts n t') asks
@@ -108,10 +108,11 @@ module _ (about : About) (items : ℕ → List Item) (p : ℕ) (c : Caller) (ts 
   waiting_among k [] w = tt
   waiting_among k (s ∷ ss) w = ((token_ok s.ask.number (Done s w.0.upto w.0.at) w.0.is).2, waiting_among k ss w.1)
 
-  waiting_from : (k n : ℕ) (ss : List Step) → n ≤ floor_of c.last c.pending → AreOfOpenCalls about k ts ss → AreFrom n ss
+  waiting_from : (k n : ℕ) (ss : List Step) → n ≤ floor_of c.last (asks_on about k c.pending) → AreOfOpenCalls about k ts ss → AreFrom n ss
   waiting_from k n [] l w = tt
   waiting_from k n (s ∷ ss) l w =
-      ((let low = (among_floor s.ask c.last c.pending h.numbers.queue (token_ok s.ask.number (Done s w.0.upto w.0.at) w.0.is).2).0 in omega arith), waiting_from k n ss l w.1)
+      let there = among_on about k s.ask c.pending (sym w.0.here) (token_ok s.ask.number (Done s w.0.upto w.0.at) w.0.is).2 in
+      ((let low = (among_floor s.ask c.last (asks_on about k c.pending) (queue_on about k c.last c.pending h.numbers.queue) there).0 in omega arith), waiting_from k n ss l w.1)
 
   -- the call that is announced
   module _ (call : Call) (n : ℕ) (above : c.last < n) where
@@ -149,15 +150,15 @@ module _ (about : About) (items : ℕ → List Item) (p : ℕ) (c : Caller) (ts 
 
     pub announced_ok : c.about ≡ about → n < bound → length c.pending < 64 → AccountOk about items p (announce_to c n call) (put ts n new_token)
     announced_ok at small few =
-        let free = free_number n above in
-        let floor = announced_floor c.pending h.numbers.queue in record {
+        let free = free_number n above in record {
           named = h.named;
           numbers = record {
             within = small;
             queue = queue_last c.last n c.pending new h.numbers.queue above refl;
             few = let e = length-append c.pending (new ∷ []) in omega arith;
-            rises = below_more (floor_of c.last c.pending) (floor_of n (c.pending ++ new ∷ [])) c.made floor h.numbers.rises;
-            gone = under_more (floor_of c.last c.pending) (floor_of n (c.pending ++ new ∷ [])) c.withdrawn floor h.numbers.gone;
+            rises = λ k. below_more (floor_of c.last (asks_on about k c.pending)) (floor_of n (asks_on about k (c.pending ++ new ∷ []))) (steps_on about k c.made) (announced_floor k) (h.numbers.rises k);
+            over = spent_last c.last n c.pending new (numbers_of c.made) above refl h.numbers.over;
+            gone = spent_last c.last n c.pending new c.withdrawn above refl h.numbers.gone;
           };
           steps = record {
             rising = h.steps.rising;
@@ -175,42 +176,61 @@ module _ (about : About) (items : ℕ → List Item) (p : ℕ) (c : Caller) (ts 
           };
         }
       where
-        announced_floor : (qs : List Ask) → IsQueue c.last qs → floor_of c.last qs ≤ floor_of n (qs ++ new ∷ [])
-        announced_floor [] q = omega arith
-        announced_floor (b ∷ qs) q = omega arith
+        not_less : (t : Bool) (qs : List Ask) → floor_of c.last qs ≤ floor_of n (qs ++ cond t (new ∷ []) [])
+        not_less true [] = omega arith
+        not_less false [] = omega arith
+        not_less t (b ∷ qs) = omega arith
 
-  -- the first open call ends
-  module _ (a : Ask) (first : IsFirst a c.pending) where
-    lower : floor_of c.last c.pending ≡ a.number
-    lower = (floor_first a c.last c.pending first h.numbers.queue).0
+        announced_floor : (k : ℕ) → floor_of c.last (asks_on about k c.pending) ≤ floor_of n (asks_on about k (c.pending ++ new ∷ []))
+        announced_floor k = subst (λ (l : List Ask). floor_of c.last (asks_on about k c.pending) ≤ floor_of n l) (sym (asks_on_append about k c.pending (new ∷ []))) (not_less (eqb k (shard_in about new)) (asks_on about k c.pending))
 
-    upper : a.number < floor_of c.last (behind_first c.pending)
-    upper = (floor_first a c.last c.pending first h.numbers.queue).1
+  -- the first open call of a shard ends
+  module _ (a : Ask) (first : IsFirst a (asks_beside about a c.pending)) where
+    abbrev its : ℕ
+    its = shard_in about a
 
-    ended_token : (m : ℕ) → a.number ≢ m → (u : Token) → TokenOk about items p c.pending m u → TokenOk about items p (behind_first c.pending) m u
+    abbrev left : List Ask
+    left = behind_on about its c.pending
+
+    queue_there : IsQueue c.last (asks_on about its c.pending)
+    queue_there = queue_on about its c.last c.pending h.numbers.queue
+
+    lower : floor_of c.last (asks_on about its c.pending) ≡ a.number
+    lower = (floor_first a c.last (asks_on about its c.pending) first queue_there).0
+
+    upper : a.number < floor_of c.last (asks_on about its left)
+    upper = subst (λ (l : List Ask). a.number < floor_of c.last l) (sym (left_here about its c.pending)) (floor_first a c.last (asks_on about its c.pending) first queue_there).1
+
+    ended_rises : (k : ℕ) → HaveNumbersBelow (floor_of c.last (asks_on about k left)) (steps_on about k c.made)
+    ended_rises k = below_more (floor_of c.last (asks_on about k c.pending)) (floor_of c.last (asks_on about k left)) (steps_on about k c.made) (floor_stays about k its c.last c.pending h.numbers.queue) (h.numbers.rises k)
+
+    own_spent : IsAmong a c.pending → (ns : List ℕ) → AreSpent c.last c.pending ns → AreSpent c.last left (ns ++ a.number ∷ [])
+    own_spent among ns spent = spent_more c.last left a.number ns (spent_left about its c.last c.pending ns spent) (let high = (among_floor a c.last c.pending h.numbers.queue among).1 in omega arith) (own_free about its c.last a c.pending h.numbers.queue first)
+
+    ended_token : (m : ℕ) → a.number ≢ m → (u : Token) → TokenOk about items p c.pending m u → TokenOk about items p left m u
     ended_token m d Nothing k = tt
-    ended_token m d (Open b f e) k = (k.0, k.1, among_behind b a c.pending first k.2 (λ q. d (q ∙ k.0)), k.3)
-    ended_token m d (Done s upto at) k = (k.0, k.1, among_behind s.ask a c.pending first k.2 (λ q. d (q ∙ k.0)), k.3, k.4)
+    ended_token m d (Open b f e) k = (k.0, k.1, among_left_on about its b a c.pending first k.2 (λ q. d (q ∙ k.0)), k.3)
+    ended_token m d (Done s upto at) k = (k.0, k.1, among_left_on about its s.ask a c.pending first k.2 (λ q. d (q ∙ k.0)), k.3, k.4)
 
-    pub ended_tokens : (m : ℕ) → TokenOk about items p (behind_first c.pending) m (put ts a.number Nothing m)
-    ended_tokens = put_all ts a.number Nothing (λ m u. TokenOk about items p (behind_first c.pending) m u) tt (λ m d. ended_token m d (ts m) (h.way.tokens m))
+    pub ended_tokens : (m : ℕ) → TokenOk about items p left m (put ts a.number Nothing m)
+    ended_tokens = put_all ts a.number Nothing (λ m u. TokenOk about items p left m u) tt (λ m d. ended_token m d (ts m) (h.way.tokens m))
 
-  pub withdrawn_ok : (a : Ask) (e : List Ask) → IsFirst a c.pending → ts a.number ≡ Open a false e → AccountOk about items p (withdraw_to c a.number) (put ts a.number Nothing)
+  pub withdrawn_ok : (a : Ask) (e : List Ask) → IsFirst a (asks_beside about a c.pending) → ts a.number ≡ Open a false e
+      → AccountOk about items p (record c { withdrawn = c.withdrawn ++ a.number ∷ []; pending = behind_on about (shard_in about a) c.pending }) (put ts a.number Nothing)
   withdrawn_ok a e first is =
       let n = a.number in
-      let low : floor_of c.last c.pending ≡ n = lower a first in
-      let high : n < floor_of c.last (behind_first c.pending) = upper a first in
-      let floor : floor_of c.last c.pending ≤ floor_of c.last (behind_first c.pending) = omega arith in
+      let among : IsAmong a c.pending = (token_ok n (Open a false e) is).2 in
       let apart : (k : ℕ) (s : Step) → IsOfOpenCall about k ts s → n ≢ s.ask.number = λ k s w q. open_done a false e s w.upto w.at (sym is ∙ ap ts q ∙ w.is) in
       let unused : (k : ℕ) → IsUnused n (steps_by p (items k)) = λ k. subst (λ (l : List Step). IsUnused n l) (sym (h.way.own k).is)
-      (unused_both n (steps_on about k c.made) (h.way.own k).rest (unused_below n (steps_on about k c.made) (below_on about k n c.made (subst (λ (m : ℕ). HaveNumbersBelow m c.made) low h.numbers.rises))) (waits_unused about k ts n (h.way.own k).rest (apart k) (h.way.own k).waiting)) in record {
+      (unused_both n (steps_on about k c.made) (h.way.own k).rest (unused_on about k n c.made (unused_made c.last c.pending c.made a h.numbers.over among)) (waits_unused about k ts n (h.way.own k).rest (apart k) (h.way.own k).waiting)) in record {
         named = h.named;
         numbers = record {
           within = h.numbers.within;
-          queue = queue_behind c.last c.pending h.numbers.queue;
-          few = few_behind c.pending h.numbers.few;
-          rises = below_more (floor_of c.last c.pending) (floor_of c.last (behind_first c.pending)) c.made floor h.numbers.rises;
-          gone = under_last (floor_of c.last (behind_first c.pending)) n c.withdrawn (under_more (floor_of c.last c.pending) (floor_of c.last (behind_first c.pending)) c.withdrawn floor h.numbers.gone) high;
+          queue = queue_left about (shard_in about a) c.last c.pending h.numbers.queue;
+          few = few_left about (shard_in about a) c.pending h.numbers.few;
+          rises = ended_rises a first;
+          over = spent_left about (shard_in about a) c.last c.pending (numbers_of c.made) h.numbers.over;
+          gone = own_spent a first among c.withdrawn h.numbers.gone;
         };
         steps = record {
           rising = h.steps.rising;
@@ -389,7 +409,7 @@ module _ (about : About) (items : ℕ → List Item) (p : ℕ) (c : Caller) (ts 
           rising = put_all items k now (λ j l. IsRising (steps_by p l)) (subst (λ (l : List Step). IsRising l) (sym longer_steps) (rising_last (steps_by p (items k)) s (h.steps.rising k) below)) (λ j n. h.steps.rising j);
           used = put_all items k now (λ j l. HaveNumbersBelow (c.last + 1) (steps_by p l)) (subst (λ (l : List Step). HaveNumbersBelow (c.last + 1) l) (sym longer_steps) (below_last (c.last + 1) (steps_by p (items k)) s (h.steps.used k) (omega arith))) (λ j n. h.steps.used j);
           unused = put_all items k now (λ j l. AreUnused c.withdrawn (steps_by p l))
-              (subst (λ (l : List Step). AreUnused c.withdrawn l) (sym longer_steps) (unused_step c.withdrawn (steps_by p (items k)) s (under_more (floor_of c.last c.pending) a.number c.withdrawn low h.numbers.gone) (h.steps.unused k)))
+              (subst (λ (l : List Step). AreUnused c.withdrawn l) (sym longer_steps) (unused_step c.last c.pending c.withdrawn (steps_by p (items k)) s h.numbers.gone mine.2 (h.steps.unused k)))
               (λ j n. h.steps.unused j);
         };
         looks = record {
@@ -425,26 +445,52 @@ both_begin a b h k =
     front_empty [] y e = refl
     front_empty (z ∷ x) y e = absurd (let n = ap length e in omega arith)
 
--- a pass with no open call has seen all that it made, and nothing else of it
-pub rested_of : (items : ℕ → List Item) (c : Caller) (ts : ℕ → Token) → AccountOk c.about items c.pass c ts → c.pending ≡ [] → IsRested c
-rested_of items c ts h idle k =
+-- a pass with no open call on a shard has seen all that it made there, and nothing else of it
+pub rested_of : (items : ℕ → List Item) (c : Caller) (ts : ℕ → Token) → AccountOk c.about items c.pass c ts → (k : ℕ) → asks_on c.about k c.pending ≡ [] → IsRestedAt c k
+rested_of items c ts h k idle =
     let all : steps_by c.pass (items k) ≡ steps_on c.about k c.made = (h.way.own k).is ∙ ap (λ l. steps_on c.about k c.made ++ l) (none_wait (h.way.own k).rest (h.way.own k).waiting) ∙ append-nil (steps_on c.about k c.made) in
     sym (both_begin (steps_on c.about k c.made) (steps_by c.pass (seen_at c k)) (h.looks.own k) (subst (λ l. IsBeginning (steps_by c.pass (seen_at c k)) l) all (steps_begin c.pass (seen_at c k) (items k) (h.looks.parts k))))
   where
     none_wait : (ss : List Step) → AreOfOpenCalls c.about k ts ss → ss ≡ []
     none_wait [] w = refl
-    none_wait (s ∷ ss) w = absurd (subst (λ (l : List Ask). IsAmong s.ask l) idle (token_ok c.about items c.pass c ts h s.ask.number (Done s w.0.upto w.0.at) w.0.is).2)
+    none_wait (s ∷ ss) w = absurd (subst (λ (l : List Ask). IsAmong s.ask l) idle
+        (among_on c.about k s.ask c.pending (sym w.0.here) (token_ok c.about items c.pass c ts h s.ask.number (Done s w.0.upto w.0.at) w.0.is).2))
 
--- answers are told apart by their numbers
-pub answers_first : (items : ℕ → List Item) (c : Caller) (ts : ℕ → Token) (s : Step) (upto : List Item) (at : ℕ × ℕ) → AccountOk c.about items c.pass c ts → ts s.ask.number ≡ Done s upto at → IsFirstIfAmong s.ask c.pending → IsFirst s.ask c.pending
-answers_first items c ts s upto at h is its = let among = (token_ok c.about items c.pass c ts h s.ask.number (Done s upto at) is).2 in first_by_number s.ask c.last c.pending h.numbers.queue among (its among)
+-- open calls are told apart by their numbers
+module _ (items : ℕ → List Item) (c : Caller) (ts : ℕ → Token) (a : Ask) (h : AccountOk c.about items c.pass c ts) (among : IsAmong a c.pending) where
+  -- the call whose number is that of the first open one of shard k
+  told_there : (k : ℕ) → IsFirstNumber a.number (asks_on c.about k c.pending) → (k ≡ shard_in c.about a) × IsFirst a (asks_on c.about k c.pending)
+  told_there k f =
+      let b = first_numbered a.number (asks_on c.about k c.pending) f in
+      let same : b.0 ≡ a = same_number b.0 a c.last c.pending h.numbers.queue (among_all c.about k b.0 c.pending b.2) among b.3 in
+      (among_there c.about k b.0 c.pending b.2 ∙ ap (shard_in c.about) same, subst (λ (x : Ask). IsFirst x (asks_on c.about k c.pending)) same b.1)
 
--- and so are calls that come back without a step
-pub returns_first : (items : ℕ → List Item) (c : Caller) (ts : ℕ → Token) (a : Ask) (f : Bool) (e : List Ask) → AccountOk c.about items c.pass c ts → ts a.number ≡ Open a f e → IsFirstIfAmong a c.pending → IsFirst a c.pending
-returns_first items c ts a f e h is its = let among = (token_ok c.about items c.pass c ts h a.number (Open a f e) is).2 in first_by_number a c.last c.pending h.numbers.queue among (its among)
+  first_of : IsFirstSaid c a → IsFirstOf c a
+  first_of said =
+      let k = shard_in c.about a in
+      let first : IsFirstIfAmong a c.pending → IsFirst a c.pending = λ its. first_by_number a c.last c.pending h.numbers.queue among (its among) in
+      let here : IsFirst a (asks_beside c.about a c.pending) = ⊎_elim
+      (λ (its : IsFirstIfAmong a c.pending). first_there c.about k a c.pending refl (first its))
+      (λ (t : (j : ℕ) × IsFirstNumber a.number (asks_on c.about j c.pending)). let told = told_there t.0 t.1 in subst (λ (j : ℕ). IsFirst a (asks_on c.about j c.pending)) told.0 told.1)
+      said in
+      (here, first, (λ j f. (told_there j f).0), length_left c.about k a c.pending here)
+
+  next_of : IsNextSaid c a → IsFirstOf c a × IsRestedAt c (shard_in c.about a)
+  next_of said = ⊎_elim
+      (λ (t : IsFirstIfAmong a c.pending × IsRested c). (first_of (inl t.0), t.1 (shard_in c.about a)))
+      (λ (t : (k : ℕ) × IsNextOn c a.number k). (first_of (inr (t.0, t.1.0)), subst (IsRestedAt c) (told_there t.0 t.1.0).0 t.1.1))
+      said
+
+-- so are answers
+pub answers_first : (items : ℕ → List Item) (c : Caller) (ts : ℕ → Token) (s : Step) (upto : List Item) (at : ℕ × ℕ) → AccountOk c.about items c.pass c ts → ts s.ask.number ≡ Done s upto at → IsNextSaid c s.ask → IsFirstOf c s.ask × IsRestedAt c (shard_in c.about s.ask)
+answers_first items c ts s upto at h is said = next_of items c ts s.ask h (token_ok c.about items c.pass c ts h s.ask.number (Done s upto at) is).2 said
+
+-- and calls that come back without a step
+pub returns_first : (items : ℕ → List Item) (c : Caller) (ts : ℕ → Token) (a : Ask) (f : Bool) (e : List Ask) → AccountOk c.about items c.pass c ts → ts a.number ≡ Open a f e → IsFirstSaid c a → IsFirstOf c a
+returns_first items c ts a f e h is said = first_of items c ts a h (token_ok c.about items c.pass c ts h a.number (Open a f e) is).2 said
 
 module _ (items : ℕ → List Item) (c : Caller) (ts : ℕ → Token) (s : Step) (upto : List Item) (at : ℕ × ℕ) (h : AccountOk c.about items c.pass c ts) (is : ts s.ask.number ≡ Done s upto at)
-    (first : IsFirst s.ask c.pending) where
+    (first : IsFirst s.ask (asks_beside c.about s.ask c.pending)) where
   abbrev k : ℕ
   k = shard_in c.about s.ask
 
@@ -457,11 +503,11 @@ module _ (items : ℕ → List Item) (c : Caller) (ts : ℕ → Token) (s : Step
   abbrev token : TokenOk c.about items c.pass c.pending number (Done s upto at)
   token = token_ok c.about items c.pass c ts h number (Done s upto at) is
 
-  abbrev floor : floor_of c.last c.pending ≡ number
+  abbrev floor : floor_of c.last (asks_on c.about k c.pending) ≡ number
   floor = lower c.about items c.pass c ts h s.ask first
 
-  made_below : HaveNumbersBelow number c.made
-  made_below = subst (λ (m : ℕ). HaveNumbersBelow m c.made) floor h.numbers.rises
+  made_below : HaveNumbersBelow number (steps_on c.about k c.made)
+  made_below = subst (λ (m : ℕ). HaveNumbersBelow m (steps_on c.about k c.made)) floor (h.numbers.rises k)
 
   steps_upto : steps_by c.pass upto ≡ steps_by c.pass token.4.0 ++ s ∷ []
   steps_upto = ap (steps_by c.pass) token.4.1 ∙ steps_mine c.pass token.4.0 s (sym token.1)
@@ -475,7 +521,7 @@ module _ (items : ℕ → List Item) (c : Caller) (ts : ℕ → Token) (s : Step
   -- before the step stands what the pass made, and no more of it
   split_there : (steps_on c.about k c.made ≡ steps_by c.pass token.4.0) × ((h.way.own k).rest ≡ s ∷ tail.rest)
   split_there = parted number (steps_on c.about k c.made) (h.way.own k).rest (steps_by c.pass token.4.0) s tail.rest refl
-      (below_on c.about k number c.made made_below)
+      made_below
       (waiting_from c.about items c.pass c ts h k number (h.way.own k).rest (omega (arith, floor)) (h.way.own k).waiting)
       (rising_front (steps_by c.pass token.4.0) s tail.rest (subst (λ (l : List Step). IsRising l) all_steps (h.steps.rising k)))
       (sym (h.way.own k).is ∙ all_steps)
@@ -486,23 +532,23 @@ module _ (items : ℕ → List Item) (c : Caller) (ts : ℕ → Token) (s : Step
   abbrev rest_above : HaveNumbersAbove number tail.rest
   rest_above = (subst (λ (l : List Step). IsRising l) split_there.1 (rising_back (steps_on c.about k c.made) (h.way.own k).rest (subst (λ (l : List Step). IsRising l) (h.way.own k).is (h.steps.rising k)))).0
 
-  not_back : IsRested c → IsBeginning upto old → ⊥
+  not_back : IsRestedAt c k → IsBeginning upto old → ⊥
   not_back rested b =
       let t = steps_begin c.pass upto old b in
-      let e : steps_on c.about k c.made ≡ (steps_by c.pass token.4.0 ++ s ∷ []) ++ t.rest = sym (rested k) ∙ t.is ∙ ap (λ l. l ++ t.rest) steps_upto in
-      let less : number < number = below_middle number (steps_by c.pass token.4.0) s t.rest (subst (λ (l : List Step). HaveNumbersBelow number l) e (below_on c.about k number c.made made_below)) in
+      let e : steps_on c.about k c.made ≡ (steps_by c.pass token.4.0 ++ s ∷ []) ++ t.rest = sym rested ∙ t.is ∙ ap (λ l. l ++ t.rest) steps_upto in
+      let less : number < number = below_middle number (steps_by c.pass token.4.0) s t.rest (subst (λ (l : List Step). HaveNumbersBelow number l) e made_below) in
       omega arith
 
-  forth : IsRested c → IsBeginning old upto
+  forth : IsRestedAt c k → IsBeginning old upto
   forth rested = ⊎_elim (λ (b : IsBeginning old upto). b) (λ (b : IsBeginning upto old). absurd (not_back rested b)) (in_line old upto (items k) (h.looks.parts k) token.3)
 
-  between_none : IsRested c → (front : List Item) → token.4.0 ≡ old ++ front → steps_by c.pass front ≡ []
+  between_none : IsRestedAt c k → (front : List Item) → token.4.0 ≡ old ++ front → steps_by c.pass front ≡ []
   between_none rested front e =
       let made = steps_on c.about k c.made in
-      let both : made ++ [] ≡ made ++ steps_by c.pass front = append-nil made ∙ split_there.0 ∙ ap (steps_by c.pass) e ∙ steps_append c.pass old front ∙ ap (λ l. l ++ steps_by c.pass front) (rested k) in
+      let both : made ++ [] ≡ made ++ steps_by c.pass front = append-nil made ∙ split_there.0 ∙ ap (steps_by c.pass) e ∙ steps_append c.pass old front ∙ ap (λ l. l ++ steps_by c.pass front) rested in
       sym (append_cancel_left made [] (steps_by c.pass front) both)
 
-  pub extends_of : IsRested c → Extends c.pass old s upto
+  pub extends_of : IsRestedAt c k → Extends c.pass old s upto
   extends_of rested =
       let b = forth rested in
       ⊎_elim
@@ -513,11 +559,15 @@ module _ (items : ℕ → List Item) (c : Caller) (ts : ℕ → Token) (s : Step
       record { between = t.0; is = e ∙ ap (λ x. (old ++ t.0) ++ x ∷ []) both.1; none = between_none rested t.0 (sym both.0) })
       (last_or_none b.rest)
 
-  -- and then it has seen just what it made, this step too
-  pub rested_then : IsRested c → k < length c.seen → IsRested (collect_to c s upto)
-  rested_then rested lt = seen_put (λ j x. steps_by c.pass x ≡ steps_on c.about j (c.made ++ s ∷ [])) c.seen k upto lt
-      (λ j d. rested j ∙ sym (on_else c.about j c.made s d))
-      (made_upto ∙ sym (on_here c.about k c.made s refl))
+  -- and then it has seen on the shard just what it made there, this step too
+  pub rested_then : k < length c.seen → StaysRested c (collect_at c s upto) k
+  rested_then lt =
+      let made : steps_by c.pass upto ≡ steps_on c.about k (c.made ++ s ∷ []) = made_upto ∙ sym (on_here c.about k c.made s refl) in (
+        ap (steps_by c.pass) (get_or-set_same c.seen k upto [] lt) ∙ made,
+        seen_put (λ j x. IsRestedAt c j → steps_by c.pass x ≡ steps_on c.about j (c.made ++ s ∷ [])) c.seen k upto lt
+            (λ j d rested. rested ∙ sym (on_else c.about j c.made s d))
+            (λ rested. made),
+      )
 
   collected_own : (j : ℕ) → HasOwn c.about c.pass (c.made ++ s ∷ []) (put ts number Nothing) j (items j)
   collected_own j = ⊎_elim
@@ -541,17 +591,22 @@ module _ (items : ℕ → List Item) (c : Caller) (ts : ℕ → Token) (s : Step
             (h.way.own j).waiting;
       }
 
-  pub collected_ok : k < length c.seen → AccountOk c.about items c.pass (collect_to c s upto) (put ts number Nothing)
+  pub collected_ok : k < length c.seen → AccountOk c.about items c.pass (collect_at c s upto) (put ts number Nothing)
   collected_ok lt =
-      let high : number < floor_of c.last (behind_first c.pending) = upper c.about items c.pass c ts h s.ask first in
-      let low : floor_of c.last c.pending ≡ number = floor in record {
+      let high : number < floor_of c.last (asks_on c.about k (behind_on c.about k c.pending)) = upper c.about items c.pass c ts h s.ask first in record {
         named = refl;
         numbers = record {
           within = h.numbers.within;
-          queue = queue_behind c.last c.pending h.numbers.queue;
-          few = few_behind c.pending h.numbers.few;
-          rises = below_last (floor_of c.last (behind_first c.pending)) c.made s (below_more number (floor_of c.last (behind_first c.pending)) c.made (omega arith) made_below) high;
-          gone = under_more (floor_of c.last c.pending) (floor_of c.last (behind_first c.pending)) c.withdrawn (omega arith) h.numbers.gone;
+          queue = queue_left c.about k c.last c.pending h.numbers.queue;
+          few = few_left c.about k c.pending h.numbers.few;
+          rises = λ j. let before = ended_rises c.about items c.pass c ts h s.ask first j in ⊎_elim
+              (λ (e : j ≡ k). subst (λ (i : ℕ). HaveNumbersBelow (floor_of c.last (asks_on c.about i (behind_on c.about k c.pending))) (steps_on c.about i (c.made ++ s ∷ []))) (sym e)
+              (subst (λ (l : List Step). HaveNumbersBelow (floor_of c.last (asks_on c.about k (behind_on c.about k c.pending))) l) (sym (on_here c.about k c.made s refl))
+              (below_last (floor_of c.last (asks_on c.about k (behind_on c.about k c.pending))) (steps_on c.about k c.made) s (ended_rises c.about items c.pass c ts h s.ask first k) high)))
+              (λ (d : j ≢ k). subst (λ (l : List Step). HaveNumbersBelow (floor_of c.last (asks_on c.about j (behind_on c.about k c.pending))) l) (sym (on_else c.about j c.made s d)) before)
+              (cases_eq j k);
+          over = subst (λ (l : List ℕ). AreSpent c.last (behind_on c.about k c.pending) l) (sym (numbers_last c.made s)) (own_spent c.about items c.pass c ts h s.ask first token.2 (numbers_of c.made) h.numbers.over);
+          gone = spent_left c.about k c.last c.pending c.withdrawn h.numbers.gone;
         };
         steps = h.steps;
         looks = record {
@@ -573,7 +628,7 @@ module _ (items : ℕ → List Item) (c : Caller) (ts : ℕ → Token) (s : Step
 pub newcomer_ok : (about : About) (p : ℕ) → AccountOk about (λ _. []) p (newcomer about p) (λ _. Nothing)
 newcomer_ok about p = record {
   named = refl;
-  numbers = record { within = omega arith; queue = tt; few = omega arith; rises = tt; gone = tt };
+  numbers = record { within = omega arith; queue = tt; few = omega arith; rises = λ k. tt; over = tt; gone = tt };
   steps = record { rising = λ k. tt; used = λ k. tt; unused = λ k. tt };
   looks = record {
     parts = λ k. record { rest = []; is = sym (ap (λ l. l ++ []) (replicate_at {A = List Item} about.shards k [])) };

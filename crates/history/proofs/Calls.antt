@@ -1,7 +1,7 @@
 -- The steps of a pass at its own word keep the rule.
 use Rattle.std.proofs.Common.{◌≡◌, ◌⊎◌, ℕ, ◌+◌, ◌<◌, List, [], ◌∷◌, ◌++◌, length, true, false, refl, sym, ap, ◌∙◌, subst, inl, inr, arith, slice_set}
-use Rattle.history.proofs.Common.{some, none, get_elem?, State, Me, Allows, stepped, step, keeps, Call, Ask, Step, Item, About, Caller, View, Nobody, Calls, Token, Nothing, Open, Done, shard_in, IsFirstIfAmong, behind_first, bound, alone, TableContents, Seating, AccountOk, IsInDoubt, number_of, HoldsFor, KeepsRule, IsRested, ask_of, before_of, announce_to, withdraw_to, collect_to, announced_as, withdrew, collected, put, put_at, put_other, put_two, put_two_at}
-use Rattle.history.proofs.Past.{legal_front, by_passes_front, number_last}
+use Rattle.history.proofs.Common.{some, none, get_elem?, State, Me, Allows, stepped, step, keeps, Call, Ask, Step, Item, About, Caller, View, Nobody, Calls, Token, Nothing, Open, Done, shard_in, IsFirstSaid, IsNextSaid, asks_on, behind_first, behind_on, bound, alone, TableContents, Seating, AccountOk, IsInDoubt, number_of, HoldsFor, KeepsRule, ask_of, before_of, announce_to, withdraw_at, collect_at, announced_as, withdrew, collected, put, put_at, put_other, put_two, put_two_at}
+use Rattle.history.proofs.Past.{legal_front, by_passes_front, number_last, number_left}
 use Rattle.history.proofs.Sharding.{shard_below}
 use Rattle.history.proofs.Accounts.{nothing_open, open_done, free_number, token_ok, announced_ok, withdrawn_ok, collected_ok, extends_of, rested_then, answers_first, returns_first, rested_of}
 use Rattle.history.proofs.Seats.{Frame, seats_set, hand_put, doubt_put, account_at, with_pass, held_by, good_pass, words_pass, pass_of}
@@ -50,7 +50,7 @@ announces_as slots id word n c call m is at_word few above small = subst (λ (z 
               });
         },
       ),
-      ((refl, rested_of x.items c (x.tokens c.pass) ok), refl),
+      ((refl, (λ idle k. rested_of x.items c (x.tokens c.pass) ok k (ap (λ (l : List Ask). asks_on c.about k l) idle)), rested_of x.items c (x.tokens c.pass) ok), refl),
     ))
 
 -- the pass with other calls that were seen, made and withdrawn, and others that are open
@@ -78,7 +78,7 @@ gives_back s id n word c t seen made withdrawn pending k e has holds settled ok 
           (record { role = (mine.0, mine.1, mine.2, put_at x.callers c.pass c' c.pass refl); guest = tt; two = tt; hand = tt });
     }
 
-pub withdraws_as : (slots id at_word word : ℕ) (c : Caller) (a : Ask) (d : List Ask) (m : Me Unit View) → m ≡ (alone (Calls c) (Open a false d), []) → c.about.shards + c.pass ≡ at_word → a.pass ≡ c.pass → IsFirstIfAmong a c.pending
+pub withdraws_as : (slots id at_word word : ℕ) (c : Caller) (a : Ask) (d : List Ask) (m : Me Unit View) → m ≡ (alone (Calls c) (Open a false d), []) → c.about.shards + c.pass ≡ at_word → a.pass ≡ c.pass → IsFirstSaid c a
     → word ≡ number_of c.last (behind_first c.pending) → Allows KeepsRule slots id m at_word (λ _. word) (λ _. withdrew (step slots at_word word 0 none) m word)
 withdraws_as slots id at_word word c a d m is there own number due = subst (λ (z : Me Unit View × ℕ). Allows KeepsRule slots id z.0 z.1 (λ _. word) (λ _. withdrew (step slots z.1 word 0 none) z.0 word)) (λ i. (sym is i, there i)) (λ s h wide e fits.
     let n = a.number in
@@ -90,21 +90,21 @@ withdraws_as slots id at_word word c a d m is there own number due = subst (λ (
     let holds : k.seating.holders c.pass n ≡ id = ap (λ (p : ℕ). k.seating.holders p n) (sym own) ∙ seat.hand.1 in
     let ok = account_at c.about x c.pass c k.good mine.1 mine.3 in
     let first = returns_first x.items c (x.tokens c.pass) a false d ok has number in
-    let c' : Caller = withdraw_to c n in (
+    let c' : Caller = withdraw_at c a in (
       alone (Calls c') Nothing,
       keeps,
       tt,
       (
         c.about,
-        gives_back s id n word c (Open a false d) c.seen c.made (c.withdrawn ++ n ∷ []) (behind_first c.pending) k e has holds (λ b o. open_doubted a b d o.0 o.1)
-            (withdrawn_ok c.about x.items c.pass c (x.tokens c.pass) ok a d first has) due,
+        gives_back s id n word c (Open a false d) c.seen c.made (c.withdrawn ++ n ∷ []) (behind_on c.about (shard_in c.about a) c.pending) k e has holds (λ b o. open_doubted a b d o.0 o.1)
+            (withdrawn_ok c.about x.items c.pass c (x.tokens c.pass) ok a d first.0 has) (due ∙ number_left c.about (shard_in c.about a) c.last a c.pending first.0),
       ),
       ((refl, first), refl),
     ))
 
 pub collects_as : (slots id at_word word : ℕ) (c : Caller) (r : Step) (upto : List Item) (at : ℕ × ℕ) (m : Me Unit View) → m ≡ (alone (Calls c) (Done r upto at), []) → c.about.shards + c.pass ≡ at_word → r.ask.pass ≡ c.pass
-    → IsFirstIfAmong r.ask c.pending → word ≡ number_of c.last (behind_first c.pending) → IsRested c → Allows KeepsRule slots id m at_word (λ _. word) (λ _. collected (step slots at_word word 0 none) m word)
-collects_as slots id at_word word c r upto at m is where_is own number due rested = subst (λ (z : Me Unit View × ℕ). Allows KeepsRule slots id z.0 z.1 (λ _. word) (λ _. collected (step slots z.1 word 0 none) z.0 word)) (λ i. (sym is i, where_is i)) (λ s h wide e fits.
+    → IsNextSaid c r.ask → word ≡ number_of c.last (behind_first c.pending) → Allows KeepsRule slots id m at_word (λ _. word) (λ _. collected (step slots at_word word 0 none) m word)
+collects_as slots id at_word word c r upto at m is where_is own number due = subst (λ (z : Me Unit View × ℕ). Allows KeepsRule slots id z.0 z.1 (λ _. word) (λ _. collected (step slots z.1 word 0 none) z.0 word)) (λ i. (sym is i, where_is i)) (λ s h wide e fits.
     let n = r.ask.number in
     let k = pass_of s id c Nobody (Done r upto at) h e in
     let x = k.contents in
@@ -114,16 +114,18 @@ collects_as slots id at_word word c r upto at m is where_is own number due reste
     let has : ts n ≡ Done r upto at = ap (λ (p : ℕ). x.tokens p n) (sym own) ∙ seat.hand.2 in
     let holds : k.seating.holders c.pass n ≡ id = ap (λ (p : ℕ). k.seating.holders p n) (sym own) ∙ seat.hand.1 in
     let ok = account_at c.about x c.pass c k.good mine.1 mine.3 in
-    let first = answers_first x.items c ts r upto at ok has number in
+    let which = answers_first x.items c ts r upto at ok has number in
+    let first = which.0.0 in
+    let rested = which.1 in
     let there : shard_in c.about r.ask < length c.seen = let w = ok.looks.wide in let b = shard_below c.about r.ask k.words.any in omega arith in
-    let c' : Caller = collect_to c r upto in (
+    let c' : Caller = collect_at c r upto in (
       alone (Calls c') Nothing,
       keeps,
       tt,
       (
         c.about,
-        gives_back s id n word c (Done r upto at) (slice_set c.seen (shard_in c.about r.ask) upto) (c.made ++ r ∷ []) c.withdrawn (behind_first c.pending) k e has holds (λ b o. open_done b true o.0 r upto at (sym o.1))
-            (collected_ok x.items c ts r upto at ok has first there) due,
+        gives_back s id n word c (Done r upto at) (slice_set c.seen (shard_in c.about r.ask) upto) (c.made ++ r ∷ []) c.withdrawn (behind_on c.about (shard_in c.about r.ask) c.pending) k e has holds (λ b o. open_done b true o.0 r upto at (sym o.1))
+            (collected_ok x.items c ts r upto at ok has first there) (due ∙ number_left c.about (shard_in c.about r.ask) c.last r.ask c.pending first),
       ),
       (
         (
@@ -131,8 +133,8 @@ collects_as slots id at_word word c r upto at m is where_is own number due reste
           legal_front c.about (shard_in c.about r.ask) upto (x.items (shard_in c.about r.ask)) (token_ok c.about x.items c.pass c ts ok n (Done r upto at) has).3 (k.good.legal (shard_in c.about r.ask)),
           extends_of x.items c ts r upto at ok has first rested,
           there,
-          first,
-          rested_then x.items c ts r upto at ok has first rested there,
+          which.0,
+          rested_then x.items c ts r upto at ok has first there,
           by_passes_front c.about.passes upto (x.items (shard_in c.about r.ask)) (token_ok c.about x.items c.pass c ts ok n (Done r upto at) has).3 (k.good.by_passes (shard_in c.about r.ask)),
         ),
         refl,

@@ -2,11 +2,7 @@
 use Rattle.std.proofs.Common.{◌≡◌, ℕ, ◌+◌, List, [], ◌∷◌, ◌++◌, Bool, true, false, cond, eqb, refl, sym, ap, ◌∙◌, subst, append-nil, eqb-true}
 use Rattle.atomic_table.specs.Seated.{TableId}
 use Rattle.history.proofs.Common.{Call, Reply, Ask, Step, Item, Answered, About, Caller, shard_in, step_of, steps_by, HasStep, HaveSteps, behind_first, asks_on, ask_of, before_of, announce_to, withdraw_to, collect_to, Announced, ticket_for, tickets_announced, tickets_on, AreInLine}
-use Rattle.history.proofs.Past.{cond_append, have_more, have_last, made_now}
-
-asks_on_append : (about : About) (k : ℕ) (xs ys : List Ask) → asks_on about k (xs ++ ys) ≡ asks_on about k xs ++ asks_on about k ys
-asks_on_append about k [] ys = refl
-asks_on_append about k (a ∷ xs) ys = ap (λ l. cond (eqb k (shard_in about a)) (a ∷ l) l) (asks_on_append about k xs ys) ∙ cond_append (eqb k (shard_in about a)) a (asks_on about k xs) (asks_on about k ys)
+use Rattle.history.proofs.Past.{asks_on_append, have_more, have_last, made_now}
 
 line_cond : (front : List Ask) (b : Bool) (t : Announced) (ts : List Announced) → (b ≡ true → t.before ≡ front) → AreInLine (front ++ cond b (t.ask ∷ []) []) ts → AreInLine front (cond b (t ∷ ts) ts)
 line_cond front true t ts f h = (f refl, h)

@@ -1,7 +1,7 @@
 -- Laws of histories, and of the steps that a pass has in them.
-use Rattle.std.proofs.Common.{◌≡◌, ◌≢◌, ◌⊎◌, ℕ, zero, suc, ◌+◌, ◌*◌, ◌<◌, ◌≤◌, List, [], ◌∷◌, ◌++◌, length, take, Bool, true, false, cond, eqb, not, ◌&&◌, ◌||◌, refl, sym, ap, ◌∙◌, subst, inl, inr, ⊎_elim, append_assoc, append-nil, eq-eqb, ne_eqb, arith, length-append, Some, None, slice_get, nat_lt, IsTrue, lt-ltb}
+use Rattle.std.proofs.Common.{◌≡◌, ◌≢◌, ◌⊎◌, ℕ, zero, suc, ◌+◌, ◌*◌, ◌<◌, ◌≤◌, List, [], ◌∷◌, ◌++◌, length, take, Bool, true, false, cond, eqb, not, ◌&&◌, ◌||◌, refl, sym, ap, ◌∙◌, subst, inl, inr, ⊎_elim, append_assoc, append-nil, eq-eqb, eqb-true, ne_eqb, arith, length-append, Some, None, slice_get, nat_lt, IsTrue, lt-ltb}
 use Rattle.std.specs.List.{list_any, list_all}
-use Rattle.history.proofs.Common.{Ask, Step, Item, Answered, Failed, About, MayFollow, is_marked, is_new, is_step_of, IsBeginning, IsLegalAt, terms_of, base_at, history_of, shard_in, steps_by, steps_on, of_pass, asks_by, IsByPasses, HaveNumbersBelow, HaveNumbersAbove, IsRising, AreNumbersBelow, IsUnused, AreUnused, HasStep, HaveSteps, IsAmong, IsFirst, IsFirstNumber, behind_first, asks_on, doubt_or, doubt_of, bound, number_of, floor_of, IsQueue, steps_in_all, cases_eq, cond_both}
+use Rattle.history.proofs.Common.{Ask, Step, Item, Answered, Failed, About, MayFollow, is_marked, is_new, is_step_of, IsBeginning, IsLegalAt, terms_of, base_at, history_of, shard_in, steps_by, steps_on, of_pass, asks_by, IsByPasses, HaveNumbersBelow, HaveNumbersAbove, IsRising, IsUnused, AreUnused, HasStep, HaveSteps, IsAmong, IsFirst, IsFirstNumber, behind_first, behind_on, numbers_of, IsFree, AreSpent, asks_on, doubt_or, doubt_of, bound, number_of, floor_of, IsQueue, steps_in_all, cases_eq, cond_both}
 use Rattle.history.proofs.Lists.{head_or, tail_of}
 
 pub cond_append : {A : Type 0} (b : Bool) (x : A) (xs ys : List A) → cond b (x ∷ (xs ++ ys)) (xs ++ ys) ≡ cond b (x ∷ xs) xs ++ ys
@@ -113,14 +113,6 @@ parted n (x ∷ xs) ws (y ∷ ys) s more is b f c e =
     let t = parted n xs ws ys s more is b.1 f c.1 (ap tail_of e) in
     ((λ i. first i ∷ t.0 i), t.1)
 
-pub under_more : (n m : ℕ) (ns : List ℕ) → n ≤ m → AreNumbersBelow n ns → AreNumbersBelow m ns
-under_more n m [] le h = tt
-under_more n m (x ∷ xs) le h = ((let l = h.0 in omega arith), under_more n m xs le h.1)
-
-pub under_last : (n m : ℕ) (ns : List ℕ) → AreNumbersBelow n ns → m < n → AreNumbersBelow n (ns ++ m ∷ [])
-under_last n m [] h l = (l, tt)
-under_last n m (x ∷ xs) h l = (h.0, under_last n m xs h.1 l)
-
 pub unused_below : (n : ℕ) (xs : List Step) → HaveNumbersBelow n xs → IsUnused n xs
 unused_below n [] h = tt
 unused_below n (s ∷ xs) h = ((λ e. let l = h.0 in omega arith), unused_below n xs h.1)
@@ -129,14 +121,32 @@ pub unused_number : (n : ℕ) (ns : List ℕ) (xs : List Step) → AreUnused ns 
 unused_number n [] xs h u = (u, tt)
 unused_number n (m ∷ ns) xs h u = (h.0, unused_number n ns xs h.1 u)
 
+-- an open call has no number that is spent
+not_free : (n : ℕ) (a : Ask) (qs : List Ask) → IsAmong a qs → IsFree n qs → a.number ≢ n
+not_free n a [] m f = absurd m
+not_free n a (b ∷ qs) m f = ⊎_elim (λ (e : b ≡ a). λ q. f.0 (ap (λ (c : Ask). c.number) e ∙ q)) (λ (t : IsAmong a qs). not_free n a qs t f.1) m
+
 one_unused : (n : ℕ) (xs : List Step) (s : Step) → IsUnused n xs → s.ask.number ≢ n → IsUnused n (xs ++ s ∷ [])
 one_unused n [] s h e = (e, tt)
 one_unused n (x ∷ xs) s h e = (h.0, one_unused n xs s h.1 e)
 
--- one more step, of a number above all these
-pub unused_step : (ns : List ℕ) (xs : List Step) (s : Step) → AreNumbersBelow s.ask.number ns → AreUnused ns xs → AreUnused ns (xs ++ s ∷ [])
-unused_step [] xs s u h = tt
-unused_step (n ∷ ns) xs s u h = (one_unused n xs s h.0 (λ e. let l = u.0 in omega arith), unused_step ns xs s u.1 h.1)
+-- one more step, of an open call
+pub unused_step : (last : ℕ) (qs : List Ask) (ns : List ℕ) (xs : List Step) (s : Step) → AreSpent last qs ns → IsAmong s.ask qs → AreUnused ns xs → AreUnused ns (xs ++ s ∷ [])
+unused_step last qs [] xs s u m h = tt
+unused_step last qs (n ∷ ns) xs s u m h = (one_unused n xs s h.0 (not_free n s.ask qs m u.1), unused_step last qs ns xs s u.2 m h.1)
+
+-- steps that have none of the open calls' numbers
+pub unused_made : (last : ℕ) (qs : List Ask) (xs : List Step) (a : Ask) → AreSpent last qs (numbers_of xs) → IsAmong a qs → IsUnused a.number xs
+unused_made last qs [] a u m = tt
+unused_made last qs (s ∷ xs) a u m = ((λ e. not_free s.ask.number a qs m u.1 (sym e)), unused_made last qs xs a u.2 m)
+
+pub unused_on : (about : About) (k n : ℕ) (xs : List Step) → IsUnused n xs → IsUnused n (steps_on about k xs)
+unused_on about k n [] h = tt
+unused_on about k n (s ∷ xs) h = cond_both (eqb k (shard_in about s.ask)) (s ∷ steps_on about k xs) (steps_on about k xs) (IsUnused n) (λ e. (h.0, unused_on about k n xs h.1)) (λ e. unused_on about k n xs h.1)
+
+pub numbers_last : (xs : List Step) (s : Step) → numbers_of (xs ++ s ∷ []) ≡ numbers_of xs ++ s.ask.number ∷ []
+numbers_last [] s = refl
+numbers_last (x ∷ xs) s = ap (λ (l : List ℕ). x.ask.number ∷ l) (numbers_last xs s)
 
 pub unused_both : (n : ℕ) (xs ys : List Step) → IsUnused n xs → IsUnused n ys → IsUnused n (xs ++ ys)
 unused_both n [] ys h g = g
@@ -241,6 +251,25 @@ first_by_number a last (b ∷ qs) q m f = ⊎_elim
     (λ (t : IsAmong a qs). absurd (let low = (among_floor a last qs q.1 t).0 in let below = q.0 in omega arith))
     m
 
+-- open calls are told apart by their numbers
+pub same_number : (a b : Ask) (last : ℕ) (qs : List Ask) → IsQueue last qs → IsAmong a qs → IsAmong b qs → a.number ≡ b.number → a ≡ b
+same_number a b last [] q m n e = absurd m
+same_number a b last (c ∷ qs) q m n e = ⊎_elim
+    (λ (x : c ≡ a). ⊎_elim
+    (λ (y : c ≡ b). sym x ∙ y)
+    (λ (t : IsAmong b qs). absurd (let low = (among_floor b last qs q.1 t).0 in let below = q.0 in let here : c.number ≡ a.number = ap (λ (d : Ask). d.number) x in omega arith))
+    n)
+    (λ (t : IsAmong a qs). ⊎_elim
+    (λ (y : c ≡ b). absurd (let low = (among_floor a last qs q.1 t).0 in let below = q.0 in let here : c.number ≡ b.number = ap (λ (d : Ask). d.number) y in omega arith))
+    (λ (u : IsAmong b qs). same_number a b last qs q.1 t u e)
+    n)
+    m
+
+-- the first of these calls, where its number is known
+pub first_numbered : (n : ℕ) (qs : List Ask) → IsFirstNumber n qs → (b : Ask) × IsFirst b qs × IsAmong b qs × (b.number ≡ n)
+first_numbered n [] f = absurd f
+first_numbered n (b ∷ qs) f = (b, refl, inl refl, f)
+
 pub number_last : (n : ℕ) (qs : List Ask) (a : Ask) → number_of n (qs ++ a ∷ []) ≡ n
 number_last n [] a = refl
 number_last n (b ∷ qs) a = refl
@@ -252,6 +281,170 @@ length_behind n (a ∷ qs) f = omega arith
 pub few_behind : (qs : List Ask) → length qs ≤ 64 → length (behind_first qs) ≤ 64
 few_behind [] l = l
 few_behind (a ∷ qs) l = omega arith
+
+-- The first open call of a shard, and those that are left.
+module _ (about : About) (k : ℕ) where
+  pub asks_on_append : (xs ys : List Ask) → asks_on about k (xs ++ ys) ≡ asks_on about k xs ++ asks_on about k ys
+  asks_on_append [] ys = refl
+  asks_on_append (a ∷ xs) ys = ap (λ l. cond (eqb k (shard_in about a)) (a ∷ l) l) (asks_on_append xs ys) ∙ cond_append (eqb k (shard_in about a)) a (asks_on about k xs) (asks_on about k ys)
+
+  floor_on : (last : ℕ) (qs : List Ask) → IsQueue last qs → floor_of last qs ≤ floor_of last (asks_on about k qs)
+  floor_on last [] q = omega arith
+  floor_on last (a ∷ qs) q =
+      let more = floor_on last qs q.1 in
+      let below = q.0 in
+      cond_both (eqb k (shard_in about a)) (a ∷ asks_on about k qs) (asks_on about k qs) (λ (l : List Ask). a.number ≤ floor_of last l) (λ e. omega arith) (λ e. omega arith)
+
+  pub queue_on : (last : ℕ) (qs : List Ask) → IsQueue last qs → IsQueue last (asks_on about k qs)
+  queue_on last [] q = tt
+  queue_on last (a ∷ qs) q =
+      let more = floor_on last qs q.1 in
+      let below = q.0 in
+      cond_both (eqb k (shard_in about a)) (a ∷ asks_on about k qs) (asks_on about k qs) (IsQueue last) (λ e. ((omega arith), queue_on last qs q.1)) (λ e. queue_on last qs q.1)
+
+  floor_left : (last : ℕ) (qs : List Ask) → IsQueue last qs → floor_of last qs ≤ floor_of last (behind_on about k qs)
+  floor_left last [] q = omega arith
+  floor_left last (a ∷ qs) q =
+      let below = q.0 in
+      cond_both (eqb k (shard_in about a)) qs (a ∷ behind_on about k qs) (λ (l : List Ask). a.number ≤ floor_of last l) (λ e. omega arith) (λ e. omega arith)
+
+  pub queue_left : (last : ℕ) (qs : List Ask) → IsQueue last qs → IsQueue last (behind_on about k qs)
+  queue_left last [] q = tt
+  queue_left last (a ∷ qs) q =
+      let more = floor_left last qs q.1 in
+      let below = q.0 in
+      cond_both (eqb k (shard_in about a)) qs (a ∷ behind_on about k qs) (IsQueue last) (λ e. q.1) (λ e. ((omega arith), queue_left last qs q.1))
+
+  shorter : (qs : List Ask) → length (behind_on about k qs) ≤ length qs
+  shorter [] = omega arith
+  shorter (a ∷ qs) =
+      let less = shorter qs in
+      cond_both (eqb k (shard_in about a)) qs (a ∷ behind_on about k qs) (λ (l : List Ask). length l ≤ length (a ∷ qs)) (λ e. omega arith) (λ e. omega arith)
+
+  pub few_left : (qs : List Ask) → length qs ≤ 64 → length (behind_on about k qs) ≤ 64
+  few_left qs l = let less = shorter qs in omega arith
+
+  -- on the shard those behind the first are left
+  pub left_here : (qs : List Ask) → asks_on about k (behind_on about k qs) ≡ behind_first (asks_on about k qs)
+  left_here [] = refl
+  left_here (a ∷ qs) = by (left_here qs) (eqb k (shard_in about a)) refl
+    where
+      by : asks_on about k (behind_on about k qs) ≡ behind_first (asks_on about k qs) → (b : Bool) → eqb k (shard_in about a) ≡ b → asks_on about k (cond b qs (a ∷ behind_on about k qs)) ≡ behind_first (cond b (a ∷ asks_on about k qs) (asks_on about k qs))
+      by more true e = refl
+      by more false e = ap (λ (b : Bool). cond b (a ∷ asks_on about k (behind_on about k qs)) (asks_on about k (behind_on about k qs))) e ∙ more
+
+  -- and on another shard all
+  pub left_there : (j : ℕ) → j ≢ k → (qs : List Ask) → asks_on about j (behind_on about k qs) ≡ asks_on about j qs
+  left_there j n [] = refl
+  left_there j n (a ∷ qs) = by (left_there j n qs) (eqb k (shard_in about a)) refl
+    where
+      by : asks_on about j (behind_on about k qs) ≡ asks_on about j qs → (b : Bool) → eqb k (shard_in about a) ≡ b → asks_on about j (cond b qs (a ∷ behind_on about k qs)) ≡ cond (eqb j (shard_in about a)) (a ∷ asks_on about j qs) (asks_on about j qs)
+      by more true e = sym (ap (λ (b : Bool). cond b (a ∷ asks_on about j qs) (asks_on about j qs)) (ne_eqb j (shard_in about a) (λ q. n (q ∙ sym (eqb-true k (shard_in about a) e)))))
+      by more false e = ap (λ (l : List Ask). cond (eqb j (shard_in about a)) (a ∷ l) l) more
+
+  pub among_left_on : (b a : Ask) (qs : List Ask) → IsFirst a (asks_on about k qs) → IsAmong b qs → a.number ≢ b.number → IsAmong b (behind_on about k qs)
+  among_left_on b a [] f m n = absurd m
+  among_left_on b a (c ∷ qs) f m n = by (λ f t. among_left_on b a qs f t n) (eqb k (shard_in about c)) f
+    where
+      by : (IsFirst a (asks_on about k qs) → IsAmong b qs → IsAmong b (behind_on about k qs)) → (t : Bool) → IsFirst a (cond t (c ∷ asks_on about k qs) (asks_on about k qs)) → IsAmong b (cond t qs (c ∷ behind_on about k qs))
+      by more true f = ⊎_elim (λ (e : c ≡ b). absurd (n (ap (λ (d : Ask). d.number) (sym f ∙ e)))) (λ (t : IsAmong b qs). t) m
+      by more false f = ⊎_elim (λ (e : c ≡ b). inl e) (λ (t : IsAmong b qs). inr (more f t)) m
+
+  pub among_all : (b : Ask) (qs : List Ask) → IsAmong b (asks_on about k qs) → IsAmong b qs
+  among_all b [] m = absurd m
+  among_all b (a ∷ qs) m = by (among_all b qs) (eqb k (shard_in about a)) m
+    where
+      by : (IsAmong b (asks_on about k qs) → IsAmong b qs) → (t : Bool) → IsAmong b (cond t (a ∷ asks_on about k qs) (asks_on about k qs)) → (a ≡ b) ⊎ IsAmong b qs
+      by more true m = ⊎_elim (λ (e : a ≡ b). inl e) (λ (t : IsAmong b (asks_on about k qs)). inr (more t)) m
+      by more false m = inr (more m)
+
+  pub length_left : (a : Ask) (qs : List Ask) → IsFirst a (asks_on about k qs) → length (behind_on about k qs) + 1 ≡ length qs
+  length_left a [] f = absurd f
+  length_left a (c ∷ qs) f = by (length_left a qs) (eqb k (shard_in about c)) f
+    where
+      by : (IsFirst a (asks_on about k qs) → length (behind_on about k qs) + 1 ≡ length qs) → (t : Bool) → IsFirst a (cond t (c ∷ asks_on about k qs) (asks_on about k qs)) → length (cond t qs (c ∷ behind_on about k qs)) + 1 ≡ length (c ∷ qs)
+      by more true f = omega arith
+      by more false f = let less = more f in omega arith
+
+  pub among_there : (b : Ask) (qs : List Ask) → IsAmong b (asks_on about k qs) → k ≡ shard_in about b
+  among_there b [] m = absurd m
+  among_there b (a ∷ qs) m = by (among_there b qs) (eqb k (shard_in about a)) refl m
+    where
+      by : (IsAmong b (asks_on about k qs) → k ≡ shard_in about b) → (t : Bool) → eqb k (shard_in about a) ≡ t → IsAmong b (cond t (a ∷ asks_on about k qs) (asks_on about k qs)) → k ≡ shard_in about b
+      by more true e m = ⊎_elim (λ (x : a ≡ b). eqb-true k (shard_in about a) e ∙ ap (shard_in about) x) (λ (t : IsAmong b (asks_on about k qs)). more t) m
+      by more false e m = more m
+
+  -- whether calls are left does not depend on which one ended
+  pub number_left : (last : ℕ) (a : Ask) (qs : List Ask) → IsFirst a (asks_on about k qs) → number_of last (behind_first qs) ≡ number_of last (behind_on about k qs)
+  number_left last a [] f = refl
+  number_left last a (c ∷ qs) f = by (eqb k (shard_in about c)) f
+    where
+      some_left : (l : List Ask) → IsFirst a (asks_on about k l) → number_of last l ≡ last
+      some_left [] f = absurd f
+      some_left (d ∷ l) f = refl
+
+      by : (t : Bool) → IsFirst a (cond t (c ∷ asks_on about k qs) (asks_on about k qs)) → number_of last qs ≡ number_of last (cond t qs (c ∷ behind_on about k qs))
+      by true f = refl
+      by false f = some_left qs f
+
+  -- the first of all is the first of its shard
+  pub first_there : (a : Ask) (qs : List Ask) → k ≡ shard_in about a → IsFirst a qs → IsFirst a (asks_on about k qs)
+  first_there a [] here f = absurd f
+  first_there a (c ∷ qs) here f =
+      subst (λ (t : Bool). IsFirst a (cond t (c ∷ asks_on about k qs) (asks_on about k qs))) (sym (eq-eqb k (shard_in about c) (here ∙ ap (shard_in about) (sym f)))) f
+
+  pub left_same : (a : Ask) (qs : List Ask) → k ≡ shard_in about a → IsFirst a qs → behind_on about k qs ≡ behind_first qs
+  left_same a [] here f = refl
+  left_same a (c ∷ qs) here f = ap (λ (t : Bool). cond t qs (c ∷ behind_on about k qs)) (eq-eqb k (shard_in about c) (here ∙ ap (shard_in about) (sym f)))
+
+  free_left : (n : ℕ) (qs : List Ask) → IsFree n qs → IsFree n (behind_on about k qs)
+  free_left n [] h = tt
+  free_left n (a ∷ qs) h = cond_both (eqb k (shard_in about a)) qs (a ∷ behind_on about k qs) (IsFree n) (λ e. h.1) (λ e. (h.0, free_left n qs h.1))
+
+  pub spent_left : (last : ℕ) (qs : List Ask) (ns : List ℕ) → AreSpent last qs ns → AreSpent last (behind_on about k qs) ns
+  spent_left last qs [] h = tt
+  spent_left last qs (n ∷ ns) h = (h.0, free_left n qs h.1, spent_left last qs ns h.2)
+
+  -- the number of a call that ended
+  pub own_free : (last : ℕ) (a : Ask) (qs : List Ask) → IsQueue last qs → IsFirst a (asks_on about k qs) → IsFree a.number (behind_on about k qs)
+  own_free last a [] q f = tt
+  own_free last a (c ∷ qs) q f = by (own_free last a qs q.1) (eqb k (shard_in about c)) f
+    where
+      free_below : (n : ℕ) (l : List Ask) → IsQueue last l → n < floor_of last l → IsFree n l
+      free_below n [] q less = tt
+      free_below n (d ∷ l) q less = let below = q.0 in ((λ e. omega arith), free_below n l q.1 (omega arith))
+
+      by : (IsFirst a (asks_on about k qs) → IsFree a.number (behind_on about k qs)) → (t : Bool) → IsFirst a (cond t (c ∷ asks_on about k qs) (asks_on about k qs)) → IsFree a.number (cond t qs (c ∷ behind_on about k qs))
+      by more true f = free_below a.number qs q.1 (let below = q.0 in let same : c.number ≡ a.number = ap (λ (d : Ask). d.number) f in omega arith)
+      by more false f = (
+        (λ e. let below = q.0 in let more = floor_on last qs q.1 in let its = (floor_first a last (asks_on about k qs) f (queue_on last qs q.1)).0 in omega arith),
+        more f,
+      )
+
+-- the first number of those of a shard does not fall
+pub floor_stays : (about : About) (j k last : ℕ) (qs : List Ask) → IsQueue last qs → floor_of last (asks_on about j qs) ≤ floor_of last (asks_on about j (behind_on about k qs))
+floor_stays about j k last qs q = ⊎_elim
+    (λ (e : j ≡ k). subst (λ (i : ℕ). floor_of last (asks_on about i qs) ≤ floor_of last (asks_on about i (behind_on about k qs))) (sym e)
+    (subst (λ (l : List Ask). floor_of last (asks_on about k qs) ≤ floor_of last l) (sym (left_here about k qs)) (not_less (asks_on about k qs) (queue_on about k last qs q))))
+    (λ (n : j ≢ k). subst (λ (l : List Ask). floor_of last (asks_on about j qs) ≤ floor_of last l) (sym (left_there about k j n qs)) (omega arith))
+    (cases_eq j k)
+  where
+    not_less : (l : List Ask) → IsQueue last l → floor_of last l ≤ floor_of last (behind_first l)
+    not_less [] q = omega arith
+    not_less (a ∷ l) q = let below = q.0 in omega arith
+
+free_last : (n : ℕ) (qs : List Ask) (a : Ask) → IsFree n qs → a.number ≢ n → IsFree n (qs ++ a ∷ [])
+free_last n [] a h d = (d, tt)
+free_last n (b ∷ qs) a h d = (h.0, free_last n qs a h.1 d)
+
+-- spent numbers, after a call was announced under a new one
+pub spent_last : (last n : ℕ) (qs : List Ask) (a : Ask) (ns : List ℕ) → last < n → a.number ≡ n → AreSpent last qs ns → AreSpent n (qs ++ a ∷ []) ns
+spent_last last n qs a [] above is h = tt
+spent_last last n qs a (m ∷ ns) above is h = let most = h.0 in ((omega arith), free_last m qs a h.1 (λ e. omega arith), spent_last last n qs a ns above is h.2)
+
+pub spent_more : (last : ℕ) (qs : List Ask) (n : ℕ) (ns : List ℕ) → AreSpent last qs ns → n < last + 1 → IsFree n qs → AreSpent last qs (ns ++ n ∷ [])
+spent_more last qs n [] h l f = (l, f, tt)
+spent_more last qs n (m ∷ ns) h l f = (h.0, h.1, spent_more last qs n ns h.2 l f)
 
 new_one : (b : Bool) (n : ℕ) (s : Step) (xs : List Step) (more : Bool) → HaveNumbersBelow n (cond b (s ∷ xs) xs) → (HaveNumbersBelow n xs → more ≡ true) → ((not b || nat_lt s.ask.number n) && more) ≡ true
 new_one true n s xs more h t = ap (λ c. c && more) (lt-ltb s.ask.number n h.0) ∙ t h.1

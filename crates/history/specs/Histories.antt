@@ -1,5 +1,5 @@
 -- Histories of the shards of one opening, and what stands in them of a pass.
-use Rattle.std.specs.Prelude.{◌≡◌, ◌≢◌, ◌⊎◌, ℕ, ◌<◌, ◌==◌, List, [], ◌∷◌, ◌++◌, if◌then◌else◌, slice_index_or}
+use Rattle.std.specs.Prelude.{◌≡◌, ◌≢◌, ◌⊎◌, ℕ, ◌+◌, ◌<◌, ◌==◌, List, [], ◌∷◌, ◌++◌, if◌then◌else◌, slice_index_or}
 use Rattle.std.specs.FinMap as finite
 use Rattle.history.specs.Types.{Streams, Call, Reply, Ask, Step, Item, Answered, Failed, History, About}
 use Rattle.accept.specs.Histories.{Terms, IsLegal, key_of, reply_to}
@@ -100,11 +100,6 @@ abbrev pub IsRising : List Step → Type 0
 IsRising [] = Unit {0}
 IsRising (s ∷ steps) = HaveNumbersAbove s.ask.number steps × IsRising steps
 
--- these numbers are below n
-abbrev pub AreNumbersBelow : ℕ → List ℕ → Type 0
-AreNumbersBelow n [] = Unit {0}
-AreNumbersBelow n (m ∷ ms) = (m < n) × AreNumbersBelow n ms
-
 -- no step has the number n
 abbrev pub IsUnused : ℕ → List Step → Type 0
 IsUnused n [] = Unit {0}
@@ -159,6 +154,30 @@ abbrev pub asks_on : About → ℕ → List Ask → List Ask
 asks_on about k [] = []
 asks_on about k (a ∷ asks) =
     if k == shard_in about a then a ∷ asks_on about k asks else asks_on about k asks
+
+-- without the first of shard k
+abbrev pub behind_on : About → ℕ → List Ask → List Ask
+behind_on about k [] = []
+behind_on about k (a ∷ asks) = if k == shard_in about a then asks else a ∷ behind_on about k asks
+
+-- those of these calls that are of the call's shard
+abbrev pub asks_beside : About → Ask → List Ask → List Ask
+asks_beside about a asks = asks_on about (shard_in about a) asks
+
+-- the numbers of these steps
+abbrev pub numbers_of : List Step → List ℕ
+numbers_of [] = []
+numbers_of (s ∷ steps) = s.ask.number ∷ numbers_of steps
+
+-- none of these calls has the number n
+abbrev pub IsFree : ℕ → List Ask → Type 0
+IsFree n [] = Unit {0}
+IsFree n (a ∷ asks) = (a.number ≢ n) × IsFree n asks
+
+-- these numbers are used, up to the last, and are of no open call
+abbrev pub AreSpent : ℕ → List Ask → List ℕ → Type 0
+AreSpent last pending [] = Unit {0}
+AreSpent last pending (n ∷ ns) = (n < last + 1) × IsFree n pending × AreSpent last pending ns
 
 -- the most passes of an opening
 abbrev pub max_passes : ℕ

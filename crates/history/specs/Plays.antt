@@ -2,7 +2,7 @@
 use Rattle.std.specs.Prelude.{◌≡◌, ◌≢◌, ◌⊎◌, ℕ, ◌+◌, ◌*◌, ◌<◌, ◌≤◌, List, [], ◌∷◌, ◌++◌, true, false, length, slice_index_or, slice_set}
 use Rattle.atomic_table.specs.Table.{Step as TableStep, Me}
 use Rattle.history.specs.Types.{Call, Reply, Ask, Step, Item, Answered, Failed, About, Caller, View, Role, Nobody, Opener, Keeps, Calls, Token, Nothing, Open, Done}
-use Rattle.history.specs.Histories.{IsBeginning, IsLegalAt, reply_of, shard_in, step_of, steps_by, steps_on, asks_by, asks_on, IsByPasses, HasStep, IsRising, IsAmong, AreAmong, IsFirst, behind_first, bound}
+use Rattle.history.specs.Histories.{IsBeginning, IsLegalAt, reply_of, shard_in, step_of, steps_by, steps_on, asks_by, asks_on, IsByPasses, HasStep, IsRising, IsAmong, AreAmong, IsFirst, IsFirstNumber, IsFirstIfAmong, behind_first, behind_on, asks_beside, bound}
 use Rattle.history.specs.Rule.{alone, opener, newcomer}
 
 -- a seat that knows nothing
@@ -114,14 +114,18 @@ announce_to c n call = record c { last = n; pending = c.pending ++ ask_of c n ca
 abbrev pub before_of : Caller → ℕ → Call → List Ask
 before_of c n call = asks_on c.about (shard_in c.about (ask_of c n call)) c.pending
 
--- the steps of a pass in what it has seen are just those that it made
+-- the steps of a pass in what it has seen of shard k are just those that it made there, and of each shard
+abbrev pub IsRestedAt : Caller → ℕ → Type 0
+IsRestedAt c k = steps_by c.pass (seen_at c k) ≡ steps_on c.about k c.made
+
 abbrev pub IsRested : Caller → Type 0
-IsRested c = (k : ℕ) → steps_by c.pass (seen_at c k) ≡ steps_on c.about k c.made
+IsRested c = (k : ℕ) → IsRestedAt c k
 
 abbrev pub Announces : Call → ℕ → Role → View → Type 0
 Announces call n (Calls c) w =
     (w ≡ alone (Calls (announce_to c n call)) (Open (ask_of c n call) false (before_of c n call)))
     × (c.pending ≡ [] → IsRested c)
+    × ((k : ℕ) → asks_on c.about k c.pending ≡ [] → IsRestedAt c k)
 Announces call n role w = Unit {0}
 
 -- a pass announces the call, under the number that it stores
@@ -132,12 +136,40 @@ announced_as call st m found m' = Announces call st.first m.0.role m'.0 × (m'.1
 abbrev pub withdraw_to : Caller → ℕ → Caller
 withdraw_to c n = record c { withdrawn = c.withdrawn ++ n ∷ []; pending = behind_first c.pending }
 
+-- the pass without this first open call of its shard, and with the call's number withdrawn
+abbrev pub withdraw_at : Caller → Ask → Caller
+withdraw_at c a = record c {
+  withdrawn = c.withdrawn ++ a.number ∷ [];
+  pending = behind_on c.about (shard_in c.about a) c.pending;
+}
+
+-- the call of this number is the first open one of shard k, where the steps of the pass in what it has seen are just
+-- those that it made
+abbrev pub IsNextOn : Caller → ℕ → ℕ → Type 0
+IsNextOn c n k = IsFirstNumber n (asks_on c.about k c.pending) × IsRestedAt c k
+
+-- the call is the first open one of its shard, the one that its number told, and of all if it was said to be
+abbrev pub IsFirstOf : Caller → Ask → Type 0
+IsFirstOf c a = IsFirst a (asks_beside c.about a c.pending)
+    × (IsFirstIfAmong a c.pending → IsFirst a c.pending)
+    × ((k : ℕ) → IsFirstNumber a.number (asks_on c.about k c.pending) → k ≡ shard_in c.about a)
+    × (length (behind_on c.about (shard_in c.about a) c.pending) + 1 ≡ length c.pending)
+
+-- by its number the call is the first open one of all, or of a shard
+abbrev pub IsFirstSaid : Caller → Ask → Type 0
+IsFirstSaid c a = IsFirstIfAmong a c.pending
+    ⊎ ((k : ℕ) × IsFirstNumber a.number (asks_on c.about k c.pending))
+
+-- and nothing else of the pass has been seen there
+abbrev pub IsNextSaid : Caller → Ask → Type 0
+IsNextSaid c a = (IsFirstIfAmong a c.pending × IsRested c) ⊎ ((k : ℕ) × IsNextOn c a.number k)
+
 abbrev pub Withdraws : Role → Token → View → Type 0
-Withdraws (Calls c) (Open a f e) w = (w ≡ alone (Calls (withdraw_to c a.number)) Nothing)
-    × IsFirst a c.pending
+Withdraws (Calls c) (Open a f e) w = (w ≡ alone (Calls (withdraw_at c a)) Nothing)
+    × IsFirstOf c a
 Withdraws role hand w = Unit {0}
 
--- a pass takes its first open call back
+-- a pass takes the first open call of a shard back
 abbrev pub withdrew : TableStep Unit → Me Unit View → ℕ → Me Unit View → Type 0
 withdrew st m found m' = Withdraws m.0.role m.0.hand m'.0 × (m'.1 ≡ m.1)
 
@@ -148,6 +180,18 @@ collect_to c s new = record c {
   made = c.made ++ s ∷ [];
   pending = behind_first c.pending;
 }
+
+-- the pass with the first open call of a shard answered by this step
+abbrev pub collect_at : Caller → Step → List Item → Caller
+collect_at c s new = record c {
+  seen = slice_set c.seen (shard_in c.about s.ask) new;
+  made = c.made ++ s ∷ [];
+  pending = behind_on c.about (shard_in c.about s.ask) c.pending;
+}
+
+-- where the steps of a pass are those that it made, they still are, and now they are at shard k
+abbrev pub StaysRested : Caller → Caller → ℕ → Type 0
+StaysRested c d k = IsRestedAt d k × ((j : ℕ) → IsRestedAt c j → IsRestedAt d j)
 
 -- the pass with its next call announced and then answered, with nothing between
 abbrev pub call_to : Caller → Call → Reply → List Item → Caller
@@ -172,9 +216,9 @@ pub record HasSeenStep (old new : Caller) (s : Step) (upto : List Item) : Type 0
 abbrev pub Collects : Role → Token → View → Type 0
 Collects (Calls c) (Done s upto at) w =
     let k : ℕ = shard_in c.about s.ask in
-    (w ≡ alone (Calls (collect_to c s upto)) Nothing) × IsLegalAt c.about k upto
+    (w ≡ alone (Calls (collect_at c s upto)) Nothing) × IsLegalAt c.about k upto
     × Extends c.pass (seen_at c k) s upto
-    × (k < length c.seen) × IsFirst s.ask c.pending × IsRested (collect_to c s upto)
+    × (k < length c.seen) × IsFirstOf c s.ask × StaysRested c (collect_at c s upto) k
     × IsByPasses c.about.passes upto
 Collects role hand w = Unit {0}
 

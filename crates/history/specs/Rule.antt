@@ -6,7 +6,7 @@ use Rattle.atomic_table.specs.Table.{State}
 use Rattle.history.specs.Types.{Ask, Step, Item, Answered, About, Caller, View, Role, Nobody, Opener, Keeps, Calls, Token, Nothing, Open, Done}
 use Rattle.accept.specs.Histories.{is_marked}
 use Rattle.history.specs.declared.views.Sizes.{Sizes}
-use Rattle.history.specs.Histories.{IsBeginning, IsLegalAt, shard_in, steps_by, steps_on, asks_by, HaveNumbersBelow, IsRising, AreNumbersBelow, AreUnused, HasStep, IsAmong, IsByPasses, bound, max_passes, max_open}
+use Rattle.history.specs.Histories.{IsBeginning, IsLegalAt, shard_in, steps_by, steps_on, asks_by, asks_on, HaveNumbersBelow, IsRising, AreSpent, numbers_of, AreUnused, HasStep, IsAmong, IsByPasses, bound, max_passes, max_open}
 
 -- a seat of this role, with no guest
 abbrev pub alone : Role → Token → View
@@ -114,13 +114,16 @@ pub record HasOwn (about : About) (p : ℕ) (made : List Step) (ts : ℕ → Tok
   pub waiting : AreOfOpenCalls about k ts rest
 
 -- the numbers of a pass: of its last call, of those on their way, of those that it made and of those withdrawn
-pub record AreNumbered (last : ℕ) (pending : List Ask) (made : List Step) (withdrawn : List ℕ)
-    : Type 0 where
+pub record AreNumbered (about : About) (last : ℕ) (pending : List Ask) (made : List Step)
+    (withdrawn : List ℕ) : Type 0 where
   pub within : last < bound
   pub queue : IsQueue last pending
   pub few : length pending ≤ max_open
-  pub rises : HaveNumbersBelow (floor_of last pending) made
-  pub gone : AreNumbersBelow (floor_of last pending) withdrawn
+  -- on each shard the calls that it made have smaller numbers than its open ones
+  pub rises : (k : ℕ) → HaveNumbersBelow (floor_of last (asks_on about k pending))
+      (steps_on about k made)
+  pub over : AreSpent last pending (numbers_of made)
+  pub gone : AreSpent last pending withdrawn
 
 -- in each history the numbers of a pass's steps rise, up to the last that it used, and none was withdrawn
 pub record AreInOrder (items : ℕ → List Item) (p last : ℕ) (withdrawn : List ℕ) : Type 0 where
@@ -148,7 +151,7 @@ pub record AreOnTheirWay (about : About) (items : ℕ → List Item) (p : ℕ) (
 pub record AccountOk (about : About) (items : ℕ → List Item) (p : ℕ) (c : Caller)
     (ts : ℕ → Token) : Type 0 where
   pub named : c.pass ≡ p
-  pub numbers : AreNumbered c.last c.pending c.made c.withdrawn
+  pub numbers : AreNumbered about c.last c.pending c.made c.withdrawn
   pub steps : AreInOrder items p c.last c.withdrawn
   pub looks : HasSeen about items p c.seen c.made
   pub way : AreOnTheirWay about items p c.pending c.made ts

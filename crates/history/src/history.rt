@@ -1,8 +1,8 @@
 ghost use Rattle.std.specs.Prelude.{◌≡◌, ◌≢◌, ◌↔◌, ℕ, ◌+◌, ◌<◌, ◌≤◌, [], false, length, IfOk, OnOk, OnErr, IsOk};
 ghost use Rattle.std.specs.Arc.{arc_value};
 ghost use Rattle.atomic_table.specs.Seated.{TableId, table_id_coded};
-ghost use Rattle.history.specs.Histories.{IsBeginning, IsLegalAt, IsByPasses, IsFirst, IsFirstIfAmong, bound, max_open};
-ghost use Rattle.history.specs.Plays.{seen_at, announce_to, withdraw_to, collect_to, look_to, IsRested, HasSeenStep, HasStepsOf};
+ghost use Rattle.history.specs.Histories.{IsBeginning, IsLegalAt, IsByPasses, IsFirst, IsFirstNumber, IsFirstIfAmong, asks_on, asks_beside, shard_in, bound, max_open};
+ghost use Rattle.history.specs.Plays.{seen_at, announce_to, withdraw_to, withdraw_at, collect_to, collect_at, look_to, IsRested, IsRestedAt, IsNextOn, IsFirstSaid, IsNextSaid, IsFirstOf, StaysRested, HasSeenStep, HasStepsOf};
 ghost use Rattle.history.specs.Handles.{is_closed_pass, ticket_for, caller_in, pair_of, with_seen, HaveMet};
 
 use crate::handles::{Pass, PassSpent, Receipt, Ticket};
@@ -66,6 +66,9 @@ impl History {
                   (pass.old.caller.last + 1) call.now;
             }) }
         ensures rested { OnOk result (pass.old.caller.pending ≡ [] → IsRested pass.old.caller) }
+        ensures rested_there { OnOk result ((k : ℕ)
+            → asks_on pass.old.caller.about k pass.old.caller.pending ≡ []
+            → IsRestedAt pass.old.caller k) }
         ensures err { OnErr result (pass.new ≡ pass.old) }
         ensures open { IsOk result ↔ (is_closed_pass pass.old ≡ false) }
     {
@@ -87,6 +90,8 @@ impl History {
               (pass.old.caller.last + 1) call.now;
         } }
         ensures rested { pass.old.caller.pending ≡ [] → IsRested pass.old.caller }
+        ensures rested_there { (k : ℕ) → asks_on pass.old.caller.about k pass.old.caller.pending ≡ []
+            → IsRestedAt pass.old.caller k }
     {
         let _ = call;
         let number = pass.next_number();
@@ -104,6 +109,8 @@ impl History {
               announce_to pass.old.caller number J.call;
         } }
         ensures rested { pass.old.caller.pending ≡ [] → IsRested pass.old.caller }
+        ensures rested_there { (k : ℕ) → asks_on pass.old.caller.about k pass.old.caller.pending ≡ []
+            → IsRestedAt pass.old.caller k }
     {
         let own = pass.number();
         let shared = &self.table.shared;
@@ -117,9 +124,31 @@ impl History {
         }
     }
 
-    /// Collects the answer to the first open call. What the pass has seen of the shard is now what it had seen before,
-    /// then items of others, then this step. Answers that came in another order are told apart by their numbers. Where
-    /// only one call is open, its number is not looked at.
+    /// Collects the answer to the first open call of a shard, whatever is open on other shards. What the pass has seen
+    /// of the shard is now what it had seen before, then items of others, then this step. Answers are told apart by
+    /// their numbers. While calls are open on a shard, nothing else of the pass's own may have been seen there.
+    pub fn collect_there(&self, pass: &mut Pass, receipt: Receipt)
+        requires table { (pass.old.table ≡ self.now) × (receipt.table ≡ self.now) }
+        requires pass { receipt.step.ask.pass ≡ pass.old.caller.pass }
+        requires next { (k : ℕ) × IsNextOn pass.old.caller receipt.step.ask.number k }
+        ensures first { IsFirst receipt.step.ask
+            (asks_beside pass.old.caller.about receipt.step.ask pass.old.caller.pending) }
+        ensures shard { (k : ℕ)
+            → IsFirstNumber receipt.step.ask.number (asks_on pass.old.caller.about k pass.old.caller.pending)
+            → k ≡ shard_in pass.old.caller.about receipt.step.ask }
+        ensures pass { pass.new ≡ record pass.old {
+          caller =
+              collect_at pass.old.caller receipt.step receipt.upto;
+        } }
+        ensures seen { HasSeenStep pass.old.caller pass.new.caller receipt.step receipt.upto }
+        ensures rested { StaysRested pass.old.caller pass.new.caller
+            (shard_in pass.old.caller.about receipt.step.ask) }
+    {
+        self.collect_first(pass, receipt);
+    }
+
+    /// Collects the answer to the first of all open calls, as `collect_there` does. Where only one call is open, its
+    /// number is not looked at.
     pub fn collect(&self, pass: &mut Pass, receipt: Receipt)
         requires table { (pass.old.table ≡ self.now) × (receipt.table ≡ self.now) }
         requires pass { receipt.step.ask.pass ≡ pass.old.caller.pass }
@@ -133,6 +162,23 @@ impl History {
         ensures seen { HasSeenStep pass.old.caller pass.new.caller receipt.step receipt.upto }
         ensures rested { IsRested pass.new.caller }
     {
+        self.collect_first(pass, receipt);
+    }
+
+    // Collects the answer to the first open call of a shard, which its number tells.
+    fn collect_first(&self, pass: &mut Pass, receipt: Receipt)
+        requires table { (pass.old.table ≡ self.now) × (receipt.table ≡ self.now) }
+        requires pass { receipt.step.ask.pass ≡ pass.old.caller.pass }
+        requires next { IsNextSaid pass.old.caller receipt.step.ask }
+        ensures first { IsFirstOf pass.old.caller receipt.step.ask }
+        ensures pass { pass.new ≡ record pass.old {
+          caller =
+              collect_at pass.old.caller receipt.step receipt.upto;
+        } }
+        ensures seen { HasSeenStep pass.old.caller pass.new.caller receipt.step receipt.upto }
+        ensures rested { StaysRested pass.old.caller pass.new.caller
+            (shard_in pass.old.caller.about receipt.step.ask) }
+    {
         let Receipt {
             number: _,
             pass: _,
@@ -145,7 +191,27 @@ impl History {
         pass.calls -= 1;
     }
 
-    /// Withdraws the first open call, which has no step and is not in doubt. Its number is not used again.
+    /// Withdraws the first open call of a shard, which has no step and is not in doubt, whatever is open on other
+    /// shards. Its number is not used again.
+    pub fn withdraw_there(&self, pass: &mut Pass, ticket: Ticket)
+        requires table { (pass.old.table ≡ self.now) × (ticket.table ≡ self.now) }
+        requires pass { (ticket.ask.pass ≡ pass.old.caller.pass) × (ticket.doubted ≡ false) }
+        requires number { (k : ℕ) × IsFirstNumber ticket.ask.number
+            (asks_on pass.old.caller.about k pass.old.caller.pending) }
+        ensures first { IsFirst ticket.ask
+            (asks_beside pass.old.caller.about ticket.ask pass.old.caller.pending) }
+        ensures shard { (k : ℕ)
+            → IsFirstNumber ticket.ask.number (asks_on pass.old.caller.about k pass.old.caller.pending)
+            → k ≡ shard_in pass.old.caller.about ticket.ask }
+        ensures pass { pass.new ≡ record pass.old {
+          caller =
+              withdraw_at pass.old.caller ticket.ask;
+        } }
+    {
+        self.withdraw_first(pass, ticket);
+    }
+
+    /// Withdraws the first of all open calls, as `withdraw_there` does.
     pub fn withdraw(&self, pass: &mut Pass, ticket: Ticket)
         requires table { (pass.old.table ≡ self.now) × (ticket.table ≡ self.now) }
         requires pass { (ticket.ask.pass ≡ pass.old.caller.pass) × (ticket.doubted ≡ false) }
@@ -154,6 +220,20 @@ impl History {
         ensures pass { pass.new ≡ record pass.old {
           caller =
               withdraw_to pass.old.caller ticket.ask.number;
+        } }
+    {
+        self.withdraw_first(pass, ticket);
+    }
+
+    // Withdraws the first open call of a shard, which its number tells.
+    fn withdraw_first(&self, pass: &mut Pass, ticket: Ticket)
+        requires table { (pass.old.table ≡ self.now) × (ticket.table ≡ self.now) }
+        requires pass { (ticket.ask.pass ≡ pass.old.caller.pass) × (ticket.doubted ≡ false) }
+        requires number { IsFirstSaid pass.old.caller ticket.ask }
+        ensures first { IsFirstOf pass.old.caller ticket.ask }
+        ensures pass { pass.new ≡ record pass.old {
+          caller =
+              withdraw_at pass.old.caller ticket.ask;
         } }
     {
         let Ticket {

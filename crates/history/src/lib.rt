@@ -13,5 +13,5 @@ mod views;
 pub use book::{Book, Kept};
 pub use handles::{Pass, PassSpent, Receipt, Ticket};
 pub use history::{Ended, History};
-pub use laws::refuse_both;
+pub use laws::{refuse_beside, refuse_both};
 pub use views::{About, Caller};

@@ -12,3 +12,4 @@ pub mod Refusing
 pub mod Returning
 pub mod Routing
 pub mod Sent
+pub mod Collected

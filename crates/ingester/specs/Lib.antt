@@ -9,3 +9,4 @@ pub mod Batches
 pub mod Parts
 pub mod Planning
 pub mod Settling
+pub mod Collected

@@ -7,6 +7,7 @@ mod batches;
 mod building;
 mod calls;
 mod closing;
+mod collecting;
 mod fault;
 mod made_shards;
 mod opened;

@@ -1,9 +1,9 @@
 use Rattle.std.proofs.Common.{◌+◌, ◌<◌, [], sym, ap, ◌∙◌, subst}
-use Rattle.history.proofs.Common.{Calls, Open, IsFirstIfAmong, behind_first, alone, number_of, taken, Passed, Announced, caller_in, ask_in, before_in}
+use Rattle.history.proofs.Common.{Calls, Open, IsFirstSaid, behind_first, alone, number_of, taken, Passed, Announced, caller_in, ask_in, before_in}
 use Rattle.history.proofs.HandOvers.{takes}
 use Rattle.history.proofs.Calls.{withdraws_as}
 use Rattle.history.proofs.Fits.{pass_fits}
-use Rattle.history.proofs.history.History.withdraw.Goals as goal
+use Rattle.history.proofs.history.History.withdraw_first.Goals as goal
 
 pub join_seat-requires : goal.join_seat-requires
 join_seat-requires c =
@@ -29,6 +29,6 @@ store-requires c =
           (c.join_seat.ensures.2 ∙ (λ i. (taken (pass.0 i).0 (c.ticket.invariant.0 i).0, (pass.0 i).1)) ∙ ap (λ f. (alone (Calls k) (Open a f (before_in hand)), [])) (ap (λ t. t.doubted) c.ticket.view_is ∙ c.requires.pass.1))
           (ap (λ n. n + k.pass) pass.2 ∙ pass.3)
           (ap (λ t. t.ask.pass) c.ticket.view_is ∙ c.requires.pass.0 ∙ ap (λ p. p.caller.pass) (sym c.pass.view_is))
-          (subst (λ (z : Passed × Announced). IsFirstIfAmong z.1.ask z.0.caller.pending) (λ i. (sym c.pass.view_is i, sym c.ticket.view_is i)) c.requires.number)
+          (subst (λ (z : Passed × Announced). IsFirstSaid z.0.caller z.1.ask) (λ i. (sym c.pass.view_is i, sym c.ticket.view_is i)) c.requires.number)
           (c.word_behind_first-word.ensures ∙ ap (λ p. number_of p.caller.last (behind_first p.caller.pending)) (sym c.pass.view_is)),
     )

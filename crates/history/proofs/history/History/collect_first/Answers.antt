@@ -1,9 +1,9 @@
 use Rattle.std.proofs.Common.{◌+◌, ◌<◌, sym, ap, ◌∙◌, subst}
-use Rattle.history.proofs.Common.{IsFirstIfAmong, behind_first, number_of, taken, IsRested, Passed, Received, caller_in, step_in, upto_in, moment_in}
+use Rattle.history.proofs.Common.{IsNextSaid, behind_first, number_of, taken, Passed, Received, caller_in, step_in, upto_in, moment_in}
 use Rattle.history.proofs.HandOvers.{takes}
 use Rattle.history.proofs.Calls.{collects_as}
 use Rattle.history.proofs.Fits.{pass_fits}
-use Rattle.history.proofs.history.History.collect.Goals as goal
+use Rattle.history.proofs.history.History.collect_first.Goals as goal
 
 pub join_seat-requires : goal.join_seat-requires
 join_seat-requires c =
@@ -28,7 +28,6 @@ store-requires c =
           (c.join_seat.ensures.2 ∙ (λ i. (taken (pass.0 i).0 (c.receipt.invariant.0 i).0, (pass.0 i).1)))
           (ap (λ n. n + k.pass) pass.2 ∙ pass.3)
           (ap (λ r. r.step.ask.pass) c.receipt.view_is ∙ c.requires.pass ∙ ap (λ p. p.caller.pass) (sym c.pass.view_is))
-          (subst (λ (z : Passed × Received). IsFirstIfAmong z.1.step.ask z.0.caller.pending) (λ i. (sym c.pass.view_is i, sym c.receipt.view_is i)) c.requires.number)
-          (c.word_behind_first-word.ensures ∙ ap (λ p. number_of p.caller.last (behind_first p.caller.pending)) (sym c.pass.view_is))
-          (subst (λ (p : Passed). IsRested p.caller) (sym c.pass.view_is) c.requires.rested),
+          (subst (λ (z : Passed × Received). IsNextSaid z.0.caller z.1.step.ask) (λ i. (sym c.pass.view_is i, sym c.receipt.view_is i)) c.requires.next)
+          (c.word_behind_first-word.ensures ∙ ap (λ p. number_of p.caller.last (behind_first p.caller.pending)) (sym c.pass.view_is)),
     )
