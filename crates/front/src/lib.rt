@@ -28,7 +28,7 @@ pub use connections::{Connections, KeptConnection};
 pub use full::{FullShards, Untold};
 pub use laws::{answers_after_steps, one_step_a_call, sockets_say_what_visits_put};
 pub use program_fault::ProgramFault;
-pub use program_shards::{close_shards, open_shards};
+pub use program_shards::{ClosedShards, close_shards, open_shards};
 pub use programs::{Environment, environment_of, tell_about, words_of};
 pub use server::run_server;
 pub use serving::{Service, answer, serve};

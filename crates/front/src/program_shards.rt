@@ -8,12 +8,12 @@ ghost use Rattle.ingester.specs.declared.refusal.OpenFault.{OpenFault};
 ghost use Rattle.openings.specs.Findings.{AreOpenedFrom};
 ghost use Rattle.history.specs.Histories.{max_passes};
 ghost use Rattle.ingester.specs.Findings.{IsUnmade};
-ghost use Rattle.front.specs.Openings.{IsOpenedUnder};
+ghost use Rattle.front.specs.Openings.{IsOpenedUnder, IsLeftByClosing};
 
 use crate::program_fault::ProgramFault;
 use accept::Limits;
 use disk::Disk;
-use ingester::{Ingester, Pass, Settings};
+use ingester::{Closed, Ingester, Pass, Settings};
 use openings::Observer;
 use std::alloc::Global;
 use std::sync::Wait;
@@ -60,13 +60,27 @@ where
     }
 }
 
-/// Closes shards and their slots by the passes that are left. Where no pass is left, the threads of the shards end by
-/// themselves, a little later.
-pub fn close_shards<D: Disk + Drop, R: Wait>(rt: &R, ingester: Ingester<D>, passes: Vec<Pass>)
+/// What closing left of shards. Nobody takes a slot out: each stays as its log left it, until it is closed with this.
+#[derive(Drop)]
+pub struct ClosedShards<D: Disk + Drop> {
+    left: Option<Closed<D>>,
+}
+
+/// Closes shards by the passes that are left: their slots are those that their logs left. Where no pass is left, the
+/// threads of the shards end by themselves, a little later.
+pub fn close_shards<D: Disk + Drop, R: Wait>(
+    rt: &R,
+    ingester: Ingester<D>,
+    passes: Vec<Pass>,
+) -> ClosedShards<D>
     requires passes { (p : ℕ) (pass : Passed) → slice_get passes.items p ≡ Some pass
         → IsPassOf ingester pass }
+    ensures { IsLeftByClosing ingester passes.items result.left }
 {
-    if !passes.is_empty() {
-        drop(ingester.close(rt, passes));
+    if passes.is_empty() {
+        return ClosedShards { left: None };
+    }
+    ClosedShards {
+        left: Some(ingester.close(rt, passes)),
     }
 }

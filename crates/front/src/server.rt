@@ -5,7 +5,7 @@ ghost use Rattle.ingester.specs.Calls.{IsPassOf};
 ghost use Rattle.accept.specs.OneStream.{AreLimits};
 ghost use Rattle.programs.specs.Words.{GiveServer, GivesCapacity, capacity_of, GivesOpen, GivesHalfSent};
 ghost use Rattle.programs.specs.Environments.{limits_of};
-ghost use Rattle.front.specs.Openings.{IsOpenedUnder};
+ghost use Rattle.front.specs.Openings.{IsOpenedUnder, IsOverUntouched};
 ghost use Rattle.front.specs.Stops.{stop_status};
 ghost use Rattle.front.specs.Clocks.{IsTick};
 ghost use Rattle.front.specs.Endings.{ServesUntil, ServerEnds, HasServedAsAsked, HasSaidReady, HasSaidUntil};
@@ -162,7 +162,7 @@ where
         busy: BusyLines::new(rt, marks, open_by(rt, alloc, asked)),
     };
     let (passes, served) = serve_port(rt, alloc, asked, &ingester, passes, &lines, output);
-    close_shards(rt, ingester, passes);
+    drop(close_shards(rt, ingester, passes));
     served
 }
 
@@ -201,6 +201,8 @@ where
     R: Net<Listener = TcpListener, Stream = TcpStream> + Clock + Threads + Wait + Sync,
     requires opened { IsOpenedUnder asked.now.limits asked.now.words.shards asked.now.words.workers
         asked.now.capacity ingester.now passes.items }
+    requires over { IsOverUntouched asked.now.words.shards asked.now.capacity
+        ingester.now.about.bases }
     requires passes { (i : ℕ) (pass : Passed) → slice_get passes.items i ≡ Some pass
         → IsPassOf ingester.now pass }
     ensures passes { (i : ℕ) (pass : Passed) → slice_get result.0.items i ≡ Some pass

@@ -7,7 +7,8 @@ use Rattle.atomic_table.proofs.Lists.{at_set, at_snoc}
 use Rattle.crossbeam_channel.specs.Fifo.{Pushes, Pops, Forks}
 use Rattle.keyed.specs.declared.binding.Binding.{Binding}
 use Rattle.keyed.specs.declared.binding.Binding.TheVariants.{Unbound, Bound}
-use Rattle.keyed.specs.Bindings.{FitsBinding, IsBound, AreBound, IsUnusedOrBound}
+use Rattle.keyed.specs.declared.binding.EndView.{EndView}
+use Rattle.keyed.specs.Bindings.{FitsBinding, IsBound, AreBound, IsUnusedOrBound, unused, with_received}
 
 module _ {K : Type 0} where
   abbrev is_bound : Binding K → ℕ
@@ -17,8 +18,9 @@ module _ {K : Type 0} where
   unbound_bound : (key : K) (n : ℕ) → Unbound ≡ Bound key n → ⊥
   unbound_bound key n e = let z : 0 ≡ 1 = ap is_bound e in cc
 
+module _ {V : Type 0} where
   -- in a list of one
-  only : (v w : Binding K) (j : ℕ) → get_elem? (v ∷ []) j ≡ some w → (j ≡ 0) × (v ≡ w)
+  only : (v w : V) (j : ℕ) → get_elem? (v ∷ []) j ≡ some w → (j ≡ 0) × (v ≡ w)
   only v w zero e = (refl, ap (λ z. z) (some-inj e))
     where
       some-inj : some v ≡ some w → v ≡ w
@@ -26,53 +28,61 @@ module _ {K : Type 0} where
   only v w (suc j) e = absurd (some-ne-none w (sym e))
 
 module _ {T K : Type 0} (fits : K → ℕ → T → Type 0) where
-  abbrev R : List T → List (Binding K) → Type 0
+  abbrev R : List T → List (EndView T K) → Type 0
   R = IsUnusedOrBound fits
 
-  pub begins : R [] (Unbound ∷ [])
+  pub begins : R [] (unused ∷ [])
   begins = inl (refl, refl)
 
-  knots_set : (key : K) (n : ℕ) (bindings : List (Binding K)) (port : ℕ) → ((j : ℕ) (v : Binding K) → j ≢ port → get_elem? bindings j ≡ some v → v ≡ Bound key n) → (j : ℕ) (v : Binding K) → get_elem? (slice_set bindings port (Bound key n)) j ≡ some v → v ≡ Bound key n
-  knots_set key n bindings port h j v e = ⊎_elim
-      (λ (t : (j ≡ port) × (Bound key n ≡ v)). sym t.1)
-      (λ (t : (j ≢ port) × (get_elem? bindings j ≡ some v)). h j v t.0 t.1)
-      (at_set bindings port j (Bound key n) v e)
+  knots_set : (key : K) (n : ℕ) (ends : List (EndView T K)) (port : ℕ) (w : EndView T K) → w.binding ≡ Bound key n → ((j : ℕ) (v : EndView T K) → j ≢ port → get_elem? ends j ≡ some v → v.binding ≡ Bound key n) → (j : ℕ) (v : EndView T K) → get_elem? (slice_set ends port w) j ≡ some v → v.binding ≡ Bound key n
+  knots_set key n ends port w is h j v e = ⊎_elim
+      (λ (t : (j ≡ port) × (w ≡ v)). ap (λ (u : EndView T K). u.binding) (sym t.1) ∙ is)
+      (λ (t : (j ≢ port) × (get_elem? ends j ≡ some v)). h j v t.0 t.1)
+      (at_set ends port j w v e)
 
-  pub ties : (port : ℕ) (v w : Binding K) (key : K) (n : ℕ) → v ≡ Unbound → w ≡ Bound key n → Forks R port v w w
-  ties port v w key n unbound is items bindings h at = subst (λ (z : Binding K). R items (slice_set bindings port z ++ z ∷ [])) (sym is) (elim h [
-    | inl new ↦ inr (
+  -- in the list of the one end of a new queue
+  lone : (ends : List (EndView T K)) (j : ℕ) (v : EndView T K) → ends ≡ unused ∷ [] → get_elem? ends j ≡ some v → (j ≡ 0) × (unused ≡ v)
+  lone ends j v new e = only unused v j (ap (λ (l : List (EndView T K)). get_elem? l j) (sym new) ∙ e)
+
+  -- a queue with an end that is bound is not new
+  not_new : (ends : List (EndView T K)) (port : ℕ) (v : EndView T K) → ends ≡ unused ∷ [] → get_elem? ends port ≡ some v → Unbound ≡ v.binding
+  not_new ends port v new at = ap (λ (u : EndView T K). u.binding) (lone ends port v new at).1
+
+  pub ties : (port : ℕ) (v w : EndView T K) (key : K) (n : ℕ) → v ≡ unused → w.binding ≡ Bound key n → Forks R port v w w
+  ties port v w key n new is items ends h at = elim h [
+    | inl none ↦ inr (
       key,
       n,
       record {
-        item = λ i x e. absurd (some-ne-none x (sym (ap (λ l. get_elem? l i) (sym new.0) ∙ e)));
+        item = λ i x e. absurd (some-ne-none x (sym (ap (λ (l : List T). get_elem? l i) (sym none.0) ∙ e)));
         binding = λ j u e. ⊎_elim
-            (λ (t : get_elem? (slice_set bindings port (Bound key n)) j ≡ some u).
-            knots_set key n bindings port
-            (λ i y ne there. absurd (ne ((only Unbound y i (ap (λ l. get_elem? l i) (sym new.1) ∙ there)).0 ∙ sym (only Unbound v port (ap (λ l. get_elem? l port) (sym new.1) ∙ at)).0)))
+            (λ (t : get_elem? (slice_set ends port w) j ≡ some u).
+            knots_set key n ends port w is
+            (λ i y ne there. absurd (ne ((lone ends i y none.1 there).0 ∙ sym (lone ends port v none.1 at).0)))
             j u t)
-            (λ (t : Bound key n ≡ u). sym t)
-            (at_snoc (slice_set bindings port (Bound key n)) (Bound key n) u j e);
+            (λ (t : w ≡ u). ap (λ (z : EndView T K). z.binding) (sym t) ∙ is)
+            (at_snoc (slice_set ends port w) w u j e);
       },
     )
-    | inr tied ↦ absurd (unbound_bound tied.0 tied.1 (sym unbound ∙ tied.2.binding port v at))
-  ])
+    | inr tied ↦ absurd (unbound_bound tied.0 tied.1 (sym (ap (λ (u : EndView T K). u.binding) new) ∙ tied.2.binding port v at))
+  ]
 
   -- what is bound stays so
-  same : (key : K) (n : ℕ) (old now : List T) (bindings : List (Binding K)) (port : ℕ) (v : Binding K) → AreBound fits key n old bindings → get_elem? bindings port ≡ some v → ((i : ℕ) (x : T) → get_elem? now i ≡ some x → fits key n x) → AreBound fits key n now (slice_set bindings port v)
-  same key n old now bindings port v h at each = subst (λ (z : Binding K). AreBound fits key n now (slice_set bindings port z)) (sym (h.binding port v at)) (record {
+  same : (key : K) (n : ℕ) (old now : List T) (ends : List (EndView T K)) (port : ℕ) (v w : EndView T K) → w.binding ≡ v.binding → AreBound fits key n old ends → get_elem? ends port ≡ some v → ((i : ℕ) (x : T) → get_elem? now i ≡ some x → fits key n x) → AreBound fits key n now (slice_set ends port w)
+  same key n old now ends port v w is h at each = record {
     item = each;
-    binding = knots_set key n bindings port (λ j u _ e. h.binding j u e);
-  })
+    binding = knots_set key n ends port w (is ∙ h.binding port v at) (λ j u _ e. h.binding j u e);
+  }
 
-  pub sends : (room port : ℕ) (v : Binding K) (x : T) → FitsBinding fits v x → Pushes R room port v x (λ w. w ≡ v)
-  sends room port v x fit items bindings _ h at = (
+  pub sends : (room port : ℕ) (v : EndView T K) (x : T) → FitsBinding fits v.binding x → Pushes R room port v x (λ w. w ≡ v)
+  sends room port v x fit items ends _ h at = (
     v,
     elim h [
-      | inl new ↦ absurd (subst (λ (z : Binding K). FitsBinding fits z x) (sym (only Unbound v port (ap (λ l. get_elem? l port) (sym new.1) ∙ at)).1) fit)
+      | inl none ↦ absurd (subst (λ (z : Binding K). FitsBinding fits z x) (sym (not_new ends port v none.1 at)) fit)
       | inr tied ↦ inr (
         tied.0,
         tied.1,
-        same tied.0 tied.1 items (items ++ x ∷ []) bindings port v tied.2 at
+        same tied.0 tied.1 items (items ++ x ∷ []) ends port v v refl tied.2 at
             (λ i y e. ⊎_elim
             (λ (t : get_elem? items i ≡ some y). tied.2.item i y t)
             (λ (t : x ≡ y). subst (fits tied.0 tied.1) t (subst (λ (z : Binding K). FitsBinding fits z x) (tied.2.binding port v at) fit))
@@ -82,12 +92,12 @@ module _ {T K : Type 0} (fits : K → ℕ → T → Type 0) where
     refl,
   )
 
-  pub gets : (port : ℕ) (v : Binding K) → Pops R port v (λ x w. (w ≡ v) × FitsBinding fits v x)
-  gets port v x items bindings h at = elim h [
-    | inl new ↦ absurd (no_item x items new.0)
+  pub gets : (port : ℕ) (v : EndView T K) → Pops R port v (λ x w. (w ≡ with_received v x) × FitsBinding fits v.binding x)
+  gets port v x items ends h at = elim h [
+    | inl none ↦ absurd (no_item x items none.0)
     | inr tied ↦ (
-      v,
-      inr (tied.0, tied.1, same tied.0 tied.1 (x ∷ items) items bindings port v tied.2 at (λ i y e. tied.2.item (suc i) y e)),
+      with_received v x,
+      inr (tied.0, tied.1, same tied.0 tied.1 (x ∷ items) items ends port v (with_received v x) refl tied.2 at (λ i y e. tied.2.item (suc i) y e)),
       (refl, subst (λ (z : Binding K). FitsBinding fits z x) (sym (tied.2.binding port v at)) (tied.2.item 0 x refl)),
     )
   ]
@@ -95,16 +105,16 @@ module _ {T K : Type 0} (fits : K → ℕ → T → Type 0) where
       no_item : (x : T) (items : List T) → x ∷ items ≡ [] → ⊥
       no_item x items e = cc
 
-  pub forks : (port : ℕ) (v : Binding K) → IsBound v → Forks R port v v v
-  forks port v is items bindings h at = elim h [
-    | inl new ↦ absurd (subst IsBound (sym (only Unbound v port (ap (λ l. get_elem? l port) (sym new.1) ∙ at)).1) is)
-    | inr tied ↦ let more = same tied.0 tied.1 items items bindings port v tied.2 at tied.2.item in
+  pub forks : (port : ℕ) (v : EndView T K) → IsBound v.binding → Forks R port v v v
+  forks port v is items ends h at = elim h [
+    | inl none ↦ absurd (subst IsBound (sym (not_new ends port v none.1 at)) is)
+    | inr tied ↦ let more = same tied.0 tied.1 items items ends port v v refl tied.2 at tied.2.item in
         inr (
           tied.0,
           tied.1,
           record {
             item = more.item;
-            binding = λ j u e. ⊎_elim (λ (t : get_elem? (slice_set bindings port v) j ≡ some u). more.binding j u t) (λ (t : v ≡ u). sym t ∙ tied.2.binding port v at) (at_snoc (slice_set bindings port v) v u j e);
+            binding = λ j u e. ⊎_elim (λ (t : get_elem? (slice_set ends port v) j ≡ some u). more.binding j u t) (λ (t : v ≡ u). ap (λ (z : EndView T K). z.binding) (sym t) ∙ tied.2.binding port v at) (at_snoc (slice_set ends port v) v u j e);
           },
         )
   ]

@@ -2,7 +2,7 @@
 ghost use Rattle.crossbeam_channel.specs.Claims.{IsSeatAt};
 ghost use Rattle.crossbeam_channel.specs.Ends.{sends_on, receives_on};
 
-use crate::binding::{Binding, Binds, Gets, Same, Sends};
+use crate::binding::{Binds, EndView, Gets, Same, Sends};
 use crate::rule::Fits;
 use crossbeam_channel::{Pass, RuledReceiver, RuledSender};
 use std::alloc::AllocError;
@@ -19,16 +19,16 @@ pub struct Gone {
 /// The sending end of a queue.
 #[derive(Drop)]
 pub struct QueueSender<T: Drop, K, P: Fits<T, K>> {
-    pub(crate) to: RuledSender<T, Binding<K>, Binds<P>>,
-    pub(crate) port: Pass<T, Binding<K>>,
+    pub(crate) to: RuledSender<T, EndView<T, K>, Binds<P>>,
+    pub(crate) port: Pass<T, EndView<T, K>>,
     ghost seated: { IsSeatAt (sends_on to) port },
 }
 
 /// The receiving end of a queue.
 #[derive(Drop)]
 pub struct QueueReceiver<T: Drop, K, P: Fits<T, K>> {
-    pub(crate) from: RuledReceiver<T, Binding<K>, Binds<P>>,
-    pub(crate) port: Pass<T, Binding<K>>,
+    pub(crate) from: RuledReceiver<T, EndView<T, K>, Binds<P>>,
+    pub(crate) port: Pass<T, EndView<T, K>>,
     ghost seated: { IsSeatAt (receives_on from) port },
 }
 
@@ -70,9 +70,9 @@ impl<T: Drop, K, P: Fits<T, K>> QueueSender<T, K, P> {
 }
 
 impl<T: Drop, K, P: Fits<T, K>> QueueReceiver<T, K, P> {
-    ghost use Rattle.std.specs.Prelude.{◌≡◌, IfOk, IfErr, IfSome};
-    ghost use Rattle.keyed.specs.Bindings.{FitsBinding, IsBound};
-    ghost use Rattle.keyed.specs.Queues.{sends_to, receives_as};
+    ghost use Rattle.std.specs.Prelude.{◌≡◌, ◌∷◌, IfOk, IfSome, MatchOption, MatchResult};
+    ghost use Rattle.keyed.specs.Bindings.{FitsBinding};
+    ghost use Rattle.keyed.specs.Queues.{receives_as, received_by};
 
     /// Waits for a message.
     ///
@@ -82,6 +82,9 @@ impl<T: Drop, K, P: Fits<T, K>> QueueReceiver<T, K, P> {
     pub fn receive<R: Wait>(&mut self, rt: &R) -> Result<T, Gone>
         ensures same { receives_as self.new ≡ receives_as self.old }
         ensures fits { IfOk result (FitsBinding P.fits (receives_as self.old)) }
+        ensures received { MatchResult result
+            (λ message. received_by self.new ≡ message ∷ received_by self.old)
+            (λ _. received_by self.new ≡ received_by self.old) }
     {
         match self.from.recv_as::<Gets<P>, R>(rt, &mut self.port) {
             Ok(message) => Ok(message),
@@ -93,6 +96,8 @@ impl<T: Drop, K, P: Fits<T, K>> QueueReceiver<T, K, P> {
     pub fn try_receive<R: Wait>(&mut self, rt: &R) -> Option<T>
         ensures same { receives_as self.new ≡ receives_as self.old }
         ensures fits { IfSome result (FitsBinding P.fits (receives_as self.old)) }
+        ensures received { MatchOption result (received_by self.new ≡ received_by self.old)
+            (λ message. received_by self.new ≡ message ∷ received_by self.old) }
     {
         self.from.try_recv_as::<Gets<P>, R>(rt, &mut self.port).ok()
     }

@@ -10,7 +10,7 @@ mod rule;
 mod waiters;
 
 pub use aside::{Aside, Lies};
-pub use binding::{Binding, Binds};
+pub use binding::{Binding, Binds, EndView, Received};
 pub use ends::{Gone, QueueReceiver, QueueSender};
 pub use queues::queue;
 pub use rule::Fits;

@@ -3,7 +3,7 @@ ghost use Rattle.std.specs.Prelude.{◌≡◌, ◌<◌, IfOk};
 ghost use Rattle.keyed.specs.Queues.{sends_to, receives_as};
 ghost use Rattle.keyed.specs.declared.binding.Binding.TheVariants.{Bound};
 
-use crate::binding::{Binding, Binds, BindsBoth, Names};
+use crate::binding::{Binds, BindsBoth, EndView, Names};
 use crate::ends::{QueueReceiver, QueueSender};
 use crate::rule::Fits;
 use crossbeam_channel::bounded_with;
@@ -42,7 +42,7 @@ fn bound_queue<T: Drop, K, P: Fits<T, K>, J: Names<K>>(
 {
     let _ = key;
     let _ = number;
-    let (to, from, mut port) = bounded_with::<T, Binding<K>, Binds<P>, Global>(alloc, room)?;
+    let (to, from, mut port) = bounded_with::<T, EndView<T, K>, Binds<P>, Global>(alloc, room)?;
     let other = to.another::<BindsBoth<J>>(&mut port);
     Ok((
         QueueSender { to, port },

@@ -104,3 +104,10 @@ module _ {A : Type 0} (meets : ℕ → A → Type 0) where
       from n [] all = tt
       from n (x ∷ xs) all = let z : n + 0 ≡ n = omega arith in
           (subst (λ (m : ℕ). meets m x) z (all 0 x refl), from (n + 1) xs (λ k y e. let z : n + suc k ≡ (n + 1) + k = omega arith in subst (λ (m : ℕ). meets m y) z (all (suc k) y e)))
+
+module _ {A : Type 0} where
+  -- behind the end nothing is set
+  pub set_beyond : (xs : List A) (at : ℕ) (x : A) → length xs ≤ at → slice_set xs at x ≡ xs
+  set_beyond [] at x le = refl
+  set_beyond (y ∷ xs) zero x le = absurd (omega arith)
+  set_beyond (y ∷ xs) (suc at) x le = ap (λ (l : List A). y ∷ l) (set_beyond xs at x (omega arith))

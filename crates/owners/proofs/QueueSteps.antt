@@ -1,5 +1,6 @@
 -- How ends are put together.
-use Rattle.std.proofs.Common.{◌≡◌, ℕ, ◌+◌, [], ◌∷◌, ◌++◌, length, length-append, ap, ◌∙◌}
+use Rattle.std.proofs.Common.{◌≡◌, ℕ, ◌+◌, true, false, [], ◌∷◌, ◌++◌, length, length-append, refl, ap, ◌∙◌}
+use Rattle.std.specs.Prelude.{Option, None, Some, is_some}
 use Rattle.keyed.specs.declared.binding.Binding.TheVariants.{Bound}
 use Rattle.keyed.specs.Queues.{sends_to, receives_as}
 use Rattle.owners.specs.Homes.{Homed}
@@ -17,3 +18,7 @@ queues_more home p k old now h orders gets end items is = let long = length-appe
       answers = each_next (λ n e. sends_to e ≡ Bound home n) old.answers.items now.answers.items end p h.count items h.answers is;
       count = ap length items ∙ (long ∙ ap (λ n. n + 1) was);
     }
+
+pub none_left : {A : Type 0} (o : Option A) → is_some o ≡ false → o ≡ None
+none_left None e = refl
+none_left (Some x) e = let t : true ≡ false = e in cc

@@ -10,3 +10,4 @@ pub mod Owners
 pub mod Routes
 pub mod QueueEnds
 pub mod Plans
+pub mod Taken

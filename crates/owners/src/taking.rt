@@ -1,13 +1,14 @@
 //! How an owner takes in the calls that have come.
-ghost use Rattle.std.specs.Prelude.{◌≡◌, ◌≤◌, ◌++◌, ℕ};
+ghost use Rattle.std.specs.Prelude.{◌≡◌, ◌≤◌, ℕ};
 ghost use Rattle.std.specs.VecDeque.{deque_len, deque_capacity};
-ghost use Rattle.keyed.specs.Queues.{receives_as};
+ghost use Rattle.keyed.specs.Queues.{receives_as, received_by};
 ghost use Rattle.keyed.specs.declared.binding.Binding.TheVariants.{Bound};
 ghost use Rattle.history.specs.Histories.{max_open};
 ghost use Rattle.shard.specs.Jobs.{max_turn};
 ghost use Rattle.owners.specs.Homes.{Homed};
 ghost use Rattle.owners.specs.Messages.{IsMessageTo, IsOrderFor};
 ghost use Rattle.owners.specs.Mailboxes.{max_mailbox, IsMailbox};
+ghost use Rattle.owners.specs.Taken.{IsPutInMailbox, IsTakenIn, IsTakenGroup};
 
 use crate::mailbox::{Mailbox, move_jobs, put_at};
 use crate::messages::{ExitReason, Order, OrderReceiver, ShardMessage};
@@ -22,7 +23,7 @@ fn take_message(mailbox: &mut Mailbox, mut message: ShardMessage)
     ensures mailbox { (home : Homed) (k : ℕ) → IsMailbox home k mailbox.old → IsMessageTo home k message
         → IsMailbox home k mailbox.new }
     ensures few { deque_len mailbox.new.jobs ≤ max_mailbox }
-    ensures jobs { mailbox.new.jobs.items ≡ mailbox.old.jobs.items ++ message.jobs.items }
+    ensures put { IsPutInMailbox message mailbox.old mailbox.new }
 {
     move_jobs(&mut message.jobs, &mut mailbox.jobs);
     let pass = message.pass;
@@ -38,6 +39,7 @@ fn take_order(mailbox: &mut Mailbox, order: Order) -> Option<ExitReason>
     ensures mailbox { (home : Homed) (k : ℕ) → IsMailbox home k mailbox.old → IsOrderFor home k order
         → IsMailbox home k mailbox.new }
     ensures few { deque_len mailbox.new.jobs ≤ max_mailbox }
+    ensures taken { IsTakenIn order mailbox.old mailbox.new result }
 {
     match order {
         Order::Make(message) => {
@@ -48,8 +50,9 @@ fn take_order(mailbox: &mut Mailbox, order: Order) -> Option<ExitReason>
     }
 }
 
-/// Waits for an order, and takes in those that are there, until the calls of a turn or more are to be made. After the
-/// last order, or where nobody can send any more, it says why the owner ends.
+/// Waits for an order, and takes in those that are there, until the calls of a turn or more are to be made. All that it
+/// takes from the queue are in the mailbox then. After the last order, or where nobody can send any more, it says why
+/// the owner ends.
 pub(crate) fn take_group<R: Wait>(
     rt: &R,
     orders: &mut OrderReceiver,
@@ -62,6 +65,8 @@ pub(crate) fn take_group<R: Wait>(
     ensures mailbox { (home : Homed) (k : ℕ) → receives_as orders.old ≡ Bound home k
         → IsMailbox home k mailbox.old → IsMailbox home k mailbox.new }
     ensures few { deque_len mailbox.new.jobs ≤ max_mailbox }
+    ensures taken { IsTakenGroup (received_by orders.old) (received_by orders.new) mailbox.old mailbox.new
+        result }
 {
     let first = match orders.receive(rt) {
         Ok(first) => first,

@@ -6,3 +6,4 @@ mod Calls
 mod TooLong
 mod Questions
 mod PartsRead
+mod Untouched

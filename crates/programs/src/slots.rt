@@ -1,5 +1,6 @@
 //! The slots of a folder.
 ghost use Rattle.std.specs.Prelude.{◌≡◌, ◌≤◌, IfOk, vec_len};
+ghost use Rattle.programs.specs.Slots.{HasNoCall, AreUntouched};
 
 use crate::lacking::{path_of, refuse_lacking};
 use crate::slot_name::SlotName;
@@ -36,7 +37,7 @@ impl From<AllocError> for SlotsFault {
 
 /// Opens the slots of `shards` shards: the files `shard-SS-0.wal` and `shard-SS-1.wal` of a folder. Missing files are
 /// made empty, and so is a missing folder. Each file is locked against other processes. What was made survives a crash.
-/// A shard that stops answering writes a line to `errors`, where that is given.
+/// No call was made on a slot yet. A shard that stops answering writes a line to `errors`, where that is given.
 ///
 /// # Errors
 ///
@@ -48,7 +49,8 @@ pub fn open_slots<R: Files<File = File>>(
     shards: u32,
     errors: Option<Stderr>,
 ) -> Result<Vec<[Watched<FileDisk>; 2]>, SlotsFault>
-    ensures { IfOk result (λ slots. vec_len slots ≡ shards) }
+    ensures count { IfOk result (λ slots. vec_len slots ≡ shards) }
+    ensures untouched { IfOk result (λ slots. AreUntouched slots.items) }
 {
     if make_folder(rt, folder).is_err() {
         return Err(SlotsFault::Path(folder.to_string(alloc)?));
@@ -115,14 +117,16 @@ fn name_of<'a>(path: Path<'a>) -> &'a str {
     }
 }
 
-// Opens one slot.
+// Opens one slot, and makes no call on it.
 fn open_slot<R: Files<File = File>>(
     rt: &R,
     alloc: Global,
     folder: &str,
     name: SlotName,
     errors: Option<Stderr>,
-) -> Result<Watched<FileDisk>, SlotsFault> {
+) -> Result<Watched<FileDisk>, SlotsFault>
+    ensures { IfOk result HasNoCall }
+{
     let path = path_of(alloc, folder, name)?;
     match LockedFile::open(rt, path.as_str()) {
         Ok(file) => Ok(Watched::new(FileDisk::new(file), name.shard, errors)),

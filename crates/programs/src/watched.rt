@@ -21,8 +21,12 @@ pub struct Watched<D: Disk> {
 }
 
 impl<D: Disk> Watched<D> {
+    ghost use Rattle.std.specs.Prelude.{◌≡◌};
+
     /// This slot of a shard. Its lines go to `errors`, where that is given.
-    pub fn new(inner: D, shard: u32, errors: Option<Stderr>) -> Watched<D> {
+    pub fn new(inner: D, shard: u32, errors: Option<Stderr>) -> Watched<D>
+        ensures { result.inner ≡ inner }
+    {
         Watched {
             inner,
             shard,

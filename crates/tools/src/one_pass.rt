@@ -60,6 +60,6 @@ pub fn close_for_one<D: Disk + Drop, R: Wait>(
 {
     let mut passes = Vec::new(alloc);
     if passes.push(pass).is_ok() {
-        close_shards(rt, ingester, passes);
+        drop(close_shards(rt, ingester, passes));
     }
 }

@@ -22,5 +22,5 @@ returns-clause-over g c =
     let served = c.serve_listener-passes in
     let all : OnOk served.result.1 (HasServedAsAsked (IsTick {R = R}) asked.environment.now asked.words) =
     as_asked (IsTick {R = R}) (λ (s : Connections (SystemClock R) (FullShardLines R)). s.clock) (λ (k : KeptConnection (SystemClock R)). k.connection) c.args.ingester.now
-    served.result.1 asked.limits asked.words asked.environment.now asked.capacity c.args.ingester.now c.args.passes.items served.result.0.items asked.given asked.room c.requires.opened served.ensures.left in
+    served.result.1 asked.limits asked.words asked.environment.now asked.capacity c.args.ingester.now c.args.passes.items served.result.0.items asked.given asked.room c.requires.opened c.requires.over served.ensures.left in
     search rules

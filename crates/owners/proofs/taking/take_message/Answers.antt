@@ -1,7 +1,8 @@
-use Rattle.std.proofs.Common.{refl, sym, subst}
+use Rattle.std.proofs.Common.{refl, sym, subst, arith}
 use Rattle.owners.specs.declared.messages.ShardMessage.{ShardMessage}
 use Rattle.owners.specs.declared.mailbox.Mailbox.{Mailbox}
 use Rattle.owners.specs.Mailboxes.{ArePlaces}
+use Rattle.owners.proofs.Each.{set_beyond}
 use Rattle.owners.proofs.MailboxSteps.{message_emptied, place_new, mailbox_more}
 use Rattle.owners.proofs.taking.take_message.Goals as goal
 
@@ -18,3 +19,19 @@ pub returns-else-pass-len-clause-mailbox : goal.returns-else-pass-len-clause-mai
 returns-else-pass-len-clause-mailbox c =
     let old : Mailbox = c.args.mailbox.now in
     λ h k mailbox message. mailbox_more h k c.args.message.pass old _ c.args.message.jobs.items mailbox message.batch c.move_jobs.ensures.items refl mailbox.messages c.move_jobs.ensures.capacity
+
+pub returns-then-pass-len-clause-put : goal.returns-then-pass-len-clause-put
+returns-then-pass-len-clause-put c = record {
+  jobs = c.move_jobs.ensures.items;
+  emptied = record { pass = c.args.message.pass; jobs = c.move_jobs.new.from; settled = c.args.message.settled };
+  pass = refl;
+  place = c.put_at.ensures;
+}
+
+pub returns-else-pass-len-clause-put : goal.returns-else-pass-len-clause-put
+returns-else-pass-len-clause-put c = record {
+  jobs = c.move_jobs.ensures.items;
+  emptied = record { pass = c.args.message.pass; jobs = c.move_jobs.new.from; settled = c.args.message.settled };
+  pass = refl;
+  place = sym (set_beyond c.args.mailbox.now.messages.items c.args.message.pass _ (omega (arith, c.if-pass-len.false)));
+}

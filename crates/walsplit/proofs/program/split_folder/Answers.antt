@@ -9,7 +9,7 @@ returns-clause-divided g c =
       old_back = split.0;
       new = c.in-Ok.new.items;
       new_back = split.1;
-      old_count = let e = c.in_ok-old.old.ok.0 in let n = c.in_ok-old.ensures in omega arith;
-      new_count = let e = c.in-Ok.new.ok.0 in let n = c.in-Ok.ensures in omega arith;
+      old_count = let e = c.in_ok-old.old.ok.0 in let n = c.in_ok-old.ensures.count in omega arith;
+      new_count = let e = c.in-Ok.new.ok.0 in let n = c.in-Ok.ensures.count in omega arith;
       split = split.2;
     }
