@@ -4,8 +4,9 @@ With the allocator and the settings of deploy/needleazure.service it takes 300 M
 six hours a trim takes five, and then ten times five hours more. Within 30 seconds it may have at
 most 1.6 times the bytes of the lines that are kept, and 50 MB. A read of a stream of 127 MB may
 take twice the bytes of its answer. Of many bodies of the largest size that come at once, each worker
-may have the lines of one in memory."""
+may have the lines of one in memory, and whatever one body is made of, it may take 120 MB."""
 import concurrent.futures
+import itertools
 import re
 import threading
 import time
@@ -19,6 +20,19 @@ LENGTH, LINES, HOURS, KEPT_HOURS = 200, 500, 6, 1
 FILLED = 300_000_000
 # bodies of 4 MB: what one takes as bytes, and with its lines
 BODIES, BODY_BYTES, BODY_LINES = 48, 5_000_000, 20_000_000
+# what may be in one body: its parts are counted in the longest one, and not in one of 256 KiB
+LONGEST, UNCOUNTED, BODY_MEMORY = 4_194_304, 262_144, 120_000_000
+OBJECTS, ARRAYS = '{"":' * 120 + "0" + "}" * 120, "[" * 120 + "]" * 120
+FORMS = {
+    "streams without entries": ('{"streams":[', '{"stream":{"a":"1"},"values":[]}', "]}"),
+    "objects in objects": ('{"streams":[', OBJECTS, "]}"),
+    "arrays in arrays": ('{"streams":[', ARRAYS, "]}"),
+    "numbers": ('{"streams":[', "0", "]}"),
+    "entries": ('{"streams":[{"stream":{"a":"1"},"values":[', '["1",""]', "]}]}"),
+    "labels": ('{"streams":[{"stream":{', '"NUMBER":"x"', '},"values":[]}]}'),
+    "all parts that there may be": (f'{{"streams":[{f"{OBJECTS}," * 249}{f"{ARRAYS}," * 413}{{', '"NUMBER":0', "}]}"),
+    "metadata": ('{"streams":[{"stream":{"a":"1"},"values":[["1","",{', '"NUMBER":"x"', "}]]}]}"),
+}
 
 
 def shipped():
@@ -105,6 +119,31 @@ def check_long_bodies(work, settings):
         hold(statuses == {204} and memory <= most, f"{what}, answered {statuses}")
 
 
+def body_of(length, head, piece, tail):
+    """A body of this length at most, of a piece that stands in it as often as it can."""
+    if "NUMBER" not in piece:
+        return head + ",".join([piece] * ((length - len(head + tail)) // (len(piece) + 1))) + tail
+    room, found = length - len(head + tail), []
+    for number in itertools.count():
+        found.append(piece.replace("NUMBER", f"{number:x}"))
+        room -= len(found[-1]) + 1
+        if room < 0:
+            return head + ",".join(found[:-1]) + tail
+
+
+def check_forms(work, settings):
+    with servers.Server(f"{work}/forms", 1, 1, settings) as server, servers.Client(server.port) as client:
+        for (name, form), length in itertools.product(FORMS.items(), (UNCOUNTED, LONGEST)):
+            if len(form[0]) > length:
+                continue
+            body, before, busy = body_of(length, *form).encode(), server.memory(), server.processor()
+            servers.write(f"/proc/{server.pid}/clear_refs", b"5")
+            status, said = client.ask(servers.PUSH, body)
+            more, took = server.memory("VmHWM") - before, server.processor() - busy
+            what = f"{name}, {len(body)} bytes: {more / 1e6:.0f} MB, {took:.2f} s, {status} {said[:40].decode()!r}"
+            hold(status in (204, 400) and more <= BODY_MEMORY, what)
+
+
 def check(work, _):
     allocator = servers.allocator()
     hold("LD_PRELOAD" in allocator, "jemalloc is installed")
@@ -112,3 +151,4 @@ def check(work, _):
     check_trims(work, settings)
     check_read(work, settings)
     check_long_bodies(work, settings)
+    check_forms(work, settings)

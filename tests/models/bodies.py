@@ -10,6 +10,8 @@ import re
 
 MOST_TIME = 2**63 - 1
 MOST_LABELS, MOST_LINE, MOST_ENTRIES = 15, 262_144, 10_000
+# (of a body of more than so many bytes)
+UNCOUNTED, MOST_OBJECTS, MOST_ELEMENTS = 262_144, 30_001, 50_001
 MOST_PAIRS, MOST_NAME, MOST_VALUE = 16, 256, 1_024
 MOST_DEPTH = 127
 
@@ -104,12 +106,26 @@ def depth_of(text):
     return max(itertools.accumulate((1 if it in "[{" else -1 for it in signs), initial=0))
 
 
+def has_too_many(text):
+    """Whether a long text has more objects, or more values that are of no member, than a push of 10,000 streams and 10,000
+    entries with metadata."""
+    may_have = text.count("{") > MOST_OBJECTS or text.count("[") + text.count(",") >= MOST_ELEMENTS
+    if len(text.encode()) <= UNCOUNTED or not may_have:
+        return False
+    plain = re.sub(r'"(?:[^"\\]|\\.)*"', '"', text, flags=re.DOTALL)
+    tokens = re.findall(r'"\s*:|[{\["]|[^\s{}\[\]",:]+', plain)
+    values = sum(not it.endswith(":") and not before.endswith(":") for before, it in zip(["", *tokens], tokens))
+    return tokens.count("{") > MOST_OBJECTS or values > MOST_ELEMENTS
+
+
 def tree_of(body):
     """JSON of RFC 8259: at most 127 arrays and objects in one another, numbers that a float holds, pairs of surrogates that
     are whole; of members with one name the last one counts."""
     hooks = dict.fromkeys(["parse_int", "parse_float", "parse_constant"], number_of)
     try:
         text = body.decode()
+        if has_too_many(text):
+            raise Fault("more than 10000 streams or entries")
         if depth_of(text) > MOST_DEPTH:
             raise ValueError
         found = json.loads(text, object_pairs_hook=members_of, **hooks)

@@ -1,7 +1,7 @@
 -- The answer to a request, by how its calls went.
 use Rattle.std.specs.Prelude.{◌≡◌, ◌⊎◌, ℕ, ◌==◌, if◌then◌else◌, List, [], ◌∷◌, ◌++◌, codes, decimal, Option, None, Some, Result, Ok, Err}
 use Rattle.pushjson.specs.declared.fault.PushFault.{PushFault}
-use Rattle.pushjson.specs.declared.fault.PushFault.TheVariants.{NotJson, WrongShape, BadTime, TooManyEntries, Memory}
+use Rattle.pushjson.specs.declared.fault.PushFault.TheVariants.{NotJson, WrongShape, BadTime, TooManyEntries, TooManyParts, Memory}
 use Rattle.requests.specs.Answers.{code_of, failure_body}
 use Rattle.requests.specs.declared.answer.Answer.{Answer}
 use Rattle.requests.specs.declared.answer.Content.{Content}
@@ -30,6 +30,7 @@ fault_text NotJson = codes "body is not JSON"
 fault_text WrongShape = codes "wrong shape"
 fault_text (BadTime i j) = bad_time_text i j
 fault_text TooManyEntries = codes "more than 10000 entries"
+fault_text TooManyParts = codes "more than 10000 streams or entries"
 fault_text Memory = failure_body call_faults.Memory
 
 abbrev pub fault_status : PushFault → Status

@@ -90,6 +90,11 @@ fn refuse(alloc: Global, fault: PushFault) -> Result<Answer, NoAnswer>
             Status::BadRequest,
             b"more than 10000 entries",
         ),
+        PushFault::TooManyParts => answer_of_text(
+            alloc,
+            Status::BadRequest,
+            b"more than 10000 streams or entries",
+        ),
         PushFault::Memory => return Err(NoAnswer::Failed(CallFault::Memory)),
     };
     Ok(answer?)

@@ -1,18 +1,19 @@
 -- Bytes have one answer as a push, one as a query and one as a trim.
-use Rattle.std.proofs.Common.{◌≡◌, ◌≢◌, ◌⊎◌, inl, inr, ℕ, ◌<◌, ◌≤◌, List, map, Result, Ok, Err, Option, Some, None, refl, sym, ◌∙◌, subst, arith, [], ◌∷◌, length, take, get_or, length-take, All}
+use Rattle.std.proofs.Common.{◌≡◌, ◌≢◌, ◌⊎◌, inl, inr, ℕ, ◌<◌, ◌≤◌, List, map, Result, Ok, Err, Option, Some, None, refl, sym, ◌∙◌, subst, arith, [], ◌∷◌, length, take, get_or, length-take, All, true}
 use Rattle.std.specs.Str.{IsUtf8, is_utf8}
 use Rattle.std.proofs.lemmas.Str.{IsUtf8-from_is_utf8, is_utf8-from_IsUtf8}
 use Rattle.serde_json.specs.Data.{Data}
 use Rattle.serde_json.specs.Read.{read}
 use Rattle.pushjson.specs.Times.{IsTime}
 use Rattle.pushjson.specs.Bodies.{Stream, body_tree, IsJson, HaveTimes, IsFirstBadTime, entry_count, batch_of, TimedLine, labels_tree, third_tree, value_tree, stream_tree, AreTimed, IsFirstBad}
-use Rattle.pushjson.specs.Queries.{Query, Trim, query_tree, trim_tree, raw_read_of, raw_trim_of, ReadsQuery, ReadsTrim}
-use Rattle.pushjson.specs.Reads.{IsPushAnswer, HasOne}
+use Rattle.pushjson.specs.Parts.{has_too_many, HasTooManyParts, OfOthers}
+use Rattle.pushjson.specs.Queries.{Query, Trim, query_tree, trim_tree, raw_read_of, raw_trim_of, IsQueryOfTree, IsTrimOfTree, ReadsQuery, ReadsTrim}
+use Rattle.pushjson.specs.Reads.{IsPushOfTree, IsPushAnswer, HasOne}
 use Rattle.pushjson.specs.declared.push.RawBatch.{RawBatch}
 use Rattle.pushjson.specs.declared.query.RawRead.{RawRead}
 use Rattle.pushjson.specs.declared.query.RawTrim.{RawTrim}
 use Rattle.pushjson.specs.declared.fault.PushFault.{PushFault}
-use Rattle.pushjson.specs.declared.fault.PushFault.TheVariants.{NotJson, WrongShape, BadTime, TooManyEntries, Memory}
+use Rattle.pushjson.specs.declared.fault.PushFault.TheVariants.{NotJson, WrongShape, BadTime, TooManyEntries, TooManyParts, Memory}
 use Rattle.pushjson.proofs.Deciding.{Decided, tested, body_decided, query_decided, trim_decided, order_decided, both_decided, time_decided, bad_time_in}
 use Rattle.std.proofs.lemmas.Bool.{cases_order}
 use Rattle.std.proofs.lemmas.List.{get_or-take}
@@ -111,9 +112,12 @@ json_by : (bytes : List ℕ) → IsUtf8 bytes → (o : Option Data) → read byt
 json_by bytes u None e = inr (λ d j. let none : None ≡ Some d = sym e ∙ j.1 in cc)
 json_by bytes u (Some d) e = inl (d, (u, e))
 
+utf8_in : (bytes : List ℕ) → IsUtf8 bytes ⊎ (¬ (IsUtf8 bytes))
+utf8_in bytes = tested (is_utf8 bytes) (IsUtf8 bytes) (IsUtf8-from_is_utf8 bytes) (is_utf8-from_IsUtf8 bytes)
+
 json_in : (bytes : List ℕ) → ((d : Data) × IsJson bytes d) ⊎ ((d : Data) → ¬ (IsJson bytes d))
 json_in bytes =
-    elim (tested (is_utf8 bytes) (IsUtf8 bytes) (IsUtf8-from_is_utf8 bytes) (is_utf8-from_IsUtf8 bytes)) [ inl u ↦ json_by bytes u (read bytes) refl | inr h ↦ inr (λ d j. h j.0) ]
+    elim (utf8_in bytes) [ inl u ↦ json_by bytes u (read bytes) refl | inr h ↦ inr (λ d j. h j.0) ]
 
 -- there is an answer that does not want for memory
 abbrev Has : {X : Type 0} → (Result X PushFault → Type 0) → Type 0
@@ -151,6 +155,44 @@ module _ {X Y : Type 0} (tree : Y → Data) (IsJudged : Y → Result X PushFault
       it : Has Answers
       it = elim (json_in bytes) [ inl p ↦ by p.0 p.1 (decided p.0) | inr h ↦ (Err NotJson, λ e. cc, not_json h) ]
 
+parts_in : (bytes : List ℕ) → HasTooManyParts bytes ⊎ (¬ (HasTooManyParts bytes))
+parts_in bytes = both_decided (utf8_in bytes) (tested (has_too_many bytes) (has_too_many bytes ≡ true) (λ e. e) (λ e. e))
+
+-- bytes with too many parts have their one answer, and others the one that they have by their tree
+module _ {X : Type 0} (bytes : List ℕ) (Answers : Result X PushFault → Type 0) (never : ¬ (Answers (Err TooManyParts))) where
+  to_others : (r : Result X PushFault) → ¬ (HasTooManyParts bytes) → Answers r → OfOthers bytes Answers r
+  to_others (Ok x) few a = (few, a)
+  to_others (Err NotJson) few a = (few, a)
+  to_others (Err WrongShape) few a = (few, a)
+  to_others (Err (BadTime i j)) few a = (few, a)
+  to_others (Err TooManyEntries) few a = (few, a)
+  to_others (Err TooManyParts) few a = absurd (never a)
+  to_others (Err Memory) few a = tt
+
+  of_others : (r : Result X PushFault) → ¬ (HasTooManyParts bytes) → r ≢ Err Memory → OfOthers bytes Answers r → Answers r
+  of_others (Ok x) few lasts a = a.1
+  of_others (Err NotJson) few lasts a = a.1
+  of_others (Err WrongShape) few lasts a = a.1
+  of_others (Err (BadTime i j)) few lasts a = a.1
+  of_others (Err TooManyEntries) few lasts a = a.1
+  of_others (Err TooManyParts) few lasts a = absurd (few a)
+  of_others (Err Memory) few lasts a = absurd (lasts refl)
+
+  of_many : (r : Result X PushFault) → HasTooManyParts bytes → r ≢ Err Memory → OfOthers bytes Answers r → r ≡ Err TooManyParts
+  of_many (Ok x) many lasts a = absurd (a.0 many)
+  of_many (Err NotJson) many lasts a = absurd (a.0 many)
+  of_many (Err WrongShape) many lasts a = absurd (a.0 many)
+  of_many (Err (BadTime i j)) many lasts a = absurd (a.0 many)
+  of_many (Err TooManyEntries) many lasts a = absurd (a.0 many)
+  of_many (Err TooManyParts) many lasts a = refl
+  of_many (Err Memory) many lasts a = absurd (lasts refl)
+
+  one_of_all : HasOne Answers → HasOne (OfOthers bytes Answers)
+  one_of_all one = elim (parts_in bytes) [
+    | inl many ↦ (Err TooManyParts, λ e. cc, many, λ s a lasts. of_many s many lasts a)
+    | inr few ↦ (one.0, one.1, to_others one.0 few one.2, λ s a lasts. one.3 s (of_others s few lasts a) lasts)
+  ]
+
 -- how streams are judged
 abbrev AreJudged : List Stream → Result (List RawBatch) PushFault → Type 0
 AreJudged ss r =
@@ -172,22 +214,26 @@ one_judged ss r s (inr (inr p)) (inr (inr q)) =
     let entry : p.1 ≡ q.1 = same_entry ss q.0 p.1 q.1 (subst (λ (i : ℕ). IsFirstBadTime ss i p.1) place p.2) q.2 in
     cc (p.3, q.3)
 
-push_says : (bytes : List ℕ) (r : Result (List RawBatch) PushFault) → IsPushAnswer bytes r → r ≢ Err Memory → Says body_tree AreJudged bytes r
+push_says : (bytes : List ℕ) (r : Result (List RawBatch) PushFault) → IsPushOfTree bytes r → r ≢ Err Memory → Says body_tree AreJudged bytes r
 push_says bytes (Ok b) a m = inr (inr (a.0, a.1, inl (a.2, a.3, λ i. Ok (a.4 i))))
 push_says bytes (Err NotJson) a m = inl (refl, a)
 push_says bytes (Err WrongShape) a m = inr (inl (a.0, refl, a.1, a.2))
 push_says bytes (Err (BadTime i j)) a m = inr (inr (a.0, a.1, inr (inr (i, j, a.2, refl))))
 push_says bytes (Err TooManyEntries) a m = inr (inr (a.0, a.1, inr (inl (a.2, a.3, refl))))
+push_says bytes (Err TooManyParts) a m = absurd a
 push_says bytes (Err Memory) a m = absurd (m refl)
 
-pub one_answer : (bytes : List ℕ) → HasOne (IsPushAnswer bytes)
-one_answer bytes = has_one body_tree AreJudged bytes (IsPushAnswer bytes) same_body one_judged (push_says bytes) body_decided (λ h. h) (λ d json h. (d, json, h)) right
+one_answer_of_tree : (bytes : List ℕ) → HasOne (IsPushOfTree bytes)
+one_answer_of_tree bytes = has_one body_tree AreJudged bytes (IsPushOfTree bytes) same_body one_judged (push_says bytes) body_decided (λ h. h) (λ d json h. (d, json, h)) right
   where
-    right : (ss : List Stream) → IsJson bytes (body_tree ss) → Has (IsPushAnswer bytes)
+    right : (ss : List Stream) → IsJson bytes (body_tree ss) → Has (IsPushOfTree bytes)
     right ss json = elim (bad_time_in ss) [
       | inl times ↦ elim (order_decided 10000 (entry_count ss)) [ inl many ↦ (Err TooManyEntries, λ e. cc, (ss, json, times, many)) | inr few ↦ (Ok (map batch_of ss), λ e. cc, (ss, json, times, few, refl)) ]
       | inr bad ↦ (Err (BadTime bad.0 bad.1), λ e. cc, (ss, json, bad.2))
     ]
+
+pub one_answer : (bytes : List ℕ) → HasOne (IsPushAnswer bytes)
+one_answer bytes = one_of_all bytes (IsPushOfTree bytes) (λ never. never) (one_answer_of_tree bytes)
 
 -- a query and a trim are judged by whether their times are times
 abbrev IsTimed : {X Y : Type 0} → (Y → Type 0) → (Y → X) → Y → Result X PushFault → Type 0
@@ -202,33 +248,41 @@ one_timed HasTimes raw y r s (inr p) (inr q) = p.1 ∙ sym q.1
 abbrev HasQueryTimes : Query → Type 0
 HasQueryTimes q = IsTime q.from × IsTime q.to
 
-query_says : (bytes : List ℕ) (r : Result RawRead PushFault) → ReadsQuery bytes r → r ≢ Err Memory → Says query_tree (IsTimed HasQueryTimes raw_read_of) bytes r
+query_says : (bytes : List ℕ) (r : Result RawRead PushFault) → IsQueryOfTree bytes r → r ≢ Err Memory → Says query_tree (IsTimed HasQueryTimes raw_read_of) bytes r
 query_says bytes (Ok b) a m = inr (inr (a.0, a.1, inl ((a.2, a.3), λ i. Ok (a.4 i))))
 query_says bytes (Err NotJson) a m = inl (refl, a)
 query_says bytes (Err WrongShape) a m = inr (inl (a.0, refl, a.1, a.2))
 query_says bytes (Err (BadTime i j)) a m = inr (inr (a.0, a.1, inr (a.2, λ k. Err (BadTime (a.3 k) (a.4 k)))))
 query_says bytes (Err TooManyEntries) a m = absurd a
+query_says bytes (Err TooManyParts) a m = absurd a
 query_says bytes (Err Memory) a m = absurd (m refl)
 
-pub one_query : (bytes : List ℕ) → HasOne (ReadsQuery bytes)
-one_query bytes = has_one query_tree (IsTimed HasQueryTimes raw_read_of) bytes (ReadsQuery bytes) same_query (one_timed HasQueryTimes raw_read_of) (query_says bytes) query_decided (λ h. h) (λ d json h. (d, json, h)) right
+one_query_of_tree : (bytes : List ℕ) → HasOne (IsQueryOfTree bytes)
+one_query_of_tree bytes = has_one query_tree (IsTimed HasQueryTimes raw_read_of) bytes (IsQueryOfTree bytes) same_query (one_timed HasQueryTimes raw_read_of) (query_says bytes) query_decided (λ h. h) (λ d json h. (d, json, h)) right
   where
-    right : (q : Query) → IsJson bytes (query_tree q) → Has (ReadsQuery bytes)
+    right : (q : Query) → IsJson bytes (query_tree q) → Has (IsQueryOfTree bytes)
     right q json = elim (both_decided (time_decided q.from) (time_decided q.to)) [ inl t ↦ (Ok (raw_read_of q), λ e. cc, (q, json, t.0, t.1, refl)) | inr h ↦ (Err (BadTime 0 0), λ e. cc, (q, json, h, refl, refl)) ]
+
+pub one_query : (bytes : List ℕ) → HasOne (ReadsQuery bytes)
+one_query bytes = one_of_all bytes (IsQueryOfTree bytes) (λ never. never) (one_query_of_tree bytes)
 
 abbrev HasTrimTime : Trim → Type 0
 HasTrimTime t = IsTime t.bound
 
-trim_says : (bytes : List ℕ) (r : Result RawTrim PushFault) → ReadsTrim bytes r → r ≢ Err Memory → Says trim_tree (IsTimed HasTrimTime raw_trim_of) bytes r
+trim_says : (bytes : List ℕ) (r : Result RawTrim PushFault) → IsTrimOfTree bytes r → r ≢ Err Memory → Says trim_tree (IsTimed HasTrimTime raw_trim_of) bytes r
 trim_says bytes (Ok b) a m = inr (inr (a.0, a.1, inl (a.2, λ i. Ok (a.3 i))))
 trim_says bytes (Err NotJson) a m = inl (refl, a)
 trim_says bytes (Err WrongShape) a m = inr (inl (a.0, refl, a.1, a.2))
 trim_says bytes (Err (BadTime i j)) a m = inr (inr (a.0, a.1, inr (a.2, λ k. Err (BadTime (a.3 k) (a.4 k)))))
 trim_says bytes (Err TooManyEntries) a m = absurd a
+trim_says bytes (Err TooManyParts) a m = absurd a
 trim_says bytes (Err Memory) a m = absurd (m refl)
 
-pub one_trim : (bytes : List ℕ) → HasOne (ReadsTrim bytes)
-one_trim bytes = has_one trim_tree (IsTimed HasTrimTime raw_trim_of) bytes (ReadsTrim bytes) same_trim (one_timed HasTrimTime raw_trim_of) (trim_says bytes) trim_decided (λ h. h) (λ d json h. (d, json, h)) right
+one_trim_of_tree : (bytes : List ℕ) → HasOne (IsTrimOfTree bytes)
+one_trim_of_tree bytes = has_one trim_tree (IsTimed HasTrimTime raw_trim_of) bytes (IsTrimOfTree bytes) same_trim (one_timed HasTrimTime raw_trim_of) (trim_says bytes) trim_decided (λ h. h) (λ d json h. (d, json, h)) right
   where
-    right : (t : Trim) → IsJson bytes (trim_tree t) → Has (ReadsTrim bytes)
+    right : (t : Trim) → IsJson bytes (trim_tree t) → Has (IsTrimOfTree bytes)
     right t json = elim (time_decided t.bound) [ inl time ↦ (Ok (raw_trim_of t), λ e. cc, (t, json, time, refl)) | inr h ↦ (Err (BadTime 0 0), λ e. cc, (t, json, h, refl, refl)) ]
+
+pub one_trim : (bytes : List ℕ) → HasOne (ReadsTrim bytes)
+one_trim bytes = one_of_all bytes (IsTrimOfTree bytes) (λ never. never) (one_trim_of_tree bytes)

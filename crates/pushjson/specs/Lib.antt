@@ -1,4 +1,5 @@
 pub mod Bodies
+pub mod Parts
 pub mod Queries
 pub mod Reads
 pub mod Shape

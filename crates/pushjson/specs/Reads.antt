@@ -5,23 +5,29 @@ use Rattle.serde_json.specs.Data.{Data}
 use Rattle.entries.specs.declared.entry.Entry.{Entry}
 use Rattle.accept.specs.Calls.{max_entries}
 use Rattle.pushjson.specs.Bodies.{Stream, TimedLine, body_tree, IsJson, AreTimed, HaveTimes, IsFirstBad, IsFirstBadTime, entry_count, entry_of_line, batch_of}
+use Rattle.pushjson.specs.Parts.{OfOthers}
 use Rattle.pushjson.specs.declared.push.RawBatch.{RawBatch}
 use Rattle.pushjson.specs.declared.fault.PushFault.{PushFault}
-use Rattle.pushjson.specs.declared.fault.PushFault.TheVariants.{NotJson, WrongShape, BadTime, TooManyEntries, Memory}
+use Rattle.pushjson.specs.declared.fault.PushFault.TheVariants.{NotJson, WrongShape, BadTime, TooManyEntries, TooManyParts, Memory}
 
--- the answer to a push body of these bytes
-abbrev pub IsPushAnswer : List ℕ → Result (List RawBatch) PushFault → Type 0
-IsPushAnswer bytes (Ok batches) =
+-- the answer to a push body of these bytes, by its tree
+abbrev pub IsPushOfTree : List ℕ → Result (List RawBatch) PushFault → Type 0
+IsPushOfTree bytes (Ok batches) =
     (streams : List Stream) × IsJson bytes (body_tree streams) × HaveTimes streams
     × (entry_count streams ≤ max_entries)
     × (batches ≡ map batch_of streams)
-IsPushAnswer bytes (Err NotJson) = (d : Data) → ¬ IsJson bytes d
-IsPushAnswer bytes (Err WrongShape) = (d : Data) × IsJson bytes d × ((streams : List Stream) → d ≢ body_tree streams)
-IsPushAnswer bytes (Err (BadTime i j)) = (streams : List Stream) × IsJson bytes (body_tree streams)
+IsPushOfTree bytes (Err NotJson) = (d : Data) → ¬ IsJson bytes d
+IsPushOfTree bytes (Err WrongShape) = (d : Data) × IsJson bytes d × ((streams : List Stream) → d ≢ body_tree streams)
+IsPushOfTree bytes (Err (BadTime i j)) = (streams : List Stream) × IsJson bytes (body_tree streams)
     × IsFirstBadTime streams i j
-IsPushAnswer bytes (Err TooManyEntries) = (streams : List Stream) × IsJson bytes (body_tree streams)
+IsPushOfTree bytes (Err TooManyEntries) = (streams : List Stream) × IsJson bytes (body_tree streams)
     × HaveTimes streams × (max_entries < entry_count streams)
-IsPushAnswer bytes (Err Memory) = ⊤
+IsPushOfTree bytes (Err TooManyParts) = ⊥
+IsPushOfTree bytes (Err Memory) = ⊤
+
+-- the answer to a push body of these bytes
+abbrev pub IsPushAnswer : List ℕ → Result (List RawBatch) PushFault → Type 0
+IsPushAnswer bytes = OfOthers bytes (IsPushOfTree bytes)
 
 -- an answer, without where its batches lie in memory
 abbrev pub batches_answered : Result (Vec RawBatch Global) PushFault → Result (List RawBatch) PushFault

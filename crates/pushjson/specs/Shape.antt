@@ -7,7 +7,8 @@ use Rattle.serde_json.specs.declared.value.Value.{Value}
 use Rattle.pairs.specs.Labels.{label_of}
 use Rattle.pushjson.specs.Bodies.{Stream, TimedLine, IsJson}
 use Rattle.pushjson.specs.declared.fault.PushFault.{PushFault}
-use Rattle.pushjson.specs.declared.fault.PushFault.TheVariants.{NotJson, WrongShape, Memory}
+use Rattle.pushjson.specs.declared.fault.PushFault.TheVariants.{NotJson, WrongShape, TooManyParts, Memory}
+use Rattle.pushjson.specs.Parts.{HasTooManyParts}
 use Rattle.pushjson.specs.Queries.{Query, Trim}
 use Rattle.pushjson.specs.declared.shape.StreamTexts.{StreamTexts}
 use Rattle.pushjson.specs.declared.shape.ValueTexts.{ValueTexts}
@@ -32,8 +33,9 @@ TakesValue key before None after = (d : Data) (ms : Members) → members_view be
 
 -- the tree of the bytes
 abbrev pub ReadsData : List ℕ → Result Value PushFault → Type 0
-ReadsData bytes (Ok tree) = IsJson bytes (view tree)
-ReadsData bytes (Err NotJson) = (d : Data) → ¬ IsJson bytes d
+ReadsData bytes (Ok tree) = (¬ HasTooManyParts bytes) × IsJson bytes (view tree)
+ReadsData bytes (Err NotJson) = (¬ HasTooManyParts bytes) × ((d : Data) → ¬ IsJson bytes d)
+ReadsData bytes (Err TooManyParts) = HasTooManyParts bytes
 ReadsData bytes (Err Memory) = ⊤
 ReadsData bytes (Err fault) = ⊥
 

@@ -4,8 +4,8 @@ ghost use Rattle.pushjson.specs.declared.fault.PushFault.TheVariants.{Memory};
 use std::alloc::{AllocError, AllocFailed};
 use thiserror::Error;
 
-/// Why a body is refused. A wrong shape anywhere is answered before a bad time, and a bad time before
-/// too many entries. `Memory` may come at any point.
+/// Why a body is refused. Too many parts are answered before anything else that is told of JSON. A wrong shape anywhere is
+/// answered before a bad time, and a bad time before too many entries. `Memory` may come at any point.
 #[derive(Clone, Copy, Debug, Error)]
 pub enum PushFault {
     /// The bytes are not UTF-8, are no JSON text, or nest arrays and objects deeper than 127.
@@ -21,6 +21,10 @@ pub enum PushFault {
     /// The streams have more than `MAX_ENTRIES` entries together.
     #[error("more than 10000 entries")]
     TooManyEntries,
+    /// The body is long, and has more objects or more elements of arrays than a push of 10,000 streams and 10,000
+    /// entries with metadata.
+    #[error("more than 10000 streams or entries")]
+    TooManyParts,
     /// The allocator gave no memory.
     #[error("out of memory")]
     Memory,

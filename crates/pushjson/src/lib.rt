@@ -3,6 +3,7 @@
 
 mod fault;
 mod laws;
+mod parts;
 mod push;
 mod query;
 mod shape;

@@ -9,8 +9,10 @@ ghost use Rattle.pushjson.specs.Shape.{ReadsTree, ReadsData, TakesValue};
 ghost use Rattle.pushjson.specs.Shape.{value_texts_of, stream_texts_of, query_texts_of, trim_texts_of};
 
 use crate::fault::PushFault;
+use crate::parts::has_too_many;
 use pairs::Meta;
 use serde_json::Value;
+use simdutf8::basic::from_utf8;
 use std::alloc::Global;
 use std::collections::btree_map::IntoIter;
 
@@ -49,7 +51,13 @@ pub(crate) struct TrimTexts {
 pub(crate) fn read_tree(alloc: Global, bytes: &[u8]) -> Result<Value, PushFault>
     ensures { ReadsData bytes.now result }
 {
-    Value::from_slice(alloc, bytes).map_err(|fault| {
+    let Ok(text) = from_utf8(bytes) else {
+        return Err(PushFault::NotJson);
+    };
+    if has_too_many(alloc, text)? {
+        return Err(PushFault::TooManyParts);
+    }
+    Value::from_str(alloc, text).map_err(|fault| {
         if fault.is_memory() {
             PushFault::Memory
         } else {

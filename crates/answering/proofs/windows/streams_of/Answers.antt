@@ -8,7 +8,7 @@ use Rattle.answering.proofs.windows.streams_of.Goals as goal
 
 pub places_of-requires : goal.places_of-requires
 places_of-requires c =
-    let (streams, json, times, few, are) = c.in_ok-batches.ensures.reads in
+    let (_, (streams, json, times, few, are)) = c.in_ok-batches.ensures.reads in
     lawful c.args.request.now.time c.in_ok-batches.batches.items streams c.requires.clock c.in_ok-batches.ensures.range few are
 
 pub returns-in_err-places-clause-cause : goal.returns-in_err-places-clause-cause

@@ -4,15 +4,15 @@ use Rattle.pushjson.proofs.query.read_query.Goals as goal
 
 pub returns-in_default-clause-reads : goal.returns-in_default-clause-reads
 returns-in_default-clause-reads c =
-    let json = c.in_ok-read_tree.ensures in
-    (query_texts_of c.in_ok-texts.texts, (json.0, json.1 ∙ ap Some c.in_ok-texts.ensures.tree), (λ times. c.in_default.ensures (rw c.as_str.ensures.value times.0)), refl, refl)
+    let (few, json) = c.in_ok-read_tree.ensures in
+    (few, (query_texts_of c.in_ok-texts.texts, (json.0, json.1 ∙ ap Some c.in_ok-texts.ensures.tree), (λ times. c.in_default.ensures (rw c.as_str.ensures.value times.0)), refl, refl))
 
 pub returns-in_default-time_of-clause-reads : goal.returns-in_default-time_of-clause-reads
 returns-in_default-time_of-clause-reads c =
-    let json = c.in_ok-read_tree.ensures in
-    (query_texts_of c.in_ok-texts.texts, (json.0, json.1 ∙ ap Some c.in_ok-texts.ensures.tree), (λ times. c.in_default-time_of.ensures (rw c.as_str-2.ensures.value times.1)), refl, refl)
+    let (few, json) = c.in_ok-read_tree.ensures in
+    (few, (query_texts_of c.in_ok-texts.texts, (json.0, json.1 ∙ ap Some c.in_ok-texts.ensures.tree), (λ times. c.in_default-time_of.ensures (rw c.as_str-2.ensures.value times.1)), refl, refl))
 
 pub returns-clause-reads : goal.returns-clause-reads
 returns-clause-reads c =
-    let json = c.in_ok-read_tree.ensures in
-    (query_texts_of c.in_ok-texts.texts, (json.0, json.1 ∙ ap Some c.in_ok-texts.ensures.tree), rw (← c.as_str.ensures.value) c.in-Some.ensures.0, rw (← c.as_str-2.ensures.value) c.in-Some-time_of.ensures.0, rw (c.new-pairs.ensures, c.in-Some.ensures.1, c.in-Some-time_of.ensures.1, c.as_str.ensures.value, c.as_str-2.ensures.value) refl)
+    let (few, json) = c.in_ok-read_tree.ensures in
+    (few, (query_texts_of c.in_ok-texts.texts, (json.0, json.1 ∙ ap Some c.in_ok-texts.ensures.tree), rw (← c.as_str.ensures.value) c.in-Some.ensures.0, rw (← c.as_str-2.ensures.value) c.in-Some-time_of.ensures.0, rw (c.new-pairs.ensures, c.in-Some.ensures.1, c.in-Some-time_of.ensures.1, c.as_str.ensures.value, c.as_str-2.ensures.value) refl))
