@@ -77,7 +77,7 @@ failover-check: WORDS = "$$(deploy/deb)" $(RUNS)
 gateway-check: BEFORE = deploy/gateway/build race && tests/package/gateway_quick race
 drain-check: BEFORE = tests/package/drain_quick race
 deb-check edge-check failover-check gateway-check container-check: gateway
-deb-check failover-check drain-check after-check metrics-check: drain
+deb-check failover-check drain-check after-check metrics-check container-check: drain
 
 %-check: CHECK = $(subst -,_,$*)_check
 %-check: ## tests/*/NAME_check over built programs: clients gateway drain sweep after syslog memory edge scale-out metrics fill, as root deb filesystem container failover (RUNS=100), alone kit theorem

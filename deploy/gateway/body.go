@@ -22,17 +22,19 @@ type received struct {
 	isJSON   bool
 	isOTLP   bool
 	encoding string
+	// how long it says that it is, -1 where it doesn't
+	length int64
 }
 
 // readHead looks whether the head of a push has what Loki takes. All that isn't JSON is Protobuf to Loki.
-func readHead(from *http.Request) (received, error) {
-	it := received{encoding: from.Header.Get("Content-Encoding")}
-	switch kind := from.Header.Get("Content-Type"); kind {
+func readHead(said head) (received, error) {
+	it := received{encoding: said.encoding}
+	switch said.kind {
 	case jsonType:
 		it.isJSON = true
 	case protobufType:
 	default:
-		kind, _, err := mime.ParseMediaType(kind)
+		kind, _, err := mime.ParseMediaType(said.kind)
 		if err != nil {
 			return received{}, badRequest("%s", err)
 		}
@@ -48,16 +50,17 @@ func readHead(from *http.Request) (received, error) {
 const (
 	jsonType     = "application/json"
 	protobufType = "application/x-protobuf"
+	textType     = "text/plain; charset=utf-8"
 )
 
 // readLogsHead does the same for logs of OpenTelemetry's protocol.
-func readLogsHead(from *http.Request) (received, error) {
-	it, err := readHead(from)
+func readLogsHead(said head) (received, error) {
+	it, err := readHead(said)
 	if err != nil {
 		return it, err
 	}
 	it.isOTLP = true
-	if kind, _, _ := mime.ParseMediaType(from.Header.Get("Content-Type")); !it.isJSON && kind != protobufType {
+	if kind, _, _ := mime.ParseMediaType(said.kind); !it.isJSON && kind != protobufType {
 		return it, badRequest("content type: %s is not supported", kind)
 	}
 	if it.encoding != "" && it.encoding != "gzip" {
@@ -77,15 +80,22 @@ func (it *received) form() string {
 }
 
 // read takes the body as it came.
-func (it *received) read(from *http.Request, most int64, held *held) (err error) {
-	if from.ContentLength > most {
-		return errTooLarge(most)
-	}
-	if it.buffer, err = held.readAll(from.Body, from.ContentLength, most); err != nil {
+func (it *received) read(from io.Reader, most int64, held *held) (err error) {
+	if it.buffer, err = held.readAll(from, it.length, most); err != nil {
 		return unread(err)
 	}
-	setDeadline(from, time.Time{})
 	return nil
+}
+
+// The body of a request, with which the time for it ends.
+type requestBody struct{ *http.Request }
+
+func (it requestBody) Read(to []byte) (int, error) {
+	count, err := it.Body.Read(to)
+	if err == io.EOF {
+		setDeadline(it.Request, time.Time{})
+	}
+	return count, err
 }
 
 // By this key the context of a request has its connection.

@@ -6,7 +6,6 @@ import (
 	"compress/gzip"
 	"errors"
 	"io"
-	"net/http/httptest"
 	"os"
 	"strings"
 	"testing"
@@ -37,14 +36,12 @@ const mostHere = 100_000
 
 // What a body is once it is unpacked, or how it is refused.
 func unpacked(kind, encoding, body string, holding *held) (string, string) {
-	from := httptest.NewRequest("POST", pushPath, strings.NewReader(body))
-	from.Header.Set("Content-Type", kind)
-	from.Header.Set("Content-Encoding", encoding)
-	it, err := readHead(from)
+	it, err := readHead(head{kind: kind, encoding: encoding})
 	if err != nil {
 		return "", textOf(err)
 	}
-	if err := it.read(from, mostHere, holding); err != nil {
+	it.length = int64(len(body))
+	if err := it.read(strings.NewReader(body), mostHere, holding); err != nil {
 		return "", textOf(err)
 	}
 	if err := it.unpack(mostHere, holding); err != nil {

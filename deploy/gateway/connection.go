@@ -34,6 +34,7 @@ type connection struct {
 	// what came and is not read yet is space[begin:end]
 	space      []byte
 	begin, end int
+	headSpace  [headSpace]byte
 	lastUse    time.Time
 	// how the push that is under way ends without an answer
 	in    context.Context

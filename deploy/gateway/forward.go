@@ -71,8 +71,10 @@ type answer struct {
 
 // push sends a body for a tenant, which is of letters that may stand in a head. The answer has to come until then.
 func (it *server) push(in context.Context, until time.Time, tenant string, body *buffer) (answer, error) {
-	if err := in.Err(); err != nil {
-		return answer{}, err
+	select {
+	case <-in.Done():
+		return answer{}, in.Err()
+	default:
 	}
 	by, err := it.pushes.take(in)
 	if err != nil {
@@ -82,8 +84,7 @@ func (it *server) push(in context.Context, until time.Time, tenant string, body 
 	if until.Before(by.until) {
 		by.until = until
 	}
-	var space [headSpace]byte
-	head := append(append(space[:0], it.head...), tenant...)
+	head := append(append(by.headSpace[:0], it.head...), tenant...)
 	head = strconv.AppendInt(append(head, "\r\nContent-Length: "...), int64(len(body.bytes)), 10)
 	found, isKept, err := by.ask(append(head, "\r\n\r\n"...), body)
 	if err == nil && isKept {

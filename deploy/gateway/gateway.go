@@ -83,9 +83,8 @@ func (it *gateway) ready(to http.ResponseWriter, from *http.Request) {
 }
 
 func (it *gateway) push(to http.ResponseWriter, from *http.Request) {
-	pushed := newPushed(it, from)
-	defer pushed.end()
-	found, err := pushed.answer(from, readHead)
+	pushed := pushed{}
+	found, err := pushed.answerRequest(it, from, readHead)
 	status := found.status
 	if err != nil {
 		status = tell(to, err)
@@ -96,9 +95,8 @@ func (it *gateway) push(to http.ResponseWriter, from *http.Request) {
 }
 
 func (it *gateway) pushLogs(to http.ResponseWriter, from *http.Request) {
-	pushed := newPushed(it, from)
-	defer pushed.end()
-	found, err := pushed.answer(from, readLogsHead)
+	pushed := pushed{}
+	found, err := pushed.answerRequest(it, from, readLogsHead)
 	if err != nil {
 		its := faultOf(err)
 		found = answer{status: its.status, text: its.text}
@@ -143,8 +141,8 @@ type pushed struct {
 	holding *held
 }
 
-func newPushed(by *gateway, from *http.Request) *pushed {
-	return &pushed{gateway: by, in: from.Context(), began: time.Now(), form: "none", holding: newHeld(by.budget)}
+func (it *pushed) begin(by *gateway, in context.Context) {
+	*it = pushed{gateway: by, in: in, began: time.Now(), form: "none", holding: newHeld(by.budget)}
 }
 
 func (it *pushed) end() {
@@ -152,24 +150,41 @@ func (it *pushed) end() {
 	heldPool.Put(it.holding)
 }
 
-// answer is what the server answers to a push.
-func (it *pushed) answer(from *http.Request, readHead func(*http.Request) (received, error)) (answer, error) {
-	if it.tenant = from.Header.Get("X-Scope-OrgID"); it.tenant == "" {
+// answerRequest is what the server answers to a push that net/http has taken.
+func (it *pushed) answerRequest(by *gateway, from *http.Request, readHead func(head) (received, error)) (answer, error) {
+	it.begin(by, from.Context())
+	defer it.end()
+	if err := it.accept(headOf(from), readHead); err != nil {
+		return answer{}, err
+	}
+	return it.answer(requestBody{from})
+}
+
+// accept looks at what the head of a push says.
+func (it *pushed) accept(said head, readHead func(head) (received, error)) (err error) {
+	if it.tenant = said.tenant; it.tenant == "" {
 		it.tenant = it.gateway.tenant
 	}
 	if it.tenant == "" {
-		return answer{}, &fault{http.StatusUnauthorized, "no org id"}
+		return &fault{http.StatusUnauthorized, "no org id"}
 	}
 	if why := badTenant(it.tenant); why != "" {
-		return answer{}, badRequest("bad tenant: %s", why)
+		return badRequest("bad tenant: %s", why)
 	}
-	body, err := readHead(from)
-	if it.body = body; err != nil {
-		return answer{}, err
+	if it.body, err = readHead(said); err != nil {
+		return err
 	}
-	it.form = body.form()
+	it.form = it.body.form()
 	it.counted = it.metrics.forms[it.form]
-	if err := it.body.read(from, it.most, it.holding); err != nil {
+	if it.body.length = said.length; said.length > it.most {
+		return errTooLarge(it.most)
+	}
+	return nil
+}
+
+// answer is what the server answers to a push with this body.
+func (it *pushed) answer(body io.Reader) (answer, error) {
+	if err := it.body.read(body, it.most, it.holding); err != nil {
 		return answer{}, err
 	}
 	it.counted.received.Add(float64(len(it.body.bytes)))
@@ -190,16 +205,20 @@ func (it *pushed) enter() error {
 		return nil
 	default:
 	}
-	late := time.NewTimer(pushTime)
-	defer late.Stop()
-	select {
-	case it.places <- struct{}{}:
-		return nil
-	case <-it.in.Done():
-		return unanswered(it.in.Err())
-	case <-late.C:
-		return unanswered(context.DeadlineExceeded)
+	looks := time.NewTicker(lookTime)
+	defer looks.Stop()
+	for late := it.began.Add(pushTime); time.Now().Before(late); {
+		select {
+		case it.places <- struct{}{}:
+			return nil
+		case <-it.in.Done():
+		case <-looks.C:
+		}
+		if err := it.in.Err(); err != nil {
+			return unanswered(err)
+		}
 	}
+	return unanswered(context.DeadlineExceeded)
 }
 
 // For so many bytes of a body's limit there may be one of its streams, entries, times, labels and pairs.

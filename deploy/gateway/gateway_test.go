@@ -356,7 +356,7 @@ func TestStop(t *testing.T) {
 	}
 	ends, stop := context.WithCancel(context.Background())
 	ended := make(chan error)
-	go func() { ended <- serve(ends, listening, given) }()
+	go func() { ended <- serve(ends, listening, newGateway(given)) }()
 	address := "http://" + listening.Addr().String() + pushPath
 	status := make(chan int)
 	go func() {

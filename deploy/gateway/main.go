@@ -48,7 +48,7 @@ func main() {
 	listening, err := net.Listen("tcp", given.listen)
 	if err == nil {
 		fmt.Printf("ready %s\n", listening.Addr())
-		err = serve(ends, listening, given)
+		err = serve(ends, listening, newGateway(given))
 	}
 	if err != nil {
 		log.Print(err)
@@ -66,23 +66,30 @@ func readAgain(limits *limits) {
 }
 
 // serve answers until it is told to end, and then those that are under way.
-func serve(ends context.Context, listening net.Listener, given words) error {
+func serve(ends context.Context, listening net.Listener, by *gateway) error {
 	serving := &http.Server{
-		Handler:           newGateway(given).handler(),
+		Handler:           by.handler(),
 		ReadHeaderTimeout: headTime,
 		WriteTimeout:      pushTime + answerTime,
 		IdleTimeout:       keptTime,
 		MaxHeaderBytes:    mostHead,
 		ConnContext:       keepLine,
 	}
-	failed := make(chan error, 1)
-	go func() { failed <- serving.Serve(listening) }()
+	front := newFront(by, listening.Addr())
+	failed := make(chan error, 2)
+	go func() { failed <- serving.Serve(front.others) }()
+	go func() { failed <- front.accept(listening) }()
 	select {
 	case err := <-failed:
 		return err
 	case <-ends.Done():
 	}
+	listening.Close()
 	in, end := context.WithTimeout(context.Background(), stopTime)
 	defer end()
+	// (what it answers may still be left to net/http)
+	if err := front.end(in); err != nil {
+		return err
+	}
 	return serving.Shutdown(in)
 }

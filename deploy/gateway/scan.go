@@ -2,6 +2,7 @@ package main
 
 import (
 	"bytes"
+	"sync"
 	"unicode/utf8"
 )
 
@@ -21,9 +22,14 @@ type scan struct {
 
 type place struct{ from, to int }
 
+var scanPool = sync.Pool{New: func() any { return &scan{} }}
+
 func scanJSON(body []byte, most int64) (counts, bool) {
-	it := scan{body: body, most: most}
+	it := scanPool.Get().(*scan)
+	defer scanPool.Put(it)
+	it.body, it.at, it.counts, it.most = body, 0, counts{}, most
 	isSo := len(body) <= mostBody && it.push() && it.counts.entries <= mostEntries && it.counts.messages <= most
+	it.body = nil
 	return it.counts, isSo
 }
 
@@ -178,9 +184,7 @@ func (it *scan) time() bool {
 		return false
 	}
 	from := it.at
-	for it.at < len(it.body) && isDigit(it.body[it.at]) {
-		it.at++
-	}
+	it.at = digitsEnd(it.body, from)
 	time := it.body[from:it.at]
 	if len(time) == 0 || time[0] == '0' && len(time) > 1 || it.at == len(it.body) || it.body[it.at] != '"' {
 		return false

@@ -13,17 +13,42 @@ const (
 )
 
 // plainEnd is the place, from `at` on, of the first byte that does not stand for itself in a text of JSON, or that is
-// none of ASCII. It looks at eight bytes at a time: of a byte less than 0x20, or one that is `"` or `\`, a subtraction
-// sets the highest bit. The lowest bit that is set is right, since borrows go upwards.
+// none of ASCII. It looks at sixteen bytes at a time.
 func plainEnd(text []byte, at int) int {
-	for ; at+8 <= len(text); at += 8 {
-		word := binary.LittleEndian.Uint64(text[at:])
-		quote, backslash := word^'"'*lowBits, word^'\\'*lowBits
-		if found := (word | (word - ' '*lowBits) | (quote - lowBits) | (backslash - lowBits)) & highBits; found != 0 {
-			return at + bits.TrailingZeros64(found)/8
+	for ; at+16 <= len(text); at += 16 {
+		two := text[at : at+16]
+		first, second := unplain(binary.LittleEndian.Uint64(two)), unplain(binary.LittleEndian.Uint64(two[8:]))
+		switch {
+		case first != 0:
+			return at + bits.TrailingZeros64(first)/8
+		case second != 0:
+			return at + 8 + bits.TrailingZeros64(second)/8
 		}
 	}
 	for at < len(text) && isPlain(text[at]) {
+		at++
+	}
+	return at
+}
+
+// unplain has the highest bit of each byte of a word that is not plain, and perhaps of some above the lowest of them. Of a
+// byte less than 0x20, or one that is `"` or `\`, a subtraction sets it; borrows go upwards.
+func unplain(word uint64) uint64 {
+	quote, backslash := word^'"'*lowBits, word^'\\'*lowBits
+	return (word | (word - ' '*lowBits) | (quote - lowBits) | (backslash - lowBits)) & highBits
+}
+
+// digitsEnd is the place of the first byte, from `at` on, that is no digit. Eight digits are bytes of which each has 3 as
+// its upper half, with 6 added too.
+func digitsEnd(text []byte, at int) int {
+	const upper, each = 0xf0 * lowBits, 0x33 * lowBits
+	for ; at+8 <= len(text); at += 8 {
+		word := binary.LittleEndian.Uint64(text[at : at+8])
+		if word&upper|(word+6*lowBits)&upper>>4 != each {
+			break
+		}
+	}
+	for at < len(text) && isDigit(text[at]) {
 		at++
 	}
 	return at

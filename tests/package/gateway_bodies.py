@@ -34,8 +34,9 @@ def kept(text):
 
 
 class Draw:
-    def __init__(self, random):
-        self.random, self.count = random, 0
+    def __init__(self, random, lengths=(0, 1, 1, 2, 5, 30)):
+        # (how many entries a stream may have)
+        self.random, self.lengths, self.count = random, lengths, 0
 
     def text(self, most, may_be_no_text):
         pieces = PIECES + NO_TEXT if may_be_no_text else PIECES
@@ -66,7 +67,7 @@ class Draw:
         labels = self.labels(pool)
         if not may_be_no_text:
             labels = {name: kept(value).encode() for name, value in labels.items()}
-        return labels, [self.entry(may_be_no_text) for _ in range(self.random.choice([0, 1, 1, 2, 5, 30]))]
+        return labels, [self.entry(may_be_no_text) for _ in range(self.random.choice(self.lengths))]
 
 
 class LabelText:

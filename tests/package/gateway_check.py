@@ -1,16 +1,20 @@
 """gateway_check [PART..]: needleazure-gateway before real servers, asked by encoders and clients that are none of its
-own: `random` pushes in all of Loki's forms, read back entry for entry, and `otlp` the same of OpenTelemetry's; `answers`,
+own: `random` pushes in all of Loki's forms, some as no shipper sends them, read back entry for entry (of each form a
+thousand, or GATEWAY_BODIES, beside each other); `otlp` the same of OpenTelemetry's; `answers`,
 beside those of a server that is asked directly; `hostile` bodies, and what memory they take; 500 kept `clients`; `kills`
 of a server and a gateway; `limits` of tenants that are read again.
 Go's race detector watches all but `hostile`. It needs protoc, python3-protobuf and python3-snappy."""
 import collections
 import concurrent.futures
 import contextlib
+import functools
 import gzip
 import http.client
 import itertools
+import multiprocessing
 import os
 import random
+import shutil
 import signal
 import time
 
@@ -18,6 +22,7 @@ import servers
 import snappy
 from bodies import MOST_LABELS
 from gateway_bodies import MINUTE, Draw, Writer, kept, load_messages, texts, value_of
+from gateway_odd import PLAIN, OddWriter
 from gateway_otlp import OTLPDraw, OTLPWriter, streams_of
 from gateway_runs import Client, Gateway
 from row_files import pieces_of
@@ -26,6 +31,8 @@ from servers import PUSH, TOP, Repeated, Server, hold, need
 # (where syncs take no time: what is killed here is no machine)
 PLACE = servers.memory()
 PUSHES, LARGE, OTLP_PUSHES = 2000, 6, 500
+# of most streams how many entries they may have
+FEW = (0, 1, 1, 2, 3)
 OTLP = "/otlp/v1/logs"
 CLIENTS, EACH = 500, 20
 RACE = {"program": "needleazure-gateway.race"}
@@ -71,28 +78,57 @@ def large(draw):
     return [(draw.labels(60), [(draw.time(), b"\x00" * 200_000, {}) for _ in range(3)]) for _ in range(3)]
 
 
-def try_random(messages, work):
+def draw_push(draw, writer, odd, at):
+    """The streams of a push, its body in a form, the fields of its head, and whether it is refused."""
+    chance, is_json = draw.random, at % 2 == 1
+    is_large = at % (PUSHES // LARGE) == 7 and draw.lengths != FEW
+    streams = large(draw) if is_large else [draw.stream(not is_json) for _ in range(chance.randint(0, 4))]
+    if not is_large and chance.random() < 0.4:
+        if is_json:
+            streams = [(named(labels, chance), entries) for labels, entries in streams]
+        return streams, *odd.draw(streams, is_json)
+    return streams, *writer.draw(streams, is_json), False
+
+
+def named(labels, chance):
+    """Labels, one of them with a value that JSON may have without quotes."""
+    return {**labels, b"plain": chance.choice(PLAIN)} if chance.random() < 0.2 else labels
+
+
+def store_random(work, number):
+    """Pushes and reads back: how many were refused, parts, entries, and streams."""
     seed = time.time_ns()
     chance = random.Random(seed)
-    draw, writer, model, forms = Draw(chance), Writer(messages, chance), Model(), [0, 0]
-    with (Server(f"{work}/random", workers=64) as server,
-          Gateway(server, **RACE) as gateway, Client(gateway.port) as client):
+    # (the race detector watches the first of them; others are small, so that there may be many)
+    draw, program = (Draw(chance, FEW), {}) if number else (Draw(chance), RACE)
+    writer, model, refused = Writer(load_messages(work), chance), Model(), 0
+    odd = OddWriter(writer)
+    with (Server(f"{work}/random-{number}", workers=64) as server,
+          Gateway(server, **program) as gateway, Client(gateway.port) as client):
         for at in range(PUSHES):
-            is_json = chance.random() < 0.5
-            is_large = at % (PUSHES // LARGE) == 7
-            streams = large(draw) if is_large else [draw.stream(not is_json) for _ in range(chance.randint(0, 4))]
-            body, head = writer.draw(streams, is_json)
+            streams, body, head, is_refused = draw_push(draw, writer, odd, at)
             status, text = client.push(body, head, chance.random() < 0.2)
-            if (status, text) != (204, b""):
-                hold(False, f"push {at} of seed {seed}: {status} {text[:300]}")
-            model.store([it for it in streams if it[1]])
-            forms[is_json] += 1
+            need(status == 400 if is_refused else (status, text) == (204, b""),
+                 f"push {at} of seed {seed}, {head}: {status} {text[:300]}, {body[:2000]}")
+            if not is_refused:
+                model.store([it for it in streams if it[1]])
+            refused += is_refused
         parts = gateway.metric("needleazure_gateway_parts_total")
         with servers.Client(server.port) as client:
             wrong = model.wrong(client)
-        hold(not wrong, f"{PUSHES} random pushes ({forms[0]} in Protobuf, {forms[1]} in JSON, {parts:.0f} parts), "
-             f"{model.entries} entries of {len(model.streams)} streams read back, {len(wrong)} streams otherwise, seed {seed}")
-        ends_well(gateway, "random")
+        need(not wrong, f"seed {seed}: {len(wrong)} streams are stored otherwise, such as {wrong[:1]}")
+        need(gateway.stop() == (0, ""), "the gateway ends otherwise than it should")
+    shutil.rmtree(f"{work}/random-{number}")
+    return refused, int(parts), model.entries, len(model.streams)
+
+
+def try_random(_, work):
+    rounds = -(-int(os.environ.get("GATEWAY_BODIES", 0)) * 2 // PUSHES) or 1
+    with concurrent.futures.ProcessPoolExecutor(min(rounds, os.cpu_count()), multiprocessing.get_context("fork")) as pool:
+        found = list(pool.map(functools.partial(store_random, work), range(rounds)))
+    refused, parts, entries, streams = map(sum, zip(*found))
+    hold(True, f"{rounds * PUSHES // 2} random pushes in each of Protobuf and JSON: {refused} of them are refused, the others "
+         f"({parts} parts) are read back, {entries} entries of {streams} streams")
 
 
 def try_otlp(_, work):
