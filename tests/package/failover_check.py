@@ -3,8 +3,16 @@ Debians, and then loses the one that serves, 100 times or RUNS, while clients pu
 times without more ado, a third some seconds after the link between the two was cut, and a third in
 the middle of a roll. Each time the other one is promoted by the page's command, and each line that
 was ever acknowledged has to be read back there, once. Then the same without fencing, which has to
-lose lines. It runs as root, and takes some half a minute a run."""
+lose lines. It runs as root, and takes some half a minute a run.
+
+Where PAIR is a folder, the pair is kept there as it was set up, for later sittings. Runs are noted (NOTES), so those of
+several sittings with the same package add up, also of some side by side:
+PAIR=/tmp/pair make failover-check RUNS="20 losses"."""
+import collections
+import concurrent.futures
+import hashlib
 import http.client
+import itertools
 import json
 import os
 import random
@@ -25,15 +33,21 @@ from servers import PUSH, READ, SECONDS, TOP, TRIM, Repeated, hold, need, push_b
 IMAGE, NGINX = "NEEDLEAZURE_FAILOVER_IMAGE", "NEEDLEAZURE_FAILOVER_NGINX"
 # where the pair is kept as it was set up, for runs that don't set it up again
 KEPT = os.environ.get("PAIR")
+# where runs are noted
+NOTES = os.environ.get("NOTES", f"{TOP}/tests/out/failover-runs")
 BEGUN = str(time.time_ns())
 ADDRESS, PROXY = "10.0.0.10", 3101
 WORDS = f"{ADDRESS}/24 eth0"
-SHARDS, CAPACITY, MIRROR_MIB = 2, 4 << 20, 96
+SHARDS, CAPACITY, MIRROR_MIB = 2, 2_900_000, 96
 # (a window of a second: so all that is older may be trimmed)
 SETTINGS = {"SHARDS": SHARDS, "NEEDLEAZURE_CAPACITY": CAPACITY, "NEEDLEAZURE_MAX_CHUNK_AGE": "2s"}
 # a server listens on its loopback alone, so what comes from outside goes through systemd's proxy
 PROXY_SOCKET = f"[Socket]\nListenStream={PROXY}\n[Install]\nWantedBy=sockets.target\n"
 PROXY_SERVICE = "[Service]\nExecStart=/lib/systemd/systemd-socket-proxyd 127.0.0.1:3100\n"
+# the window is a second here, so a drain would take lines that are still to be read
+NO_DRAIN = "[Unit]\nConditionPathExists=/nowhere\n"
+UNITS = {"proxy.socket": PROXY_SOCKET, "proxy.service": PROXY_SERVICE,
+         "needleazure-drain.service.d/none.conf": NO_DRAIN}
 # what a start may leave out once a machine is set up, so that a hundred of them take less
 LEFT_OUT = """
 systemd-udev-trigger.service systemd-udevd.service systemd-udevd-control.socket systemd-udevd-kernel.socket
@@ -47,8 +61,8 @@ proc-sys-fs-binfmt_misc.automount systemd-ask-password-console.path systemd-ask-
 systemd-firstboot.service systemd-machine-id-commit.service""".split()
 # (a body with one line of a stream: of several a part may be stored again where the body is pushed again)
 TENANT, CLIENTS, STREAMS, LENGTH = "t", 4, 8, 100
-# a segment has room for two pushes of so many lines, and for no third one
-LARGE, LARGE_LINES = 250_000, 6
+# a segment has room for three pushes of so many lines, or, as it begins, for what two have left and a third one
+LARGE, LARGE_STREAMS, FIRST = 250_000, 3, 3
 CALM, MOST_CUT, PATIENCE, AFTER = 1.5, 8, 3, 1
 DAYS = 6 * 24 * 3_600
 KINDS = ["a kill", "a cut, then a kill", "a kill in a roll"]
@@ -65,6 +79,8 @@ class Client:
         try:
             if not self.kept:
                 self.kept = http.client.HTTPConnection(self.address, PROXY, timeout=seconds)
+                self.kept.connect()
+            self.kept.sock.settimeout(seconds)
             self.kept.request("POST", path, body, {"X-Scope-OrgID": tenant, "Content-Type": "application/json"})
             answer = self.kept.getresponse()
             return answer.status, answer.read()
@@ -79,19 +95,24 @@ class Client:
 
     def must(self, path, body, tenant=TENANT):
         status, text = self.ask(path, json.dumps(body).encode(), SECONDS, tenant)
+        if status == 0:
+            # (its connection may have been one to a machine that was lost)
+            status, text = self.ask(path, json.dumps(body).encode(), SECONDS, tenant)
         need(status in (200, 204), f"{path} is answered {status} {text[:200]}")
         return text
 
 
 class Pusher(Repeated):
     """Pushes lines to its streams, each body again until it is answered 204. `acknowledged` are the lines of each
-    stream, in their order, `times` when pushes were answered and what each took."""
+    stream, in their order, `times` when pushes were answered and what each took; `asked` and `gone` are the bounds of
+    the last trim of each stream, and of the last one that was answered."""
 
     def __init__(self, name, streams, lines):
         super().__init__(self.push, 0.01)
         self.patience, self.client, self.lines, self.count, self.since = PATIENCE, Client(), lines, 0, None
-        self.name, self.streams = name, [{"from": name, "begun": BEGUN, "at": str(at)} for at in range(streams)]
-        self.acknowledged, self.times, self.refused = [[] for _ in range(streams)], [], {}
+        self.name, self.streams = name, list(streams)
+        self.acknowledged, self.times, self.refused = [[] for _ in self.streams], [], {}
+        self.asked, self.gone = [0 for _ in self.streams], [0 for _ in self.streams]
 
     def fresh(self):
         self.count += 1
@@ -118,47 +139,60 @@ class Pusher(Repeated):
         texts = [self.client.must(READ, read_body(it)) for it in self.streams]
         return [list(map(tuple, json.loads(it)["values"])) for it in texts]
 
-    def trim(self, ages=1):
-        """Takes the lines that may be taken, and leaves of those that were acknowledged what is left there."""
-        for stream, lines in zip(self.streams, self.acknowledged):
-            if lines:
-                self.client.must(TRIM, {"stream": stream, "bound": str(int(lines[-1][0]) - ages * 10**9)})
+    def trim(self, at):
+        """Takes the lines of a stream that may be taken. Whether that is answered."""
+        if not self.acknowledged[at]:
+            return True
+        bound = self.asked[at] = int(self.acknowledged[at][-1][0]) - 10**9
+        body = json.dumps({"stream": self.streams[at], "bound": str(bound)}).encode()
+        is_so = self.client.ask(TRIM, body, self.patience)[0] in (200, 204)
+        if is_so:
+            self.gone[at] = bound
+        return is_so
+
+    def trim_all(self):
+        """Returns what is left of each stream."""
+        for at, stream in enumerate(self.streams):
+            need(servers.wait_until(lambda: self.trim(at)), f"a trim of {stream} is answered")
+        return self.read()
 
 
-def short_lines(name):
-    def lines(count):
-        return [(time.time_ns(), f"{name} {count} ".ljust(LENGTH, "x"), ())]
-    return lines
+def client_of(at, text):
+    """A client of short lines, each of which says the text and its number. Its streams are those of the runs before."""
+    name = f"client-{at}"
+    streams = [{"from": name, "begun": BEGUN, "at": str(it)} for it in range(STREAMS)]
+    return Pusher(name, streams, lambda count: [(time.time_ns(), f"{text} {count} ".ljust(LENGTH, "x"), ())])
 
 
 class Roller(Pusher):
-    """Pushes a third of a segment at a time. The lines of the push before it stay, since they were the stream's window,
-    and those before them are trimmed, so each push begins a segment."""
+    """Pushes a quarter of a segment to a shard at a time, and then trims the lines of the push before it. What is left
+    is as much, and as much again for the last lines of streams. So each push but the first three begins a segment."""
 
     at = time.time_ns() - DAYS * 10**9
 
     def __init__(self, shard):
-        super().__init__("roller", 1, self.long_lines)
-        self.streams, self.pause = [next(servers.labels_in(shard, SHARDS, TENANT, "roller"))], 0.2
+        labels = ({"roller": str(it), "begun": BEGUN} for it in itertools.count())
+        there = (it for it in labels if servers.shard_of(TENANT, it, SHARDS) == shard)
+        super().__init__(f"roller-{shard}", itertools.islice(there, LARGE_STREAMS), self.long_lines)
         # (its pushes are long)
-        self.patience = 10 * PATIENCE
+        self.pause, self.patience = 0.2, 10 * PATIENCE
 
     def long_lines(self, count):
         Roller.at += 3 * 10**9
-        self.newest = Roller.at
-        return [(self.newest + it, f"{count} {it} ".ljust(LARGE, "x"), ()) for it in range(LARGE_LINES)]
+        return [(Roller.at, f"{count} ".ljust(LARGE, "x"), ())]
 
     def push(self):
         super().push()
-        if not self.is_done.is_set():
-            self.client.ask(TRIM, json.dumps({"stream": self.streams[0], "bound": str(self.newest - 10**9)}).encode())
+        for at in range(len(self.streams)):
+            if not self.is_done.is_set():
+                self.trim(at)
 
 
 class Pair:
-    """Two machines, of which one serves."""
+    """Two machines, of which one serves. `left` are the lines that each pusher's streams had after the last trim."""
 
     def __init__(self, network, one, two):
-        self.network, self.serving, self.other = network, one, two
+        self.network, self.serving, self.other, self.left = network, one, two, {}
 
     def swap(self):
         self.serving, self.other = self.other, self.serving
@@ -168,7 +202,9 @@ class Pair:
         self.serving.do(block_of("on the machine that is left"))
 
     def is_whole(self):
-        return self.serving.says("drbdadm dstate needleazure", 10) == "UpToDate/UpToDate"
+        """Whether both disks are up to date, or are within five seconds. (Each command of a machine takes long.)"""
+        text = "for it in {1..10}; do ! grep ds:UpToDate/UpToDate /proc/drbd || exit 0; sleep 0.5; done; exit 1"
+        return self.serving.says(text, 60) != ""
 
 
 def block_of(head):
@@ -187,8 +223,8 @@ def settle(machine):
     """What is of this run, and not of the page: small shards, and a way in from outside."""
     rows = "".join(f"sed -i '/^#*{name}=/d' /etc/default/needleazure; echo {name}={value} >> /etc/default/needleazure\n"
                    for name, value in SETTINGS.items())
-    units = {"proxy.socket": PROXY_SOCKET, "proxy.service": PROXY_SERVICE}
-    texts = "".join(f"cat > /etc/systemd/system/{name} << 'X'\n{text}X\n" for name, text in units.items())
+    texts = "".join(f"install -D /dev/stdin /etc/systemd/system/{name} << 'X'\n{text}X\n"
+                    for name, text in UNITS.items())
     machine.do(f"{rows}{texts}systemctl daemon-reload\nsystemctl enable --now proxy.socket")
     # (without udev the second disk has no other name, and the first one is never said to be there)
     machine.do("sed -i /ubda/d /etc/fstab; echo 'L /dev/sdb - - - - ubdb' > /etc/tmpfiles.d/disks.conf\n"
@@ -228,7 +264,8 @@ def set_up(work, package):
     for it in (one, two):
         settle(it)
     follow(one, "on one, once")
-    hold(answers(), f"two fresh machines after the page's commands, {time.monotonic() - begun:.0f} s: it answers")
+    hold(servers.wait_until(answers),
+         f"two fresh machines after the page's commands, {time.monotonic() - begun:.0f} s: it answers")
     numbers = [it.do("id -u needleazure") for it in (one, two)]
     hold(numbers[0] != numbers[1], f"the server's user has the numbers {numbers}")
     pair = Pair(network, one, two)
@@ -263,7 +300,7 @@ def kept_pair(work):
     start_with(them, {"root": f"{KEPT}/{{}}-root.img", "mirror": f"{KEPT}/{{}}-mirror.img", "alone": None})
     pair = Pair(network, *them)
     start_again(pair)
-    hold(answers(), "the pair of an earlier run answers")
+    hold(servers.wait_until(answers), "the pair of an earlier run answers")
     return pair
 
 
@@ -303,11 +340,13 @@ class Run:
         """Kills the machine that serves, as this run's kind has it."""
         time.sleep(CALM)
         if self.kind == 1:
-            self.cut_at = time.monotonic()
             self.pair.network.cut()
+            self.cut_at = time.monotonic()
             time.sleep(random.uniform(3, MOST_CUT))
         if self.kind == 2:
-            typical = statistics.median(took for it in self.rollers for _, took in it.times or [(0, 0.3)])
+            is_so = servers.wait_until(lambda: all(len(it.times) > FIRST for it in self.rollers))
+            need(is_so, "segments are full")
+            typical = statistics.median(took for it in self.rollers for _, took in it.times[FIRST:])
             self.is_in_roll = wait_for_roll(self.rollers, typical)
         self.pair.serving.kill()
         self.lost_at = time.monotonic()
@@ -315,62 +354,73 @@ class Run:
         if self.kind == 1:
             self.pair.network.mend()
 
-    def go_on(self):
-        """Promotes the other one, and waits until clients have answers again."""
+    def go_on(self, is_renewed):
+        """Promotes the other one, and waits until clients have answers again. The lost machine is then on its way back,
+        with an empty disk where it is `renewed`."""
         self.pair.promote()
-        is_so = servers.wait_until(lambda: any(at > self.lost_at for at, _ in self.times()), 5 * SECONDS)
-        need(is_so, "pushes are answered")
-        self.without = min(at for at, _ in self.times() if at > self.lost_at) - self.lost_at
+        if is_renewed:
+            self.pair.other.renew_disk("mirror", MIRROR_MIB)
+        self.pair.other.start()
+        need(servers.wait_until(self.answered_again, 5 * SECONDS), "pushes are answered")
+        self.without = self.answered_again()[0] - self.lost_at
         time.sleep(AFTER)
         for it in (*self.pushers, *self.rollers):
             it.end()
+            # (it has a limit of its own, for machines that are slow)
+            it.join(5 * SECONDS)
             need(not it.fault and not it.is_alive(), f"each push is answered at last: {it.fault}")
+
+    def answered_again(self):
+        """When pushes were answered that began after the loss. (An answer from before it may be noted after it.)"""
+        return [at for at, took in self.times() if at - took > self.lost_at]
 
     def after_cut(self):
         """How many pushes were answered between the cut and the loss."""
         return sum(self.cut_at < at < self.lost_at for at, _ in self.times()) if self.cut_at else 0
 
 
-def compare(pushers, left):
+def compare(pair, pushers):
     """How many lines were acknowledged, and how many of them are missing, there twice, or not known to anybody."""
     lines = missing = twice = invented = 0
     for pusher in pushers:
-        before = left.get(pusher.name, [[]] * len(pusher.streams))
-        for found, more, old in zip(pusher.read(), pusher.acknowledged, before):
-            due = set(more) | set(old)
+        before = pair.left.get(pusher.name, [[]] * len(pusher.streams))
+        for at, found in enumerate(pusher.read()):
+            known = {*pusher.acknowledged[at], *before[at]}
+            # (where a trim was not answered its lines may be there)
+            due = {it for it in known if int(it[0]) >= pusher.asked[at]}
             lines += len(due)
             missing += len(due - set(found))
             twice += len(found) - len(set(found))
-            invented += len(set(found) - due)
+            invented += sum(it not in known or int(it[0]) < pusher.gone[at] for it in set(found))
     return lines, missing, twice, invented
 
 
-def trim_all(pushers):
-    """What is left of each pusher's streams after a trim, with which the next run begins."""
-    left = {}
-    for it in pushers:
-        it.trim()
-        left[it.name] = it.read()
-    return left
+def hold_once(pair, pusher, what):
+    lines, *wrong = compare(pair, [pusher])
+    hold(not any(wrong), f"{what}: {lines} lines, {wrong[0]} missing, {wrong[1]} twice, {wrong[2]} of nobody")
 
 
-def make_run(pair, number, kind, left):
-    """A loss, what became of the lines, and those that are left for the next run. The lost machine is on its way back
-    at the end; each fourth time it is another one, with an empty disk."""
-    pushers = [Pusher(f"client-{at}", STREAMS, short_lines(f"run {number} client {at}")) for at in range(CLIENTS)]
+def trim_all(pair, pushers):
+    with concurrent.futures.ThreadPoolExecutor(len(pushers)) as pool:
+        pair.left.update(zip([it.name for it in pushers], pool.map(Pusher.trim_all, pushers)))
+
+
+def make_run(pair, number, kind):
+    """A loss, and what became of the lines."""
+    pushers = [client_of(at, f"run {number}") for at in range(CLIENTS)]
     rollers = [Roller(at) for at in range(SHARDS)] if kind == 2 else []
     run = Run(pair, kind, pushers, rollers)
     for it in (*pushers, *rollers):
         it.start()
     run.lose()
-    run.go_on()
-    if is_renewed(number):
-        pair.other.renew_disk("mirror", MIRROR_MIB)
-    pair.other.start()
-    return run, compare(pushers, left), trim_all(pushers)
+    run.go_on(is_renewed(number))
+    found = compare(pair, (*pushers, *rollers))
+    trim_all(pair, (*pushers, *rollers))
+    return run, found
 
 
 def is_renewed(number):
+    """Each fourth machine that is lost comes back with an empty disk, as another one."""
     return number % 4 == 3
 
 
@@ -379,32 +429,64 @@ def bring_back(pair, is_new):
     begun = time.monotonic()
     pair.other.wait_for()
     if is_new:
+        # (its start tries the disk, too)
+        pair.other.do("until systemctl list-jobs | grep -q '^No jobs'; do sleep 0.2; done")
         follow(pair.other, "on a machine with an empty disk")
     need(servers.wait_until(pair.is_whole, 10 * SECONDS, 0.3), f"{pair.other.name} is up to date again: "
          + pair.serving.says("cat /proc/drbd"))
     return time.monotonic() - begun
 
 
-def hundred(pair, runs):
-    left, total, without, in_rolls, after_cuts = {}, [0] * 4, [], 0, 0
+class Notes:
+    """The runs of all sittings over what a package has but for its pages: of each a note as it begins, and one of what
+    was found. So one that came to no end is known too."""
+
+    def __init__(self, package):
+        sums = subprocess.run(["dpkg-deb", "--info", package, "md5sums"], check=True, capture_output=True, text=True)
+        rows = [it for it in sums.stdout.splitlines() if not re.search(r"/man/|/doc/(?!needleazure/examples/)", it)]
+        self.of, self.begun = hashlib.sha256("\n".join(rows).encode()).hexdigest()[:16], 0
+
+    def all(self, what):
+        found = map(json.loads, servers.bytes_of(NOTES).splitlines())
+        return [it for it in found if it["of"] == self.of and what in it]
+
+    def add(self, kind, **what):
+        os.makedirs(os.path.dirname(NOTES), exist_ok=True)
+        with open(NOTES, "a", encoding="utf-8") as file:
+            file.write(json.dumps({"of": self.of, "kind": kind, **what}) + "\n")
+
+    def begin(self):
+        """The kind of the next run: of the one that there were fewest of."""
+        there = collections.Counter(it["kind"] for it in self.all("begun"))
+        kind = min(range(len(KINDS)), key=lambda it: there[it])
+        self.add(kind, begun=time.time())
+        return kind
+
+    def tell(self):
+        """Says what all of them found."""
+        ended = self.all("without")
+        lines, *wrong = ([sum(it["found"][at] for it in ended) for at in range(4)])
+        rolls, answered = (sum(it[name] for it in ended) for name in ("is_in_roll", "after_cut"))
+        hold(not any(wrong), f"{len(ended)} machines lost in all, {rolls} of them while a roll was under way: {lines} "
+             f"lines read back, {wrong[0]} missing, {wrong[1]} twice, {wrong[2]} of nobody; {answered} pushes answered "
+             f"after a cut; {len(self.all('begun')) - len(ended)} more are under way, or came to no end")
+        for kind, name in [*enumerate(KINDS), (None, "in all")]:
+            seconds = [it["without"] for it in ended if kind in (None, it["kind"])] or [0]
+            print(f"  {name}: {len(seconds)} times, {statistics.median(seconds):.1f} s without service (median), "
+                  f"at most {max(seconds):.1f}")
+
+
+def losses(pair, notes, runs):
     for number in range(runs):
-        kind = number % len(KINDS)
-        run, found, left = make_run(pair, number, kind, left)
-        total = [one + more for one, more in zip(total, found)]
-        in_rolls, after_cuts = in_rolls + run.is_in_roll, after_cuts + run.after_cut()
-        without.append((kind, run.without))
+        kind = notes.begin()
+        run, found = make_run(pair, number, kind)
+        notes.add(kind, found=found, without=run.without, is_in_roll=run.is_in_roll, after_cut=run.after_cut())
+        need(not any(found[1:]), f"{number + 1}: {KINDS[kind]}: {found}")
         took = bring_back(pair, is_renewed(number))
         print(f"{number + 1}: {KINDS[kind]}{' (under way)' if run.is_in_roll else ''}: {found[0]} lines, {found[1]} "
               f"missing, {found[2]} twice, {found[3]} of nobody; {run.without:.1f} s without service, "
               f"whole again after {took:.0f} s", flush=True)
-        need(not any(found[1:]), f"{number + 1}: {KINDS[kind]}: {found}")
-    hold(total[1:] == [0, 0, 0], f"{runs} machines lost, {in_rolls} of them while a roll was under way: {total[0]} "
-         f"lines read back, {total[1]} missing, {total[2]} twice, {total[3]} of nobody; {after_cuts} pushes answered "
-         "after a cut")
-    for kind, name in enumerate(KINDS):
-        seconds = [took for of, took in without if of == kind] or [0]
-        print(f"  {name}: {statistics.median(seconds):.1f} s without service (median), at most {max(seconds):.1f}")
-    print(f"  in all: {statistics.median(took for _, took in without):.1f} s (median)")
+    notes.tell()
 
 
 def quantile(values, share):
@@ -412,14 +494,15 @@ def quantile(values, share):
 
 
 def time_pushes(pair, seconds=6):
-    pushers = [Pusher(f"timed-{at}", STREAMS, short_lines("timed")) for at in range(CLIENTS)]
+    # (streams that no run reads: there are two logs of them)
+    pushers = [client_of(CLIENTS + at, "timed") for at in range(CLIENTS)]
     for it in pushers:
         it.start()
     time.sleep(seconds)
     for it in pushers:
         it.end()
     took = [it for pusher in pushers for _, it in pusher.times]
-    trim_all(pushers)
+    trim_all(pair, pushers)
     return len(took) / seconds, quantile(took, 0.5) * 1e3, quantile(took, 0.99) * 1e3
 
 
@@ -474,7 +557,7 @@ def try_refusals(pair):
     hold(degraded(serving) == "0", "the metrics of a whole mirror")
     refuses(other, "", "the other machine serves")
     refuses(other, "--other-is-off", "is not off: it is connected")
-    pusher = Pusher("client-0", STREAMS, short_lines("a cut that mends"))
+    pusher = client_of(0, "a cut that mends")
     pusher.start()
     time.sleep(1)
     pair.network.cut()
@@ -490,14 +573,14 @@ def try_refusals(pair):
     is_so = servers.wait_until(lambda: len(pusher.times) > before + 5, SECONDS)
     pusher.end()
     hold(is_so and servers.wait_until(pair.is_whole, SECONDS), "after the link is there again, pushes are answered")
-    hold(compare([pusher], {})[1:] == (0, 0, 0), "each line once")
-    trim_all([pusher])
+    hold_once(pair, pusher, "after a cut that mends")
+    trim_all(pair, [pusher])
 
 
 def lose_other(pair):
     """The machine that does not serve is lost: pushes wait until its operator has said so; then the one that served is
     lost as well, and the other one, which comes back alone, may lack lines and is refused."""
-    pusher = Pusher("client-1", STREAMS, short_lines("the other one is lost"))
+    pusher = client_of(1, "the other one is lost")
     pusher.start()
     time.sleep(1)
     pair.other.kill()
@@ -518,8 +601,8 @@ def lose_other(pair):
     pair.serving.wait_for()
     need(servers.wait_until(pair.is_whole, 10 * SECONDS), "both are up to date")
     pair.serving.do(block_of("on the machine that takes over"))
-    hold(compare([pusher], {})[1:] == (0, 0, 0), "the machine that was alone comes back, and has each line once")
-    trim_all([pusher])
+    hold_once(pair, pusher, "the machine that was alone comes back")
+    trim_all(pair, [pusher])
 
 
 def hand_over(pair):
@@ -528,7 +611,14 @@ def hand_over(pair):
     begun = time.monotonic()
     pair.other.do(block_of("on the machine that takes over"))
     pair.swap()
-    hold(answers(), f"a hand-over: the server answers {time.monotonic() - begun:.1f} s after it was stopped")
+    hold(servers.wait_until(answers),
+         f"a hand-over: the server answers {time.monotonic() - begun:.1f} s after it was stopped")
+
+
+def spread(pair, work, ends):
+    failover_spread.try_spread(pair, Client(), work, os.environ[NGINX], ends)
+    pair.other.start()
+    bring_back(pair, False)
 
 
 UNFENCED = """sed -i 's/fencing resource-and-stonith/fencing dont-care/' /etc/drbd.d/needleazure.res
@@ -540,7 +630,7 @@ def teeth(pair):
     for it in (pair.serving, pair.other):
         it.do(UNFENCED)
     guard(pair.serving, "has no fencing resource-and-stonith")
-    run, found, _ = make_run(pair, -1, 1, {})
+    run, found = make_run(pair, -1, 1)
     hold(run.after_cut() and found[1] and not found[3], f"without fencing, {run.after_cut()} pushes are answered "
          f"after the cut, and of {found[0]} lines {found[1]} are missing")
 
@@ -567,8 +657,8 @@ def check(work, ends, package, runs="100", *parts):
     pair = kept_pair(work) if is_kept() else set_up(work, package)
     ends.callback(lambda: [it.kill() for it in (pair.serving, pair.other)])
     for name, do in {"costs": compare_costs, "refusals": try_refusals, "hand-over": hand_over, "alone": lose_other,
-                     "losses": lambda it: hundred(it, int(runs)),
-                     "spread": lambda it: failover_spread.try_spread(it, Client(), work, os.environ[NGINX], ends),
+                     "losses": lambda it: losses(it, Notes(package), int(runs)),
+                     "spread": lambda it: spread(it, work, ends),
                      "teeth": teeth}.items():
         if not parts or name in parts:
             do(pair)

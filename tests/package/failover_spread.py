@@ -11,7 +11,8 @@ import servers
 from scale_out_check import Edge, Member, Shipper, statuses
 from servers import hold, need, text_at, wait_until
 
-SHIPPERS, CALM, LOST = 24, 4, 9
+# (a push that was under way to the lost machine has no answer until its shipper gives up, after ten seconds)
+SHIPPERS, CALM, LOST = 24, 4, 18
 FILES = ["member.pem", "member.key", "spread.pem"]
 INSTALL = """export DEBIAN_FRONTEND=noninteractive
 apt-get install -y --no-install-recommends nginx

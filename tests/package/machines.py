@@ -145,7 +145,8 @@ class Machine:
                  if os.path.exists(f"{self.folder}/{it}.img")]
         taps = [f"vec{at}:transport=tap,ifname={it}{self.number},depth=128,gro=1,mac=02:00:00:00:0{at}:{self.number}"
                 for at, it in enumerate(("out", "bet"))]
-        words = [self.program, "mem=512M", f"umid=needleazure-{os.getpid()}-{self.name}", *disks, *taps,
+        # (the number of this process may be another's too, in its own namespace)
+        words = [self.program, "mem=512M", f"umid={'-'.join(self.folder.split('/')[-2:])}", *disks, *taps,
                  "root=/dev/ubda", "rw", f"number={self.number}", f"systemd.hostname={self.name}", "con=null",
                  "con0=null,fd:1", "quiet"]
         with open(f"{self.folder}/console", "ab") as console:
