@@ -44,12 +44,14 @@ def test_client_leaves_inside_a_body(serve):
 
 
 def test_failed_accepts(serve, folder, preload):
-    """They are not counted: a server for one connection serves it after five accepts that fail."""
+    """They are not counted: a server for one connection serves it after five accepts that fail, as one line says."""
     mark = f"{folder}/mark"
     server = serve("log", 1, 1, {"LD_PRELOAD": preload, "FAIL_ACCEPT": "5", "ACCEPT_MARK": mark}, ["1"])
     # (the socket is in the backlog from now on)
     told = exchange(server.port, push_request(LABELS, [entry()]), SECONDS)
-    assert told == NO_CONTENT and ends_well(server) and servers.bytes_of(mark).count(b"\n") == 5
+    assert told == NO_CONTENT and server.running.wait(SECONDS) == 0 and servers.bytes_of(mark).count(b"\n") == 5
+    said = server.errors()
+    assert said.startswith("cannot accept a connection: Too many open files") and said.count("\n") == 1
 
 
 class Held:
