@@ -83,10 +83,15 @@ func (it *scan) each(begin, end byte, element func(*scan) bool) bool {
 	return true
 }
 
+// begins is whether this key of an object is next.
+func (it *scan) begins(quoted string) bool {
+	it.space()
+	return bytes.HasPrefix(it.body[it.at:], []byte(quoted))
+}
+
 // key reads this key of an object, and what stands between it and its value.
 func (it *scan) key(quoted string) bool {
-	it.space()
-	if !bytes.HasPrefix(it.body[it.at:], []byte(quoted)) {
+	if !it.begins(quoted) {
 		return false
 	}
 	it.at += len(quoted)
@@ -104,8 +109,8 @@ func (it *scan) stream() bool {
 	if !it.is('{') {
 		return false
 	}
-	if it.key(`"stream"`) {
-		return it.labels() && it.is(',') && it.key(`"values"`) && it.values() && it.is('}')
+	if it.begins(`"stream"`) {
+		return it.key(`"stream"`) && it.labels() && it.is(',') && it.key(`"values"`) && it.values() && it.is('}')
 	}
 	return it.key(`"values"`) && it.values() && it.is(',') && it.key(`"stream"`) && it.labels() && it.is('}')
 }
