@@ -2,11 +2,13 @@
 RT ?= rt
 # how many threads answer requests
 WORKERS ?= $(shell sed -n s/^WORKERS=//p deploy/needleazure.default)
+# where `make install` puts programs
+PREFIX ?= /usr/local
 # the programs of the package
 ALL = ingesterd ingestctl ingest1 walcat walsplit
 
 .PHONY: help run prove release demo sample test quick server edits faults check check-docs fmt bench kill power-loss filesystem-loss program-rows measure \
-	deb deb-lint gateway drain pictures
+	deb deb-lint gateway drain pictures clean install
 
 help: ## prints this
 	@sed -nE 's/^([a-z%][a-z-]*):.*## (.*)/\1\t\2/p' Makefile | while IFS='	' read -r name words; do \
@@ -106,7 +108,7 @@ fmt: ## lays out the code of every crate
 	@for crate in crates/*/; do (cd "$$crate" && $(RT) fmt) || exit 1; done
 
 pictures: ## draws the pictures and figures of the documents (graphviz, gnuplot-nox)
-	@for it in push threads memory; do dot -Tsvg -o docs/pictures/$$it.svg docs/pictures/$$it.dot; done
+	@for it in parts push threads memory; do dot -Tsvg -o docs/pictures/$$it.svg docs/pictures/$$it.dot; done
 	@docs/pictures/slots.py | dot -Tsvg -o docs/pictures/slots.svg
 	@docs/figures/plot
 
@@ -117,6 +119,18 @@ deb: gateway drain ## the Debian package, in deploy/out
 deb-lint: gateway drain ## the Debian packages made twice, which gives the same bytes, and looked at by lintian
 	@RT='$(RT)' tests/gate/take $(ALL)
 	@tests/package/deb_lint
+
+# (units, and the scripts for metrics, sweep and a pair of machines, are in the package alone, which knows its places)
+install: ## installs the programs that are built and their manual pages, without a package (PREFIX=/usr/local DESTDIR=)
+	@for it in $(foreach it,$(ALL),crates/$(it)/out/$(it)) deploy/out/needleazure-drain deploy/out/needleazure-gateway; do \
+		[ -x $$it ] || { echo "make install: $$it is not built: make prove, make drain, make gateway" >&2; exit 1; }; done
+	@for it in $(ALL); do install -D -m 755 crates/$$it/out/$$it "$(DESTDIR)$(PREFIX)/bin/$$it"; done
+	@for it in drain gateway; do install -D -m 755 deploy/out/needleazure-$$it "$(DESTDIR)$(PREFIX)/sbin/needleazure-$$it"; done
+	@for it in $(wildcard $(ALL:%=deploy/%.[18]) deploy/needleazure-[dg]*.8); do \
+		install -D -m 644 $$it "$(DESTDIR)$(PREFIX)/share/man/man$${it##*.}/$${it##*/}"; done
+
+clean: ## removes what was built, and nothing of ./data
+	@rm -rf crates/*/out deploy/out tests/out
 
 filesystem-loss: ## losses of power on real file systems, block by block (as root; IMAGES=1000 SEED=1 FILESYSTEMS="ext4 xfs btrfs")
 	@RT='$(RT)' tests/gate/build ingesterd

@@ -16,17 +16,17 @@ from servers import value_of
 TENANTS = [f"tenant-{at}" for at in range(16)]
 SLOW, CALM, AWAY = 2000, 20, 3
 LIES = ["X-Scope-OrgID", "x-scope-orgid", "X_Scope_OrgID"]
-# what the file's comments have it changed to before gateways, here one
+# what the file's comments have it changed to before two servers, and before a gateway
+SECOND = [("        #server 127.0.0.1:3101", "        server 127.0.0.1:3101")]
 GATEWAY = [("    #upstream needleazure-gateway {\n    #    hash", "    upstream needleazure-gateway {\n        hash"),
            ("    #    server 127.0.0.1:3110", "        server 127.0.0.1:3110"),
-           ("    #    server 127.0.0.1:3111 max_fails=0;\n", ""),
            ("    #    keepalive 64;\n    #}", "        keepalive 64;\n    }"),
            ("proxy_pass http://needleazure;", "proxy_pass http://needleazure-gateway;"),
            ("client_max_body_size 4194304;", "client_max_body_size 16m;")]
 
 
 def start_edge(work, behind, ends, more=()):
-    """deploy/nginx.conf, with these ports in the place of its own, a certificate, and a login for each tenant. Its port."""
+    """deploy/nginx.conf with these ports in place of its own, a certificate, and a login for each tenant. Its port."""
     port, = free_ports(1)
     ports = [(f"127.0.0.1:{at}", f"127.0.0.1:{it.port}") for at, it in behind.items()]
     write_nginx(work, "deploy/nginx.conf", [("listen 443", f"listen 127.0.0.1:{port}"), *more, *ports])
@@ -114,7 +114,7 @@ def check(work, ends):
     # (nginx's workers are another user's)
     os.chmod(work, 0o711)
     servers = [ends.enter_context(Server(f"{work}/{it}", workers=64)) for it in ("first", "second")]
-    port = start_edge(work, dict(zip((3100, 3101), servers)), ends)
+    port = start_edge(work, dict(zip((3100, 3101), servers)), ends, SECOND)
     all_there(servers, under_load(port, servers[0]))
     single_requests(port, servers)
     before_a_gateway(f"{work}/gateway", ends)

@@ -1,6 +1,6 @@
 """metrics_check: deploy/metrics, deploy/alerts.yml and the dashboards, with Debian's Prometheus and
 its node exporter, over cut slots and a server that fills, is drained and killed, and whose disk
-fails. docs/MONITORING.md has to say of each alert what the alert itself says. It needs Chromium;
+fails. docs/MONITORING.md and docs/RUNBOOK.md have to have each alert. It needs Chromium;
 what else isn't installed is unpacked from Debian's packages."""
 import json
 import os
@@ -117,9 +117,12 @@ def check_texts(programs, metrics):
         said = (ended.stdout + ended.stderr).decode().split()
         is_so = ended.returncode == 0 and (given is None or not said)
         hold(is_so, f"promtool {' '.join(words[:2])} says {' '.join(said) or 'nothing'}")
-    actions = re.findall(r"^ *action: (.*)$", text_at("deploy/alerts.yml"), re.M)
-    page = text_at("docs/MONITORING.md")
-    hold(len(actions) == 9 and all(it in page for it in actions), "docs/MONITORING.md says what to do as the alerts do")
+    alerts = re.findall(r"^ *- alert: (.*)$", text_at("deploy/alerts.yml"), re.M)
+    page, runbook = text_at("docs/MONITORING.md"), text_at("docs/RUNBOOK.md")
+    hold(len(alerts) == 10 and all(f"`{it}`" in page and f"`{it}`" in runbook for it in alerts),
+         "docs/MONITORING.md and docs/RUNBOOK.md have each alert")
+    named = re.findall(r'"([^"]+)" in /usr/share/doc/needleazure/(docs/\w+\.md)', text_at("deploy/alerts.yml"))
+    hold(named and all(f"## {it}" in text_at(path) for it, path in named), "and the sections that alerts name are there")
     names = {it.split("{")[0].split(" ")[0] for it in metrics.decode().splitlines() if not it.startswith("#")}
     hold(names and all(f"`{it}" in page for it in names), f"and has all {len(names)} metrics that come")
 
