@@ -5,6 +5,9 @@ import (
 	"google.golang.org/protobuf/encoding/protowire"
 )
 
+// maxStreams is how many streams a body may have.
+const maxStreams = bodyLines
+
 // A room for bodies, which a worker has while it sends one.
 type room struct {
 	plain, packed, stream, entry, text []byte
@@ -89,17 +92,22 @@ func (it *room) json(pieces []piece) []byte {
 
 // A batch has pieces of several streams of a tenant, with texts of its own.
 type batch struct {
-	tenant string
-	pieces []piece
-	lines  int
-	bytes  int
-	isFull bool
+	key, tenant string
+	pieces      []piece
+	lines       int
+	bytes       int
+	// how many pieces it may have
+	most int
 	// whether somebody sends it, and when it was sent
 	isTaken bool
 	done    chan struct{}
+	// why streams of it are not taken
+	left map[*stream]error
 }
 
-func newBatch(tenant string) *batch { return &batch{tenant: tenant, done: make(chan struct{})} }
+func newBatch(key, tenant string) *batch {
+	return &batch{key: key, tenant: tenant, most: maxStreams, done: make(chan struct{})}
+}
 
 // add copies a piece.
 func (it *batch) add(one piece) {
@@ -120,9 +128,9 @@ func (it *batch) add(one piece) {
 func (it piece) split(count int) (piece, piece) {
 	first, second := it, it
 	first.part, second.part = it.cut(0, count), it.cut(count, len(it.spans))
-	first.bound = second.spans[0].time
-	if first.spans[count-1].time == first.bound {
-		first.bound = 0
+	first.bound = 0
+	if last := first.spans[count-1].time; last < second.spans[0].time {
+		first.bound = last + 1
 	}
 	return first, second
 }

@@ -13,10 +13,11 @@ import (
 	"strconv"
 )
 
-// A catalog lists the streams of a server that may have lines, page by page.
+// A catalog lists the streams of a server that may have lines, or may end, page by page.
 type catalog interface {
-	// next returns the next page, and none after the last one. Each of its streams says how many entries had ever been
-	// removed of it, where the server counts them.
+	// next returns the next page, and none after the last one. No stream is in two of them. Each says what the catalog knows
+	// of it: about how many bytes its lines have (`size`) or how many it has (`entries`), a time that its newest one is not
+	// before (`reached`), and how many were ever removed (`removed`).
 	next() ([]*stream, error)
 }
 
@@ -62,20 +63,18 @@ func (it *slotCatalog) streamsOf(shard int) ([]*stream, error) {
 		return nil, err
 	}
 	it.listing = map[string]*listed{}
-	bytesInUse := int64(0)
+	bytesInUse, isAll := int64(0), false
 	for _, path := range paths {
-		isAll, end, err := it.listSlot(path, shard)
-		if err != nil {
+		if isAll, bytesInUse, err = it.listSlot(path, shard); err != nil {
 			return nil, err
-		}
-		if bytesInUse = end; isAll {
+		} else if isAll {
 			break
 		}
 	}
-	return it.streamsListed(shard, bytesInUse), nil
+	return it.streamsListed(shard, bytesInUse, isAll), nil
 }
 
-func (it *slotCatalog) streamsListed(shard int, bytesInUse int64) []*stream {
+func (it *slotCatalog) streamsListed(shard int, bytesInUse int64, isAll bool) []*stream {
 	keys, entries := make([]string, 0, len(it.listing)), int64(1)
 	for key, of := range it.listing {
 		keys, entries = append(keys, key), entries+of.entries
@@ -87,7 +86,9 @@ func (it *slotCatalog) streamsListed(shard int, bytesInUse int64) []*stream {
 		found[at] = newStream(string(tenant), string(text), shard)
 		of := it.listing[key]
 		found[at].size = int64(float64(bytesInUse) / float64(entries) * float64(of.entries))
-		found[at].reached = of.reached
+		if found[at].reached = of.reached; isAll && of.entries == 0 {
+			found[at].entries = 0
+		}
 	}
 	it.listing = nil
 	return found
@@ -158,8 +159,10 @@ func (it *slotCatalog) readListing(output io.Reader) (isClosed bool, end int64) 
 		switch {
 		case bytes.Equal(line, []byte("closed")):
 			isClosed = true
-		case bytes.HasPrefix(line, []byte("end ")):
-			end = numberOf(line[4:])
+		case bytes.HasPrefix(line, inEnd) && bytes.IndexByte(line, '{') < 0:
+			end = numberOf(line[len(inEnd):])
+		case bytes.HasPrefix(line, inEnd):
+			delete(it.listing, string(line[len(inEnd):]))
 		default:
 			it.readRecord(line)
 		}
@@ -181,22 +184,23 @@ func readLine(lines *bufio.Reader) ([]byte, error) {
 }
 
 var (
-	inState  = []byte("state ")
-	inAppend = []byte("append ")
-	highest  = []byte("} highest ")
-	entries  = []byte("} entries ")
-	counted  = []byte(" entries ")
+	inState, inStream = []byte("state "), []byte("stream ")
+	inAppend, inEnd   = []byte("append "), []byte("end ")
+	highest           = []byte("} highest ")
+	entries           = []byte("} entries ")
+	removed, counted  = []byte(" removed "), []byte(" entries ")
 )
 
-// readRecord adds what a line says: `append TENANT LABELS entries N` or `state TENANT LABELS highest H entries N`.
+// readRecord adds what a line says: `append TENANT LABELS entries N`, `state TENANT LABELS highest H entries N`, or in
+// version 3 of the layout `stream TENANT LABELS highest H removed R entries N`.
 func (it *slotCatalog) readRecord(line []byte) {
-	isState := bytes.HasPrefix(line, inState)
-	if !isState && !bytes.HasPrefix(line, inAppend) {
+	isAppend, isStream := bytes.HasPrefix(line, inAppend), bytes.HasPrefix(line, inStream)
+	if !isAppend && !isStream && !bytes.HasPrefix(line, inState) {
 		return
 	}
-	at, mark := bytes.LastIndex(line, counted), entries
-	if isState {
-		mark = highest
+	at, mark := bytes.LastIndex(line, counted), highest
+	if isAppend {
+		mark = entries
 	}
 	end := bytes.LastIndex(line, mark)
 	if at < 0 || end < 0 {
@@ -209,7 +213,10 @@ func (it *slotCatalog) readRecord(line []byte) {
 		it.listing[string(key)] = of
 	}
 	of.entries += numberOf(line[at+len(counted):])
-	if isState {
+	if isStream {
+		at = bytes.LastIndex(line, removed)
+	}
+	if !isAppend && at > end {
 		of.reached = max(of.reached, numberOf(line[end+len(mark):at]))
 	}
 }

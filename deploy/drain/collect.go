@@ -12,22 +12,25 @@ var (
 	errTold = errors.New("a stream is left")
 )
 
-// collect puts the lines of streams that the server lets go: of several small ones, or of one.
+// collect puts the lines of streams that the server lets go: of several by one answer each, or of a long one.
 func (it *round) collect(by *connection, jobs []*stream) error {
-	jobs = it.ready(jobs)
+	jobs, err := it.learn(by, it.ready(jobs))
+	if err != nil {
+		return it.goOn(jobs, err)
+	}
 	if len(jobs) == 0 {
 		return nil
 	}
-	if len(jobs) == 1 && jobs[0].size > smallBytes {
+	if len(jobs) == 1 && it.isLong(jobs[0]) {
 		return it.goOn(jobs, it.collectLong(by, jobs[0]))
 	}
 	asked, done := make([]request, len(jobs)), 0
 	readings := make([]*reading, len(jobs))
 	for at, one := range jobs {
 		readings[at] = newReading(by, one)
-		asked[at] = readings[at].request(0, ever)
+		asked[at] = readings[at].request(0, it.highOf(one))
 	}
-	err := by.exchange(asked, func(at int, got *answer) error {
+	err = by.exchange(asked, func(at int, got *answer) error {
 		err := it.collectWhole(readings[at], got)
 		var cut *broken
 		if !errors.As(err, &cut) && !errors.Is(err, os.ErrDeadlineExceeded) {
@@ -39,11 +42,67 @@ func (it *round) collect(by *connection, jobs []*stream) error {
 	return it.goOn(jobs[done:], err)
 }
 
+// highOf is up to which time a stream is read by one answer: to the limit, but to the end where that costs little, which
+// says what is left.
+func (it *round) highOf(of *stream) int64 {
+	if it.by.needsNewest() || of.size <= smallBytes {
+		return ever
+	}
+	return it.by.limit(of)
+}
+
+// learn asks how many entries were ever removed of streams, before they are read, where that is to be known. It returns
+// those of which it is.
+func (it *round) learn(by *connection, jobs []*stream) ([]*stream, error) {
+	var todo, known []*stream
+	for _, one := range jobs {
+		switch {
+		case it.by.counts() && one.entries == 0 && one.kept.entries == 0:
+			it.endOf(one)
+		case it.by.counts() && one.removed == never:
+			todo = append(todo, one)
+		default:
+			known = append(known, one)
+		}
+	}
+	if len(todo) == 0 {
+		return known, nil
+	}
+	asked, done := make([]request, len(todo)), 0
+	for at, one := range todo {
+		asked[at] = it.by.request(one, taking{})
+	}
+	err := by.exchange(asked, func(at int, got *answer) error {
+		_, err := it.by.removed(todo[at], got)
+		var said *refusal
+		var changed *moved
+		switch {
+		case err == nil:
+			todo[at].removed = 0
+		case errors.As(err, &changed) && changed.removed == gone:
+			todo[at].entries = 0
+		case errors.As(err, &changed) && changed.removed != never:
+			todo[at].removed = changed.removed
+		case changed != nil || errors.As(err, &said):
+			it.refuse(todo[at], &refusal{err.Error()})
+		default:
+			return err
+		}
+		if done = at + 1; todo[at].removed != never {
+			known = append(known, todo[at])
+		}
+		return nil
+	})
+	if err != nil {
+		return append(known, todo[done:]...), err
+	}
+	return known, nil
+}
+
 // ready leaves out the streams that have to wait, or are refused.
 func (it *round) ready(jobs []*stream) []*stream {
 	found := jobs[:0:0]
 	for _, one := range jobs {
-		one.carried, one.put = 0, max(one.put, one.kept)
 		pause, err := it.place.waits(one)
 		switch {
 		case err != nil:
@@ -87,49 +146,86 @@ func (it *round) note(of *stream, err error) error {
 	return nil
 }
 
-// collectWhole puts the lines of a small stream.
+// sieveOf leaves out what is kept elsewhere and not removed.
+func (it *round) sieveOf(of *stream) *sieve {
+	it.lock.Lock()
+	defer it.lock.Unlock()
+	of.bytes = 0
+	return newSieve(of.kept)
+}
+
+// seen notes the newest line of a stream, after which it has to be quiet for some time before it may end.
+func (it *round) seen(of *stream, newest int64) {
+	if of.newest = newest; it.by.counts() {
+		of.endsFrom = newest + it.counted.endsAfter
+	}
+}
+
+// collectWhole puts the lines of a stream that come by one answer.
 func (it *round) collectWhole(from *reading, got *answer) error {
 	of := from.of
 	found, isWhole, err := from.by.take(got, pieceBytes)
 	if err != nil {
 		return err
 	} else if !isWhole {
-		of.size = got.length
-		it.again(of)
+		of.size = max(got.length, pieceBytes+1)
+		it.requeue(of)
 		return nil
 	}
 	count := len(found.spans)
-	if count == 0 {
+	if count == 0 && it.highOf(of) != ever {
+		// (it has fewer lines than was guessed, or only young ones)
+		of.size = 0
+		it.requeue(of)
+		return nil
+	} else if count == 0 {
+		it.endOf(of)
 		return nil
 	}
-	of.newest, of.first = found.spans[count-1].time, found.spans[0].time
-	bound := it.by.bound(of)
-	below := found.before(bound)
+	over := it.sieveOf(of)
+	it.seen(of, found.spans[count-1].time)
+	of.first, of.left = found.spans[0].time, never
+	limit := it.by.limit(of)
+	below := found.before(limit)
 	if below < count {
 		of.left = found.spans[below].time
+	} else if it.highOf(of) != ever {
+		of.left = limit
 	}
-	return it.put(piece{of, found.cut(found.before(of.put), below), from.labels, bound})
+	taken := found.cut(0, below)
+	bound := it.by.bound(taken, limit)
+	of.bytes = int64(len(found.text))
+	return it.put(piece{of, over.leave(taken), from.labels, bound})
 }
 
 // collectLong puts the lines of a stream by ranges of time.
 func (it *round) collectLong(by *connection, of *stream) error {
 	from := newReading(by, of)
 	newest, err := from.newest()
-	if err != nil || newest == never {
+	if err != nil {
 		return err
+	} else if newest == never {
+		it.endOf(of)
+		return nil
 	}
-	of.newest = newest
-	bound := it.by.bound(of)
-	err = from.pieces(times{of.put, bound}, newest, pieceBytes, func(found part, until int64) error {
-		if len(found.spans) > 0 && of.first == never {
+	over := it.sieveOf(of)
+	it.seen(of, newest)
+	of.first = never
+	limit := it.by.limit(of)
+	err = from.pieces(times{0, limit}, newest, pieceBytes, func(found part, until int64) error {
+		if len(found.spans) == 0 {
+			return nil
+		} else if of.first == never {
 			of.first = found.spans[0].time
 		}
-		return it.put(piece{of, found, from.labels, until})
+		of.bytes += int64(found.bytes())
+		bound := it.by.bound(found, until)
+		return it.put(piece{of, over.leave(found), from.labels, bound})
 	})
 	if err != nil {
 		return err
 	}
-	if of.left, err = from.oldest(bound, newest); of.first == never {
+	if of.left, err = from.oldest(limit, newest); of.first == never {
 		of.first = of.left
 	}
 	return err
@@ -138,19 +234,20 @@ func (it *round) collectLong(by *connection, of *stream) error {
 // put gives a piece to the place. (The first one is flushed at once: if the server doesn't let it go, no others are put
 // twice.)
 func (it *round) put(one piece) error {
-	if len(one.spans) == 0 {
-		one.of.put = max(one.of.put, one.bound)
+	it.lock.Lock()
+	isOver, hasKept, isFirst := one.of.isAgain, one.of.kept.entries > 0, !it.hasFlushed
+	it.hasFlushed = it.hasFlushed || len(one.spans) > 0
+	it.lock.Unlock()
+	switch {
+	case isOver:
+		return errTold
+	case len(one.spans) == 0 && (!hasKept || one.bound == 0):
 		return nil
 	}
 	if err := it.place.put(one); err != nil {
 		return err
 	}
-	one.of.put = max(one.of.put, one.bound)
-	it.lock.Lock()
-	isFirst := !it.hasFlushed
-	it.hasFlushed = true
-	it.lock.Unlock()
-	if isFirst {
+	if isFirst && len(one.spans) > 0 {
 		return it.place.flush()
 	}
 	return nil

@@ -48,6 +48,9 @@ func drawEntries(draw *rand.Rand, count int) (found []judged) {
 
 // answerOf writes entries as the server does, or with an escape for each character that may have one.
 func answerOf(given []judged, isEscaped bool) []byte {
+	if text := plainAnswer(given); text != nil && !isEscaped {
+		return text
+	}
 	values := [][]any{}
 	for _, one := range given {
 		value := []any{strconv.FormatInt(one.time, 10), one.line}
@@ -66,6 +69,30 @@ func answerOf(given []judged, isEscaped bool) []byte {
 		text = bytes.ReplaceAll(text, []byte("ö"), []byte(`\u00F6`))
 	}
 	return text
+}
+
+// plainAnswer is the answer of lines that need no escapes and have no metadata, in less time; nothing of others.
+func plainAnswer(given []judged) []byte {
+	size := 20
+	for _, one := range given {
+		for at := 0; at < len(one.line); at++ {
+			if it := one.line[at]; it < ' ' || it > '~' || it == '"' || it == '\\' {
+				return nil
+			}
+		}
+		if size += len(one.line) + 30; one.metadata != nil {
+			return nil
+		}
+	}
+	text := append(make([]byte, 0, size), valuesBegin...)
+	for at, one := range given {
+		if at > 0 {
+			text = append(text, ',')
+		}
+		text = strconv.AppendInt(append(text, `["`...), one.time, 10)
+		text = append(append(append(text, `","`...), one.line...), `"]`...)
+	}
+	return append(text, valuesEnd...)
 }
 
 func entriesOf(t *testing.T, of part) (found []judged) {

@@ -54,10 +54,11 @@ type files struct {
 	lines, bytes atomic.Int64
 }
 
-// Entries that were put: how many, and all of the stream below the bound.
+// Entries that were put: with those before, all of the stream below the bound.
 type placed struct {
-	of           *stream
-	count, bound int64
+	of    *stream
+	these tally
+	bound int64
 }
 
 func newFiles(root string) *files {
@@ -65,9 +66,16 @@ func newFiles(root string) *files {
 	return &files{root: root, days: map[day]*pages{}, packer: packer}
 }
 
-func (it *files) begin(told keeper) { it.told = told }
-func (it *files) folder() string    { return it.root }
-func (it *files) counts() counts    { return counts{it.lines.Load(), it.bytes.Load(), 0} }
+// (what a round left that was cut short is read again)
+func (it *files) begin(told keeper) {
+	it.told, it.size, it.pending = told, 0, nil
+	for _, one := range it.days {
+		*one = pages{text: one.text[:0]}
+	}
+}
+
+func (it *files) folder() string { return it.root }
+func (it *files) counts() counts { return counts{it.lines.Load(), it.bytes.Load(), 0} }
 
 func (it *files) waits(*stream) (time.Duration, error) { return 0, nil }
 
@@ -75,7 +83,7 @@ func (it *files) put(one piece) error {
 	it.lock.Lock()
 	defer it.lock.Unlock()
 	it.add(one)
-	it.pending = append(it.pending, placed{one.of, int64(len(one.spans)), one.bound})
+	it.pending = append(it.pending, placed{one.of, tallyOf(one.part), one.bound})
 	if it.size < batchBytes {
 		return nil
 	}
@@ -147,7 +155,7 @@ func (it *files) write() error {
 	}
 	it.size = 0
 	for _, one := range it.pending {
-		it.told.keep(one.of, one.count, one.bound)
+		it.told.keep(one.of, one.these, one.bound)
 	}
 	it.pending = it.pending[:0]
 	return nil

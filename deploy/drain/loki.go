@@ -6,6 +6,7 @@ import (
 	"errors"
 	"fmt"
 	"io"
+	"math/rand"
 	"net/http"
 	"net/url"
 	"os"
@@ -26,6 +27,11 @@ const (
 	// the first pause before something is sent again, and the longest
 	firstPause   = 250 * time.Millisecond
 	longestPause = 15 * time.Second
+	// how often a body is sent before its streams wait, and of how many streams the failures are the Loki's
+	triesAtOnce = 2
+	manyFailing = 3
+	// after how long a pause is forgotten of a stream that isn't sent any more
+	pauseForgotten = 10 * time.Minute
 )
 
 // An address is a Loki's push route, and what a client says there who it is.
@@ -48,16 +54,33 @@ func readAddress(text string) (address, error) {
 	return address{found.String(), found.String(), authorization}, nil
 }
 
-// A pause is how long a stream that was answered 429 has to wait, from when on, and why.
+// A pause is how long a stream has to wait that was answered 429, or 5xx, or not at all: from when on, and why.
 type pause struct {
 	since, until time.Time
 	length       time.Duration
 	why          string
+	// with how many others it may share a body then
+	others int
 }
 
-// A loki has lines sent to one, each stream's in their order. What it answers 2xx is kept. A stream that it answers 429
-// waits, and others go on. What is answered 5xx, or not at all, is tried again with growing pauses, for `patience` from
-// its first try, or from the last answer that anybody got if that is longer ago; then the round ends.
+// grow has it wait, for longer than the last time if that grows, and not at the same moment as others.
+func (it *pause) grow(isLonger bool, why string) {
+	if it.length == 0 {
+		it.length = firstPause
+	} else if isLonger {
+		it.length = time.Duration(least(int64(2*it.length), int64(longestPause)))
+	}
+	it.until, it.why = time.Now().Add(jittered(it.length)), why
+}
+
+// jittered is a time that is shorter or longer by a quarter at most.
+func jittered(pause time.Duration) time.Duration {
+	return pause*3/4 + time.Duration(rand.Int63n(int64(pause)/2+1))
+}
+
+// A loki has lines sent to one, each stream's in their order. What it answers 2xx is kept. A stream that it answers 429,
+// 5xx or not at all waits by itself, with growing pauses, and others go on. If it answers none of several streams, all
+// wait; and where nobody got an answer for `patience`, the round ends.
 type loki struct {
 	to       address
 	client   *http.Client
@@ -71,12 +94,15 @@ type loki struct {
 
 	lines, bytes, refusedLines atomic.Int64
 
-	lock     sync.Mutex
-	batches  map[string]*batch
-	size     int
-	givenUp  map[string]error
-	pauses   map[string]*pause
+	lock    sync.Mutex
+	batches map[string]*batch
+	size    int
+	givenUp map[string]error
+	pauses  map[string]*pause
+	// when it gave somebody an answer; the streams that it has failed since, and how long all wait then
 	answered time.Time
+	failing  map[string]bool
+	down     pause
 	// for as many bodies as are made and sent at once
 	free chan struct{}
 }
@@ -87,16 +113,26 @@ func newLoki(root string, to address, seconds, patience time.Duration) *loki {
 	return &loki{
 		to: to, client: &http.Client{Transport: by, Timeout: seconds, CheckRedirect: noRedirect}, patience: patience,
 		refused: newFiles(filepath.Join(root, "refused")), root: root,
-		rooms:   sync.Pool{New: func() any { return &room{} }},
-		batches: map[string]*batch{}, pauses: map[string]*pause{}, free: make(chan struct{}, senders),
+		rooms:  sync.Pool{New: func() any { return &room{} }},
+		pauses: map[string]*pause{}, failing: map[string]bool{}, free: make(chan struct{}, senders),
 	}
 }
 
 func (it *loki) folder() string { return it.root }
 
+// (what a round left that was cut short is read again)
 func (it *loki) begin(told keeper) {
-	it.told, it.refused.told = told, told
-	it.givenUp, it.answered = map[string]error{}, time.Now()
+	it.told = told
+	it.refused.begin(told)
+	it.givenUp, it.batches, it.size = map[string]error{}, map[string]*batch{}, 0
+	if it.down.length == 0 {
+		it.answered = time.Now()
+	}
+	for key, one := range it.pauses {
+		if time.Since(one.until) > pauseForgotten {
+			delete(it.pauses, key)
+		}
+	}
 }
 
 func (it *loki) counts() counts {
@@ -105,13 +141,15 @@ func (it *loki) counts() counts {
 
 func keyOf(of *stream) string { return of.tenant + " " + of.text }
 
-// waits is how long a stream that was answered 429 has to wait. One that has waited for longer than the patience is
-// left.
+// waits is how long a stream has to wait. One that has waited for longer than the patience is left.
 func (it *loki) waits(of *stream) (time.Duration, error) {
 	it.lock.Lock()
 	defer it.lock.Unlock()
 	if why := it.givenUp[of.tenant]; why != nil {
 		return 0, why
+	}
+	if left := time.Until(it.down.until); left > 0 {
+		return left, nil
 	}
 	found := it.pauses[keyOf(of)]
 	if found == nil {
@@ -131,9 +169,16 @@ func (it *loki) put(one piece) error {
 	if err := it.sendBefore(one.of); err != nil {
 		return err
 	}
+	if len(one.spans) == 0 {
+		it.told.keep(one.of, tally{}, one.bound)
+		return nil
+	}
 	it.lock.Lock()
-	isAlone := it.pauses[keyOf(one.of)] != nil || one.part.bytes() >= smallBytes
-	if isAlone {
+	most := maxStreams
+	if found := it.pauses[keyOf(one.of)]; found != nil {
+		most = 1 + found.others
+	}
+	if most == 1 || one.part.bytes() >= smallBytes {
 		it.lock.Unlock()
 		for _, body := range one.bodies() {
 			if err := it.deliver(&delivery{tenant: one.of.tenant}, []piece{body}); err != nil {
@@ -142,8 +187,8 @@ func (it *loki) put(one piece) error {
 		}
 		return nil
 	}
-	to := it.addToBatch(one)
-	isFull := to.bytes >= bodyBytes/2 || to.lines >= bodyLines/2
+	to := it.addToBatch(one, most)
+	isFull := to.bytes >= bodyBytes/2 || to.lines >= bodyLines/2 || len(to.pieces) >= to.most
 	isMuch := it.size >= mostBytes
 	it.lock.Unlock()
 	if isMuch {
@@ -154,13 +199,19 @@ func (it *loki) put(one piece) error {
 	return nil
 }
 
-func (it *loki) addToBatch(one piece) *batch {
-	to := it.batches[one.of.tenant]
+// addToBatch adds a piece to a body. (Streams that have waited share others than those that haven't.)
+func (it *loki) addToBatch(one piece, most int) *batch {
+	key := one.of.tenant
+	if most < maxStreams {
+		key += " again"
+	}
+	to := it.batches[key]
 	if to == nil {
-		to = newBatch(one.of.tenant)
-		it.batches[one.of.tenant] = to
+		to = newBatch(key, one.of.tenant)
+		it.batches[key] = to
 	}
 	to.add(one)
+	to.most = min(to.most, most)
 	one.of.sent, it.size = to, it.size+one.part.bytes()
 	return to
 }
@@ -174,7 +225,7 @@ func (it *loki) sendBefore(of *stream) error {
 	of.sent = nil
 	err := it.sendBatch(before)
 	<-before.done
-	if pause, why := it.waits(of); err == nil && (pause > 0 || why != nil) {
+	if err == nil && before.left[of] != nil {
 		return errTold
 	}
 	return err
@@ -184,8 +235,8 @@ func (it *loki) sendBatch(of *batch) error {
 	it.lock.Lock()
 	isTaken := of.isTaken
 	of.isTaken = true
-	if it.batches[of.tenant] == of {
-		delete(it.batches, of.tenant)
+	if it.batches[of.key] == of {
+		delete(it.batches, of.key)
 		it.size -= of.bytes
 	}
 	it.lock.Unlock()
@@ -193,7 +244,10 @@ func (it *loki) sendBatch(of *batch) error {
 		return nil
 	}
 	defer close(of.done)
-	return it.deliver(&delivery{tenant: of.tenant, isShared: true}, of.pieces)
+	this := &delivery{tenant: of.tenant, isShared: true}
+	err := it.deliver(this, of.pieces)
+	of.left = this.left
+	return err
 }
 
 // flush sends all batches, several at once.
@@ -264,8 +318,18 @@ func (it *loki) send(this *delivery, pieces []piece) error {
 	if len(pieces) == 0 {
 		return nil
 	}
-	status, text, err := it.untilAnswered(this.tenant, pieces)
+	if it.isDown() {
+		for _, one := range pieces {
+			this.left[one.of] = errWaits
+		}
+		return nil
+	}
+	status, text, err := it.tryTwice(this.tenant, pieces)
+	var failed *failure
 	switch {
+	case errors.As(err, &failed):
+		it.fails(this, pieces, failed)
+		return nil
 	case err != nil:
 		return err
 	case 200 <= status && status < 300:
@@ -283,29 +347,50 @@ func (it *loki) send(this *delivery, pieces []piece) error {
 	return it.giveUp(this, pieces, status, text)
 }
 
-// limited has the streams that a Loki limits wait, each alone. It has not said that it took the others: they are sent
-// again, without these.
+// isDown is whether all wait.
+func (it *loki) isDown() bool {
+	it.lock.Lock()
+	defer it.lock.Unlock()
+	return time.Now().Before(it.down.until)
+}
+
+// limited has the streams that a Loki limits wait, each alone; where it names none, all of them, together. It has not
+// said that it took the others: they are sent again, without these.
 func (it *loki) limited(this *delivery, pieces []piece, status int, text string) error {
 	found, others := namedStreams(text, pieces)
+	together := 0
 	if len(found) == 0 {
-		found, others = pieces, nil
+		found, others, together = pieces, nil, len(pieces)-1
 	}
-	now := time.Now()
+	it.pauseAll(this, found, together, true, fmt.Sprintf("%d %s", status, brief(text)))
+	return it.send(this, others)
+}
+
+// fails has streams wait that a Loki fails. Those of one body come again in two, so that soon each is alone that is the
+// reason. Where all fail it is none of them.
+func (it *loki) fails(this *delivery, pieces []piece, failed *failure) {
+	if it.isDown() {
+		for _, one := range pieces {
+			this.left[one.of] = errWaits
+		}
+		return
+	}
+	it.pauseAll(this, pieces, (len(pieces)+1)/2-1, len(pieces) == 1, failed.text)
+}
+
+func (it *loki) pauseAll(this *delivery, pieces []piece, others int, isLonger bool, why string) {
 	it.lock.Lock()
-	for _, one := range found {
+	defer it.lock.Unlock()
+	for _, one := range pieces {
 		known := it.pauses[keyOf(one.of)]
 		if known == nil {
-			known = &pause{since: now, length: firstPause / 2}
+			known = &pause{since: time.Now()}
 			it.pauses[keyOf(one.of)] = known
 		}
-		known.length = time.Duration(least(int64(2*known.length), int64(longestPause)))
-		known.until, known.why = now.Add(known.length), fmt.Sprintf("%d %s", status, brief(text))
-	}
-	it.lock.Unlock()
-	for _, one := range found {
+		known.grow(isLonger, why)
+		known.others = others
 		this.left[one.of] = errWaits
 	}
-	return it.send(this, others)
 }
 
 // judge is for pieces of which some entries are refused.
@@ -422,10 +507,8 @@ func (it *loki) settle(this *delivery) error {
 			it.lines.Add(int64(len(one.spans)))
 			it.bytes.Add(int64(one.part.bytes()))
 		}
-		if this.left[one.of] == nil {
-			it.forget(one.of)
-		}
-		it.told.keep(one.of, int64(len(one.spans)), one.bound)
+		it.progress(one.of, this.left[one.of] != nil)
+		it.told.keep(one.of, tallyOf(one.part), one.bound)
 	}
 	return nil
 }
@@ -443,17 +526,29 @@ func (it *loki) refuse(one outcome) {
 	}
 }
 
-// forget ends the pause of a stream of which something was taken.
-func (it *loki) forget(of *stream) {
+// progress ends the pause of a stream of which something was taken, or has the next one be the first again.
+func (it *loki) progress(of *stream, waits bool) {
 	it.lock.Lock()
 	defer it.lock.Unlock()
-	delete(it.pauses, keyOf(of))
+	known := it.pauses[keyOf(of)]
+	switch {
+	case known == nil:
+	case !waits:
+		delete(it.pauses, keyOf(of))
+	default:
+		known.since, known.length = time.Now(), 0
+		known.grow(false, known.why)
+	}
 }
 
-// untilAnswered is the first answer other than that the Loki fails.
-func (it *loki) untilAnswered(tenant string, pieces []piece) (status int, text string, err error) {
-	begun, wait := time.Now(), firstPause
-	for {
+// A failure is why a Loki gave no good answer to a body: it failed, or gave none.
+type failure struct{ text string }
+
+func (it *failure) Error() string { return it.text }
+
+// tryTwice is the answer to a body, where it is none of a failing Loki. What else it fails with ends the round.
+func (it *loki) tryTwice(tenant string, pieces []piece) (status int, text string, err error) {
+	for try := 1; ; try++ {
 		isPlain := it.isPlain.Load()
 		status, text, err = it.push(tenant, pieces, isPlain)
 		switch {
@@ -461,33 +556,46 @@ func (it *loki) untilAnswered(tenant string, pieces []piece) (status int, text s
 			it.isPlain.Store(true)
 			continue
 		case err == nil && status < 500:
-			it.lock.Lock()
-			it.answered = time.Now()
-			it.lock.Unlock()
+			it.noteAnswer()
 			return status, text, nil
 		case err == nil:
 			err = fmt.Errorf("%d %s", status, brief(text))
 		}
-		if time.Since(it.since(begun))+wait > it.patience {
+		if it.noteFailure(pieces[0].of) {
 			return 0, "", fmt.Errorf("the Loki at %s does not take lines: %w", it.to.shown, err)
 		}
+		if try >= triesAtOnce {
+			return 0, "", &failure{err.Error()}
+		}
 		select {
-		case <-time.After(wait):
+		case <-time.After(jittered(firstPause)):
 		case <-it.told.over().Done():
 			return 0, "", err
 		}
-		wait = time.Duration(least(int64(2*wait), int64(longestPause)))
 	}
 }
 
-// since is when the first try was, or the last answer that anybody got if that is longer ago.
-func (it *loki) since(begun time.Time) time.Time {
+func (it *loki) noteAnswer() {
 	it.lock.Lock()
 	defer it.lock.Unlock()
-	if it.answered.Before(begun) {
-		return it.answered
+	it.answered, it.down = time.Now(), pause{}
+	if len(it.failing) > 0 {
+		it.failing = map[string]bool{}
 	}
-	return begun
+}
+
+// noteFailure has all wait if the Loki fails several streams and answers nobody. It returns whether it has answered
+// nobody for too long.
+func (it *loki) noteFailure(of *stream) bool {
+	it.lock.Lock()
+	defer it.lock.Unlock()
+	it.failing[keyOf(of)] = true
+	if len(it.failing) < manyFailing || time.Now().Before(it.down.until) {
+		return false
+	}
+	it.failing = map[string]bool{}
+	it.down.grow(true, "")
+	return time.Since(it.answered) > it.patience
 }
 
 // push is a try to send pieces.

@@ -42,7 +42,7 @@ func main() {
 		fmt.Fprintf(os.Stderr, "cannot write to %s: %s\n", to.folder(), cause(err))
 		os.Exit(1)
 	}
-	it := &drain{words: given, to: to, did: newTold(to), voice: newVoice(given.every > 0)}
+	it := &drain{words: given, to: to, did: newTold(to), voice: newVoice(given.every > 0), memory: newMemory()}
 	go it.endBySignal()
 	if given.every > 0 {
 		it.serve()
@@ -57,9 +57,10 @@ type drain struct {
 	lock sync.Mutex
 	did  *told
 	// the round under way
-	now   *round
-	began time.Time
-	voice *voice
+	now    *round
+	began  time.Time
+	voice  *voice
+	memory *memory
 }
 
 // endBySignal ends the process. A round that it cuts short is told.
@@ -123,7 +124,8 @@ func (it *drain) round(isOnly bool) error {
 	for at := range connections {
 		connections[at] = newConnection(it.port, it.patience)
 	}
-	now := newRound(it.to, windowTrim{int64(it.window)}, isOnly, it.voice)
+	counted := newCountedTrim(it.delay, it.window, it.grace)
+	now := newRound(it.to, windowTrim{int64(it.window)}, counted, it.memory, isOnly, it.voice)
 	it.lock.Lock()
 	it.now = now
 	it.lock.Unlock()

@@ -17,6 +17,10 @@ const (
 	readTogether, trimTogether = 32, 64
 	// how many lines a round says of one kind of fault
 	mostFaults = 10
+	// how often a round reads streams again that change meanwhile
+	mostPasses = 5
+	// for how long a round waits for a stream though another round comes
+	shortPause = 2 * time.Second
 )
 
 // A piece is entries of a stream, in rising time, and the bound below which nothing of the stream is left out; 0 where
@@ -31,8 +35,8 @@ type piece struct {
 
 // A place keeps lines elsewhere. Several workers use it.
 type place interface {
-	// put takes a piece, and may keep it back. It doesn't use its text afterwards. A refusal is of that stream alone; any
-	// other error ends the round.
+	// put takes a piece, and may keep it back. It doesn't use its text afterwards. One without entries says that there are
+	// no others below its bound. A refusal is of that stream alone; any other error ends the round.
 	put(it piece) error
 	// flush returns once all that was put is kept, refused, or waits.
 	flush() error
@@ -51,8 +55,9 @@ type counts struct{ lines, bytes, refused int64 }
 
 // A keeper is told what became of what was put.
 type keeper interface {
-	// keep says that so many entries are kept for good: all that the stream has below the bound, if it isn't 0.
-	keep(of *stream, count, bound int64)
+	// keep says that these entries are kept for good: with those before, all that the stream has below the bound, if it
+	// isn't 0.
+	keep(of *stream, these tally, bound int64)
 	// refuse says why a stream is left for the next round.
 	refuse(of *stream, why error)
 	// wait is for a stream that is to be read again, from what is kept on, once it needn't wait.
@@ -65,28 +70,35 @@ type keeper interface {
 // have those removed that are kept elsewhere.
 type round struct {
 	place place
-	by    taker
+	// how entries are removed, once the server was asked: by counts if it can
+	by       taker
+	counted  *countedTrim
+	hasAsked bool
+	asking   sync.Mutex
+	memory   *memory
 	// whether no other round comes, so that it waits for streams that a Loki limits
 	isOnly bool
 
 	lock   sync.Mutex
 	change *sync.Cond
-	// all streams, those that nobody has read yet, those that wait, and those of which something is to be removed
-	streams, queue, waiting, trims []*stream
-	busy, able                     int
-	isOver, hasFlushed             bool
-	errors                         int64
-	voice                          *voice
-	said                           map[string]int
-	order                          []string
-	fault                          error
-	inTime                         context.Context
-	cancel                         context.CancelFunc
-	running                        sync.WaitGroup
+	// all streams, those that nobody has read yet, those that wait, those that are to be read again, and those of which
+	// something is to be removed, or that are to end
+	streams, queue, waiting, again, trims []*stream
+	busy, able, passes                    int
+	isOver, hasFlushed                    bool
+	errors                                int64
+	voice                                 *voice
+	said                                  map[string]int
+	order                                 []string
+	fault                                 error
+	inTime                                context.Context
+	cancel                                context.CancelFunc
+	running                               sync.WaitGroup
 }
 
-func newRound(to place, by taker, isOnly bool, says *voice) *round {
-	it := &round{place: to, by: by, isOnly: isOnly, voice: says, said: map[string]int{}}
+// newRound is one by counts, if the server can and `counted` is given, else by a window.
+func newRound(to place, window windowTrim, counted *countedTrim, from *memory, isOnly bool, says *voice) *round {
+	it := &round{place: to, by: window, counted: counted, memory: from, isOnly: isOnly, voice: says, said: map[string]int{}}
 	it.change = sync.NewCond(&it.lock)
 	it.inTime, it.cancel = context.WithCancel(context.Background())
 	to.begin(it)
@@ -113,6 +125,28 @@ func (it *round) run(from catalog, connections []*connection, tell func(*round))
 	it.lock.Unlock()
 	it.running.Wait()
 	it.countUndone()
+	it.memory.note(it.streams)
+}
+
+// ask asks the server once whether it counts trims.
+func (it *round) ask(by *connection) error {
+	it.asking.Lock()
+	defer it.asking.Unlock()
+	if it.hasAsked || it.counted == nil {
+		return nil
+	}
+	says, err := it.counted.canCount(by)
+	if err != nil {
+		return err
+	}
+	if it.hasAsked = true; says == "" {
+		it.by = it.counted
+		return nil
+	}
+	it.memory.hasSaid.Do(func() {
+		it.voice.say(fmt.Sprintf("the server counts no trims (%s), so the last window of each stream stays", says))
+	})
+	return nil
 }
 
 func (it *round) over() context.Context { return it.inTime }
@@ -121,6 +155,9 @@ func (it *round) over() context.Context { return it.inTime }
 func (it *round) list(from catalog) {
 	for {
 		page, err := from.next()
+		for _, one := range page {
+			it.memory.recall(one)
+		}
 		it.lock.Lock()
 		it.streams, it.queue = append(it.streams, page...), append(it.queue, page...)
 		it.change.Broadcast()
@@ -175,8 +212,12 @@ func (it *round) settle(tell func(*round)) bool {
 	return it.fault == nil && it.able > 0
 }
 
-// wake queues streams that have waited, after it has waited for the first of them. It returns false where none is left.
+// wake queues streams that are to be read again, and those that have waited, after it has waited for the first of them.
+// It returns false where none is left. (Nothing is on its way of any stream now.)
 func (it *round) wake() bool {
+	if it.readAgain() {
+		return true
+	}
 	for {
 		it.lock.Lock()
 		waiting, soonest := it.waiting, time.Duration(ever)
@@ -184,10 +225,9 @@ func (it *round) wake() bool {
 		it.lock.Unlock()
 		for _, one := range waiting {
 			if pause, err := it.place.waits(one); err != nil || pause == 0 {
-				one.put = one.kept
-				it.again(one)
+				it.requeue(one)
 				soonest = 0
-			} else if it.isOnly {
+			} else if it.isOnly || pause <= shortPause {
 				it.wait(one)
 				soonest = time.Duration(least(int64(soonest), int64(pause)))
 			} else {
@@ -199,13 +239,48 @@ func (it *round) wake() bool {
 		} else if soonest == 0 {
 			return true
 		}
-		time.Sleep(soonest)
+		select {
+		case <-time.After(soonest):
+		case <-it.inTime.Done():
+			return false
+		}
 	}
 }
 
-func (it *round) again(one *stream) {
+// readAgain queues streams that have changed while they were read. After some times they are left for the next round.
+func (it *round) readAgain() bool {
+	it.lock.Lock()
+	again := it.again
+	if it.again = nil; len(again) > 0 {
+		it.passes++
+	}
+	waits := it.waiting[:0]
+	for _, one := range it.waiting {
+		if !one.isAgain {
+			waits = append(waits, one)
+		}
+	}
+	it.waiting = waits
+	it.lock.Unlock()
+	for _, one := range again {
+		if one.isAgain, one.bound = false, 0; one.moved != never {
+			one.kept = keptAfter(one.kept, one.removed, one.moved)
+			one.removed = max(0, one.moved)
+		}
+		if it.passes > mostPasses {
+			it.leave(one)
+			continue
+		}
+		it.requeue(one)
+	}
+	return len(again) > 0 && it.passes <= mostPasses
+}
+
+// requeue has a stream read of which nothing is on its way.
+func (it *round) requeue(one *stream) {
 	it.lock.Lock()
 	defer it.lock.Unlock()
+	one.sent = nil
 	it.queue = append(it.queue, one)
 	it.change.Broadcast()
 }
@@ -225,6 +300,9 @@ func (it *round) leave(one *stream) {
 
 func (it *round) work(by *connection) {
 	err := by.wait()
+	if err == nil {
+		err = it.ask(by)
+	}
 	for err == nil {
 		err = it.step(by)
 	}
@@ -271,13 +349,22 @@ func (it *round) step(by *connection) error {
 	return err
 }
 
-// nextStreams are small streams, or one that isn't. (The first ones come alone, so that no others are put until the
-// server has let them go.)
+// isLong is whether a stream has too many lines for one answer, as far as is known.
+func (it *round) isLong(of *stream) bool {
+	if it.by.needsNewest() {
+		return of.size > smallBytes
+	}
+	return of.size > pieceBytes
+}
+
+// nextStreams are streams that aren't long, or one that is. (The first ones come alone, so that no others are put until
+// the server has let them go.)
 func (it *round) nextStreams() []*stream {
 	count := 1
-	if it.queue[0].size <= smallBytes {
+	if sum := it.queue[0].size; !it.isLong(it.queue[0]) {
 		most := min(readTogether, 1+len(it.queue)/workers)
-		for count < most && it.queue[count].size <= smallBytes {
+		for count < most && !it.isLong(it.queue[count]) && sum+it.queue[count].size <= pieceBytes {
+			sum += it.queue[count].size
 			count++
 		}
 	}
@@ -294,19 +381,33 @@ func (it *round) nextTrims() []*stream {
 }
 
 // keep is told by the place. (Of one stream a removal at a time is under way, since each has to know of those before.)
-func (it *round) keep(of *stream, count, bound int64) {
+func (it *round) keep(of *stream, these tally, bound int64) {
 	it.lock.Lock()
 	defer it.lock.Unlock()
-	if of.carried += count; bound == 0 {
+	of.kept, of.bound = of.kept.with(these), max(of.bound, bound)
+	it.takeMore(of)
+}
+
+// takeMore has removed what a stream has below its bound.
+func (it *round) takeMore(of *stream) {
+	if of.isTaking || of.isAgain || of.bound == 0 || of.kept.below(of.bound) == 0 {
 		return
 	}
-	of.due.entries, of.carried = of.due.entries+of.carried, 0
-	of.due.bound, of.kept = max(of.due.bound, bound), max(of.kept, bound)
-	if !of.isTaking {
-		of.isTaking = true
-		it.trims = append(it.trims, of)
-		it.change.Broadcast()
+	of.isTaking = true
+	it.trims = append(it.trims, of)
+	it.change.Broadcast()
+}
+
+// endOf has a stream without lines end, where it is old enough.
+func (it *round) endOf(of *stream) {
+	if !it.by.counts() || !it.counted.mayEnd(of) {
+		return
 	}
+	it.lock.Lock()
+	defer it.lock.Unlock()
+	of.isEnding = true
+	it.trims = append(it.trims, of)
+	it.change.Broadcast()
 }
 
 func (it *round) refuse(of *stream, why error) {
@@ -316,57 +417,83 @@ func (it *round) refuse(of *stream, why error) {
 	it.say("not drained: "+why.Error(), fmt.Sprintf("not drained: %s: %s", of, why), 1, mostFaults)
 }
 
-// trim has entries of several streams removed.
+// trim has entries of several streams removed, or streams ended.
 func (it *round) trim(by *connection, jobs []*stream) error {
 	asked, due := make([]request, len(jobs)), make([]taking, len(jobs))
 	it.lock.Lock()
 	for at, one := range jobs {
-		due[at], one.due = one.due, taking{}
+		if due[at] = (taking{one.bound, one.kept.below(one.bound)}); one.isEnding {
+			asked[at] = it.counted.toEnd(one)
+		} else {
+			asked[at] = it.by.request(one, due[at])
+		}
 	}
 	it.lock.Unlock()
-	for at, one := range jobs {
-		asked[at] = it.by.request(one, due[at])
-	}
 	done := 0
-	err := by.exchange(asked, func(at int, got *answer) error {
-		_, err := it.by.removed(jobs[at], got)
-		var said *refusal
-		if err != nil && !errors.As(err, &said) {
-			return err
+	err := by.exchange(asked, func(at int, got *answer) (err error) {
+		if jobs[at].isEnding {
+			err = it.ended(jobs[at], got)
+		} else {
+			err = it.settled(jobs[at], due[at], got)
 		}
-		done = at + 1
-		it.settled(jobs[at], due[at], err)
-		return nil
+		if err == nil {
+			done = at + 1
+		}
+		return err
 	})
-	for at := done; at < len(jobs); at++ {
-		it.untaken(jobs[at], due[at])
-	}
+	it.lock.Lock()
+	defer it.lock.Unlock()
+	it.trims = append(it.trims, jobs[done:]...)
 	return err
 }
 
-// settled is for a removal that was answered.
-func (it *round) settled(of *stream, due taking, fault error) {
+// settled is for the answer to a removal. What it fails with ends the round, or the connection.
+func (it *round) settled(of *stream, due taking, got *answer) error {
+	count, err := it.by.removed(of, got)
+	var said *refusal
+	var changed *moved
+	isChanged := errors.As(err, &changed)
+	if err != nil && !isChanged && !errors.As(err, &said) {
+		return err
+	}
 	it.lock.Lock()
-	if fault == nil {
-		of.removed += due.entries
-	} else {
+	of.isTaking = false
+	switch {
+	case err == nil || isChanged && changed.removed == of.removed+due.entries:
+		// (or the answer to the same removal was lost: what was removed is no less than what stood below the bound, and
+		// so just that)
+		if isChanged {
+			count = due.entries
+		}
+		if of.kept = of.kept.from(due.bound); it.by.counts() {
+			of.removed += count
+		}
+		it.takeMore(of)
+	case isChanged:
+		of.isAgain, of.moved = true, changed.removed
+		it.again = append(it.again, of)
+	default:
 		of.isRefused = true
 	}
-	if of.isTaking = of.due.bound > 0; of.isTaking {
-		it.trims = append(it.trims, of)
-	}
 	it.lock.Unlock()
-	if fault != nil {
-		it.say("not trimmed: "+fault.Error(), fmt.Sprintf("not trimmed: %s: %s", of, fault), 1, mostFaults)
+	if said != nil {
+		it.say("not trimmed: "+said.Error(), fmt.Sprintf("not trimmed: %s: %s", of, said), 1, mostFaults)
 	}
+	return nil
 }
 
-// untaken puts a removal back that wasn't answered.
-func (it *round) untaken(of *stream, due taking) {
+// ended is for the answer to an end.
+func (it *round) ended(of *stream, got *answer) error {
+	again, err := it.counted.ended(got)
 	it.lock.Lock()
-	defer it.lock.Unlock()
-	of.due.entries, of.due.bound = of.due.entries+due.entries, max(of.due.bound, due.bound)
-	it.trims = append(it.trims, of)
+	if of.isEnding, of.endsFrom = false, again; err == nil && again == 0 {
+		of.removed, of.kept = never, tally{}
+	}
+	it.lock.Unlock()
+	if err != nil {
+		it.say("not ended: "+err.Error(), fmt.Sprintf("not ended: %s: %s", of, err), 1, mostFaults)
+	}
+	return nil
 }
 
 // say says a fault on standard error, unless there were many of its kind.

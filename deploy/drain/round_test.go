@@ -55,7 +55,7 @@ func fillStreams(now int64) (kept map[string][]judged, listed []*stream, due map
 }
 
 func runOver(t *testing.T, server *fakeServer, listed []*stream, to place) *round {
-	now := newRound(to, windowTrim{3600 * second}, true, newVoice(false))
+	now := newRound(to, windowTrim{3600 * second}, nil, newMemory(), true, newVoice(false))
 	connections := make([]*connection, workers)
 	for at := range connections {
 		connections[at] = server.connection(t)
@@ -82,7 +82,7 @@ func hold(t *testing.T, now *round, server *fakeServer, found, due map[string][]
 func copyOf(all map[string][]judged) map[string][]judged {
 	found := map[string][]judged{}
 	for key, lines := range all {
-		found[key] = lines
+		found[key] = append([]judged(nil), lines...)
 	}
 	return found
 }

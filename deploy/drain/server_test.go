@@ -3,6 +3,7 @@ package main
 import (
 	"encoding/json"
 	"fmt"
+	"io"
 	"math/rand"
 	"net/http"
 	"net/http/httptest"
@@ -15,27 +16,44 @@ import (
 	"time"
 )
 
-// A server in memory, which counts what it is asked.
+// A server in memory, which counts what it is asked. It has streams by tenant and their label `a`.
 type fakeServer struct {
 	lock    sync.Mutex
 	streams map[string][]judged
-	// how long the window is that it keeps
+	// the highest time of a stream, where it isn't that of its last line, and how many lines were removed
+	highest, removed map[string]int64
+	// how long the window is that it keeps, and whether it counts trims; what it says where it doesn't
 	window int64
+	counts bool
+	says   string
 	// reads, bytes of their answers, and bytes of the longest one but those of a short range
 	reads, asked, longest int
 	// each how many answers the connection is closed
 	closes, answers int
+	// answers by route and status
+	statuses map[string]int
+	// the last read, and its answer
+	lastOf   string
+	lastText []byte
+	// done to a stream before a request is answered, and whether the connection is cut then in place of that
+	before func(route, key string)
+	cuts   func(route, key string) bool
 	*httptest.Server
 }
 
-func startServer(t *testing.T, streams map[string][]judged) *fakeServer {
-	it := &fakeServer{streams: streams, window: 3600 * second}
+func newServer(streams map[string][]judged) *fakeServer {
+	return &fakeServer{streams: streams, highest: map[string]int64{}, removed: map[string]int64{},
+		window: 3600 * second, statuses: map[string]int{}}
+}
+
+func startServer(t testing.TB, streams map[string][]judged) *fakeServer {
+	it := newServer(streams)
 	it.Server = httptest.NewServer(it)
 	t.Cleanup(it.Close)
 	return it
 }
 
-func (it *fakeServer) connection(t *testing.T) *connection {
+func (it *fakeServer) connection(t testing.TB) *connection {
 	found, err := url.Parse(it.URL)
 	if err != nil {
 		t.Fatal(err)
@@ -44,50 +62,187 @@ func (it *fakeServer) connection(t *testing.T) *connection {
 	return newConnection(port, 10*time.Second)
 }
 
-func (it *fakeServer) ServeHTTP(to http.ResponseWriter, got *http.Request) {
-	var asked struct {
-		Stream          map[string]string
-		From, To, Bound string
+// behave ends what it does beside answering.
+func (it *fakeServer) behave() {
+	it.lock.Lock()
+	defer it.lock.Unlock()
+	it.before, it.cuts = nil, nil
+}
+
+// list lists the streams as walcat does.
+func (it *fakeServer) list(to io.Writer) {
+	for key, lines := range it.streams {
+		tenant, name, _ := strings.Cut(key, " ")
+		fmt.Fprintf(to, "append %s {a=\"%s\"} entries %d\n", tenant, name, 1+len(lines))
 	}
+}
+
+type askedFor struct {
+	Stream           map[string]string
+	From, To, Bound  string
+	Entries, Removed string
+	Line             string
+}
+
+func (it *fakeServer) ServeHTTP(to http.ResponseWriter, got *http.Request) {
+	var asked askedFor
 	it.lock.Lock()
 	defer it.lock.Unlock()
 	if it.answers++; it.closes > 0 && it.answers%it.closes == 0 {
 		to.Header().Set("Connection", "close")
 	}
-	if got.URL.Path == "/ready" {
+	switch got.URL.Path {
+	case "/ready":
 		fmt.Fprint(to, "ready")
+		return
+	case "/streams":
+		it.list(to)
 		return
 	}
 	json.NewDecoder(got.Body).Decode(&asked)
 	key := got.Header.Get("X-Scope-OrgID") + " " + asked.Stream["a"]
-	if got.URL.Path == "/ingester/v1/trim" {
-		bound, _ := strconv.ParseInt(asked.Bound, 10, 64)
-		it.trim(to, key, bound)
+	if it.before != nil {
+		it.before(got.URL.Path, key)
+	}
+	status, text := it.answer(got.URL.Path, key, asked)
+	it.statuses[fmt.Sprintf("%s %d", got.URL.Path, status)]++
+	if it.cuts != nil && it.cuts(got.URL.Path, key) {
+		cut, _, _ := to.(http.Hijacker).Hijack()
+		cut.Close()
 		return
 	}
-	low, _ := strconv.ParseInt(asked.From, 10, 64)
-	high, _ := strconv.ParseInt(asked.To, 10, 64)
+	to.Header().Set("Content-Length", strconv.Itoa(len(text)))
+	to.WriteHeader(status)
+	to.Write(text)
+}
+
+func (it *fakeServer) answer(route, key string, asked askedFor) (int, []byte) {
+	status, text := 0, ""
+	switch isCounted := asked.Entries != ""; {
+	case route == "/ingester/v1/read":
+		return 200, it.read(key, number(asked.From), number(asked.To))
+	case !it.counts && (isCounted || route == endRoute):
+		if text = it.says; text == "" {
+			text = "501 counted trims and ends need NEEDLEAZURE_LAYOUT=3"
+		}
+		return int(number(text[:3])), []byte(text[4:])
+	case route == endRoute:
+		status, text = it.end(key)
+	case route != trimRoute:
+		return 404, []byte("not found")
+	case isCounted:
+		status, text = it.take(key, number(asked.Bound), number(asked.Entries), number(asked.Removed))
+	default:
+		status, text = it.trim(key, number(asked.Bound))
+	}
+	return status, []byte(text)
+}
+
+func number(text string) int64 {
+	found, _ := strconv.ParseInt(text, 10, 64)
+	return found
+}
+
+func (it *fakeServer) read(key string, low, high int64) []byte {
 	kept := it.streams[key]
-	first := sort.Search(len(kept), func(at int) bool { return kept[at].time >= low })
-	last := sort.Search(len(kept), func(at int) bool { return kept[at].time >= high })
-	text := answerOf(kept[first:max(int64(first), int64(last))], false)
+	first, last := it.below(key, low), it.below(key, high)
+	of := fmt.Sprint(key, " ", first, " ", last)
+	text := it.lastText
+	if it.lastOf != of || text == nil {
+		text = answerOf(kept[first:max(first, last)], false)
+		it.lastOf, it.lastText = of, text
+	}
 	it.reads, it.asked = it.reads+1, it.asked+len(text)
 	if high-low > narrow && len(text) > it.longest {
 		it.longest = len(text)
 	}
-	to.Header().Set("Content-Length", strconv.Itoa(len(text)))
-	to.Write(text)
+	return text
 }
 
-func (it *fakeServer) trim(to http.ResponseWriter, key string, bound int64) {
+// below is how many lines are older than a time.
+func (it *fakeServer) below(key string, time int64) int64 {
 	kept := it.streams[key]
-	if bound > kept[len(kept)-1].time-it.window {
-		http.Error(to, "stream 0: trim bound is above the oldest accepted time", http.StatusBadRequest)
-		return
+	return int64(sort.Search(len(kept), func(at int) bool { return kept[at].time >= time }))
+}
+
+func (it *fakeServer) highestOf(key string) int64 {
+	if kept := it.streams[key]; len(kept) > 0 {
+		return max(it.highest[key], kept[len(kept)-1].time)
 	}
-	count := sort.Search(len(kept), func(at int) bool { return kept[at].time >= bound })
-	it.streams[key] = kept[count:]
-	fmt.Fprintf(to, `{"trimmed":%d}`, count)
+	return it.highest[key]
+}
+
+// remove removes the first lines.
+func (it *fakeServer) remove(key string, count int64) {
+	it.lastText = nil
+	it.highest[key] = it.highestOf(key)
+	it.removed[key] += count
+	it.streams[key] = append([]judged(nil), it.streams[key][count:]...)
+}
+
+func (it *fakeServer) isThere(key string) bool {
+	_, isThere := it.streams[key]
+	return isThere
+}
+
+const noSuchStream = "no such stream"
+
+func (it *fakeServer) trim(key string, bound int64) (int, string) {
+	if !it.isThere(key) {
+		return 404, noSuchStream
+	} else if bound > it.highestOf(key)-it.window {
+		return 400, "stream 0: trim bound is above the oldest accepted time"
+	}
+	count := it.below(key, bound)
+	it.remove(key, count)
+	return 200, fmt.Sprintf(`{"trimmed":%d}`, count)
+}
+
+func (it *fakeServer) take(key string, bound, entries, removed int64) (int, string) {
+	count := int64(0)
+	switch {
+	case !it.isThere(key):
+		return 404, noSuchStream
+	case bound > it.highestOf(key)+1:
+		return 400, "stream 0: bound is more than one above the highest time"
+	case it.removed[key] != removed:
+		return 409, fmt.Sprintf("stream 0: removed so far: %d", it.removed[key])
+	}
+	if count = it.below(key, bound); count != entries {
+		return 409, fmt.Sprintf("stream 0: entries below the bound: %d", count)
+	}
+	it.remove(key, count)
+	return 200, fmt.Sprintf(`{"trimmed":%d}`, count)
+}
+
+func (it *fakeServer) end(key string) (int, string) {
+	switch {
+	case !it.isThere(key):
+		return 404, noSuchStream
+	case len(it.streams[key]) > 0:
+		return 409, "stream 0: stream has entries"
+	case it.highestOf(key) >= time.Now().UnixNano()-it.window-600*second:
+		return 409, "stream 0: stream is not old enough"
+	}
+	delete(it.streams, key)
+	delete(it.highest, key)
+	delete(it.removed, key)
+	return 200, `{"ended":true}`
+}
+
+// store stores a line as a push does, behind those of its time. Whether it was taken.
+func (it *fakeServer) store(key string, line judged) bool {
+	if it.isThere(key) && line.time < it.highestOf(key)-it.window {
+		return false
+	}
+	it.lastText = nil
+	kept := it.streams[key]
+	at := it.below(key, line.time+1)
+	kept = append(kept, judged{})
+	copy(kept[at+1:], kept[at:])
+	kept[at] = line
+	it.streams[key] = kept
+	return true
 }
 
 // drawTimes are times of lines: spread, in bursts, of one nanosecond, far back, or ahead of the clock.

@@ -21,33 +21,36 @@ type stream struct {
 	shard int
 	// about how many bytes its lines have in answers
 	size int64
+	// how many entries it has, where the catalog knows it, else never
+	entries int64
 	// a time that its newest line is not before
 	reached int64
-	// how many entries had ever been removed of it before anything was read
+	// how many entries were ever removed of it, as was told before anything was read; never where that isn't known
 	removed int64
+	// the time before which it isn't asked for its end
+	endsFrom int64
 
-	// the newest time, and the oldest one before and after this round
+	// the newest time that was read, and the oldest one before and after this round
 	newest, first, left int64
-	// all that is older was put; is kept elsewhere
-	put, kept int64
-	// whether something of it was refused
+	// how many bytes of lines were read in this round
+	bytes int64
+	// what is kept elsewhere, and not removed as long as `removed` stays; all that the stream had below the bound is
+	kept  tally
+	bound int64
+	// whether a removal, or the end, is due or on its way
+	isTaking, isEnding bool
+	// whether it is to be read again, once nothing of it is on its way, and what was said of `removed` then
+	isAgain bool
+	moved   int64
+	// whether something of it was refused, or is left for the next round
 	isRefused bool
-	// entries that are kept elsewhere while others of their time aren't yet
-	carried int64
-	// what the server is to remove, and whether a worker is to do so or does
-	due      taking
-	isTaking bool
 	// the body to a Loki in which its last lines are
 	sent *batch
 }
 
-// A taking says that all entries below a time are kept elsewhere, and how many these are.
-type taking struct {
-	bound, entries int64
-}
-
 func newStream(tenant, text string, shard int) *stream {
-	return &stream{tenant: tenant, text: text, shard: shard, newest: never, first: never, left: never}
+	return &stream{tenant: tenant, text: text, shard: shard, entries: never, removed: never, newest: never, first: never,
+		left: never}
 }
 
 func (it *stream) String() string { return it.tenant + " " + it.text }

@@ -20,7 +20,9 @@ type words struct {
 	// the time between the beginnings of two rounds, and 0 for one round alone
 	every                      time.Duration
 	window, patience, waitsFor time.Duration
-	loki                       *address
+	// how young lines are that a round leaves, and how far ahead of the clock the server takes any
+	delay, grace time.Duration
+	loki         *address
 }
 
 func readWords(given []string) (words, error) {
@@ -29,7 +31,7 @@ func readWords(given []string) (words, error) {
 		return it, errors.New(usage)
 	}
 	it.log, it.to = given[0], given[3]
-	var faults [6]error
+	var faults [8]error
 	it.port, faults[0] = numberIn(given[1], 65535, "PORT")
 	it.shards, faults[1] = numberIn(given[2], 64, "SHARDS")
 	if len(given) == 6 {
@@ -38,6 +40,8 @@ func readWords(given []string) (words, error) {
 	it.window, faults[3] = setting("NEEDLEAZURE_MAX_CHUNK_AGE", "2h", true)
 	it.window /= 2
 	it.patience, faults[4] = setting("NEEDLEAZURE_DRAIN_TIMEOUT", "60s", false)
+	it.delay, faults[6] = setting("DRAIN_DELAY", "10s", true)
+	it.grace, faults[7] = setting("NEEDLEAZURE_CREATION_GRACE_PERIOD", "10m", false)
 	if strings.HasPrefix(it.to, "http://") || strings.HasPrefix(it.to, "https://") {
 		faults[5] = it.readLoki()
 	}

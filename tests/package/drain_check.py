@@ -1,10 +1,11 @@
-"""drain_check [files|loki|both]: needleazure-drain over a server under load, again and again, and killed in the middle.
+"""drain_check [files|loki|both|counted]: needleazure-drain over a server under load, again and again, and killed in the middle.
 
 files: 64 clients push lines of 2,000 streams whose times run fast; each line that was answered stands in the files or
 is still in the server. loki: the same to a stub of a Loki that limits, fails, dies, waits, and refuses some lines,
 which are then in files; to others that take nothing, small bodies, or only of who is known, that limit a stream for a
 minute, or refuse lines of some streams; and to a second server. both: server and drain are killed by turns, KILLS times (10),
-while the drain runs as a service, to files or to a Loki. It needs protoc, python3-protobuf and python3-snappy."""
+while the drain runs as a service, to files or to a Loki. counted: drain_counted.py, over a stub of a server. It needs
+protoc, python3-protobuf and python3-snappy."""
 import collections
 import contextlib
 import glob
@@ -96,8 +97,9 @@ class Drain:
         self.began, self.running = time.monotonic(), servers.drain(f"{work}/log", port, SHARDS, to, **settings)
 
     def end(self):
-        """Its exit status, what it said, and how long it took."""
-        said = self.running.communicate(timeout=300)[1]
+        """Its exit status, what it said, and how long it took. (A server of layout 2 counts no trims, as each run says.)"""
+        said = self.running.communicate(timeout=300)[1].splitlines(True)
+        said = "".join(it for it in said if not it.startswith("the server counts no trims (501 "))
         return self.running.returncode, said, time.monotonic() - self.began
 
     def kill(self, seconds, has_begun=lambda: True):
@@ -525,10 +527,19 @@ def both(work, _):
              f"{loki.answers['lines that came again']} lines again")
 
 
-PARTS = {"files": to_files, "loki": to_loki, "both": both}
+def counted(work, _):
+    # (it uses what is above)
+    import drain_counted
+    drain_counted.check(work)
+
+
+PARTS = {"files": to_files, "loki": to_loki, "both": both, "counted": counted}
 
 
 def check(work, _, *words):
     for name in words or PARTS:
+        if name == "counted":
+            counted(f"{work}/{name}", None)
+            continue
         with servers.Server(f"{work}/{name}/log", SHARDS, CLIENTS, settings=servers.allocator()) as server:
             PARTS[name](f"{work}/{name}", server)

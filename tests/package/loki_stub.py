@@ -57,7 +57,8 @@ def value_of(entry):
 class Loki(http.server.ThreadingHTTPServer):
     """`ways` are what it does beside taking, each with its share of the requests: `limit`, `fail`, `die` before it has
     taken anything, `die_after`, `sleep`. `refuses` says whether it refuses a line by 400, `oldest` is the time before which
-    it does so, and says so. `status` has what answers a tenant, `limited` the labels of streams that it answers 429.
+    it does so, and says so. `status` has what answers a tenant, `limited` the labels of streams that it answers 429,
+    `failed` those by which it fails the whole body.
     `certificate` is a file with one and its key. One that is `blind` takes all, and reads nothing."""
 
     daemon_threads, request_queue_size = True, 128
@@ -65,7 +66,7 @@ class Loki(http.server.ThreadingHTTPServer):
     def __init__(self, ways=None, refuses=lambda line: False, seconds=3, most=1 << 30,
                  authorization=None, certificate=None, is_blind=False):
         self.ways, self.refuses, self.seconds, self.most = ways or {}, refuses, seconds, most
-        self.oldest, self.limited, self.tries, self.is_blind = 0, [], [], is_blind
+        self.oldest, self.limited, self.failed, self.tries, self.is_blind = 0, [], [], [], is_blind
         self.refuses_of = lambda key, line: self.refuses(line)
         self.authorization, self.status, self.chance = authorization, {}, random.Random(1)
         self.lock, self.answers = threading.Lock(), collections.Counter()
@@ -179,6 +180,10 @@ class Request(http.server.BaseHTTPRequestHandler):
         loki = self.server
         if way in ("limit", "fail", "die"):
             return {"limit": 429, "fail": 500, "die": "died"}[way], "ingestion rate limit exceeded"
+        if any(it["stream"] in loki.failed for it in body["streams"]):
+            with loki.lock:
+                loki.tries.append((time.monotonic(), len(body["streams"])))
+            return 500, "at least 2 live replicas required, could only find 1"
         if way == "sleep":
             time.sleep(loki.seconds)
         answer = loki.take(tenant, body)
