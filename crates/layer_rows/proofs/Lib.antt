@@ -1,1 +1,2 @@
 pub mod WrittenAnew
+pub mod SmallEntries

@@ -13,6 +13,8 @@ pub enum Route {
     Read,
     /// `POST /ingester/v1/trim`
     Trim,
+    /// `POST /ingester/v1/end`
+    End,
 }
 
 /// What a path names.
@@ -36,6 +38,9 @@ impl Endpoint {
         }
         if path == b"/ingester/v1/trim".as_slice() {
             return Some(Endpoint::Call(Route::Trim));
+        }
+        if path == b"/ingester/v1/end".as_slice() {
+            return Some(Endpoint::Call(Route::End));
         }
         if path == b"/ready".as_slice() {
             return Some(Endpoint::Ready);

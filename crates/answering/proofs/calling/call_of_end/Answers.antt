@@ -1,0 +1,20 @@
+use Rattle.std.proofs.Common.{Ok, refl, ap}
+use Rattle.std.proofs.lemmas.Result.{err_from_is_err_and}
+use Rattle.accept.specs.declared.call.Call.TheVariants as calls
+use Rattle.requests.specs.declared.route.Route.TheVariants.{End}
+use Rattle.answering.specs.Asking.{asked_end}
+use Rattle.answering.proofs.Going.{uncalled}
+use Rattle.answering.proofs.calling.call_of_end.Goals as goal
+
+pub returns-in_err-key-clause-asks : goal.returns-in_err-key-clause-asks
+returns-in_err-key-clause-asks c =
+    let p = err_from_is_err_and c.from_residual-in_err-key.result c.from_residual-in_err-key.ensures.1 in
+    let raw = c.in_ok-pairs.field-0 in
+    rw (p.1, p.2) (uncalled End c.args.now c.args.tenant.now c.args.body.now (asked_end c.args.now raw) c.in_err-key.field-0.0 (Ok raw, c.in_ok-pairs.ensures.reads, refl) c.in_err-key.ensures.cause)
+
+pub returns-clause-asks : goal.returns-clause-asks
+returns-clause-asks c =
+    let raw = c.in_ok-pairs.field-0 in
+    let key = c.in_ok-key.key in
+    let (lawful, text, whose) = c.in_ok-key.ensures.ok in
+    (asked_end c.args.now raw, (Ok raw, c.in_ok-pairs.ensures.reads, refl), record { labels = key.labels; lawful = lawful; text = text; is = ap (λ t. calls.End (record { tenant = t; labels = key.labels }) c.args.now) whose })
