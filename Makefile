@@ -82,7 +82,7 @@ deb-check edge-check failover-check gateway-check container-check: gateway
 deb-check failover-check drain-check after-check metrics-check container-check: drain
 
 %-check: CHECK = $(subst -,_,$*)_check
-%-check: ## tests/*/NAME_check over built programs: clients gateway drain sweep after syslog memory leaving edge scale-out metrics fill, as root deb filesystem container failover (RUNS=100), alone kit theorem
+%-check: ## tests/*/NAME_check over built programs: clients gateway drain sweep after syslog memory edge scale-out metrics fill, as root deb filesystem container failover (RUNS=100), alone kit theorem
 	@$(if $(PROGRAMS),RT='$(RT)' tests/gate/build $(PROGRAMS))
 	@$(BEFORE)
 	@RT='$(RT)' $(or $(wildcard tests/*/$(CHECK)),$(if $(wildcard tests/*/$(CHECK).py),tests/run $(CHECK)),$(error there is no $(CHECK))) $(WORDS)

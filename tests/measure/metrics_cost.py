@@ -7,7 +7,7 @@ import random
 import shutil
 
 import full_shards
-from hostile_bytes import TOP, append_bytes, segment_bytes, stream_bytes
+from hostile_bytes import TOP, append_bytes, segment_bytes, state_bytes
 from servers import hold, write
 
 SHARDS, CAPACITY, LINES, LOOKS = 16, 67_108_864, 10, 5
@@ -19,7 +19,7 @@ KEY = b"t", b'{a="1"}'
 def segment(shard, least, most):
     """A segment, how many blocks it has, and where the gate is that the last fifteenth of it begins with."""
     chosen = random.Random(shard)
-    payloads, gate = [stream_bytes(2, KEY, 11, (11, b"x"), [(11, b"x")])], 0
+    payloads, gate = [state_bytes(2, KEY, 11, (11, b"x"), [(11, b"x")])], 0
     length = len(segment_bytes(b"2", 1, shard, SHARDS, payloads))
     while True:
         entries = [(11, b"x" * chosen.randint(least, most)) for _ in range(LINES)]

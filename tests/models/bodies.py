@@ -8,7 +8,7 @@ import json
 import math
 import re
 
-MOST_TIME, MOST_COUNT = 2**63 - 1, 2**64 - 1
+MOST_TIME = 2**63 - 1
 MOST_LABELS, MOST_LINE, MOST_ENTRIES = 15, 262_144, 10_000
 # (of a body of more than so many bytes)
 UNCOUNTED, MOST_OBJECTS, MOST_ELEMENTS = 262_144, 30_001, 50_001
@@ -140,11 +140,6 @@ def time_of(text):
     return found if found <= MOST_TIME else None
 
 
-def count_of(text):
-    found = int(text) if re.fullmatch("[0-9]{1,20}", text) else MOST_COUNT + 1
-    return found if found <= MOST_COUNT else None
-
-
 def is_texts(value):
     return isinstance(value, dict) and all(isinstance(it, str) for it in value.values())
 
@@ -184,22 +179,16 @@ def read_push(body):
     return found
 
 
-def read_asked(body, names, numbers=()):
-    """Labels, the times under these names, and the counts under these others, of the body of a read, a trim or an end. It
-    has all counts or none."""
+def read_asked(body, names):
+    """Labels and the times under these names, of the body of a read or a trim."""
     tree = tree_of(body)
-    has_counts = isinstance(tree, dict) and any(it in tree for it in numbers)
-    numbers = numbers if has_counts else []
-    are_there = isinstance(tree, dict) and set(tree) == {"stream", *names, *numbers} and is_texts(tree["stream"])
-    if not are_there or not all(isinstance(tree[it], str) for it in (*names, *numbers)):
-        raise Fault("wrong shape")
-    counts = [count_of(tree[it]) for it in numbers]
-    if None in counts:
+    are_there = isinstance(tree, dict) and set(tree) == {"stream", *names} and is_texts(tree["stream"])
+    if not are_there or not all(isinstance(tree[it], str) for it in names):
         raise Fault("wrong shape")
     times = [time_of(tree[it]) for it in names]
     if None in times:
         raise Fault("bad time at stream 0 entry 0")
-    return pairs_of(tree["stream"]), times, counts
+    return pairs_of(tree["stream"]), times
 
 
 def entries_of(status, text):

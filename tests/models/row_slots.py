@@ -2,16 +2,14 @@
 import collections
 import itertools
 
-from hostile_bytes import APPENDED, APPENDED_OF_1, EXAMPLE, EXAMPLE_OF_1, EXAMPLE_OF_3, LEFT_OF_3, PAIR, PAIRED
-from hostile_bytes import key_bytes, segment_bytes
+from hostile_bytes import APPENDED, APPENDED_OF_1, EXAMPLE, EXAMPLE_OF_1, PAIR, PAIRED, key_bytes, segment_bytes
 from row_files import plain
 
 # what an append of the entry of PAIRED puts after a gate
 APPENDED_PAIR = b"\x27" + APPENDED[83:105] + b"\x0a" + APPENDED[106:117] + b"x" + PAIR + b"\0"
 PIECES = {"segment": EXAMPLE, "frame": APPENDED[82:], "segment_of_1": EXAMPLE_OF_1, "frame_of_1": APPENDED_OF_1[80:],
-          "segment_with_pair": PAIRED, "frame_with_pair": APPENDED_PAIR, "segment_of_3": EXAMPLE_OF_3, "left_of_3": LEFT_OF_3,
-          "removal": LEFT_OF_3[90:117] + b"\0", "end": LEFT_OF_3[118:], "-": b""}
-EXAMPLES = {"example": APPENDED, "example_of_1": APPENDED_OF_1, "example_of_3": LEFT_OF_3}
+          "segment_with_pair": PAIRED, "frame_with_pair": APPENDED_PAIR, "-": b""}
+EXAMPLES = {"example": APPENDED, "example_of_1": APPENDED_OF_1}
 
 
 def slot_of(words, found=b""):

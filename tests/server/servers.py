@@ -27,13 +27,13 @@ import urllib.request
 TOP = os.path.dirname(os.path.dirname(os.path.dirname(os.path.realpath(__file__))))
 sys.path.append(f"{TOP}/tests/models")
 import judges
-from bodies import MOST_COUNT, MOST_TIME, canonical, entries_of, value_of
+from bodies import MOST_TIME, canonical, entries_of, value_of
 from bodies import shard_of as shard_of_key
 from segments import generation_of
 
 SECONDS = 60
 HOUR = judges.HALF_AGE
-PUSH, READ, TRIM, END = "/loki/api/v1/push", "/ingester/v1/read", "/ingester/v1/trim", "/ingester/v1/end"
+PUSH, READ, TRIM = "/loki/api/v1/push", "/ingester/v1/read", "/ingester/v1/trim"
 READY = b"GET /ready HTTP/1.1\r\n\r\n"
 
 
@@ -333,18 +333,6 @@ def read_body(labels, first=0, last=MOST_TIME):
     return {"stream": labels, "from": str(first), "to": str(last)}
 
 
-def take_body(labels, bound, entries, removed):
-    """The body of a trim that counts."""
-    return {"stream": labels, "bound": str(bound), "entries": str(entries), "removed": str(removed)}
-
-
-def removed_in(status, text):
-    """How many entries the answer to a trim that counts says were removed so far: None where there is no stream, the answer
-    itself where it doesn't say."""
-    found = re.fullmatch(rb"removed so far: (\d+)", text)
-    return int(found[1]) if status == 409 and found else None if status == 404 else (status, text)
-
-
 def connect(port, seconds=SECONDS):
     """A connection that sends at once."""
     ends = socket.create_connection(("127.0.0.1", port), seconds)
@@ -430,27 +418,6 @@ class Client(contextlib.AbstractContextManager):
     def trim(self, labels, bound):
         status, text = self.ask(TRIM, {"stream": labels, "bound": str(bound)})
         return status, text.decode()
-
-    def take(self, labels, bound, entries, removed):
-        """Status and text of the answer to a trim that counts."""
-        status, text = self.ask(TRIM, take_body(labels, bound, entries, removed))
-        return status, text.decode()
-
-    def end(self, labels):
-        status, text = self.ask(END, {"stream": labels})
-        return status, text.decode()
-
-    def removed_all(self, streams):
-        """How many entries of each of these streams were removed so far, None of one that is not there. Nothing is removed,
-        since this number is never right."""
-        bodies = (take_body(it, 0, 0, MOST_COUNT) for it in streams)
-        self.ends.sendall(b"".join(request(TRIM, it, self.tenant) for it in bodies))
-        return [removed_in(*self.answer()) for _ in streams]
-
-    def seen_all(self, streams, layout):
-        """What can be seen of each of these streams: its entries, and under layout 3 how many were removed."""
-        removed = self.removed_all(streams) if layout == 3 else [None] * len(streams)
-        return list(zip(self.read_all(streams), removed))
 
 
 def pushed(port, body, tenant="t", seconds=SECONDS):

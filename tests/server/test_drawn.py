@@ -18,7 +18,7 @@ from hypothesis import HealthCheck, given, settings, strategies
 
 NOW, SECONDS = 20, 60
 # the least number of named cases of each kind
-FLOORS = {"segments": 184_000, "bodies": 15_000, "heads": 8_000}
+FLOORS = {"segments": 126_000, "bodies": 15_000, "heads": 8_000}
 DRAWING = settings(max_examples=int(os.environ.get("DRAWN", 100)), derandomize="DRAWN" not in os.environ, deadline=None,
                    database=None, suppress_health_check=list(HealthCheck))
 

@@ -16,9 +16,8 @@ import time
 
 import pytest
 import servers
-from hostile_bytes import APPENDED, EXAMPLE, EXAMPLE_OF_1, EXAMPLE_OF_3
+from hostile_bytes import APPENDED, EXAMPLE, EXAMPLE_OF_1
 from row_files import pieces_of
-from served_life import layout_settings
 
 NOBODY, LONGEST = 65_534, 2**30
 READ = b'{"stream":{"a":"1"},"from":"0","to":"100"}'
@@ -110,13 +109,11 @@ def test_folders(folder, name):
     assert files_of(folder) == before
 
 
-# what slot 1 has; under which layout, and how long, files have to be for a push of one entry behind it; how long they may be
-LENGTHS = [(None, 2, 82, range(86)), (EXAMPLE_OF_1, 2, 96, range(100)),
-           (EXAMPLE, 2, 120, [*range(81, 123), *range(0, 81, 2)]), (None, 3, 90, range(94)), (EXAMPLE, 3, 104, range(108)),
-           (EXAMPLE_OF_3, 3, 128, [*range(89, 131), *range(0, 89, 2)])]
+# what slot 1 has; how long files have to be for a push of one entry behind it; and how long they may be
+LENGTHS = [(None, 82, range(86)), (EXAMPLE_OF_1, 96, range(100)), (EXAMPLE, 120, [*range(81, 123), *range(0, 81, 2)])]
 
 
-def try_length(folder, begun, layout, least, length):
+def try_length(folder, begun, least, length):
     words, body = [folder, "1", "t", "20"], b'{"streams":[{"stream":{"a":"1"},"values":[["11","y"]]}]}'
     before = [b'["10","x"]'] if begun else []
     states = [b'200\n{"values":[%b]}' % b",".join(it) for it in (before, [*before, b'["11","y"]'])]
@@ -124,21 +121,20 @@ def try_length(folder, begun, layout, least, length):
     if begun:
         for slot, data in zip(servers.slots_of(folder), (b"", begun)):
             servers.write(slot, data)
-    run = lambda kind, data, **how: servers.run(["ingestctl", kind, *words], data, env=layout_settings(layout), **how)
-    pushed = run("push", body, preexec_fn=servers.limit_length(length))
+    pushed = servers.run(["ingestctl", "push", *words], body, preexec_fn=servers.limit_length(length))
     assert pushed == ((0, b"204\n", b"") if length >= least else (1, b"503\nstream 0: unavailable\n", b"")), length
-    read = run("read", READ)
+    read = servers.run(["ingestctl", "read", *words], READ)
     assert read[0] == 0 and read[1] in states[length >= least:], length
-    assert run("push", body) == (0, b"204\n", b""), length
-    assert run("read", READ)[1] == states[1], length
+    assert servers.run(["ingestctl", "push", *words], body) == (0, b"204\n", b""), length
+    assert servers.run(["ingestctl", "read", *words], READ)[1] == states[1], length
 
 
 @pytest.mark.by_hand
-@pytest.mark.parametrize("begun, layout, least, lengths", LENGTHS)
-def test_lengths_of_files(folder, begun, layout, least, lengths):
+@pytest.mark.parametrize("begun, least, lengths", LENGTHS)
+def test_lengths_of_files(folder, begun, least, lengths):
     """What was answered is there with room again, and of what wasn't answered all or nothing."""
     with concurrent.futures.ThreadPoolExecutor(4) as pool:
-        list(pool.map(lambda it: try_length(f"{folder}/{it}", begun, layout, least, it), lengths))
+        list(pool.map(lambda it: try_length(f"{folder}/{it}", begun, least, it), lengths))
 
 
 def test_few_descriptors(folder):
@@ -157,24 +153,19 @@ def test_few_descriptors(folder):
 STREAMS = [b'{"a":"%d"}' % it for it in range(1, 5)]
 
 
-def reads_of(folder, shards, layout=2):
-    """What each stream of a folder has, or how a read of it ends; under layout 3 also how many entries were removed, which a
-    trim is answered that counts and is never right."""
-    bodies = [("read", b'{"stream":%s,"from":"0","to":"100"}' % it) for it in STREAMS]
-    if layout == 3:
-        never = b'{"stream":%%s,"bound":"0","entries":"0","removed":"%d"}' % (2**64 - 1)
-        bodies += [("trim", never % it) for it in STREAMS]
-    settings = layout_settings(layout)
-    return [servers.run(["ingestctl", kind, folder, str(shards), "t", "20"], it, env=settings) for kind, it in bodies]
+def reads_of(folder, shards):
+    """What each stream of a folder has, or how a read of it ends."""
+    body = b'{"stream":%s,"from":"0","to":"100"}'
+    return [servers.run(["ingestctl", "read", folder, str(shards), "t", "20"], body % it) for it in STREAMS]
 
 
-def try_call(preload, folder, old, count, layout, at, how):
+def try_call(preload, folder, old, count, at, how):
     """A split whose device call with this number fails, or is its last: the old slots stay byte for byte."""
     before, above = files_of(old), f"{folder}/{at}-{how}"
     # (a slot is locked while it is open)
     old = shutil.copytree(old, f"{above}/old")
     os.mkdir(f"{above}/new")
-    settings = {"LD_PRELOAD": preload, "DEVICE_AT": str(at), "DEVICE_HOW": how, **layout_settings(layout)}
+    settings = {"LD_PRELOAD": preload, "DEVICE_AT": str(at), "DEVICE_HOW": how}
     status, output, errors = servers.run(["walsplit", old, f"{above}/new", str(count)], env=settings)
     assert files_of(old) == before, (at, how)
     is_said = errors.endswith(b": device failed\n") and not output and status in (1, 3)
@@ -186,29 +177,23 @@ def try_call(preload, folder, old, count, layout, at, how):
     shutil.rmtree(above)
 
 
-@pytest.mark.parametrize("shards, count, layout", [(1, 2, 2), (2, 1, 2), (2, 3, 2), (2, 3, 3)])
-def test_splits_whose_device_fails(folder, preload, shards, count, layout):
-    """Each device call of a split in place fails, is stopped, or is torn where it is a write. Under layout 3 one of the
-    streams has no entry left."""
+@pytest.mark.parametrize("shards, count", [(1, 2), (2, 1), (2, 3)])
+def test_splits_whose_device_fails(folder, preload, shards, count):
+    """Each device call of a split in place fails, is stopped, or is torn where it is a write."""
     old, new, counted = f"{folder}/old", f"{folder}/new", f"{folder}/count"
     os.mkdir(new)
     for number, stream in enumerate(STREAMS):
         body = b'{"streams":[{"stream":%s,"values":[["%d","x"]]}]}' % (stream, 10 + number)
-        ended = servers.run(["ingestctl", "push", old, str(shards), "t", "20"], body, env=layout_settings(layout))
-        assert ended[0] == 0
-    if layout == 3:
-        body = b'{"stream":%s,"bound":"11","entries":"1","removed":"0"}' % STREAMS[0]
-        ended = servers.run(["ingestctl", "trim", old, str(shards), "t", "20"], body, env=layout_settings(3))
-        assert ended == (0, b'200\n{"trimmed":1}', b"")
-    reads, settings = reads_of(old, shards, layout), {"LD_PRELOAD": preload, "DEVICE_COUNT_TO": counted}
-    ended = servers.run(["walsplit", old, new, str(count)], env={**settings, **layout_settings(layout)})
-    assert ended == (0, b"split %d to %d\n" % (shards, count), b"") and reads_of(new, count, layout) == reads
+        assert servers.run(["ingestctl", "push", old, str(shards), "t", "20"], body)[0] == 0
+    reads, settings = reads_of(old, shards), {"LD_PRELOAD": preload, "DEVICE_COUNT_TO": counted}
+    ended = servers.run(["walsplit", old, new, str(count)], env=settings)
+    assert ended == (0, b"split %d to %d\n" % (shards, count), b"") and reads_of(new, count) == reads
     calls = int(servers.bytes_of(counted))
     assert calls >= 20
     cases = itertools.product(range(1, calls + 1), ("fail", "stop", "torn"))
     with concurrent.futures.ThreadPoolExecutor(4) as pool:
-        list(pool.map(lambda it: try_call(preload, folder, old, count, layout, *it), cases))
-    assert reads_of(old, shards, layout) == reads
+        list(pool.map(lambda it: try_call(preload, folder, old, count, *it), cases))
+    assert reads_of(old, shards) == reads
 
 
 def traced(old, new, count, *words):

@@ -49,21 +49,20 @@ def judge_texts(steps):
             yield [metadata_said(pairs)], wanted
 
 
-PATHS = {"push": judges.PUSH, "read": judges.READ, "trim": judges.TRIM, "end": judges.END}
+PATHS = {"push": b"/loki/api/v1/push", "read": b"/ingester/v1/read", "trim": b"/ingester/v1/trim"}
 
 
-def said_by(program, words, data, folders, layout=2):
-    """What a program's judge says of a slot or a body; None where it doesn't know the words. `folders` has what calls wrote
-    to each folder, and is None where something else did."""
+def said_by(program, words, data, folders):
+    """What a program's judge says of a slot or a body; None where it doesn't know the words."""
     if program == "walcat" and re.fullmatch(r"\S+ \d+ [1-9]\d?", words):
         shard, count = map(int, words.split(" ")[1:])
         return run_shown(*judges.walcat(data, shard, count)) if shard < count <= 64 else None
     if program == "ingest1" and re.fullmatch(r"\d{1,18}", words):
         return run_shown(*judges.ingest1(int(words), data))
-    if program == "ingestctl" and folders is not None and re.fullmatch(r"(push|read|trim|end) \S+ 1 \w+ \d+", words):
+    if program == "ingestctl" and re.fullmatch(r"(push|read|trim) \S+ 1 \w+ \d+", words):
         kind, folder, _, tenant, now = words.split(" ")
         calls = folders.setdefault(folder, judges.Calls())
-        calls.now, calls.layout = int(now), layout
+        calls.now = int(now)
         status, text = calls(PATHS[kind], tenant, data)
         return run_shown(int(status not in (200, 204)), f"{status}\n{text}".encode(), b"")
     return None
@@ -71,20 +70,15 @@ def said_by(program, words, data, folders, layout=2):
 
 def judge_programs(steps):
     """What the judges say of a row of programs. A folder is known that only calls have written to."""
-    it, folders, is_known, layout = Bytes(judges.walcat), {}, True, 2
+    it, folders, is_known = Bytes(judges.walcat), {}, True
     for line, wanted in steps:
         word, _, rest = line.partition(" ")
         if word == "next":
             it, is_known = Bytes(judges.walcat), True
             continue
-        if line.startswith("setting LAYOUT"):
-            layout = int(rest.removeprefix("LAYOUT") or 2)
-            continue
-        if word in ("folder", "file", "alone", "capacity", "setting"):
-            folders = None
         if not is_known:
             continue
-        if said := said_by(word, rest, it.data, folders, layout) or it.said(word, rest):
+        if said := said_by(word, rest, it.data, folders) or it.said(word, rest):
             yield said, wanted
         elif word == "each" and rest.startswith("cut 0 "):
             # (what is said of all beginnings is the same)
@@ -118,7 +112,7 @@ def judge_connections(steps):
 
 KINDS = {"crates/cases/data/labels.txt": judge_texts,
          **{f"tests/rows/programs/{it}.txt": judge_programs
-            for it in ("segments", "labels", "bodies", "walcat", "ingest1", "leaving")},
+            for it in ("segments", "labels", "bodies", "walcat", "ingest1")},
          **{f"crates/conformance/data/{it}.txt": judge_connections
             for it in ("heads", "connections", "pushes", "reads", "requests")}}
 

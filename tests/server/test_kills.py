@@ -14,7 +14,7 @@ CYCLES_OF_A_FOLDER = 10
 
 
 def test_kills_under_load():
-    """Six clients push, read, trim and end over a connection each while the server is killed, CYCLES times (5). What is read
+    """Six clients push, read and trim over a connection each while the server is killed, CYCLES times (5). What is read
     back is what was answered, each line once and in its order, and of each stream at most the one call under way."""
     seed, counts = random.randrange(2**32), collections.Counter()
     for first in range(0, CYCLES, CYCLES_OF_A_FOLDER):
@@ -28,7 +28,6 @@ def test_kills_under_load():
             counts.update(life.counts, rolls=sum(max(it - 1, 0) for it in life.generations(folder)))
     print(f"seed {seed}:", ", ".join(f"{count:,} {name}" for name, count in counts.items()))
     assert counts["kills"] == CYCLES and counts["pushes"] > 0
-    assert counts["takes"] > 0 or counts["served under layout 3"] <= 3
 
 
 @pytest.mark.parametrize("moment", [None, 0.1, 0.3, 0.6])

@@ -7,7 +7,7 @@ import time
 import pytest
 import servers
 from crash_images import notes_of
-from hostile_bytes import append_bytes, key_bytes, segment_bytes, stream_bytes
+from hostile_bytes import append_bytes, key_bytes, segment_bytes, state_bytes
 from servers import lines_from
 
 MEGABYTE, MOST_LINE, CAPACITY = 1 << 20, 262_144, "NEEDLEAZURE_CAPACITY"
@@ -28,7 +28,7 @@ def test_a_long_roll(serve, folder, preload, length):
     labels = sorted(({"a": str(it)} for it in range(4)), key=servers.text_of)
     lines = lines_from(now, count // 4 + 1, 250_000)
     stored = [(at, line.encode()) for at, line, _ in lines]
-    states = [stream_bytes(1, (b"t", servers.text_of(it)), stored[-1][0], stored[-1], stored) for it in labels]
+    states = [state_bytes(1, (b"t", servers.text_of(it)), stored[-1][0], stored[-1], stored) for it in labels]
     os.mkdir(f"{folder}/log")
     servers.write(f"{folder}/log/shard-00-0.wal", b"")
     servers.write(f"{folder}/log/shard-00-1.wal", segment_bytes(b"1", 1, 0, 1, [b"".join(states)]))
@@ -51,7 +51,7 @@ def write_long_slot(path, length, key, now):
     """Writes a segment of this length and more to a file with holes: lines of zeros, of which each block's are trimmed
     by the next. Returns the time of its last line."""
     zeros, each = bytes(MOST_LINE), 15
-    first = stream_bytes(2, key, now, (now, b"x"), [(now, b"x")])
+    first = state_bytes(2, key, now, (now, b"x"), [(now, b"x")])
     with open(path, "wb") as file:
         file.write(segment_bytes(b"2", 1, 0, 1, [first], b""))
         while file.tell() < length:

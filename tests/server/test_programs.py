@@ -227,7 +227,7 @@ def programs(folder):
 
 
 def test_number_of_rows():
-    assert sum(map(len, ROWS.values())) == 515
+    assert sum(map(len, ROWS.values())) == 446
 
 
 @pytest.mark.parametrize("name", ROWS)

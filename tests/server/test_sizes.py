@@ -4,7 +4,7 @@ import time
 
 import servers
 from servers import lines_from
-from hostile_bytes import segment_bytes, stream_bytes
+from hostile_bytes import segment_bytes, state_bytes
 
 MOST_BODY, MOST_LINE, MINUTE = 4_194_304, 262_144, 60 * 10**9
 # (each large piece of memory is a map of its own, which goes when it is freed)
@@ -49,7 +49,7 @@ def test_a_start_over_a_block_above_100_mb(serve, folder):
     now, streams, count = time.time_ns(), 35, 12
     labels = sorted(({"a": str(it)} for it in range(streams)), key=servers.text_of)
     lines = [(now + at, b"x" * MOST_LINE) for at in range(count)]
-    states = [stream_bytes(2, (b"t", servers.text_of(it)), lines[-1][0], lines[-1], lines) for it in labels]
+    states = [state_bytes(2, (b"t", servers.text_of(it)), lines[-1][0], lines[-1], lines) for it in labels]
     os.mkdir(f"{folder}/log")
     for slot, data in zip(servers.slots_of(f"{folder}/log"), (b"", segment_bytes(b"2", 1, 0, 1, [b"".join(states)]))):
         servers.write(slot, data)

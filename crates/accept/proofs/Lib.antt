@@ -7,10 +7,8 @@ pub mod Meanings
 pub mod Maps
 pub mod Unchanged
 pub mod Legal
-pub mod Stepping
 pub mod Bounds
 pub mod Lasting
-pub mod Taken
 pub mod Wholes
 pub mod RoomLaws
 pub mod OtherKeys

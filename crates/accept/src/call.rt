@@ -34,21 +34,6 @@ pub enum Call {
         key: StreamKey,
         bound: u64,
     },
-    /// Removes the kept entries with `time < bound`, if they are `count`, and `removed` were removed before. The bound
-    /// is at most one more than the stream's highest time.
-    Take {
-        key: StreamKey,
-        bound: u64,
-        count: u64,
-        removed: u64,
-    },
-    /// Forgets a stream without kept entries, if its highest time is further before the clock than half of the age and
-    /// the grace together.
-    End {
-        key: StreamKey,
-        /// What the clock says: below `END_OF_TIME`.
-        now: u64,
-    },
 }
 
 /// What is answered to a call.
@@ -58,28 +43,12 @@ pub enum Reply {
     Verdict(OutcomeList),
     /// To a read: the entries in rising time, those of equal time in the order of storing.
     Entries(EntryList),
-    /// To a trim under version 2 of the layout: how many entries were removed.
+    /// To a trim: how many entries were removed.
     Trimmed(u64),
-    /// To a trim under version 3, also to one that counts: how many entries were removed. They are counted.
-    Removed(u64),
     /// To a trim whose bound is above the oldest time that the stream accepts: nothing was removed.
     TrimTooNew,
-    /// To a trim or an end of a key without a stream.
+    /// To a trim of a key that never had an entry.
     NoStream,
-    /// To a trim that counts, with a bound more than one above the highest time of the stream: nothing was removed.
-    BoundTooNew,
-    /// To a trim that counts: how many entries were removed so far. Nothing was removed.
-    OtherRemoved(u64),
-    /// To a trim that counts: how many entries there are below the bound. Nothing was removed.
-    OtherCount(u64),
-    /// To an end: the stream is forgotten.
-    Ended,
-    /// To an end of a stream with kept entries.
-    HasEntries,
-    /// To an end of a stream whose highest time is not old.
-    NotOld,
-    /// To a trim that counts and to an end under version 2 of the layout, which holds neither.
-    NotCounted,
     /// The state after the call would not fit into the log's capacity: nothing changed.
     NoRoom,
     /// The shard's log failed: nothing is answered until it is opened again.
@@ -96,11 +65,7 @@ impl Call {
         ensures { result.now ≡ key_of self.now }
     {
         match self {
-            Call::Push { key, .. }
-            | Call::Read { key, .. }
-            | Call::Trim { key, .. }
-            | Call::Take { key, .. }
-            | Call::End { key, .. } => key,
+            Call::Push { key, .. } | Call::Read { key, .. } | Call::Trim { key, .. } => key,
         }
     }
 
@@ -123,21 +88,6 @@ impl Call {
                 key: key.clone()?,
                 bound: *bound,
             },
-            Call::Take {
-                key,
-                bound,
-                count,
-                removed,
-            } => Call::Take {
-                key: key.clone()?,
-                bound: *bound,
-                count: *count,
-                removed: *removed,
-            },
-            Call::End { key, now } => Call::End {
-                key: key.clone()?,
-                now: *now,
-            },
         })
     }
 
@@ -152,8 +102,7 @@ impl Call {
                     && entries.iter().all(|entry| is_time(entry.time))
                     && entries.len() <= MAX_ENTRIES
             }
-            Call::Read { .. } | Call::Trim { .. } | Call::Take { .. } => true,
-            Call::End { now, .. } => is_time(*now),
+            Call::Read { .. } | Call::Trim { .. } => true,
         }
     }
 }

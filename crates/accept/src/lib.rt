@@ -21,11 +21,10 @@ pub use laws::{
     entries_come_from_batches, equal_meanings_answer_alike, last_was_stored, legal_histories,
     limits_of_profile, map_stands_for_history, meaning_is_by_key, other_keys_are_no_matter,
     push_as_if_nothing_removed, reads_are_by_time, refusals_change_nothing, room_of_change,
-    room_of_stream, stored_until_taken, taken_is_what_was_read, whole_streams,
-    without_takes_by_bounds,
+    room_of_stream, stored_until_taken, whole_streams, without_takes_by_bounds,
 };
-pub use limits::{Layout, Limits};
+pub use limits::Limits;
 pub use outcome::{Outcome, OutcomeList};
 pub use pairs::Meta;
-pub use refusal::{EndRefusal, TakeRefusal, TrimRefusal};
+pub use refusal::TrimRefusal;
 pub use stream::StreamState;

@@ -41,9 +41,9 @@ unread Push now body = (Err Memory, tt, refl)
 unread route now body = (Err Memory, tt, refl)
 
 -- the labels of the one stream are no key, or there was no memory for one
-pub uncalled : (route : Route) (now : ℕ) (tenant body : List ℕ) (asked : Asked) (why : Uncalled) → AsksFor route now body (Ok (asked ∷ [])) → IsUncalled asked.pairs why → AsksForCall route now tenant body (Err why)
-uncalled route now tenant body asked (Body fault) asks memory = subst (λ f. AsksFor route now body (Err f)) (sym memory) (unread route now body)
-uncalled route now tenant body asked (Labels fault) asks is = (asked, asks, is)
+pub uncalled : (route : Route) (tenant body : List ℕ) (asked : Asked) (why : Uncalled) → ((now : ℕ) → AsksFor route now body (Ok (asked ∷ []))) → IsUncalled asked.pairs why → AsksForCall route tenant body (Err why)
+uncalled route tenant body asked (Body fault) asks memory = λ now. subst (λ f. AsksFor route now body (Err f)) (sym memory) (unread route now body)
+uncalled route tenant body asked (Labels fault) asks is = (asked, asks, is)
 
 says_one : (route : Route) → IsOfOne route → (came : Came) → one_text came ≢ [] → said_of route 0 came ≢ []
 says_one Push never came said = absurd never
@@ -58,7 +58,7 @@ module _ {H : Type 0} (gives : Giving H) (now : ℕ) (tenant body : List ℕ) wh
   pub unsaid : (route : Route) (h : H) → RequestIsUnsaid gives route now tenant body h h
   unsaid route h = (Unread Memory, record { asked = Err Memory; asks = unread route now body; goes = (refl, refl) }, refl, refl)
 
-  -- a read, a trim or an end: its one stream came to an answer, or there was no memory for one, or its call failed
+  -- a read or a trim: its one stream came to an answer, or there was no memory for one, or its call failed
   module _ (route : Route) (single : IsOfOne route) (h h' : H) (asked : Asked) (asks : AsksFor route now body (Ok (asked ∷ []))) where
     told : (came : Came) (result : Result Answer NoAnswer) → StreamGives gives tenant false h asked came h' → CameIsTold came result → RequestEnds gives route now tenant body h result h'
     told (cames.Failed failure) (Err (Failed same)) given e = (
@@ -92,13 +92,13 @@ module _ {H : Type 0} (gives : Giving H) (now : ℕ) (tenant body : List ℕ) wh
   pub nothing : (route : Route) (h : H) (why : Uncalled) (result : Result Answer NoAnswer) → IsDemand route now tenant body (demands.Nothing why) → UncalledIsAnswered why result → RequestEnds gives route now tenant body h result h
   nothing Push h (Body fault) result asks is = refused Push h fault result asks is
   nothing Push h (Labels fault) result never is = absurd never
-  nothing route h (Body fault) result asks is = refused route h fault result asks is
-  nothing route h (Labels fault) result (asked, asks, why) is = told route tt h h asked asks (cames.Refused fault) result (why, refl) is
+  nothing route h (Body fault) result asks is = refused route h fault result (asks now) is
+  nothing route h (Labels fault) result (asked, asks, why) is = told route tt h h asked (asks now) (cames.Refused fault) result (why, refl) is
 
-  -- a read, a trim or an end was made
+  -- a read or a trim was made
   pub one_made : (route : Route) (h h' : H) (call : Call) (outcome : Result Reply CallFault) (result : Result Answer NoAnswer) → IsDemand route now tenant body (demands.One call) → gives false h call outcome h' → CameIsTold (came_of outcome) result → RequestEnds gives route now tenant body h result h'
   one_made Push h h' call outcome result never given shows = absurd never
-  one_made route h h' call outcome result (asked, asks, is) given shows = told route tt h h' asked asks (came_of outcome) result (came_given gives tenant false h h' asked call outcome is given) shows
+  one_made route h h' call outcome result (asked, asks, is) given shows = told route tt h h' asked (asks now) (came_of outcome) result (came_given gives tenant false h h' asked call outcome is given) shows
 
   -- a push was, or there was no memory for it
   pub push_made : (route : Route) (h h' : H) (streams : Streams) (result : Result Answer NoAnswer) → IsDemand route now tenant body (demands.Streams streams)

@@ -1,5 +1,5 @@
 -- What the body of a request asks for, stream by stream.
-use Rattle.std.specs.Prelude.{◌≡◌, ℕ, List, [], ◌∷◌, map, Result, Ok, Err, Option, None, Some, Vec}
+use Rattle.std.specs.Prelude.{◌≡◌, ℕ, List, [], ◌∷◌, map, Result, Ok, Err, None, Vec}
 use Rattle.std.specs.declared.alloc.Global.{Global}
 use Rattle.pairs.specs.Labels.{Label}
 use Rattle.labels.specs.Canonical.{IsTextOf}
@@ -9,15 +9,13 @@ use Rattle.accept.specs.Calls.{AreNumbers}
 use Rattle.accept.specs.declared.call.Call.{Call}
 use Rattle.accept.specs.declared.call.Call.TheVariants as calls
 use Rattle.pushjson.specs.Reads.{ReadsPush}
-use Rattle.pushjson.specs.Queries.{ReadsQuery, ReadsTrim, ReadsEnd}
+use Rattle.pushjson.specs.Queries.{ReadsQuery, ReadsTrim}
 use Rattle.pushjson.specs.declared.push.RawBatch.{RawBatch}
 use Rattle.pushjson.specs.declared.query.RawRead.{RawRead}
 use Rattle.pushjson.specs.declared.query.RawTrim.{RawTrim}
-use Rattle.pushjson.specs.declared.query.RawEnd.{RawEnd}
-use Rattle.pushjson.specs.declared.query.Counts.{Counts}
 use Rattle.pushjson.specs.declared.fault.PushFault.{PushFault}
 use Rattle.requests.specs.declared.route.Route.{Route}
-use Rattle.requests.specs.declared.route.Route.TheVariants.{Push, Read, Trim, End}
+use Rattle.requests.specs.declared.route.Route.TheVariants.{Push, Read, Trim}
 
 -- a stream by its labels, not yet tested, and the call that is asked for on its key
 pub record Asked : Type 0 where
@@ -30,16 +28,8 @@ asked_push now b = record { pairs = b.pairs; call_on = λ key. calls.Push key no
 abbrev pub asked_read : RawRead → Asked
 asked_read r = record { pairs = r.pairs; call_on = λ key. calls.Read key r.from r.to }
 
--- the call of a trim with this bound, by its numbers where it counts
-abbrev pub trim_call : StreamKey → ℕ → Option Counts → Call
-trim_call key bound None = calls.Trim key bound
-trim_call key bound (Some counts) = calls.Take key bound counts.entries counts.removed
-
 abbrev pub asked_trim : RawTrim → Asked
-asked_trim t = record { pairs = t.pairs; call_on = λ key. trim_call key t.bound t.counts }
-
-abbrev pub asked_end : ℕ → RawEnd → Asked
-asked_end now e = record { pairs = e.pairs; call_on = λ key. calls.End key now }
+asked_trim t = record { pairs = t.pairs; call_on = λ key. calls.Trim key t.bound }
 
 abbrev pub pushes_of : ℕ → Result (Vec RawBatch Global) PushFault → Result (List Asked) PushFault
 pushes_of now (Ok batches) = Ok (map (asked_push now) batches.items)
@@ -53,10 +43,6 @@ abbrev pub trims_of : Result RawTrim PushFault → Result (List Asked) PushFault
 trims_of (Ok t) = Ok (asked_trim t ∷ [])
 trims_of (Err fault) = Err fault
 
-abbrev pub ends_of : ℕ → Result RawEnd PushFault → Result (List Asked) PushFault
-ends_of now (Ok e) = Ok (asked_end now e ∷ [])
-ends_of now (Err fault) = Err fault
-
 -- what a body asks for at a route, stream by stream in its order, or why it is refused
 abbrev pub AsksFor : Route → ℕ → List ℕ → Result (List Asked) PushFault → Type 0
 AsksFor Push now body asked = (read : Result (Vec RawBatch Global) PushFault) × ReadsPush body read
@@ -65,8 +51,6 @@ AsksFor Read now body asked = (read : Result RawRead PushFault) × ReadsQuery bo
     × (asked ≡ reads_of read)
 AsksFor Trim now body asked = (read : Result RawTrim PushFault) × ReadsTrim body read
     × (asked ≡ trims_of read)
-AsksFor End now body asked = (read : Result RawEnd PushFault) × ReadsEnd body read
-    × (asked ≡ ends_of now read)
 
 -- the call of a stream, whose labels are lawful
 pub record IsCallOf (tenant : List ℕ) (asked : Asked) (call : Call) : Type 0 where

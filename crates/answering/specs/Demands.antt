@@ -27,11 +27,11 @@ calls_asked (Nothing why) = []
 calls_asked (One call) = call ∷ []
 calls_asked (Streams streams) = streams.calls.items
 
--- the body of a read, a trim or an end asks for it
-abbrev pub IsDemandOfOne : Route → ℕ → List ℕ → List ℕ → Demand → Type 0
-IsDemandOfOne route now tenant body (Nothing why) = AsksForCall route now tenant body (Err why)
-IsDemandOfOne route now tenant body (One call) = AsksForCall route now tenant body (Ok call)
-IsDemandOfOne route now tenant body (Streams streams) = ⊥
+-- the body of a read or a trim asks for it
+abbrev pub IsDemandOfOne : Route → List ℕ → List ℕ → Demand → Type 0
+IsDemandOfOne route tenant body (Nothing why) = AsksForCall route tenant body (Err why)
+IsDemandOfOne route tenant body (One call) = AsksForCall route tenant body (Ok call)
+IsDemandOfOne route tenant body (Streams streams) = ⊥
 
 -- the body of a push does
 abbrev pub IsDemandOfPush : ℕ → List ℕ → List ℕ → Demand → Type 0
@@ -43,7 +43,7 @@ IsDemandOfPush now tenant body demand = ⊥
 -- the body asks for it at this route
 abbrev pub IsDemand : Route → ℕ → List ℕ → List ℕ → Demand → Type 0
 IsDemand Push now tenant body demand = IsDemandOfPush now tenant body demand
-IsDemand route now tenant body demand = IsDemandOfOne route now tenant body demand
+IsDemand route now tenant body demand = IsDemandOfOne route tenant body demand
 
 -- the answer to a push, by what came of the calls of its streams
 abbrev pub StreamsAreTold : List (Option LabelFault) → List (Result Reply CallFault)

@@ -28,7 +28,7 @@ BodyIsRefused fault (Ok answer) = (fault_failure fault ≡ None)
 BodyIsRefused fault (Err (Failed failure)) = fault_failure fault ≡ Some failure
 BodyIsRefused fault (Err GivenUp) = fault_failure fault ≡ None
 
--- the answer to a read, a trim or an end, by what came of its stream
+-- the answer to a read or a trim, by what came of its stream
 abbrev pub CameIsTold : Came → Result Answer NoAnswer → Type 0
 CameIsTold (cames.Failed failure) (Err (Failed told)) = told ≡ failure
 CameIsTold (cames.Failed failure) result = ⊥
@@ -52,12 +52,13 @@ IsUncalled pairs (Body fault) = fault ≡ Memory
 IsUncalled pairs (Labels fault) = first_fault pairs ≡ Some fault
 
 -- the body asks for this one call, or there is none
-abbrev pub AsksForCall : Route → ℕ → List ℕ → List ℕ → Result Call Uncalled → Type 0
-AsksForCall route now tenant body (Ok call) = (asked : Asked)
-    × AsksFor route now body (Ok (asked ∷ [])) × IsCallOf tenant asked call
-AsksForCall route now tenant body (Err (Body fault)) = AsksFor route now body (Err fault)
-AsksForCall route now tenant body (Err (Labels fault)) = (asked : Asked)
-    × AsksFor route now body (Ok (asked ∷ [])) × (first_fault asked.pairs ≡ Some fault)
+abbrev pub AsksForCall : Route → List ℕ → List ℕ → Result Call Uncalled → Type 0
+AsksForCall route tenant body (Ok call) = (asked : Asked)
+    × ((now : ℕ) → AsksFor route now body (Ok (asked ∷ []))) × IsCallOf tenant asked call
+AsksForCall route tenant body (Err (Body fault)) = (now : ℕ) → AsksFor route now body (Err fault)
+AsksForCall route tenant body (Err (Labels fault)) = (asked : Asked)
+    × ((now : ℕ) → AsksFor route now body (Ok (asked ∷ [])))
+    × (first_fault asked.pairs ≡ Some fault)
 
 module _ {H : Type 0} (gives : Giving H) (tenant : List ℕ) where
   -- the streams of a push

@@ -37,7 +37,7 @@ abbrev pub fault_status : PushFault → Status
 fault_status Memory = statuses.InternalServerError
 fault_status fault = statuses.BadRequest
 
--- the status and the text where this came of the streams of a push, or of the one of another request
+-- the status and the text where this came of the streams of a push, or of the one of a read or a trim
 abbrev pub single_status : List Came → Status
 single_status (c ∷ []) = one_status c
 single_status cames = push_status cames
@@ -71,7 +71,7 @@ failure_in (Unread fault) = fault_failure fault
 failure_in (Whole cames) = None
 failure_in (Broken cames failure) = Some failure
 
--- JSON is what a read, a trim and an end answer with 200, and a push has no 200
+-- JSON is what a read and a trim answer with 200, and a push has no 200
 abbrev pub content_for : Status → Content
 content_for status = if code_of status == 200 then Json else Text
 

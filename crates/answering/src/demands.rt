@@ -8,7 +8,7 @@ ghost use Rattle.answering.specs.Demands.{IsDemand, IsDemandOfOne, StreamsAreTol
 ghost use Rattle.answering.specs.Parts.{AsksForCall, CameIsTold};
 ghost use Rattle.answering.specs.Windows.{called, came_of};
 
-use crate::calling::{Uncalled, call_of_end, call_of_read, call_of_trim};
+use crate::calling::{Uncalled, call_of_read, call_of_trim};
 use crate::lines::PushLines;
 use crate::replies::answer_of_reply;
 use crate::responding::{NoAnswer, RequestBody};
@@ -24,7 +24,7 @@ use std::collections::VecDeque;
 pub(crate) enum Demand {
     /// No call, and why.
     Nothing(Uncalled),
-    /// The call of a read, a trim or an end.
+    /// The call of a read or a trim.
     One(Call),
     /// The streams of a push.
     Streams(Streams),
@@ -35,7 +35,7 @@ pub(crate) enum Demand {
 pub(crate) enum Waiting {
     /// No call, and why.
     Nothing(Uncalled),
-    /// The call of a read, a trim or an end.
+    /// The call of a read or a trim.
     One,
     /// The streams of a push.
     Streams(TakenStreams),
@@ -55,16 +55,13 @@ pub(crate) fn demand_of(alloc: Global, request: &RequestBody<'_>) -> Demand
         },
         Route::Read => demand_of_one(call_of_read(alloc, request.tenant, request.body)),
         Route::Trim => demand_of_one(call_of_trim(alloc, request.tenant, request.body)),
-        Route::End => {
-            demand_of_one(call_of_end(alloc, request.tenant, request.body, request.time))
-        }
     }
 }
 
 fn demand_of_one(asked: Result<Call, Uncalled>) -> Demand
     requires numbers { IfOk asked (λ call. AreNumbers call) }
-    ensures asks { (route : Route) (now : ℕ) (tenant body : List ℕ)
-        → AsksForCall route now tenant body asked → IsDemandOfOne route now tenant body result }
+    ensures asks { (route : Route) (tenant body : List ℕ) → AsksForCall route tenant body asked
+        → IsDemandOfOne route tenant body result }
     ensures numbers { All AreNumbers (calls_asked result) }
 {
     match asked {
@@ -73,7 +70,7 @@ fn demand_of_one(asked: Result<Call, Uncalled>) -> Demand
     }
 }
 
-/// The answer to a read, a trim or an end, of whose call this came.
+/// The answer to a read or a trim, of whose call this came.
 pub(crate) fn answer_of_one(
     alloc: Global,
     outcome: Result<Reply, CallFault>,

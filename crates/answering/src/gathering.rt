@@ -118,7 +118,7 @@ impl Window {
         places <= MAX_WINDOW - count && self.outcomes.reserve(count + places).is_ok()
     }
 
-    // Takes in the call of a read, a trim or an end after the others. One for which there is no room comes back.
+    // Takes in the call of a read or a trim after the others. One for which there is no room comes back.
     fn take_call(&mut self, call: Call) -> Result<Waiting, Demand>
         ensures ok { IfOk result (λ waiting. WaitsFor (Demand.One call) waiting
             × (self.new.calls.items ≡ self.old.calls.items ++ call ∷ [])) }

@@ -115,7 +115,7 @@ fn push_reply(text: &mut Vec<u8>, stream: usize, reply: &Reply) -> Result<(), Al
         Reply::Verdict(outcomes) => push_outcomes(text, stream, outcomes.as_slice()),
         Reply::NoRoom => push_stream_line(text, stream, b"no room"),
         Reply::Unavailable => push_stream_line(text, stream, b"unavailable"),
-        _ => Ok(()),
+        Reply::Entries(_) | Reply::Trimmed(_) | Reply::TrimTooNew | Reply::NoStream => Ok(()),
     }
 }
 

@@ -1,4 +1,4 @@
-//! The answers to reads, trims and ends, and what a reply to any call is answered by.
+//! The answers to reads and trims, and what a reply to any call is answered by.
 ghost use Rattle.std.specs.Prelude.{◌≡◌, ◌≢◌, ◌∷◌, ◌++◌, [], IfOk, IfErr, OnOk, OnErr, map};
 ghost use Rattle.json.specs.Token.{Token as SpecToken};
 ghost use Rattle.json.specs.Tree.{json_tokens, items_tokens, members_tokens};
@@ -8,7 +8,7 @@ ghost use Rattle.pairs.specs.Labels.{label_of};
 ghost use Rattle.pushjson.specs.Bodies.{labels_tree};
 ghost use Rattle.answering.specs.Calls.{Refused, Replied};
 ghost use Rattle.answering.specs.Lines.{push_status, lines_from};
-ghost use Rattle.answering.specs.Replies.{meta_tree, entry_tree, read_tree, trimmed_text, removed_so_far_text, count_text, one_status, one_text};
+ghost use Rattle.answering.specs.Replies.{meta_tree, entry_tree, read_tree, trimmed_text, one_status, one_text};
 ghost use Rattle.answering.specs.Showing.{IsShown};
 
 use crate::lines::PushLines;
@@ -38,7 +38,7 @@ pub fn answer_of_read(alloc: Global, reply: Reply) -> Result<Answer, ServeFault>
     Ok(answer_of_reply(alloc, reply)?)
 }
 
-/// The answer to a read, a trim or an end that got this reply.
+/// The answer to a read or a trim that got this reply.
 pub(crate) fn answer_of_reply(alloc: Global, reply: Reply) -> Result<Answer, AllocError>
     ensures shows { IfOk result (λ answer.
         IsShown (one_status (Replied reply)) (one_text (Replied reply)) answer) }
@@ -46,35 +46,20 @@ pub(crate) fn answer_of_reply(alloc: Global, reply: Reply) -> Result<Answer, All
 {
     match reply {
         Reply::Entries(entries) => answer_of_entries(alloc, entries),
-        Reply::Trimmed(count) | Reply::Removed(count) => answer_of_trimmed(alloc, count),
-        Reply::OtherRemoved(count) => answer_of_removed(alloc, count),
-        Reply::OtherCount(count) => answer_of_count(alloc, count),
-        Reply::Verdict(outcomes) => answer_of_lines(alloc, &Reply::Verdict(outcomes)),
-        Reply::NoRoom => answer_of_lines(alloc, &Reply::NoRoom),
-        Reply::Unavailable => answer_of_lines(alloc, &Reply::Unavailable),
+        Reply::Trimmed(count) => answer_of_trimmed(alloc, count),
         Reply::TrimTooNew => answer_of_text(
             alloc,
             Status::BadRequest,
             b"trim bound is above the oldest accepted time",
         ),
         Reply::NoStream => answer_of_text(alloc, Status::NotFound, b"no such stream"),
-        Reply::BoundTooNew => answer_of_text(
-            alloc,
-            Status::BadRequest,
-            b"bound is more than one above the highest time",
-        ),
-        Reply::Ended => answer_of_text(alloc, Status::Ok, b"{\"ended\":true}"),
-        Reply::HasEntries => answer_of_text(alloc, Status::Conflict, b"stream has entries"),
-        Reply::NotOld => answer_of_text(alloc, Status::Conflict, b"stream is not old enough"),
-        Reply::NotCounted => answer_of_text(
-            alloc,
-            Status::NotImplemented,
-            b"counted trims and ends need NEEDLEAZURE_LAYOUT=3",
-        ),
+        Reply::Verdict(outcomes) => answer_of_lines(alloc, &Reply::Verdict(outcomes)),
+        Reply::NoRoom => answer_of_lines(alloc, &Reply::NoRoom),
+        Reply::Unavailable => answer_of_lines(alloc, &Reply::Unavailable),
     }
 }
 
-/// The answer to a read, a trim or an end of whose stream the labels are refused.
+/// The answer to a read or a trim of whose stream the labels are refused.
 pub(crate) fn answer_of_refusal(alloc: Global, fault: LabelFault) -> Result<Answer, AllocError>
     ensures shows { IfOk result (λ answer.
         IsShown (push_status (Refused fault ∷ [])) (lines_from 0 (Refused fault ∷ [])) answer) }
@@ -107,34 +92,6 @@ fn answer_of_trimmed(alloc: Global, count: u64) -> Result<Answer, AllocError>
     body.extend_from_slice(b"}")?;
     Ok(Answer {
         status: Status::Ok,
-        body,
-    })
-}
-
-#[tactic(auto, unfolding(crate::specs::Replies::removed_so_far_text))]
-fn answer_of_removed(alloc: Global, count: u64) -> Result<Answer, AllocError>
-    ensures shows { IfOk result (λ answer. IsShown Status.Conflict (removed_so_far_text count) answer) }
-    ensures said { OnErr result (removed_so_far_text count ≢ []) }
-{
-    let mut body = Vec::new(alloc);
-    body.extend_from_slice(b"removed so far: ")?;
-    push_number(&mut body, count)?;
-    Ok(Answer {
-        status: Status::Conflict,
-        body,
-    })
-}
-
-#[tactic(auto, unfolding(crate::specs::Replies::count_text))]
-fn answer_of_count(alloc: Global, count: u64) -> Result<Answer, AllocError>
-    ensures shows { IfOk result (λ answer. IsShown Status.Conflict (count_text count) answer) }
-    ensures said { OnErr result (count_text count ≢ []) }
-{
-    let mut body = Vec::new(alloc);
-    body.extend_from_slice(b"entries below the bound: ")?;
-    push_number(&mut body, count)?;
-    Ok(Answer {
-        status: Status::Conflict,
         body,
     })
 }

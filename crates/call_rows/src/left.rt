@@ -1,7 +1,6 @@
 //! The state of a shard, as rows say it.
 
 use crate::slots::{calls_on, copy_of};
-use accept::Layout;
 use anyhow::{Result, bail};
 use disk::Disk;
 use memory_disk::MemDisk;
@@ -56,7 +55,7 @@ fn say_slots(slots: &mut [MemDisk; 2], before: (u64, u64), into: &mut Said) -> R
     Ok(())
 }
 
-/// Appends ` segment GENERATION LENGTH` of the segment in use, and its version unless that is 2; or ` no segment`; or
+/// Appends ` segment GENERATION LENGTH` of the segment in use, and its version where that is 1; or ` no segment`; or
 /// why no segment can be used.
 fn say_segment(
     alloc: Global,
@@ -71,18 +70,15 @@ fn say_segment(
             let mut front = [0; 5];
             let slot = if generation % 2 == 0 { 0 } else { 1 };
             slots[slot].read(0, &mut front)?;
-            into.put(match front[4] {
-                b'1' => " of version 1",
-                b'3' => " of version 3",
-                _ => "",
-            });
+            let is_old = front[4] == b'1';
+            into.put(if is_old { " of version 1" } else { "" });
         }
         Err(fault) => into.tell(format_args!(" {fault}")),
     }
     Ok(())
 }
 
-/// The generation of the segment in use, 0 where there is none, and its length. Segments of each version are read.
+/// The generation of the segment in use, 0 where there is none, and its length.
 fn segment_in(
     alloc: Global,
     slots: &mut [MemDisk; 2],
@@ -95,14 +91,7 @@ fn segment_in(
     let Some(capacity) = Capacity::new(CAPACITY) else {
         unreachable!()
     };
-    match Wal::open(
-        alloc,
-        copy_of(alloc, slots)?,
-        shard,
-        count,
-        capacity,
-        Layout::Three,
-    ) {
+    match Wal::open(alloc, copy_of(alloc, slots)?, shard, count, capacity) {
         Ok((log, _image)) => Ok(Ok((log.generation(), log.end().saturating_add(1)))),
         Err(refusal) => Ok(Err(refusal.0)),
     }

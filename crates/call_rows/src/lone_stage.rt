@@ -64,7 +64,7 @@ impl LoneStage {
                 Ok(())
             }
             "group" => self.group(said),
-            "push" | "read" | "trim" | "take" | "end" | "look" => match &mut self.alone {
+            "push" | "read" | "trim" | "look" => match &mut self.alone {
                 Some(shard) => say_line(shard, self.alloc, line, said),
                 None => bail!("nothing is open"),
             },

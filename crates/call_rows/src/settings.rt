@@ -1,7 +1,7 @@
 //! The settings with which slots are opened, as words of rows.
 
 use crate::calls::number_of;
-use accept::{Layout, Limits};
+use accept::Limits;
 use anyhow::{Result, bail};
 use wal::Capacity;
 
@@ -46,20 +46,10 @@ impl CaseSettings {
             "half_age" => self.limits.half_age = number,
             "max_old" => self.limits.max_old = number,
             "max_ahead" => self.limits.max_ahead = number,
-            "layout" => self.limits.layout = layout_of(number)?,
             "capacity" => self.capacity = number,
             "passes" => self.passes = u32::try_from(number)?,
             _ => bail!("no such word: {word}"),
         }
         Ok(())
-    }
-}
-
-/// The version of the layout of this number.
-fn layout_of(number: u64) -> Result<Layout> {
-    match number {
-        2 => Ok(Layout::Two),
-        3 => Ok(Layout::Three),
-        _ => bail!("no version of the layout that is written: {number}"),
     }
 }

@@ -60,7 +60,7 @@ fn capacity_of(plan: &CasePlan) -> Result<Capacity> {
 }
 
 impl OnePassIngester {
-    /// Opens the shards, slots, capacity and layout of a plan.
+    /// Opens the shards, slots and capacity of a plan.
     ///
     /// # Errors
     /// Fewer than 1 or more than 64 shards; want of memory; a thread that could not be started.
@@ -75,10 +75,7 @@ impl OnePassIngester {
         let count = slots.len() as u32;
         let settings = Settings {
             passes: 1,
-            limits: Limits {
-                layout: plan.layout,
-                ..Limits::PROFILE
-            },
+            limits: Limits::PROFILE,
             capacity: capacity_of(plan)?,
         };
         match Ingester::open(rt, *rt, alloc, slots, settings) {

@@ -3,8 +3,7 @@
 use crate::connection::ConnectionInput;
 use crate::each::Each;
 use crate::script::Told;
-use accept::Layout;
-use anyhow::{Result, anyhow, bail};
+use anyhow::{Result, anyhow};
 use rows::word_of;
 use std::alloc::Global;
 use std::mem;
@@ -85,8 +84,6 @@ pub struct CasePlan {
     pub capacity: u64,
     /// How many shards there are.
     pub shards: u32,
-    /// Which version of the layout they write.
-    pub layout: Layout,
     /// The device call of slot 1 of the first shard from which on all fail, or 0.
     pub stops: u64,
     /// The connections before the last one.
@@ -107,7 +104,6 @@ impl CasePlan {
             is_together: false,
             capacity: WIDE,
             shards: 1,
-            layout: Layout::Two,
             stops: 0,
             visits: Vec::new(alloc),
             last: ConnectionCase::new(alloc, TIME),
@@ -133,9 +129,6 @@ impl CasePlan {
             ("together", _) => self.is_together = true,
             ("capacity", bytes) => self.capacity = bytes.parse::<u64>()?,
             ("shards", count) => self.shards = count.parse::<u32>()?,
-            ("layout", "2") => self.layout = Layout::Two,
-            ("layout", "3") => self.layout = Layout::Three,
-            ("layout", _) => bail!("a layout is 2 or 3"),
             ("stops", call) => self.stops = call.parse::<u64>()?,
             ("next", time) => self.begin_next(time.parse::<u64>()?)?,
             _ => self.last.take_line(line)?,

@@ -6,46 +6,22 @@ use std::alloc::{AllocError, Global};
 /// What comes of a call.
 #[derive(Clone, Copy)]
 pub enum Told {
-    /// Each entry of a push has this outcome. A read finds nothing, a trim removes nothing, and an end ends its stream.
+    /// Each entry of a push has this outcome. A read finds nothing, and a trim removes nothing.
     Each(Outcome),
     NoRoom,
     Unavailable,
     NoStream,
     TrimTooNew,
-    BoundTooNew,
-    /// So many entries were removed.
-    Removed(u64),
-    OtherRemoved(u64),
-    OtherCount(u64),
-    HasEntries,
-    NotOld,
-    NotCounted,
     /// It fails.
     Fails(CallFault),
 }
 
 impl Told {
-    /// The one of this name, or of this name, a colon and a number.
+    /// The one of this name.
     ///
     /// # Errors
     /// Another name.
     pub fn find(name: &str) -> Result<Told> {
-        match name.split_once(':') {
-            Some((name, number)) => Told::with_number(name, number.parse::<u64>()?),
-            None => Told::named(name),
-        }
-    }
-
-    fn with_number(name: &str, number: u64) -> Result<Told> {
-        Ok(match name {
-            "removed" => Told::Removed(number),
-            "other_removed" => Told::OtherRemoved(number),
-            "other_count" => Told::OtherCount(number),
-            _ => bail!("nothing of this name and a number comes of a call"),
-        })
-    }
-
-    fn named(name: &str) -> Result<Told> {
         Ok(match name {
             "stored" => Told::Each(Outcome::Stored),
             "repeat" => Told::Each(Outcome::Repeat),
@@ -54,10 +30,6 @@ impl Told {
             "unavailable" => Told::Unavailable,
             "no_stream" => Told::NoStream,
             "trim_too_new" => Told::TrimTooNew,
-            "bound_too_new" => Told::BoundTooNew,
-            "has_entries" => Told::HasEntries,
-            "not_old" => Told::NotOld,
-            "not_counted" => Told::NotCounted,
             "memory" => Told::Fails(CallFault::Memory),
             "closed" => Told::Fails(CallFault::PassClosed),
             "doubt" => Told::Fails(CallFault::InDoubt),
@@ -75,13 +47,6 @@ impl Told {
             Told::Unavailable => Ok(Reply::Unavailable),
             Told::NoStream => Ok(Reply::NoStream),
             Told::TrimTooNew => Ok(Reply::TrimTooNew),
-            Told::BoundTooNew => Ok(Reply::BoundTooNew),
-            Told::Removed(number) => Ok(Reply::Removed(number)),
-            Told::OtherRemoved(number) => Ok(Reply::OtherRemoved(number)),
-            Told::OtherCount(number) => Ok(Reply::OtherCount(number)),
-            Told::HasEntries => Ok(Reply::HasEntries),
-            Told::NotOld => Ok(Reply::NotOld),
-            Told::NotCounted => Ok(Reply::NotCounted),
             Told::Fails(failure) => Err(failure),
         }
     }
@@ -92,8 +57,6 @@ fn reply_of_each(alloc: Global, call: &Call, outcome: Outcome) -> Result<Reply, 
         Call::Push { entries, .. } => entries.as_slice(),
         Call::Read { .. } => return Ok(Reply::Entries(EntryList::new(Vec::new(alloc)))),
         Call::Trim { .. } => return Ok(Reply::Trimmed(0)),
-        Call::Take { .. } => return Ok(Reply::Removed(0)),
-        Call::End { .. } => return Ok(Reply::Ended),
     };
     let mut outcomes = Vec::with_capacity(alloc, entries.len())?;
     for _ in 0..entries.len() {

@@ -103,7 +103,7 @@ module _ {C : Type 0} (ticks : C → ℕ → C → Type 0) where
 
       -- from what the workers promise to what the server's end says
       pub as_asked : {D E A : Type 0} (r : Result A E) (limits : Limits) (server : ServerWords) (environment : Environment) (capacity : ℕ) (opening : Opening D) (ps qs : List Passed) → limits_of environment ≡ Some limits
-          → capacity ≡ capacity_of (option_map string_bytes environment.capacity) → IsOpenedUnder limits server.shards server.workers capacity opening ps → IsOverUntouched server.shards capacity limits.layout opening.about.bases → OnOk r (ArePassesLeft Visiting service ps qs) → OnOk r (HasServedAsAsked ticks environment server)
+          → capacity ≡ capacity_of (option_map string_bytes environment.capacity) → IsOpenedUnder limits server.shards server.workers capacity opening ps → IsOverUntouched server.shards capacity opening.about.bases → OnOk r (ArePassesLeft Visiting service ps qs) → OnOk r (HasServedAsAsked ticks environment server)
       as_asked (Err e) limits server environment capacity opening ps qs given room opened over left = tt
       as_asked (Ok a) limits server environment capacity opening ps qs given room opened over left =
           let served : HasServed ticks limits server.shards server.workers (capacity_of (option_map string_bytes environment.capacity)) qs = record {
@@ -113,7 +113,7 @@ module _ {C : Type 0} (ticks : C → ℕ → C → Type 0) where
             shards_are = opened.shards_are;
             capacity_is = opened.capacity_is ∙ room;
             passes_are = opened.passes_are;
-            over = subst (λ n. IsOverUntouched server.shards n limits.layout opening.about.bases) room over;
+            over = subst (λ n. IsOverUntouched server.shards n opening.about.bases) room over;
             count = as_many ps qs left ∙ opened.fresh.count_is;
             served = λ p pass got.
                 let (start, at, more) = each_left ps qs left p pass got in

@@ -1,6 +1,5 @@
 -- How programs open and close shards.
 use Rattle.std.specs.Prelude.{◌≡◌, ℕ, List, length, Option, None, Some}
-use Rattle.accept.specs.declared.limits.Layout.{Layout}
 use Rattle.accept.specs.declared.limits.Limits.{Limits}
 use Rattle.accept.specs.Rooms.{Streams}
 use Rattle.disk.specs.declared.file.FileDisk.{FileDisk}
@@ -26,14 +25,12 @@ pub record IsOpenedUnder {D : Type 0} (limits : Limits) (shards workers capacity
 
 -- These streams stood in slots of a folder, on which no call had been made when the logs of this many shards were opened
 -- over them.
-pub record IsOverUntouched (shards capacity : ℕ) (layout : Layout)
-    (bases : List Streams) : Type 0 where
+pub record IsOverUntouched (shards capacity : ℕ) (bases : List Streams) : Type 0 where
   pub slots : List (List (Watched FileDisk))
   pub untouched : AreUntouched slots
   pub count : length slots ≡ shards
   pub logs : List (Wal (Watched FileDisk))
-  pub found : AreOpenedFrom slot_sight SlotFollows shards capacity layout 0 slots logs
-      bases
+  pub found : AreOpenedFrom slot_sight SlotFollows shards capacity 0 slots logs bases
 
 -- what closing by these passes left: nothing where there is none, else all shards, as their owners left them
 abbrev pub IsLeftByClosing : {D : Type 0} → Opening D → List Passed → Option (Handed D) → Type 0

@@ -25,7 +25,7 @@ module _ {C : Type 0} (ticks : C → ℕ → C → Type 0) where
     pub shards_are : about.shards ≡ shards
     pub capacity_is : about.capacity ≡ capacity
     pub passes_are : about.passes ≡ workers
-    pub over : IsOverUntouched shards capacity limits.layout about.bases
+    pub over : IsOverUntouched shards capacity about.bases
     pub count : length left ≡ workers
     pub served : (p : ℕ) (pass : Passed) → slice_get left p ≡ Some pass
         → IsServedPass table about p pass

@@ -42,10 +42,10 @@ where
         (λ it. IsOpenedUnder limits (vec_len slots) passes capacity it.0 it.1.items) }
     ensures found { IfOk result (λ it.
         AreOpenedFrom D.sight D.follows
-        (vec_len slots) capacity limits.layout 0 slots.items it.0.logs it.0.about.bases) }
+        (vec_len slots) capacity 0 slots.items it.0.logs it.0.about.bases) }
     ensures refused { IfErr result (λ stop. (fault : OpenFault) × (backs : List (List D))
         × (stop ≡ ProgramFault.Opening fault)
-        × IsUnmade D.sight D.follows (vec_len slots) limits.layout slots.items backs fault) }
+        × IsUnmade D.sight D.follows (vec_len slots) slots.items backs fault) }
     ensures passes { IfOk result (λ it. (p : ℕ) (pass : Passed) → slice_get it.1.items p ≡ Some pass
         → IsPassOf it.0 pass) }
 {

@@ -202,7 +202,6 @@ where
     requires opened { IsOpenedUnder asked.now.limits asked.now.words.shards asked.now.words.workers
         asked.now.capacity ingester.now passes.items }
     requires over { IsOverUntouched asked.now.words.shards asked.now.capacity
-        asked.now.limits.layout
         ingester.now.about.bases }
     requires passes { (i : ℕ) (pass : Passed) → slice_get passes.items i ≡ Some pass
         → IsPassOf ingester.now pass }

@@ -6,8 +6,7 @@ ghost use Rattle.programs.specs.Environments.{limits_of};
 
 use accept::Limits;
 use programs::{
-    DurationSetting, Environment, LimitSetting, capacity_in, half_sent_in, limits_in,
-    open_connections_in,
+    Environment, LimitSetting, capacity_in, half_sent_in, limits_in, open_connections_in,
 };
 use std::io::Write;
 use wal::Capacity;
@@ -87,15 +86,14 @@ pub fn limits_by<E: Write>(environment: &Environment, errors: &mut E) -> Option<
 // What is said of a variable that gives no limit.
 fn fault_of(setting: LimitSetting) -> &'static str {
     match setting {
-        LimitSetting::Duration(DurationSetting::MaxChunkAge) => {
+        LimitSetting::MaxChunkAge => {
             "NEEDLEAZURE_MAX_CHUNK_AGE is not 0 or a duration in w, d, h, m and s, such as 90s, 2h or 1h30m"
         }
-        LimitSetting::Duration(DurationSetting::RejectOldSamplesMaxAge) => {
+        LimitSetting::RejectOldSamplesMaxAge => {
             "NEEDLEAZURE_REJECT_OLD_SAMPLES_MAX_AGE is not a duration above 0 in w, d, h, m and s, such as 168h or 7d"
         }
-        LimitSetting::Duration(DurationSetting::CreationGracePeriod) => {
+        LimitSetting::CreationGracePeriod => {
             "NEEDLEAZURE_CREATION_GRACE_PERIOD is not a duration above 0 in w, d, h, m and s, such as 90s or 10m"
         }
-        LimitSetting::Layout => "NEEDLEAZURE_LAYOUT is not 2 or 3",
     }
 }

@@ -1,8 +1,7 @@
 -- The headline of an opening, until it is closed or cut.
 use Rattle.std.proofs.Common.{◌≡◌, ℕ, suc, ◌+◌, ◌<◌, ◌≤◌, List, [], ◌∷◌, true, length, refl, inl, inr, ◌⊎◌, sym, ap, ◌∙◌, subst, ⊎_elim, arith, Option, Some, None, length-append, slice_get}
 use Rattle.std.proofs.lemmas.Option.{slice_get_cases}
-use Rattle.headline.proofs.Common.{Streams, Layout, Three, Item, Sight, Wal, OpenFault, ShardPlace, Opening, is_marked, place_of, Device, Memory, IsOfDeviceOrMemory, is_later, IsLater, Follow, slots, Pair, HasFailed, HasNoFailure, Recovers, Covers, IsAfter, slots_of, CountsCause, base_at, history_of, doubt_of, fresh_book, opened_shard, IsHandedOut, Thread, last_passes, RefusedShard, IsForDeviceOrMemory, IsForLaterVersion, IsReplay, shard_then, Life, ShardEnd, HandedOut, CutAt, IsLife, IsEnd, WereRead, HasFailedSince, MayBeReplayed, MayBeRefused, IsHeadlineOf, held_in, failures_of, slots_then, LeftAt, AreLeftAt, writing_at, writing_in, false≢true}
-use Rattle.segment.specs.declared.version.Version.{Version}
+use Rattle.headline.proofs.Common.{Streams, Item, Sight, Wal, OpenFault, ShardPlace, Opening, is_marked, place_of, Device, Memory, Follow, slots, Pair, HasFailed, HasNoFailure, Recovers, Covers, IsAfter, slots_of, CountsCause, base_at, history_of, doubt_of, fresh_book, opened_shard, IsHandedOut, Thread, last_passes, RefusedShard, IsForDeviceOrMemory, IsReplay, shard_then, Life, ShardEnd, HandedOut, CutAt, IsLife, IsEnd, WereRead, HasFailedSince, MayBeReplayed, MayBeRefused, IsHeadlineOf, failures_of, slots_then, LeftAt, AreLeftAt, writing_at, writing_in}
 use Rattle.wal.proofs.OneImage.{settled_seen}
 use Rattle.headline.proofs.Leaving.{covered_left, found_at, left_length, left_at, opened_at, given_at}
 use Rattle.headline.proofs.Marking.{lead_marks, lead_follows, fresh_marks, follow_before}
@@ -23,22 +22,6 @@ for_device_or_memory r old new before after counted cause = ⊎_elim
     (λ (e : r.fault ≡ Device). inl (e, λ same. both_differ old new (subst (λ (x : OpenFault). CountsCause x old new) e counted) (sym after ∙ same ∙ before)))
     (λ (e : r.fault ≡ Memory). inr (e, after ∙ both_same old new (subst (λ (x : OpenFault). CountsCause x old new) e counted) ∙ sym before))
     cause
-
--- or since what was in use is of a later version
-pub for_its_cause : (whose : ShardPlace) (r : RefusedShard) (old new : Pair) → r.held ≡ held_in old → r.failures_before ≡ failures_of old → r.failures_after ≡ failures_of new → CountsCause r.fault old new
-    → IsOfDeviceOrMemory r.fault ⊎ IsLater r.layout whose old.first.seen old.second.seen r.fault → IsForDeviceOrMemory r ⊎ IsForLaterVersion whose r
-for_its_cause whose r old new held before after counted (inl cause) = inl (for_device_or_memory r old new before after counted cause)
-for_its_cause whose r old new held before after counted (inr later) = inr (
-  subst (λ (h : List ℕ × List ℕ). IsLater r.layout whose h.0 h.1 r.fault) (sym held) later,
-  after ∙ both_same old new (subst (λ (x : OpenFault). CountsCause x old new) later.fault counted) ∙ sym before,
-)
-
--- where version 3 is to be written, no version is later
-pub never_later : (whose : ShardPlace) (r : RefusedShard) → r.layout ≡ Three → IsForLaterVersion whose r → ⊥
-never_later whose r e is = none is.0.header.version (subst (λ (l : Layout). is_later l is.0.header.version ≡ true) e is.0.later)
-  where
-    none : (v : Version) → is_later Three v ≡ true → ⊥
-    none v l = false≢true l
 
 module _ {D : Type 0} (sight : D → Sight) (follows : D → Type 0) (only_now : (d : D) (c : List ℕ) → follows d → (sight d).left_since (sight d).moment c → (sight d).may_leave c)
     (lived : Life D) (life : IsLife sight follows lived) where
@@ -78,11 +61,11 @@ module _ {D : Type 0} (sight : D → Sight) (follows : D → Type 0) (only_now :
       )
   good_end k (CutAt st) is = (
     (shard_then st.moment).book.items,
-    let o = opened_at sight follows (length given) life.capacity life.limits.layout k given opening.logs opening.about.bases is.opened life.found is.opened_as in
-        let rests = stretch_rests sight follows only_now opening threads (length given) life.capacity life.limits.layout k st is life.shards o in
+    let o = opened_at sight follows (length given) life.capacity k given opening.logs opening.about.bases is.opened life.found is.opened_as in
+        let rests = stretch_rests sight follows only_now opening threads (length given) life.capacity k st is life.shards o in
         record {
           known = record { legal = rests.legal; by_passes = rests.by_passes; told = λ t h. thread_told opening t k (shard_then st.moment).book.items (life.threads_are t h) rests.legal (is.in_time t h) };
-          covers = λ left l. stretch_covers sight follows only_now opening threads (length given) life.capacity life.limits.layout k st left is life.shards o l;
+          covers = λ left l. stretch_covers sight follows only_now opening threads (length given) life.capacity k st left is life.shards o l;
           opened = is.opened;
           opened_as = is.opened_as;
           follow = lead_follows sight follows (opened_shard opening k is.opened) (shard_then st.moment) st.turns is.turned (follow_before sight follows st.moment is.moment is.follow);
@@ -112,7 +95,7 @@ module _ {D : Type 0} (sight : D → Sight) (follows : D → Type 0) (only_now :
   after : (k : ℕ) → k < opening.about.shards → (state : Streams) → MayBeReplayed sight follows ends k state → IsAfter opening.about.limits (history_of opening.about k (histories k)) (writing_in ends histories k) state
   after k lt state r =
       let g = (history_at k).1 lt in
-      let found = found_at sight follows (length r.left) r.capacity r.layout k ends r.left r.logs r.states g.end state r.crash r.found r.follow g.there r.there in
+      let found = found_at sight follows (length r.left) r.capacity k ends r.left r.logs r.states g.end state r.crash r.found r.follow g.there r.there in
       let counted : opening.about.shards ≡ length r.left = life.shards ∙ sym life.ends_of_all ∙ sym (left_length sight follows ends r.left r.crash) in
       let covers = subst (λ (n : ℕ). Covers (place_of k n) opening.about.limits (slots_of sight found.left) (history_of opening.about k (histories k)) (writing_at (Some g.end) (histories k))) counted (g.good.covers found.left found.crash) in
       subst (λ (o : Option (ShardEnd D)). IsAfter opening.about.limits (history_of opening.about k (histories k)) (writing_at o (histories k)) state) (sym g.there)
@@ -122,7 +105,7 @@ module _ {D : Type 0} (sight : D → Sight) (follows : D → Type 0) (only_now :
   reads : (k : ℕ) → k < opening.about.shards → WereRead sight follows lived k (base_at opening.about k)
   reads k lt =
       let g = ((history_at k).1 lt).good in
-      let at = given_at sight follows (length given) life.capacity life.limits.layout k given opening.logs opening.about.bases g.opened life.found g.opened_as in
+      let at = given_at sight follows (length given) life.capacity k given opening.logs opening.about.bases g.opened life.found g.opened_as in
       let from = at.3 in
       let base : at.1 ≡ base_at opening.about k = sym (index_get opening.about.bases k _ at.1 at.2) in
       let rests = from.rests g.follow in
@@ -141,7 +124,7 @@ module _ {D : Type 0} (sight : D → Sight) (follows : D → Type 0) (only_now :
       record { opened = at.good.opened; opened_as = at.good.opened_as; end = at.end; ended_as = at.there; failed = at.good.marks e }
 
   -- the slots of a shard that is refused keep its history, so they have no fault
-  gives : (k : ℕ) (r : RefusedShard) → MayBeRefused sight follows ends k r → IsForDeviceOrMemory r ⊎ IsForLaterVersion (place_of k opening.about.shards) r
+  gives : (k : ℕ) (r : RefusedShard) → MayBeRefused sight follows ends k r → IsForDeviceOrMemory r
   gives k shown r =
       let f = r.refused in
       let counted : opening.about.shards ≡ length r.left = life.shards ∙ sym life.ends_of_all ∙ sym (left_length sight follows ends r.left r.crash) in
@@ -150,9 +133,8 @@ module _ {D : Type 0} (sight : D → Sight) (follows : D → Type 0) (only_now :
       let g = (history_at k).1 (omega arith) in
       let crash : LeftAt sight follows g.end f.given = left_at sight follows ends f.front f.behind f.given g.end (subst (AreLeftAt sight follows ends) f.all_are r.crash) (ap (slice_get ends) number ∙ g.there) in
       let covers = subst (λ (n : ℕ). Covers (place_of k n) opening.about.limits (slots_of sight f.given) (history_of opening.about k (histories k)) (writing_at (Some g.end) (histories k))) counted (g.good.covers f.given crash) in
-      subst (λ (n : ℕ). IsForDeviceOrMemory shown ⊎ IsForLaterVersion (place_of k n) shown) (sym counted)
-      (for_its_cause (place_of k (length r.left)) shown (slots_of sight f.given) (slots_of sight f.back) r.held r.before r.after f.refusal.counted
-      (f.refusal.covered r.follow opening.about.limits (history_of opening.about k (histories k)) (writing_at (Some g.end) (histories k)) covers))
+      for_device_or_memory shown (slots_of sight f.given) (slots_of sight f.back) r.before r.after f.refusal.counted
+      (f.refusal.covered r.follow opening.about.limits (history_of opening.about k (histories k)) (writing_at (Some g.end) (histories k)) covers)
 
   pub says : IsHeadlineOf sight follows lived histories
   says = said opening threads life.threads_are some_shard histories (λ k lt. ((history_at k).1 lt).good.known) (writing_in ends histories) (WereRead sight follows lived) reads (HasFailedSince sight follows lived) marks (MayBeReplayed sight follows ends) after (MayBeRefused sight follows ends) gives

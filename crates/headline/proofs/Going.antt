@@ -1,7 +1,7 @@
 -- What is found in the end, after any events.
-use Rattle.std.proofs.Common.{◌≡◌, ℕ, zero, suc, ◌+◌, ◌<◌, List, [], ◌∷◌, ◌++◌, length, refl, sym, ap, ◌∙◌, ◌⊎◌, subst, inl, length-append, arith, Option}
+use Rattle.std.proofs.Common.{◌≡◌, ℕ, zero, suc, ◌+◌, ◌<◌, List, [], ◌∷◌, ◌++◌, length, refl, sym, ap, ◌∙◌, subst, inl, length-append, arith, Option}
 use Rattle.std.specs.FinMap as finite
-use Rattle.headline.proofs.Common.{Streams, Layout, Limits, Ask, Item, History, About, Sight, Wal, place_of, Recovers, Covers, IsAfter, slots_of, AllFollow, AreOpenedFrom, IsLegalAt, base_at, terms_of, history_of, RefusedShard, IsForDeviceOrMemory, IsForLaterVersion, IsReplay, Life, ShardEnd, IsLife, AreLeftAt, LogsFollow, writing_at, writing_in, legal_front}
+use Rattle.headline.proofs.Common.{Streams, Limits, Ask, Item, History, About, Sight, Wal, place_of, Recovers, Covers, IsAfter, slots_of, AllFollow, AreOpenedFrom, IsLegalAt, base_at, terms_of, history_of, RefusedShard, IsForDeviceOrMemory, IsReplay, Life, ShardEnd, IsLife, AreLeftAt, LogsFollow, writing_at, writing_in, legal_front}
 use Rattle.accept.proofs.Meanings.{meaning-nothing}
 use Rattle.wal.proofs.OneImage.{one_image}
 use Rattle.wal.proofs.Opened.{seen_stay}
@@ -11,7 +11,7 @@ use Rattle.headline.specs.Events.{Splitting, Event, Lived, Refused, Killed, Spli
 use Rattle.headline.proofs.Leaving.{covered_left, left_length, given_at}
 use Rattle.headline.proofs.Turning.{index_get}
 use Rattle.headline.proofs.Telling.{part_of, plain_more}
-use Rattle.headline.proofs.Ending.{for_its_cause, history_at, histories, replays, says}
+use Rattle.headline.proofs.Ending.{for_device_or_memory, history_at, histories, replays, says}
 use Rattle.headline.proofs.Pairing.{AreAtRest, opened_pair, left_pair, rests_attempt, covers_by, covers_since}
 
 -- a shard of these streams, before any call
@@ -47,10 +47,10 @@ module _ {D : Type 0} (sight : D → Sight) (follows : D → Type 0) (only_now :
     pub keeps : (left : List (List D)) → AreLeftAfter sight follows e left → Keep limits_then then_h then_doubt then_n left
     pub back : (after : ℕ → Streams) → AreAfter limits_then then_h then_doubt then_n after → (between : ℕ → Streams) × AreAfter limits h doubt n between × Makes e history between after
 
-  found_in : (limits : Limits) (h : ℕ → History) (doubt : ℕ → List Ask) (n capacity : ℕ) (layout : Layout) (left : List (List D)) (logs : List (Wal D)) (states : List Streams) → Keep limits h doubt n left → AreOpenedFrom sight follows (length left) capacity layout 0 left logs states → LogsFollow sight follows logs → AreAfter limits h doubt n (map_at states)
-  found_in limits h doubt n capacity layout left logs states keep o f k lt =
+  found_in : (limits : Limits) (h : ℕ → History) (doubt : ℕ → List Ask) (n capacity : ℕ) (left : List (List D)) (logs : List (Wal D)) (states : List Streams) → Keep limits h doubt n left → AreOpenedFrom sight follows (length left) capacity 0 left logs states → LogsFollow sight follows logs → AreAfter limits h doubt n (map_at states)
+  found_in limits h doubt n capacity left logs states keep o f k lt =
       let counted = keep.count in
-      let one = opened_pair sight follows (length left) capacity layout k 0 k left logs states (omega arith) o f (omega arith) in
+      let one = opened_pair sight follows (length left) capacity k 0 k left logs states (omega arith) o f (omega arith) in
       one.2.covered one.1 limits (h k) (doubt k) (subst (λ (m : ℕ). Covers (place_of k m) limits (slots_of sight (pair_at left k)) (h k) (doubt k)) (sym counted) (keep.covers k lt))
 
   -- ---- an opening that lived
@@ -96,7 +96,7 @@ module _ {D : Type 0} (sight : D → Sight) (follows : D → Type 0) (only_now :
         let counted = keep.count in
         let shards = is.shards in
         let g = ((history_at sight follows only_now life is k).1 (omega arith)).good in
-        let at = given_at sight follows (length life.given) is.capacity is.limits.layout k life.given life.opening.logs about.bases g.opened is.found g.opened_as in
+        let at = given_at sight follows (length life.given) is.capacity k life.given life.opening.logs about.bases g.opened is.found g.opened_as in
         let pair : pair_at life.given k ≡ at.0 = index_get life.given k [] at.0 at.4 in
         let base : base_at about k ≡ at.1 = index_get about.bases k finite.empty at.1 at.2 in
         subst (IsAfter limits (h k) (doubt k)) (sym base) (at.3.covered g.follow limits (h k) (doubt k)
@@ -218,12 +218,12 @@ module _ {D : Type 0} (sight : D → Sight) (follows : D → Type 0) (only_now :
       → (between : ℕ → Streams) × AreAfter limits h doubt n between × AreMade (e ∷ events) (all_histories e events are) between (map_at states)
   goes_on limits h doubt n e [] are keep states found =
       let s = step limits h doubt n e are keep in
-      let now = found_in s.limits_then s.then_h s.then_doubt s.then_n found.capacity found.layout found.left found.logs states (s.keeps found.left found.crash) found.found found.follow in
+      let now = found_in s.limits_then s.then_h s.then_doubt s.then_n found.capacity found.left found.logs states (s.keeps found.left found.crash) found.found found.follow in
       let b = s.back (map_at states) now in
       (b.0, b.1, (map_at states, b.2, λ k. refl))
   goes_on limits h doubt n e (f ∷ events) are keep states found =
       let s = step limits h doubt n e are.0 keep in
-      let rest = goes_on s.limits_then s.then_h s.then_doubt s.then_n f events are.2 (s.keeps (given_to f) are.1) states (record { left = found.left; crash = found.crash; capacity = found.capacity; layout = found.layout; logs = found.logs; found = found.found; follow = found.follow }) in
+      let rest = goes_on s.limits_then s.then_h s.then_doubt s.then_n f events are.2 (s.keeps (given_to f) are.1) states (record { left = found.left; crash = found.crash; capacity = found.capacity; logs = found.logs; found = found.found; follow = found.follow }) in
       let b = s.back rest.0 rest.1 in
       (b.0, b.1, (rest.0, b.2, rest.2))
 
@@ -247,7 +247,7 @@ module _ {D : Type 0} (sight : D → Sight) (follows : D → Type 0) (only_now :
   pair_there [] x behind = refl
   pair_there (y ∷ front) x behind = pair_there front x behind
 
-  gives : (e : Event D) (events : List (Event D)) (k : ℕ) (shown : RefusedShard) (r : IsRefusedLast sight follows e events k shown) → IsKept r.left → IsForDeviceOrMemory shown ⊎ IsForLaterVersion (place_of k (length r.left)) shown
+  gives : (e : Event D) (events : List (Event D)) (k : ℕ) (shown : RefusedShard) (r : IsRefusedLast sight follows e events k shown) → IsKept r.left → IsForDeviceOrMemory shown
   gives e events k shown r kept =
       let f = r.refused in
       let counted = kept.keep.count in
@@ -256,18 +256,18 @@ module _ {D : Type 0} (sight : D → Sight) (follows : D → Type 0) (only_now :
       let pair : pair_at r.left k ≡ f.given = ap (λ (i : ℕ). pair_at r.left i) (sym number) ∙ ap (λ (l : List (List D)). pair_at l (length f.front)) f.all_are ∙ pair_there f.front f.given f.behind in
       let covers = subst (λ (l : List D). Covers (place_of k (length r.left)) kept.limits (slots_of sight l) (kept.h k) (kept.doubt k)) pair
       (subst (λ (m : ℕ). Covers (place_of k m) kept.limits (slots_of sight (pair_at r.left k)) (kept.h k) (kept.doubt k)) (sym counted) (kept.keep.covers k (omega arith))) in
-      for_its_cause (place_of k (length r.left)) shown (slots_of sight f.given) (slots_of sight f.back) r.held r.before r.after f.refusal.counted (f.refusal.covered r.follow kept.limits (kept.h k) (kept.doubt k) covers)
+      for_device_or_memory shown (slots_of sight f.given) (slots_of sight f.back) r.before r.after f.refusal.counted (f.refusal.covered r.follow kept.limits (kept.h k) (kept.doubt k) covers)
 
   -- ---- from the first opening on
 
   first_made : (life : Life D) (events : List (Event D)) (are : AreEvents sight follows (Lived life) events) (states : List Streams) → AreFoundLast sight follows (Lived life) events states
       → AreMade (Lived life ∷ events) (all_histories (Lived life) events are) (base_at life.opening.about) (map_at states)
   first_made life [] are states found =
-      let now = found_in life.opening.about.limits (its_histories life are) (its_doubt life are) life.opening.about.shards found.capacity found.layout found.left found.logs states (life_keeps life are found.left found.crash) found.found found.follow in
+      let now = found_in life.opening.about.limits (its_histories life are) (its_doubt life are) life.opening.about.shards found.capacity found.left found.logs states (life_keeps life are found.left found.crash) found.found found.follow in
       (map_at states, life_makes life are (map_at states) now, λ k. refl)
   first_made life (f ∷ events) are states found =
       let rest = goes_on life.opening.about.limits (its_histories life are.0) (its_doubt life are.0) life.opening.about.shards f events are.2 (life_keeps life are.0 (given_to f) are.1) states
-      (record { left = found.left; crash = found.crash; capacity = found.capacity; layout = found.layout; logs = found.logs; found = found.found; follow = found.follow }) in
+      (record { left = found.left; crash = found.crash; capacity = found.capacity; logs = found.logs; found = found.found; follow = found.follow }) in
       (rest.0, life_makes life are.0 rest.0 rest.1, rest.2)
 
   first_kept : (life : Life D) (events : List (Event D)) → AreEvents sight follows (Lived life) events → (left : List (List D)) → AreLeftLast sight follows (Lived life) events left → IsKept left

@@ -1,8 +1,7 @@
 -- Wrong servers: of none of them the record holds, and one field refuses each.
-use Rattle.std.proofs.Common.{◌≡◌, ◌⊎◌, ℕ, List, [], ◌∷◌, ◌++◌, refl, sym, ap, ◌∙◌, inl, inr, arith}
+use Rattle.std.proofs.Common.{◌≡◌, ℕ, List, [], ◌∷◌, ◌++◌, refl, sym, ap, ◌∙◌, inl, inr, arith}
 use Rattle.std.specs.FinMap as finite
-use Rattle.headline.proofs.Common.{Streams, Ask, Item, Answered, Passed, meaning, answer, answered_to, Three, Device, Memory, LaterVersion, place_of, IsBeginning, history_of, Looked, Thread, HaveThreads, RefusedShard, IsForDeviceOrMemory, IsForLaterVersion, IsHeadline}
-use Rattle.headline.proofs.Ending.{never_later}
+use Rattle.headline.proofs.Common.{Streams, Ask, Item, Answered, Passed, meaning, answer, answered_to, Device, Memory, IsBeginning, history_of, Looked, Thread, HaveThreads, RefusedShard, IsForDeviceOrMemory, IsHeadline}
 use Rattle.headline.proofs.Sample.{about, push, step, failed, in_doubt, knows, threads, held_one, not_empty}
 
 module _ (any : Passed) (read : ℕ → Streams → Type 0) (broken : ℕ → Type 0) (replay : ℕ → Streams → Type 0) (refusal : ℕ → RefusedShard → Type 0) where
@@ -16,33 +15,17 @@ module _ (any : Passed) (read : ℕ → Streams → Type 0) (broken : ℕ → Ty
 
   -- It refuses its slots for a device, and no call failed.
   abbrev pub no_failed_call : RefusedShard
-  no_failed_call = record { layout = Three; held = ([], []); fault = Device; failures_before = (0, 0); failures_after = (0, 0) }
+  no_failed_call = record { fault = Device; failures_before = (0, 0); failures_after = (0, 0) }
 
   abbrev pub without_cause : ℕ → RefusedShard → Type 0
   without_cause k r = r ≡ no_failed_call
 
-  no_cause : IsForDeviceOrMemory no_failed_call ⊎ IsForLaterVersion (place_of 0 1) no_failed_call → ⊥
-  no_cause (inl (inl both)) = both.1 refl
-  no_cause (inl (inr both)) = let never : Device ≡ Memory = both.0 in cc
-  no_cause (inr later) = never_later (place_of 0 1) no_failed_call refl later
+  no_cause : IsForDeviceOrMemory no_failed_call → ⊥
+  no_cause (inl both) = both.1 refl
+  no_cause (inr both) = let never : Device ≡ Memory = both.0 in cc
 
   pub names_a_device_without_a_failed_call : IsHeadline about (threads any) failed in_doubt read broken replay without_cause → ⊥
   names_a_device_without_a_failed_call h = no_cause (h.replay_gives 0 no_failed_call refl)
-
-  -- It writes version 3, and refuses its slots since what is in use is of a later version.
-  abbrev pub no_later_version : RefusedShard
-  no_later_version = record { layout = Three; held = ([], []); fault = LaterVersion 1; failures_before = (0, 0); failures_after = (0, 0) }
-
-  abbrev pub for_its_own_version : ℕ → RefusedShard → Type 0
-  for_its_own_version k r = r ≡ no_later_version
-
-  not_later : IsForDeviceOrMemory no_later_version ⊎ IsForLaterVersion (place_of 0 1) no_later_version → ⊥
-  not_later (inl (inl both)) = let never : LaterVersion 1 ≡ Device = both.0 in cc
-  not_later (inl (inr both)) = let never : LaterVersion 1 ≡ Memory = both.0 in cc
-  not_later (inr later) = never_later (place_of 0 1) no_later_version refl later
-
-  pub refuses_the_version_that_it_writes : IsHeadline about (threads any) failed in_doubt read broken replay for_its_own_version → ⊥
-  refuses_the_version_that_it_writes h = not_later (h.replay_gives 0 no_later_version refl)
 
   -- Its only pass made no call, and its history has a step.
   abbrev pub idle : List Thread

@@ -1,7 +1,7 @@
 -- Small runs of which the record holds, so that a changed record can be refuted by them.
 use Rattle.std.proofs.Common.{◌≡◌, ◌⊎◌, ℕ, zero, suc, ◌<◌, Bool, true, false, List, [], ◌∷◌, ◌++◌, take, refl, sym, ap, ◌∙◌, subst, inl, inr, ⊎_elim, arith, Some, None, slice_get, slice_index_or, ◌==◌, if◌then◌else◌, is_some, Ok, true≢false}
 use Rattle.std.specs.FinMap as finite
-use Rattle.headline.proofs.Common.{StreamKey, Streams, Two, Push, Unavailable, Ask, Step, Item, Answered, Failed, About, Passed, meaning, stream_of, place_of, MayFollow, answered_to, reply_to, Device, Memory, IsBeginning, IsLegalAt, IsByPasses, base_at, terms_of, history_of, seen_at, HasStepsOf, Called, Happening, Thread, AnsweredCall, happened_to, IsOneOf, WasAnswered, WasCalled, RefusedShard, IsForDeviceOrMemory, IsForLaterVersion, IsReplay, IsHeadline, is_refusal, shard_at, step_for, steps_for, items_before, history_before}
+use Rattle.headline.proofs.Common.{StreamKey, Streams, Push, Unavailable, Ask, Step, Item, Answered, Failed, About, Passed, meaning, stream_of, MayFollow, answered_to, reply_to, Device, Memory, IsBeginning, IsLegalAt, IsByPasses, base_at, terms_of, history_of, seen_at, HasStepsOf, Called, Happening, Thread, AnsweredCall, happened_to, IsOneOf, WasAnswered, WasCalled, RefusedShard, IsForDeviceOrMemory, IsReplay, IsHeadline, is_refusal, shard_at, step_for, steps_for, items_before, history_before}
 use Rattle.accept.proofs.Meanings.{get-meaning, meaning-nothing}
 use Rattle.history.specs.Shards.{shard_of}
 
@@ -13,7 +13,7 @@ abbrev pub push : ℕ → Ask
 push n = record { pass = 0; number = n; call = Push (key n) 5 (record { time = 5; line = 108 ∷ []; meta = [] } ∷ []) }
 
 abbrev pub about : About
-about = record { shards = 1; passes = 1; limits = record { line = 100; half_age = 10; max_old = 100; max_ahead = 100; layout = Two }; capacity = 1000; bases = [] }
+about = record { shards = 1; passes = 1; limits = record { line = 100; half_age = 10; max_old = 100; max_ahead = 100 }; capacity = 1000; bases = [] }
 
 -- The one call of the one pass: a device failed while it was written, and it was answered so.
 abbrev pub step : Step
@@ -34,17 +34,17 @@ found k state = state ≡ meaning (answered_to about.limits (history_of about k 
 
 -- or its slots were not opened for want of memory, or because a call on slot 0 failed
 abbrev pub no_memory : RefusedShard
-no_memory = record { layout = Two; held = ([], []); fault = Memory; failures_before = (0, 0); failures_after = (0, 0) }
+no_memory = record { fault = Memory; failures_before = (0, 0); failures_after = (0, 0) }
 
 abbrev pub no_device : RefusedShard
-no_device = record { layout = Two; held = ([], []); fault = Device; failures_before = (0, 0); failures_after = (1, 0) }
+no_device = record { fault = Device; failures_before = (0, 0); failures_after = (1, 0) }
 
 abbrev pub wanting : ℕ → RefusedShard → Type 0
 wanting k r = (r ≡ no_memory) ⊎ (r ≡ no_device)
 
-wanted : (shards k : ℕ) (r : RefusedShard) → wanting k r → IsForDeviceOrMemory r ⊎ IsForLaterVersion (place_of k shards) r
-wanted shards k r (inl e) = inl (subst IsForDeviceOrMemory (sym e) (inr (refl, refl)))
-wanted shards k r (inr e) = inl (subst IsForDeviceOrMemory (sym e) (inl (refl, λ same. let never : 1 ≡ 0 = ap (λ (c : ℕ × ℕ). c.0) same in omega arith)))
+wanted : (k : ℕ) (r : RefusedShard) → wanting k r → IsForDeviceOrMemory r
+wanted k r (inl e) = subst IsForDeviceOrMemory (sym e) (inr (refl, refl))
+wanted k r (inr e) = subst IsForDeviceOrMemory (sym e) (inl (refl, λ same. let never : 1 ≡ 0 = ap (λ (c : ℕ × ℕ). c.0) same in omega arith))
 
 -- the slots were empty when they were opened
 abbrev pub empty_slots : ℕ → Streams → Type 0
@@ -133,7 +133,7 @@ module _ (any : Passed) where
     the_reply = λ a one e. absurd (true≢false (ap (λ (b : AnsweredCall). is_refusal b.reply) (sym (only_call a one)) ∙ e));
     a_refusal_in_its_stated_place = λ a one. subst (λ (b : AnsweredCall). b.reply ≡ reply_to (terms_of about (shard_at about b)) (history_before about failed b) b.call) (sym (only_call a one)) due;
     whatever_crash_comes = λ k lt state e. replayed k lt state e;
-    replay_gives = wanted 1;
+    replay_gives = wanted;
   }
     where
       each : (k : ℕ) → k < 1 → IsLegalAt about k items × IsByPasses 1 items
@@ -176,7 +176,7 @@ without_calls a read replay reads replayed = record {
   the_reply = λ a one. absurd one;
   a_refusal_in_its_stated_place = λ a one. absurd one;
   whatever_crash_comes = replayed;
-  replay_gives = wanted a.shards;
+  replay_gives = wanted;
 }
 
 pub also_stands : IsHeadline about [] nothing two empty_slots (λ k. ⊥) one_found wanting

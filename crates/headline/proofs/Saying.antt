@@ -1,6 +1,6 @@
 -- The headline, of one opening.
-use Rattle.std.proofs.Common.{◌≡◌, ℕ, suc, ◌+◌, ◌<◌, Bool, true, false, cond, eqb, ◌⊎◌, List, [], ◌∷◌, ◌++◌, take, drop, filter, refl, sym, ap, ◌∙◌, subst, inl, ⊎_elim, append_assoc, append-nil, eq-eqb, Some, take-append-drop, slice_get, Ok}
-use Rattle.headline.proofs.Common.{Streams, Call, Reply, NoRoom, Unavailable, Ask, Step, Item, Answered, History, About, Caller, Passed, Opening, answer, reply_to, MayFollow, is_step_of, is_marked, place_of, IsAfter, IsBeginning, IsLegalAt, IsByPasses, base_at, terms_of, history_of, shard_in, step_of, steps_by, steps_on, HaveNumbersBelow, HaveNumbersAbove, IsRising, seen_at, ask_of, Extends, HasStepsOf, IsAnswered, shard_for, IsTold, What, Called, Happening, Happens, Thread, IsThread, AnsweredCall, answers_by, last_passes, happened_to, IsOneOf, ask_for, shard_at, step_for, steps_for, before_step, WasAnswered, is_refusal, RefusedShard, IsForDeviceOrMemory, IsForLaterVersion, IsReplay, IsHeadline, false≢true, begins_trans, below_more, below_middle, rising_back, legal_front, shard_below, among_right, among_part}
+use Rattle.std.proofs.Common.{◌≡◌, ℕ, suc, ◌+◌, ◌<◌, Bool, true, false, cond, eqb, List, [], ◌∷◌, ◌++◌, take, drop, filter, refl, sym, ap, ◌∙◌, subst, inl, ⊎_elim, append_assoc, append-nil, eq-eqb, Some, take-append-drop, slice_get, Ok}
+use Rattle.headline.proofs.Common.{Streams, Call, Reply, NoRoom, Unavailable, Ask, Step, Item, Answered, History, About, Caller, Passed, Opening, answer, reply_to, MayFollow, is_step_of, is_marked, IsAfter, IsBeginning, IsLegalAt, IsByPasses, base_at, terms_of, history_of, shard_in, step_of, steps_by, steps_on, HaveNumbersBelow, HaveNumbersAbove, IsRising, seen_at, ask_of, Extends, HasStepsOf, IsAnswered, shard_for, IsTold, What, Called, Happening, Happens, Thread, IsThread, AnsweredCall, answers_by, last_passes, happened_to, IsOneOf, ask_for, shard_at, step_for, steps_for, before_step, WasAnswered, is_refusal, RefusedShard, IsForDeviceOrMemory, IsReplay, IsHeadline, false≢true, begins_trans, below_more, below_middle, rising_back, legal_front, shard_below, among_right, among_part}
 use Rattle.accept.proofs.Legal.{legal-last}
 use Rattle.accept.proofs.OtherKeys.{answer-only_about}
 use Rattle.headline.proofs.Calling.{step_called}
@@ -153,7 +153,7 @@ module _ {D : Type 0} (opening : Opening D) (threads : List Thread) (threads_are
 
   module _ (writing : ℕ → List Ask) (read : ℕ → Streams → Type 0) (reads : (k : ℕ) → k < opening.about.shards → read k (base_at opening.about k)) (failed : ℕ → Type 0) (marks : (k : ℕ) → k < opening.about.shards → is_marked (histories k) ≡ true → failed k)
       (replay : ℕ → Streams → Type 0) (after : (k : ℕ) → k < opening.about.shards → (state : Streams) → replay k state → IsAfter opening.about.limits (history_of opening.about k (histories k)) (writing k) state)
-      (refusal : ℕ → RefusedShard → Type 0) (gives : (k : ℕ) (r : RefusedShard) → refusal k r → IsForDeviceOrMemory r ⊎ IsForLaterVersion (place_of k opening.about.shards) r) where
+      (refusal : ℕ → RefusedShard → Type 0) (gives : (k : ℕ) (r : RefusedShard) → refusal k r → IsForDeviceOrMemory r) where
     replayed : (k : ℕ) → k < opening.about.shards → (state : Streams) → replay k state → IsReplay opening.about threads k (histories k) (writing k) state
     replayed k lt state r =
         let found = after k lt state r in

@@ -1,7 +1,7 @@
 -- The calls of all openings, one after another.
 use Rattle.std.proofs.Common.{◌≡◌, ◌⊎◌, ℕ, zero, suc, ◌+◌, ◌<◌, true, false, cond, List, [], ◌∷◌, ◌++◌, length, refl, sym, ap, ◌∙◌, subst, ⊎_elim, append_assoc, append-nil, arith, Some, slice_get, slice_index_or}
 use Rattle.std.specs.FinMap as finite
-use Rattle.headline.proofs.Common.{Streams, Layout, Limits, Reply, NoRoom, Unavailable, Ask, Step, Item, Answered, Failed, History, About, Sight, Wal, Terms, IsLegal, MayFollow, answer, reply_to, meaning, answered_to, then_step, IsLegalAt, base_at, terms_of, history_of, AreOpenedFrom, is_refusal, IsReplay, Life, IsLife, IsHeadlineOf, MayBeReplayed, writing_in, false≢true, cases_Bool, legal_front}
+use Rattle.headline.proofs.Common.{Streams, Limits, Reply, NoRoom, Unavailable, Ask, Step, Item, Answered, Failed, History, About, Sight, Wal, Terms, IsLegal, MayFollow, answer, reply_to, meaning, answered_to, then_step, IsLegalAt, base_at, terms_of, history_of, AreOpenedFrom, is_refusal, IsReplay, Life, IsLife, IsHeadlineOf, MayBeReplayed, writing_in, false≢true, cases_Bool, legal_front}
 use Rattle.accept.proofs.Legal.{legal-beginning, legal-last}
 use Rattle.accept.proofs.Meanings.{meaning-nothing, meaning-answered, meaning-NoRoom, meaning-Unavailable, meaning-Failed, meaning-answered_to, answered_to-append, equal_after}
 use Rattle.headline.specs.Chains.{Part, answered_in, calls_found, IsPart, AreParts, base_in, IsContinued, AreLives, IsFoundLast, AreHeadlines, IsHeadlineOfLives}
@@ -75,10 +75,10 @@ part_of life k history state r = record {
 }
 
 module _ {D : Type 0} (sight : D → Sight) (follows : D → Type 0) (only_now : (d : D) (c : List ℕ) → follows d → (sight d).left_since (sight d).moment c → (sight d).may_leave c) where
-  as_many : (count capacity : ℕ) (layout : Layout) (j : ℕ) (given : List (List D)) (logs : List (Wal D)) (ms : List Streams) → AreOpenedFrom sight follows count capacity layout j given logs ms → length ms ≡ length given
-  as_many count capacity layout j [] [] [] o = refl
-  as_many count capacity layout j (x ∷ given) (w ∷ logs) (m ∷ ms) o = let more = as_many count capacity layout (j + 1) given logs ms o.1 in omega arith
-  as_many count capacity layout j given logs ms o = absurd o
+  as_many : (count capacity j : ℕ) (given : List (List D)) (logs : List (Wal D)) (ms : List Streams) → AreOpenedFrom sight follows count capacity j given logs ms → length ms ≡ length given
+  as_many count capacity j [] [] [] o = refl
+  as_many count capacity j (x ∷ given) (w ∷ logs) (m ∷ ms) o = let more = as_many count capacity (j + 1) given logs ms o.1 in omega arith
+  as_many count capacity j given logs ms o = absurd o
 
   -- the next opening's base is what a crash left of this one
   next_base : (e next : Life D) (k : ℕ) → IsLife sight follows next → IsContinued sight follows e (next ∷ []) → k < length next.given → MayBeReplayed sight follows e.ends k (base_at next.opening.about k)
@@ -86,12 +86,11 @@ module _ {D : Type 0} (sight : D → Sight) (follows : D → Type 0) (only_now :
     left = next.given;
     crash = is.0;
     capacity = life.capacity;
-    layout = life.limits.layout;
     logs = next.opening.logs;
     states = next.opening.about.bases;
     found = life.found;
     follow = is.1;
-    there = there_in next.opening.about.bases k finite.empty (let n = as_many (length next.given) life.capacity life.limits.layout 0 next.given next.opening.logs next.opening.about.bases life.found in omega arith);
+    there = there_in next.opening.about.bases k finite.empty (let n = as_many (length next.given) life.capacity 0 next.given next.opening.logs next.opening.about.bases life.found in omega arith);
   }
 
   -- what is found after an opening is what it began with, and its calls

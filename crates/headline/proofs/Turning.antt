@@ -1,7 +1,7 @@
 -- What a crash leaves of a shard between its opening and its end.
 use Rattle.std.proofs.Common.{◌≡◌, ◌⊎◌, ℕ, zero, suc, Bool, true, false, List, [], ◌∷◌, ◌++◌, length, take, drop, refl, sym, ap, ◌∙◌, subst, inl, inr, ⊎_elim, append_assoc, append-nil, arith, Some, None, slice_get, slice_index_or}
 use Rattle.std.proofs.Math.Seq.{take-length, take-nil}
-use Rattle.headline.proofs.Common.{Layout, Unavailable, Ask, Item, Answered, Failed, About, Sight, Wal, ShardPlace, Sharded, Opening, meaning, answered_to, is_marked, place_of, Follow, slots, owner, IsOnDisk, Allows, Covers, is_even, Recovers, pair, slots_of, IsLegalAt, IsByPasses, base_at, history_of, reply_of, step_of, doubt_of, doubt_or, Booked, history_in, asks_of, fresh_book, MayLeave, IsCommitted, IsMarkedInDoubt, items_with, with_steps, changing_of, marked_by, MayLeaveAll, Turn, AreTogether, IsAlone, IsTurn, Thread, IsMade, Lead, Moment, Between, Within, Stretch, shard_then, calls_with_steps, made_in, writing_then, IsMoment, FollowThen, IsStretch, MayBeLeft, IsLeftThen, cases_Bool, doubt_marked, doubt_unmarked, legal_none}
+use Rattle.headline.proofs.Common.{Unavailable, Ask, Item, Answered, Failed, About, Sight, Wal, ShardPlace, Sharded, Opening, meaning, answered_to, is_marked, place_of, Follow, slots, owner, IsOnDisk, Allows, Covers, is_even, Recovers, pair, slots_of, IsLegalAt, IsByPasses, base_at, history_of, reply_of, step_of, doubt_of, doubt_or, Booked, history_in, asks_of, fresh_book, MayLeave, IsCommitted, IsMarkedInDoubt, items_with, with_steps, changing_of, marked_by, MayLeaveAll, Turn, AreTogether, IsAlone, IsTurn, Thread, IsMade, Lead, Moment, Between, Within, Stretch, shard_then, calls_with_steps, made_in, writing_then, IsMoment, FollowThen, IsStretch, MayBeLeft, IsLeftThen, cases_Bool, doubt_marked, doubt_unmarked, legal_none}
 use Rattle.accept.proofs.Meanings.{meaning-nothing}
 use Rattle.wal.proofs.OneImage.{settled_covers}
 use Rattle.shard.specs.Keeping.{owner_in, IsAllowed, KeepsHistory}
@@ -126,9 +126,9 @@ module _ {D : Type 0} (sight : D → Sight) (follows : D → Type 0) (only_now :
   lead_rests about k start end (t ∷ ts) r l = lead_rests about k t.new end ts (made_rests about k t (subst (Rests about k) (sym l.0) r) l.1) l.2
 
   -- as it was opened
-  start_rests : (opening : Opening D) (count capacity : ℕ) (layout : Layout) (k : ℕ) (log : Wal D) → opening.about.shards ≡ count → IsOpenedAt sight follows count capacity layout k log opening.about.bases
+  start_rests : (opening : Opening D) (count capacity k : ℕ) (log : Wal D) → opening.about.shards ≡ count → IsOpenedAt sight follows count capacity k log opening.about.bases
       → Rests opening.about k (record { log = log; book = fresh_book opening.table opening.about k; opened = log })
-  start_rests opening count capacity layout k log counted o = record {
+  start_rests opening count capacity k log counted o = record {
     about_is = refl;
     number = refl;
     legal = legal_none opening.about k;
@@ -193,11 +193,11 @@ module _ {D : Type 0} (sight : D → Sight) (follows : D → Type 0) (only_now :
   moment_covers about k (Within t) left r is f l = λ a b x y.
       as_opening about k t.old.book (writing_then (Within t)) a b r.about_is r.number (within_turn about k t a b r is f (l.crash a b x y))
 
-  pub stretch_rests : (opening : Opening D) (threads : List Thread) (count capacity : ℕ) (layout : Layout) (k : ℕ) (st : Stretch D) (is : IsStretch sight follows opening threads k st) → opening.about.shards ≡ count → IsOpenedAt sight follows count capacity layout k is.opened opening.about.bases → Rests opening.about k (shard_then st.moment)
-  stretch_rests opening threads count capacity layout k st is counted o = lead_rests opening.about k _ (shard_then st.moment) st.turns (start_rests opening count capacity layout k is.opened counted o) is.turned
+  pub stretch_rests : (opening : Opening D) (threads : List Thread) (count capacity k : ℕ) (st : Stretch D) (is : IsStretch sight follows opening threads k st) → opening.about.shards ≡ count → IsOpenedAt sight follows count capacity k is.opened opening.about.bases → Rests opening.about k (shard_then st.moment)
+  stretch_rests opening threads count capacity k st is counted o = lead_rests opening.about k _ (shard_then st.moment) st.turns (start_rests opening count capacity k is.opened counted o) is.turned
 
-  pub stretch_covers : (opening : Opening D) (threads : List Thread) (count capacity : ℕ) (layout : Layout) (k : ℕ) (st : Stretch D) (left : List D) (is : IsStretch sight follows opening threads k st) → opening.about.shards ≡ count → IsOpenedAt sight follows count capacity layout k is.opened opening.about.bases → IsLeftThen sight follows st.moment left
+  pub stretch_covers : (opening : Opening D) (threads : List Thread) (count capacity k : ℕ) (st : Stretch D) (left : List D) (is : IsStretch sight follows opening threads k st) → opening.about.shards ≡ count → IsOpenedAt sight follows count capacity k is.opened opening.about.bases → IsLeftThen sight follows st.moment left
       → Covers (place_of k opening.about.shards) opening.about.limits (slots_of sight left) (history_of opening.about k (shard_then st.moment).book.items) (writing_then st.moment)
-  stretch_covers opening threads count capacity layout k st left is counted o l =
-      let r = stretch_rests opening threads count capacity layout k st is counted o in
+  stretch_covers opening threads count capacity k st left is counted o l =
+      let r = stretch_rests opening threads count capacity k st is counted o in
       moment_covers opening.about k st.moment left r is.moment is.follow l

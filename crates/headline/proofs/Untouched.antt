@@ -15,7 +15,7 @@ module _ {D : Type 0} (sight : D → Sight) (follows : D → Type 0) where
     -- what was opened, where its slots rest at these
     rests_at : (k : ℕ) (opened : Wal D) → slice_get life.opening.logs k ≡ Some opened → Follow follows opened → (given : List D) → slice_get life.given k ≡ Some given → PairRests (slots_of sight given) (slots sight opened)
     rests_at k opened there f given here =
-        let at = given_at sight follows (length life.given) is.capacity is.limits.layout k life.given life.opening.logs life.opening.about.bases opened is.found there in
+        let at = given_at sight follows (length life.given) is.capacity k life.given life.opening.logs life.opening.about.bases opened is.found there in
         subst (λ (l : List D). PairRests (slots_of sight l) (slots sight opened)) (same_Some at.0 given (sym at.4 ∙ here)) (at.3.rests f)
 
     rests : (k : ℕ) (end : ShardEnd D) (ends : IsEnd sight follows life.opening life.threads k end) → MadeNoTurn sight follows life.opening life.threads k end ends → (given : List D) → slice_get life.given k ≡ Some given → PairRests (slots_of sight given) (slots_then sight follows end)

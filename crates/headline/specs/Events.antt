@@ -1,9 +1,8 @@
 -- A log from event to event, each over what a crash left of the one before: openings that lived, under any limits and
 -- capacity; openings that were refused or killed; and splits into another number of shards.
 use Rattle.std.specs.Prelude.{◌≡◌, ◌⊎◌, ◌<◌, ℕ, List, [], ◌∷◌, ◌++◌, length, map}
-use Rattle.headline.specs.Types.{Streams, Layout, Limits, Ask, Item, Sight, Wal}
+use Rattle.headline.specs.Types.{Streams, Limits, Ask, Item, Sight, Wal}
 use Rattle.accept.specs.Histories.{meaning, answered_to}
-use Rattle.segment.specs.ShardPlaces.{place_of}
 use Rattle.wal.specs.Opening.{slots_of, disks, AllFollow}
 use Rattle.openings.specs.Findings.{AreOpenedFrom, IsFirstRefused}
 use Rattle.history.specs.Histories.{base_at}
@@ -11,8 +10,8 @@ use Rattle.ingester.specs.declared.refusal.OpenFault.{OpenFault}
 use Rattle.ingester.specs.Findings.{IsUnmade}
 use Rattle.split.specs.Maps.{map_at, IsSplit}
 use Rattle.split.specs.Splits.{pair_at, EachPair, IsAtRest, AreSplit}
-use Rattle.headline.specs.Headline.{RefusedShard, IsForDeviceOrMemory, IsForLaterVersion}
-use Rattle.headline.specs.Lives.{Life, AreLeftBy, AreLeftAt, LogsFollow, IsLife, IsHeadlineOf, held_in, failures_of}
+use Rattle.headline.specs.Headline.{RefusedShard, IsForDeviceOrMemory}
+use Rattle.headline.specs.Lives.{Life, AreLeftBy, AreLeftAt, LogsFollow, IsLife, IsHeadlineOf, failures_of}
 use Rattle.headline.specs.Chains.{Part, IsPart, answered_in}
 
 -- An opening that came to nothing: the slots that it got, and as they were when its call came back, or would have.
@@ -20,11 +19,9 @@ pub record Attempt (D : Type 0) : Type 0 where
   pub given : List (List D)
   pub backs : List (List D)
 
--- A split into segments of at most this size, written in this layout: the slots of the old shards and of the new ones,
--- before it and after it.
+-- A split into segments of at most this size: the slots of the old shards and of the new ones, before it and after it.
 pub record Splitting (D : Type 0) : Type 0 where
   pub cap : ℕ
-  pub layout : Layout
   pub old : List (List D)
   pub old_back : List (List D)
   pub new : List (List D)
@@ -119,16 +116,15 @@ module _ {D : Type 0} (sight : D → Sight) (follows : D → Type 0) where
 
   -- `Ingester::open` refused these slots
   abbrev pub WasRefused : Attempt D → Type 0
-  WasRefused a = (layout : Layout) × (fault : OpenFault)
-      × IsUnmade sight follows (length a.given) layout a.given a.backs fault
+  WasRefused a = (fault : OpenFault)
+      × IsUnmade sight follows (length a.given) a.given a.backs fault
 
   -- or it would have opened them
   pub record WasOpened (a : Attempt D) : Type 0 where
     pub capacity : ℕ
-    pub layout : Layout
     pub logs : List (Wal D)
     pub states : List Streams
-    pub opened : AreOpenedFrom sight follows (length a.given) capacity layout 0 a.given logs states
+    pub opened : AreOpenedFrom sight follows (length a.given) capacity 0 a.given logs states
     pub backs_are : a.backs ≡ map disks logs
 
   -- `split` wrote no old slot, whatever came of it
@@ -142,8 +138,7 @@ module _ {D : Type 0} (sight : D → Sight) (follows : D → Type 0) where
     pub old : WroteNoOldSlot s
     pub two_slots : (k : ℕ) → k < length s.old → length (pair_at s.old k) ≡ 2
     pub count : length s.new_back ≡ length s.new
-    pub are_split : AreSplit sight follows s.cap s.layout s.old s.old_back s.new
-        s.new_back
+    pub are_split : AreSplit sight follows s.cap s.old s.old_back s.new s.new_back
     pub follow : AllFollowIn s.new_back
 
   -- what contracts promise of an event, if the disks have followed the model
@@ -170,9 +165,8 @@ module _ {D : Type 0} (sight : D → Sight) (follows : D → Type 0) where
     pub left : List (List D)
     pub crash : AreLeftLast e events left
     pub capacity : ℕ
-    pub layout : Layout
     pub logs : List (Wal D)
-    pub found : AreOpenedFrom sight follows (length left) capacity layout 0 left logs states
+    pub found : AreOpenedFrom sight follows (length left) capacity 0 left logs states
     pub follow : LogsFollow sight follows logs
 
   -- or it refuses those of shard k first, for this fault and with these counts
@@ -181,9 +175,8 @@ module _ {D : Type 0} (sight : D → Sight) (follows : D → Type 0) where
     pub left : List (List D)
     pub crash : AreLeftLast e events left
     pub backs : List (List D)
-    pub refused : IsFirstRefused sight follows (length left) r.layout k r.fault left backs
+    pub refused : IsFirstRefused sight follows (length left) k r.fault left backs
     pub follow : AllFollow follows refused.back
-    pub held : r.held ≡ held_in (slots_of sight refused.given)
     pub before : r.failures_before ≡ failures_of (slots_of sight refused.given)
     pub after : r.failures_after ≡ failures_of (slots_of sight refused.back)
 
@@ -197,11 +190,11 @@ module _ {D : Type 0} (sight : D → Sight) (follows : D → Type 0) where
 
   -- Of each opening there are histories as the headline says. Whatever crash comes in the end, what is replayed is what
   -- a one-thread ingester has that began with what the first opening read, and went through all events; and nothing
-  -- that a crash left is refused, unless what was in use is of a later version than the one to be written.
+  -- that a crash left is refused.
   pub record IsHeadlineOfEvents (first : Life D) (events : List (Event D)) : Type 0 where
     pub histories : List (ℕ → List Item)
     pub each : AreHeadlinesOf (Lived first ∷ events) histories
     pub whatever_crash_comes : (states : List Streams) → AreFoundLast (Lived first) events states
         → AreMade (Lived first ∷ events) histories (base_at first.opening.about) (map_at states)
-    pub replay_gives : (k : ℕ) (r : RefusedShard) (is : IsRefusedLast (Lived first) events k r)
-        → IsForDeviceOrMemory r ⊎ IsForLaterVersion (place_of k (length is.left)) r
+    pub replay_gives : (k : ℕ) (r : RefusedShard) → IsRefusedLast (Lived first) events k r
+        → IsForDeviceOrMemory r

@@ -1,11 +1,9 @@
 -- What is proved of the calls of an opening, word by word.
 use Rattle.std.specs.Prelude.{◌≡◌, ◌≢◌, ◌⊎◌, ℕ, ◌+◌, ◌<◌, ◌==◌, Bool, true, false, List, [], ◌∷◌, filter, if◌then◌else◌}
-use Rattle.headline.specs.Types.{Streams, Layout, Reply, NoRoom, Unavailable, Ask, Step, Item, Answered, History, About, ShardPlace, OpenFault}
+use Rattle.headline.specs.Types.{Streams, Reply, NoRoom, Unavailable, Ask, Step, Item, Answered, History, About, OpenFault}
 use Rattle.accept.specs.Histories.{key_of, answer, meaning, reply_to, answered_to, is_step_of, is_marked}
 use Rattle.accept.specs.OneKey.{only_about}
 pub use Rattle.accept.specs.Lasting.{IsOneOf}
-use Rattle.segment.specs.ShardPlaces.{place_of}
-use Rattle.wal.specs.Opening.{IsLater}
 use Rattle.wal.specs.declared.fault.OpenFault.TheVariants.{Device, Memory}
 use Rattle.history.specs.Histories.{IsBeginning, IsLegalAt, IsByPasses, base_at, terms_of, history_of, shard_in, step_of}
 use Rattle.history.specs.Plays.{seen_at, ask_of, HasStepsOf}
@@ -52,11 +50,8 @@ HaveThreads n threads = (p : ℕ) → p < n → (t : Thread) × IsOneOf t thread
 abbrev pub WasCalled : List Thread → Ask → Type 0
 WasCalled threads ask = IsOneOf ask (calls_made_by threads)
 
--- why an opening that was to write this layout refused a shard, what its slot 0 and slot 1 held, and how many calls on
--- them had failed before it and after it
+-- why an opening refused a shard, and how many calls on slot 0 and slot 1 had failed before it and after it
 pub record RefusedShard : Type 0 where
-  pub layout : Layout
-  pub held : List ℕ × List ℕ
   pub fault : OpenFault
   pub failures_before : ℕ × ℕ
   pub failures_after : ℕ × ℕ
@@ -65,11 +60,6 @@ pub record RefusedShard : Type 0 where
 abbrev pub IsForDeviceOrMemory : RefusedShard → Type 0
 IsForDeviceOrMemory r = ((r.fault ≡ Device) × (r.failures_after ≢ r.failures_before))
     ⊎ ((r.fault ≡ Memory) × (r.failures_after ≡ r.failures_before))
-
--- since the segment in use of this shard is of a later version than the one to be written, and no call failed
-abbrev pub IsForLaterVersion : ShardPlace → RefusedShard → Type 0
-IsForLaterVersion whose r =
-    IsLater r.layout whose r.held.0 r.held.1 r.fault × (r.failures_after ≡ r.failures_before)
 
 -- .. replay gives the state after a beginning of that history, continued only by calls then being written, that holds
 -- every answered call.
@@ -121,7 +111,5 @@ pub record IsHeadline (about : About) (threads : List Thread) (history : ℕ →
       (history_before about history a) a.call
   pub whatever_crash_comes : (k : ℕ) → k < about.shards → (state : Streams) → replay k state
       → IsReplay about threads k (history k) (writing k) state
-  -- It is refused for want of a device or of memory, and for nothing that a crash left, unless what was in use is of a
-  -- later version than the one to be written.
-  pub replay_gives : (k : ℕ) (r : RefusedShard) → refusal k r
-      → IsForDeviceOrMemory r ⊎ IsForLaterVersion (place_of k about.shards) r
+  -- It is refused for want of a device or of memory, and for nothing that a crash left.
+  pub replay_gives : (k : ℕ) (r : RefusedShard) → refusal k r → IsForDeviceOrMemory r

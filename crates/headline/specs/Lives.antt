@@ -1,6 +1,6 @@
 -- An opening until it is closed or a crash comes, and what is then left of its slots.
 use Rattle.std.specs.Prelude.{◌≡◌, ℕ, ◌≤◌, List, [], ◌∷◌, Bool, Option, Some, None, length, slice_get}
-use Rattle.headline.specs.Types.{Streams, Layout, Limits, Ask, Item, Sight, Wal, Opening}
+use Rattle.headline.specs.Types.{Streams, Limits, Ask, Item, Sight, Wal, Opening}
 use Rattle.segment.specs.ShardPlaces.{place_of}
 use Rattle.wal.specs.Recovery.{Recovers}
 use Rattle.wal.specs.Moments.{Pair, HasFailed}
@@ -39,10 +39,6 @@ writing_in ends history k = writing_at (slice_get ends k) (history k)
 -- it is where nothing happened in between, and where one of the contents that the old disk may leave is all there is.
 pub record IsLeftBy (old new : Sight) : Type 0 where
   pub crash : (c : List ℕ) → new.may_leave c → old.may_leave c
-
--- what slot 0 and slot 1 hold
-abbrev pub held_in : Pair → List ℕ × List ℕ
-held_in slots = (slots.first.seen, slots.second.seen)
 
 -- how many calls on slot 0 and slot 1 have failed
 abbrev pub failures_of : Pair → ℕ × ℕ
@@ -85,7 +81,7 @@ module _ {D : Type 0} (sight : D → Sight) (follows : D → Type 0) where
     pub some_shard : 1 ≤ length life.given
     pub shards : life.opening.about.shards ≡ length life.given
     pub found : AreOpenedFrom sight follows
-        (length life.given) capacity limits.layout 0 life.given life.opening.logs
+        (length life.given) capacity 0 life.given life.opening.logs
         life.opening.about.bases
     pub about : life.opening.about ≡ about_of life.opening.about.bases passes limits capacity
     pub threads_are : (t : Thread) → IsOneOf t life.threads → IsThread life.opening t
@@ -118,10 +114,9 @@ module _ {D : Type 0} (sight : D → Sight) (follows : D → Type 0) where
     pub left : List (List D)
     pub crash : AreLeftAt ends left
     pub capacity : ℕ
-    pub layout : Layout
     pub logs : List (Wal D)
     pub states : List Streams
-    pub found : AreOpenedFrom sight follows (length left) capacity layout 0 left logs states
+    pub found : AreOpenedFrom sight follows (length left) capacity 0 left logs states
     pub follow : LogsFollow logs
     pub there : slice_get states k ≡ Some state
 
@@ -131,9 +126,8 @@ module _ {D : Type 0} (sight : D → Sight) (follows : D → Type 0) where
     pub left : List (List D)
     pub crash : AreLeftAt ends left
     pub backs : List (List D)
-    pub refused : IsFirstRefused sight follows (length left) r.layout k r.fault left backs
+    pub refused : IsFirstRefused sight follows (length left) k r.fault left backs
     pub follow : AllFollow follows refused.back
-    pub held : r.held ≡ held_in (slots_of sight refused.given)
     pub before : r.failures_before ≡ failures_of (slots_of sight refused.given)
     pub after : r.failures_after ≡ failures_of (slots_of sight refused.back)
 

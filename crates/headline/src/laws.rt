@@ -1,10 +1,10 @@
 //! The headline. The functions do nothing: each contract is a law.
 ghost use Rattle.std.specs.Prelude.{◌≡◌, ℕ, List, false, map, Result};
-ghost use Rattle.headline.specs.Types.{Limits, Three, Item, Passed, Opening, ShardPlace};
+ghost use Rattle.headline.specs.Types.{Limits, Item, Passed, Opening};
 ghost use Rattle.disk.specs.Sight.{IsSynced};
 ghost use Rattle.ingester.specs.Calls.{AreGiven};
 ghost use Rattle.headline.specs.Threads.{Happening, HappenAfter, calls_with};
-ghost use Rattle.headline.specs.Headline.{RefusedShard, IsForLaterVersion, IsHeadline};
+ghost use Rattle.headline.specs.Headline.{IsHeadline};
 ghost use Rattle.headline.specs.Lives.{Life, IsLeftBy, IsLife, WereRead, HasFailedSince, MayBeReplayed, MayBeRefused, WritesNothingBefore, writing_in};
 ghost use Rattle.headline.specs.Chains.{AreLives, IsHeadlineOfLives};
 ghost use Rattle.headline.specs.Events.{Event, Lived, AreEvents, IsHeadlineOfEvents};
@@ -28,13 +28,6 @@ pub fn headline<D: Disk>()
     ensures whole { (disk : D) → IsLeftBy (D.sight disk) (D.sight disk) }
 {}
 
-/// Where version 3 of the layout is to be written, no segment in use is of a later version. So only an opening that is
-/// to write version 2 refuses slots for that.
-pub fn no_version_is_later_than_three()
-    ensures { (whose : ShardPlace) (r : RefusedShard) → r.layout ≡ Three
-        → IsForLaterVersion whose r → ⊥ }
-{}
-
 /// Until its first turn a shard writes nothing: from the first moment of the call that opens it, a crash leaves of its
 /// slots only what it could have left when that call began.
 pub fn opening_writes_nothing<D: Disk>()
@@ -53,8 +46,7 @@ pub fn headline_of_openings<D: Disk>()
 
 /// The same over any events: openings under any limits, of any capacity, that live, are refused, or are killed before
 /// they are made; and splits into another number of shards, done or given up. What is found in the end is what a
-/// one-thread ingester has that went through them, and nothing that a crash left is refused, unless what was in use is
-/// of a later version of the layout than the one to be written.
+/// one-thread ingester has that went through them, and nothing that a crash left is refused.
 pub fn headline_of_events<D: Disk>()
     ensures { (first : Life D) (events : List (Event D))
         → AreEvents D.sight D.follows (Lived first) events

@@ -3,7 +3,4 @@
 
 mod laws;
 
-pub use laws::{
-    calls_happen_in_order, headline, headline_of_openings, no_version_is_later_than_three,
-    opening_writes_nothing,
-};
+pub use laws::{calls_happen_in_order, headline, headline_of_openings, opening_writes_nothing};

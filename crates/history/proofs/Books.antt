@@ -63,7 +63,7 @@ refuses about k items call e = ap (λ b. cond b Unavailable (reply_unmarked abou
     reply_unmarked about k items call =
         let limits = about.limits in
         let h = history_of about k items in
-        cond (changes (answer limits h call) && nat_lt about.capacity (room_of limits.layout (after limits h call))) NoRoom (answer limits h call)
+        cond (changes (answer limits h call) && nat_lt about.capacity (room_of (after limits h call))) NoRoom (answer limits h call)
 
 -- the histories and the passes after a step of the call a
 good_step : (about : About) (x : TableContents) (k : ℕ) (now : List Item) (a : Ask) (f : Bool) (b : List Ask) (at : ℕ × ℕ) → IsGood about x → a.pass < about.passes → shard_in about a ≡ k → x.tokens a.pass a.number ≡ Open a f b → HaveSteps b (x.items k)

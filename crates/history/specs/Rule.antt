@@ -4,7 +4,6 @@ use mathlib.Core.Option.{some}
 use lib.ListN.{get_elem?}
 use Rattle.atomic_table.specs.Table.{State}
 use Rattle.history.specs.Types.{Ask, Step, Item, Answered, About, Caller, View, Role, Nobody, Opener, Keeps, Calls, Token, Nothing, Open, Done}
-use Rattle.accept.specs.declared.limits.Layout.TheVariants.{Two}
 use Rattle.accept.specs.Histories.{is_marked}
 use Rattle.history.specs.declared.views.Sizes.{Sizes}
 use Rattle.history.specs.Histories.{IsBeginning, IsLegalAt, shard_in, steps_by, steps_on, asks_by, asks_on, HaveNumbersBelow, IsRising, AreSpent, numbers_of, AreUnused, HasStep, IsAmong, IsByPasses, bound, max_passes, max_open}
@@ -23,7 +22,7 @@ unnamed sizes =
     record {
       shards = sizes.shards;
       passes = sizes.passes;
-      limits = record { line = 0; half_age = 0; max_old = 0; max_ahead = 0; layout = Two };
+      limits = record { line = 0; half_age = 0; max_old = 0; max_ahead = 0 };
       capacity = 0;
       bases = [];
     }

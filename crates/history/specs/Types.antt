@@ -2,9 +2,9 @@
 pub use Rattle.accept.specs.Rooms.{Streams}
 pub use Rattle.accept.specs.declared.limits.Limits.{Limits}
 pub use Rattle.accept.specs.declared.call.Call.{Call}
-pub use Rattle.accept.specs.declared.call.Call.TheVariants.{Push, Read, Trim, Take, End}
+pub use Rattle.accept.specs.declared.call.Call.TheVariants.{Push, Read, Trim}
 pub use Rattle.accept.specs.declared.call.Reply.{Reply}
-pub use Rattle.accept.specs.declared.call.Reply.TheVariants.{Verdict, Entries, Trimmed, Removed, TrimTooNew, NoStream, BoundTooNew, OtherRemoved, OtherCount, Ended, HasEntries, NotOld, NotCounted, NoRoom, Unavailable}
+pub use Rattle.accept.specs.declared.call.Reply.TheVariants.{Verdict, Entries, Trimmed, TrimTooNew, NoStream, NoRoom, Unavailable}
 pub use Rattle.accept.specs.declared.history.Ask.{Ask}
 pub use Rattle.accept.specs.declared.history.Step.{Step}
 pub use Rattle.accept.specs.declared.history.Item.{Item}

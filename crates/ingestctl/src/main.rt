@@ -1,4 +1,4 @@
-//! `ingestctl push|read|trim|end DIR SHARDS TENANT NOW`: answers the request on standard input over the slots of a folder.
+//! `ingestctl push|read|trim DIR SHARDS TENANT NOW`: answers the request on standard input over the slots of a folder.
 #![tactic(auto)]
 
 use std::process::ExitCode;
@@ -6,7 +6,7 @@ use tools::{environment_of, run_ctl, tell_about, words_of};
 
 /// What `--help` prints.
 const HELP: &str = "\
-usage: ingestctl push|read|trim|end DIR SHARDS TENANT NOW
+usage: ingestctl push|read|trim DIR SHARDS TENANT NOW
 
 Answers the request on standard input over the slots of the folder DIR, which no server has open.
 NOW is the clock in nanoseconds since 1970.
@@ -16,7 +16,6 @@ Environment:
   NEEDLEAZURE_REJECT_OLD_SAMPLES_MAX_AGE  how far a line may be before the clock (168h)
   NEEDLEAZURE_CREATION_GRACE_PERIOD       how far a line may be after the clock (10m)
   NEEDLEAZURE_CAPACITY                    the bytes of a slot (67108864)
-  NEEDLEAZURE_LAYOUT                      the version of the log's layout that is written, 2 or 3 (2)
 
 man ingestctl has the rest.
 ";

@@ -8,7 +8,6 @@ use Rattle.std.proofs.lemmas.Bool.{cases_eq}
 use Rattle.atomic_table.specs.Seated.{TableId}
 use Rattle.accept.specs.Rooms.{Streams}
 use Rattle.accept.specs.OneStream.{AreLimits}
-use Rattle.accept.specs.declared.limits.Layout.{Layout}
 use Rattle.accept.specs.declared.limits.Limits.{Limits}
 use Rattle.disk.specs.Sight.{Sight}
 use Rattle.segment.specs.ShardPlaces.{place_of}
@@ -94,46 +93,46 @@ module _ {D : Type 0} (sight : D → Sight) (follows : D → Type 0) where
   none_failed_by given log true e none = subst (λ (x : Bool). HasNoFailure (slots_of sight given) (pair x (sight log.active) (sight log.spare))) e none
   none_failed_by given log false e none = subst (λ (x : Bool). HasNoFailure (slots_of sight given) (pair x (sight log.active) (sight log.spare))) e none
 
-  unfailed : (count capacity : ℕ) (layout : Layout) (k : ℕ) (all : List (List D)) (logs : List (Wal D)) (ms : List Streams) → AreOpenedFrom sight follows count capacity layout k all logs ms → AreUnfailed sight all (map disks logs)
-  unfailed count capacity layout k [] [] [] h = tt
-  unfailed count capacity layout k [] [] (m ∷ ms) h = absurd h
-  unfailed count capacity layout k [] (log ∷ logs) ms h = absurd h
-  unfailed count capacity layout k (given ∷ all) [] ms h = absurd h
-  unfailed count capacity layout k (given ∷ all) (log ∷ logs) [] h = absurd h
-  unfailed count capacity layout k (given ∷ all) (log ∷ logs) (m ∷ ms) h = (none_failed_by given log (is_even log.generation) refl h.0.not_failed, unfailed count capacity layout (k + 1) all logs ms h.1)
+  unfailed : (count capacity k : ℕ) (all : List (List D)) (logs : List (Wal D)) (ms : List Streams) → AreOpenedFrom sight follows count capacity k all logs ms → AreUnfailed sight all (map disks logs)
+  unfailed count capacity k [] [] [] h = tt
+  unfailed count capacity k [] [] (m ∷ ms) h = absurd h
+  unfailed count capacity k [] (log ∷ logs) ms h = absurd h
+  unfailed count capacity k (given ∷ all) [] ms h = absurd h
+  unfailed count capacity k (given ∷ all) (log ∷ logs) [] h = absurd h
+  unfailed count capacity k (given ∷ all) (log ∷ logs) (m ∷ ms) h = (none_failed_by given log (is_even log.generation) refl h.0.not_failed, unfailed count capacity (k + 1) all logs ms h.1)
 
   -- all that was opened comes back
-  pub returned_all : (count capacity : ℕ) (layout : Layout) (all back left : List (List D)) (logs : List (Wal D)) (ms : List Streams) → AreOpenedFrom sight follows count capacity layout 0 all logs ms → left ≡ [] → back ≡ map disks logs ++ left → AreReturned sight follows all back × AreUnfailed sight all back
-  returned_all count capacity layout all back left logs ms h none is =
+  pub returned_all : (count capacity : ℕ) (all back left : List (List D)) (logs : List (Wal D)) (ms : List Streams) → AreOpenedFrom sight follows count capacity 0 all logs ms → left ≡ [] → back ≡ map disks logs ++ left → AreReturned sight follows all back × AreUnfailed sight all back
+  returned_all count capacity all back left logs ms h none is =
       let same : map disks logs ≡ back = sym (is ∙ (ap (λ l. map disks logs ++ l) none ∙ append-nil (map disks logs))) in
-      (subst (AreReturned sight follows all) same (logs_returned sight follows count capacity layout 0 all logs ms h), subst (AreUnfailed sight all) same (unfailed count capacity layout 0 all logs ms h))
+      (subst (AreReturned sight follows all) same (logs_returned sight follows count capacity 0 all logs ms h), subst (AreUnfailed sight all) same (unfailed count capacity 0 all logs ms h))
 
   -- the log of a shard and the streams that stood in it
-  record IsFoundAt (count capacity : ℕ) (layout : Layout) (k : ℕ) (log : Wal D) (m : Streams) : Type 0 where
+  record IsFoundAt (count capacity k : ℕ) (log : Wal D) (m : Streams) : Type 0 where
     pub given : List D
-    pub opened : IsOpenedFrom sight follows (place_of k count) capacity layout given log m
+    pub opened : IsOpenedFrom sight follows (place_of k count) capacity given log m
 
-  opened_at : (count capacity : ℕ) (layout : Layout) (k j : ℕ) (all : List (List D)) (logs : List (Wal D)) (ms : List Streams) (log : Wal D) (m : Streams) → AreOpenedFrom sight follows count capacity layout k all logs ms
-      → slice_get logs j ≡ Some log → slice_get ms j ≡ Some m → IsFoundAt count capacity layout (k + j) log m
-  opened_at count capacity layout k j [] [] [] log m h e f = absurd (none-some log e)
-  opened_at count capacity layout k j [] [] (m' ∷ ms) log m h e f = absurd h
-  opened_at count capacity layout k j [] (l ∷ logs) ms log m h e f = absurd h
-  opened_at count capacity layout k j (g ∷ all) [] ms log m h e f = absurd h
-  opened_at count capacity layout k j (g ∷ all) (l ∷ logs) [] log m h e f = absurd h
-  opened_at count capacity layout k zero (g ∷ all) (l ∷ logs) (m' ∷ ms) log m h e f =
+  opened_at : (count capacity k j : ℕ) (all : List (List D)) (logs : List (Wal D)) (ms : List Streams) (log : Wal D) (m : Streams) → AreOpenedFrom sight follows count capacity k all logs ms
+      → slice_get logs j ≡ Some log → slice_get ms j ≡ Some m → IsFoundAt count capacity (k + j) log m
+  opened_at count capacity k j [] [] [] log m h e f = absurd (none-some log e)
+  opened_at count capacity k j [] [] (m' ∷ ms) log m h e f = absurd h
+  opened_at count capacity k j [] (l ∷ logs) ms log m h e f = absurd h
+  opened_at count capacity k j (g ∷ all) [] ms log m h e f = absurd h
+  opened_at count capacity k j (g ∷ all) (l ∷ logs) [] log m h e f = absurd h
+  opened_at count capacity k zero (g ∷ all) (l ∷ logs) (m' ∷ ms) log m h e f =
       let a = same_Some l log e in
       let b = same_Some m' m f in
-      record { given = g; opened = subst (λ (z : Wal D × Streams). IsOpenedFrom sight follows (place_of (k + 0) count) capacity layout g z.0 z.1) (λ i. (a i, b i)) (subst (λ n. IsOpenedFrom sight follows (place_of n count) capacity layout g l m') (omega arith) h.0) }
-  opened_at count capacity layout k (suc j) (g ∷ all) (l ∷ logs) (m' ∷ ms) log m h e f = subst (λ n. IsFoundAt count capacity layout n log m) (omega arith) (opened_at count capacity layout (k + 1) j all logs ms log m h.1 e f)
+      record { given = g; opened = subst (λ (z : Wal D × Streams). IsOpenedFrom sight follows (place_of (k + 0) count) capacity g z.0 z.1) (λ i. (a i, b i)) (subst (λ n. IsOpenedFrom sight follows (place_of n count) capacity g l m') (omega arith) h.0) }
+  opened_at count capacity k (suc j) (g ∷ all) (l ∷ logs) (m' ∷ ms) log m h e f = subst (λ n. IsFoundAt count capacity n log m) (omega arith) (opened_at count capacity (k + 1) j all logs ms log m h.1 e f)
 
   -- what was opened is what shards are made of, with the fresh books of its histories
   pub grounded : (table : TableId) (passes : ℕ) (limits : Limits) (count capacity : ℕ) (all : List (List D)) (logs : List (Wal D)) (ms : List Streams) (books : List Booked)
-      → AreOpenedFrom sight follows count capacity limits.layout 0 all logs ms → length ms ≡ count → AreLimits limits
+      → AreOpenedFrom sight follows count capacity 0 all logs ms → length ms ≡ count → AreLimits limits
       → books ≡ fresh_books table (about_of ms passes limits capacity) (length ms) → AreGround sight follows limits logs ms books
   grounded table passes limits count capacity all logs ms books h many lawful is k log m book at_log at_m at_book =
       let about = about_of ms passes limits capacity in
       let start : 0 + k ≡ k = omega arith in
-      let found = subst (λ n. IsFoundAt count capacity limits.layout n log m) start (opened_at count capacity limits.layout 0 k all logs ms log m h at_log at_m) in
+      let found = subst (λ n. IsFoundAt count capacity n log m) start (opened_at count capacity 0 k all logs ms log m h at_log at_m) in
       let o = found.opened in
       let fresh : book ≡ fresh_book table about k = fresh_book_at table about (length ms) k book (ap (λ l. slice_get l k) (sym is) ∙ at_book) in
       subst (λ b. IsGround sight follows limits log m b) (sym fresh) (record {
@@ -146,9 +145,8 @@ module _ {D : Type 0} (sight : D → Sight) (follows : D → Type 0) where
         same_owner = o.same_owner ∙ ap (place_of k) (sym many);
         usable = o.usable;
         settled = o.settled;
-        fit = subst (λ w. FitStreams limits.layout w m) (sym o.same_owner) o.fit;
-        same_layout = o.same_layout;
-        small = o.small limits.layout;
+        fit = subst (λ w. FitStreams w m) (sym o.same_owner) o.fit;
+        small = o.small;
       })
 
   -- the last of each, and those before it

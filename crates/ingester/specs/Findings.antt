@@ -1,6 +1,5 @@
 -- Why slots are not opened, and what is given back.
 use Rattle.std.specs.Prelude.{◌≡◌, ◌⊎◌, ℕ, List, [], ◌∷◌}
-use Rattle.accept.specs.declared.limits.Layout.{Layout}
 use Rattle.disk.specs.Sight.{Sight}
 use Rattle.wal.specs.Moments.{HasNoFailure}
 use Rattle.wal.specs.Opening.{slots_of}
@@ -23,11 +22,11 @@ AreUnfailed sight (given ∷ all) (back ∷ backs) =
 AreUnfailed sight all backs = ⊥
 
 module _ {D : Type 0} (sight : D → Sight) (follows : D → Type 0) where
-  -- All slots come back in their order, and this is why, where this layout was to be written. Without memory they may
-  -- be untouched, and no device has failed.
-  abbrev pub IsUnmade : ℕ → Layout → List (List D) → List (List D) → OpenFault → Type 0
-  IsUnmade count layout all backs (faults.Refused shard fault) =
-      IsFirstRefused sight follows count layout shard fault all backs
-  IsUnmade count layout all backs faults.Memory = (backs ≡ all)
+  -- All slots come back in their order, and this is why. Without memory they may be untouched, and no device has
+  -- failed.
+  abbrev pub IsUnmade : ℕ → List (List D) → List (List D) → OpenFault → Type 0
+  IsUnmade count all backs (faults.Refused shard fault) =
+      IsFirstRefused sight follows count shard fault all backs
+  IsUnmade count all backs faults.Memory = (backs ≡ all)
       ⊎ (AreReturned sight follows all backs × AreUnfailed sight all backs)
-  IsUnmade count layout all backs faults.Thread = backs ≡ all
+  IsUnmade count all backs faults.Thread = backs ≡ all

@@ -33,8 +33,8 @@ pub record AreSettings (settings : Settings) : Type 0 where
 -- this number of pairs of slots were opened, as the settings say, and these are the passes
 pub record IsOpenedAs {D : Type 0} (sight : D → Sight) (follows : D → Type 0) (settings : Settings)
     (count : ℕ) (slots : List (List D)) (ingester : Opening D) (dealt : List Passed) : Type 0 where
-  pub found : AreOpenedFrom sight follows count settings.capacity settings.limits.layout 0 slots
-      ingester.logs ingester.about.bases
+  pub found : AreOpenedFrom sight follows count settings.capacity 0 slots ingester.logs
+      ingester.about.bases
   pub about : ingester.about ≡ about_of ingester.about.bases settings.passes settings.limits
       settings.capacity
   pub shards : ingester.about.shards ≡ count

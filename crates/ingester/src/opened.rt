@@ -92,8 +92,7 @@ impl<D: Disk + Drop> Ingester<D> {
         ensures opened { IfOk result (λ it.
             IsOpenedAs D.sight D.follows settings (vec_len slots) slots.items it.0 it.1.items) }
         ensures unmade { IfErr result
-            (λ e. IsUnmade D.sight D.follows (vec_len slots) settings.limits.layout slots.items
-            e.1.items e.0) }
+            (λ e. IsUnmade D.sight D.follows (vec_len slots) slots.items e.1.items e.0) }
     {
         Ingester::open_observed(rt, handle, alloc, slots, settings, &Unobserved)
     }
@@ -122,8 +121,7 @@ impl<D: Disk + Drop> Ingester<D> {
         ensures opened { IfOk result (λ it.
             IsOpenedAs D.sight D.follows settings (vec_len slots) slots.items it.0 it.1.items) }
         ensures unmade { IfErr result
-            (λ e. IsUnmade D.sight D.follows (vec_len slots) settings.limits.layout slots.items
-            e.1.items e.0) }
+            (λ e. IsUnmade D.sight D.follows (vec_len slots) slots.items e.1.items e.0) }
     {
         let team = match Team::start(rt, handle, alloc, slots.len()) {
             Ok(team) => team,
@@ -215,15 +213,13 @@ fn open_all<D: Disk + Drop + Send, R: Threads + Sync, O: Observer + Sync>(
     ensures ready { IfOk result (λ it. AreShardsOf D.sight D.follows it.ingester it.shards.items
         × AreEnds it.ingester it.ends.items × (deque_len it.ends ≡ vec_len it.shards)) }
     ensures unmade { IfErr result (λ fault.
-        IsUnmade D.sight D.follows (deque_len slots.old) settings.now.limits.layout slots.old.items
-        slots.new.items fault) }
+        IsUnmade D.sight D.follows (deque_len slots.old) slots.old.items slots.new.items fault) }
 {
     let count = slots.len();
     let shards = VecDeque::with_capacity(alloc, count)?;
     let sizes = Vec::with_capacity(alloc, count)?;
     let list = Vec::with_capacity(alloc, settings.passes as usize)?;
-    let layout = settings.limits.layout;
-    let (mut logs, images) = open_logs(rt, alloc, slots, settings.capacity, layout, observer)?;
+    let (mut logs, images) = open_logs(rt, alloc, slots, settings.capacity, observer)?;
     let Ok(planned) = plan_opening(alloc, &images, &logs, settings) else {
         give_back(slots, &mut logs);
         return Err(OpenFault::Memory);

@@ -8,7 +8,7 @@ use wal::Capacity;
 pub struct Settings {
     /// How many passes it has: 1 to 64.
     pub passes: u32,
-    /// The limits by which entries are judged, and which version of the layout is written.
+    /// The limits by which entries are judged.
     pub limits: Limits,
     /// How many bytes a segment may have.
     pub capacity: Capacity,

@@ -16,7 +16,6 @@ Environment:
   NEEDLEAZURE_REJECT_OLD_SAMPLES_MAX_AGE  how far a line may be before the clock (168h)
   NEEDLEAZURE_CREATION_GRACE_PERIOD       how far a line may be after the clock (10m)
   NEEDLEAZURE_CAPACITY                    the bytes of a slot (67108864)
-  NEEDLEAZURE_LAYOUT                      the version of the log's layout that is written, 2 or 3 (2)
   NEEDLEAZURE_OPEN_CONNECTIONS            how many connections may be open (10000)
   NEEDLEAZURE_HALF_SENT                   the bytes of requests that have not come whole (268435456)
 

@@ -1,2 +1,1 @@
 pub mod WrittenAnew
-pub mod SmallEntries

@@ -34,29 +34,15 @@ const SEGMENT_OF_1: [u8; 80] = *b"\x01LWL1\x01\0\0\0\0\0\0\0\0\0\0\0\x01\0\0\0\x
 const FRAME_OF_1: [u8; 37] = *b"\x20\0\0\0\x01\x01\0t\x07\0\0\0{a=\"1\"}\x01\0\0\0\
 \x0b\0\0\0\0\0\0\0\x01\0\0\0y\0";
 
-/// The example in version 3 of the layout, where a stream has the number of its removed entries. Its closing gate is at
-/// 89.
-const SEGMENT_OF_3: [u8; 90] = *b"\x01LWL3\x01\0\0\0\0\0\0\0\0\0\0\0\x01\0\0\0\x01\x3f\0\0\0\
-\x03\x01\0t\x07\0\0\0{a=\"1\"}\x0a\0\0\0\0\0\0\0\0\0\0\0\0\0\0\0\
-\x0a\0\0\0\0\0\0\0\x01\0\0\0x\0\x01\0\0\0\
-\x0a\0\0\0\0\0\0\0\x01\0\0\0x\0\0";
-
-/// What a removal of that entry writes after a gate.
-const REMOVAL_OF_3: [u8; 28] = *b"\x17\0\0\0\x02\x01\0t\x07\0\0\0{a=\"1\"}\x0b\0\0\0\0\0\0\0\0";
-
-/// What an end of that stream writes after a gate.
-const END_OF_3: [u8; 20] = *b"\x0f\0\0\0\x04\x01\0t\x07\0\0\0{a=\"1\"}\0";
-
 /// How many bytes of a slot a line has.
 const LINE: usize = 32;
 
 /// The bytes that words stand for, one after another.
 ///
 /// Pairs of digits are bytes. `segment` and `frame` are those of the example, `segment_with_pair` and `frame_with_pair`
-/// those of the one with metadata, `segment_of_1` and `frame_of_1` those of the example in version 1, `segment_of_3`,
-/// `removal_of_3` and `end_of_3` those of the example in version 3. `-` is no bytes, and `COUNT*HEX` the same bytes
-/// COUNT times. `cut:COUNT` keeps the first COUNT bytes so far, `from:COUNT` drops them, and `at:PLACE=HEX` writes over
-/// bytes.
+/// those of the one with metadata, `segment_of_1` and `frame_of_1` those of the example in version 1. `-` is no bytes,
+/// and `COUNT*HEX` the same bytes COUNT times. `cut:COUNT` keeps the first COUNT bytes so far, `from:COUNT` drops them,
+/// and `at:PLACE=HEX` writes over bytes.
 ///
 /// # Errors
 /// Another word, a place that does not exist, or want of memory.
@@ -88,9 +74,6 @@ fn example_of(word: &str) -> Option<&'static [u8]> {
         "frame_with_pair" => Some(&FRAME_WITH_PAIR),
         "segment_of_1" => Some(&SEGMENT_OF_1),
         "frame_of_1" => Some(&FRAME_OF_1),
-        "segment_of_3" => Some(&SEGMENT_OF_3),
-        "removal_of_3" => Some(&REMOVAL_OF_3),
-        "end_of_3" => Some(&END_OF_3),
         _ => None,
     }
 }

@@ -1,4 +1,4 @@
-use accept::{Entry, Image, StreamState};
+use accept::{Entry, Image};
 use labels::StreamKey;
 use rows::{Said, only_character};
 use std::alloc::{AllocError, Global};
@@ -29,15 +29,9 @@ pub fn write_entry(entry: &Entry, into: &mut Said) {
     into.pairs(entry.meta.as_slice());
 }
 
-/// Says what a stream has: `highest TIME last ENTRY kept ENTRY ..`, with `removed N` after the highest time where
-/// entries were removed and counted.
-pub fn write_stream(state: &StreamState, last: &Entry, kept: &[&Entry], into: &mut Said) {
-    into.tell(format_args!("highest {}", state.highest()));
-    match state.removed() {
-        0 => {}
-        removed => into.tell(format_args!(" removed {removed}")),
-    }
-    into.put(" last ");
+/// Says what a stream has: `highest TIME last ENTRY kept ENTRY ..`.
+pub fn write_stream(highest: u64, last: &Entry, kept: &[&Entry], into: &mut Said) {
+    into.tell(format_args!("highest {highest} last "));
     write_entry(last, into);
     into.put(" kept");
     for entry in kept {
@@ -53,7 +47,7 @@ pub fn write_image(alloc: Global, image: &Image, into: &mut Said) -> Result<(), 
             let kept = state.kept(alloc)?;
             write_key(key, into);
             into.put(" ");
-            write_stream(state, last, &kept, into);
+            write_stream(state.highest(), last, &kept, into);
             into.put("\n");
         }
     }

@@ -26,8 +26,8 @@ use std::rt::Files;
 ///
 /// - `slot SLOT BYTES`: this slot on a disk on which these bytes are synced; `-`: nothing was ever written
 /// - `on SLOT WORDS`: a call on the disk of a slot of a log that isn't open
-/// - `open [SHARD COUNT CAPACITY [LAYOUT]]` (if left out, 0 1 200 and version 2): the generation and what each stream
-///   has, or why it isn't opened
+/// - `open [SHARD COUNT CAPACITY]` (if left out, 0 1 200): the generation and what each stream has, or why it isn't
+///   opened
 /// - `append BYTES`, `roll BYTES`, `fits COUNT`, `log`, `close`: calls, and what they say
 /// - `crash SLOT VALUES MAX PLACE`: what a crash may leave of a slot: of contents that follow one another and are
 ///   alike how many and how long, the byte at a place, whether the others are as a read gives, and what is opened
@@ -42,9 +42,8 @@ use std::rt::Files;
 ///
 /// Bytes are hex digits, `COUNT*HEX`, `-` (none), `segment` and `frame` (the example, which stands in `bytes`),
 /// `segment_with_pair` and `frame_with_pair` (that of an entry with the metadata `k=v`), `segment_of_1` and
-/// `frame_of_1` (the example in version 1, where an entry ends with its line), `segment_of_3`, `removal_of_3` and
-/// `end_of_3` (the example in version 3, a removal of its entry, and an end of its stream), and changes of what stands
-/// so far: `cut:COUNT`, `from:COUNT`, `at:PLACE=HEX`.
+/// `frame_of_1` (the example in version 1, where an entry ends with its line), and changes of what stands so far:
+/// `cut:COUNT`, `from:COUNT`, `at:PLACE=HEX`.
 pub fn take_row<R: Files<File = File> + AllocGlobal>(
     rt: &R,
     row: &Row<'_>,

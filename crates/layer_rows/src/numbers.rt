@@ -2,7 +2,6 @@ ghost use Rattle.std.specs.Prelude.{◌≡◌, IfOk};
 ghost use Rattle.std.specs.Str.Parse.{digits_value, without_leading_plus};
 ghost use Rattle.segment.specs.ShardPlaces.{IsLawfulShard, place_of};
 
-use accept::Layout;
 use anyhow::{Context, Result, bail};
 use rows::word_of;
 
@@ -17,27 +16,14 @@ pub fn number_of(word: &str) -> Result<u64>
         .context(format_args!("no number: {word}"))
 }
 
-/// The version of the layout that a word names: 2 or 3.
-///
-/// # Errors
-/// Another word.
-pub fn layout_of(word: &str) -> Result<Layout> {
-    match word {
-        "2" => Ok(Layout::Two),
-        "3" => Ok(Layout::Three),
-        _ => bail!("no version of the layout: {word}"),
-    }
-}
-
-/// A shard's number and how many shards there are, `SHARD COUNT`. Further words are left out.
+/// A shard's number and how many shards there are, `SHARD COUNT`.
 ///
 /// # Errors
 /// Other words, or a count that is not 1 to 64.
 pub fn place_of(words: &str) -> Result<(u32, u32)>
     ensures { IfOk result (λ it. IsLawfulShard (place_of it.0 it.1)) }
 {
-    let (shard, words) = word_of(words);
-    let (count, _) = word_of(words);
+    let (shard, count) = word_of(words);
     let shard = u32::try_from(number_of(shard)?)?;
     let count = u32::try_from(number_of(count)?)?;
     if count < 1 || count > 64 {

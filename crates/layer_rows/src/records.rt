@@ -7,8 +7,7 @@ use segment::put_block;
 use std::alloc::Global;
 use whole_segments::{read_records, read_segment};
 
-/// The greatest length of a slot, in bytes. A block of its records, where each entry has its metadata, is
-/// shorter than 2^32 bytes.
+/// The greatest length of a slot, in bytes. A block of its records, in the latest version, is shorter than 2^32 bytes.
 const LONGEST: usize = 1 << 30;
 
 /// Reads the records in a slot of the only shard, and writes one block of them all. Says the segment's generation, how

@@ -1,16 +1,15 @@
 //! The two slots of a log.
 use crate::entry_words::write_image;
-use crate::numbers::{layout_of, number_of, place_of};
+use crate::numbers::{number_of, place_of};
 use anyhow::{Result, bail};
 use disk::Disk;
 use memory_disk::MemDisk;
-use rows::{Said, word_of};
+use rows::Said;
 use std::alloc::Global;
 use wal::{Capacity, Wal};
 
-/// The shard, the number of shards, the capacity and the version of the layout with which rows open a log, where they
-/// say nothing else.
-pub const EXAMPLE: &str = "0 1 200 2";
+/// The shard, the number of shards and the capacity with which rows open a log, where they say nothing else.
+pub const EXAMPLE: &str = "0 1 200";
 
 /// Slot 0 and slot 1 of a log that is not open.
 #[derive(Drop)]
@@ -63,8 +62,8 @@ pub fn synced(alloc: Global, bytes: &[u8]) -> Result<MemDisk> {
     Ok(disk)
 }
 
-/// Opens the log in two slots, of `SHARD COUNT CAPACITY [LAYOUT]`, in version 2 of the layout where none is named.
-/// Appends its generation and streams, or why it cannot be opened.
+/// Opens the log in two slots, of `SHARD COUNT CAPACITY`. Appends its generation and streams, or why it cannot be
+/// opened.
 pub fn open(
     alloc: Global,
     slots: SlotPair,
@@ -72,14 +71,15 @@ pub fn open(
     said: &mut Said,
 ) -> Result<Result<Wal<MemDisk>, SlotPair>> {
     let words = if words.is_empty() { EXAMPLE } else { words };
-    let (shard, count) = place_of(words)?;
-    let (capacity, layout) = word_of(behind_place(words));
-    let layout = layout_of(if layout.is_empty() { "2" } else { layout })?;
+    let Some((owner, capacity)) = words.rsplit_once(' ') else {
+        bail!("no capacity")
+    };
+    let (shard, count) = place_of(owner)?;
     let Some(capacity) = Capacity::new(number_of(capacity)?.min(Capacity::MAX_BYTES)) else {
         bail!("no capacity")
     };
     let SlotPair { first, second } = slots;
-    match Wal::open(alloc, [first, second], shard, count, capacity, layout) {
+    match Wal::open(alloc, [first, second], shard, count, capacity) {
         Ok((log, image)) => {
             said.tell(format_args!("generation {}\n", log.generation()));
             write_image(alloc, &image, said)?;
@@ -91,11 +91,4 @@ pub fn open(
             Ok(Err(SlotPair::of(left)))
         }
     }
-}
-
-/// What follows `SHARD COUNT`.
-fn behind_place(words: &str) -> &str {
-    let (_shard, words) = word_of(words);
-    let (_count, words) = word_of(words);
-    words
 }

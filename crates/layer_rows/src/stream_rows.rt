@@ -1,15 +1,10 @@
-ghost use Rattle.std.specs.Prelude.{◌≡◌, ◌↔◌, ◌<◌, ◌^◌, IsTrue, map, sum_by};
-ghost use Rattle.entries.specs.Contents.{line_room};
+ghost use Rattle.std.specs.Prelude.{◌↔◌, IsTrue};
 ghost use Rattle.accept.specs.OneStream.{AreTimes};
-ghost use Rattle.layer_rows.specs.Smalls.{is_small_entry};
 
 use crate::entry_words::write_entry;
-use crate::numbers::{layout_of, number_of};
+use crate::numbers::number_of;
 use crate::texts;
-use accept::{
-    END_OF_TIME, EndRefusal, Entry, Limits, Line, Meta, Outcome, StreamState, TakeRefusal,
-    TrimRefusal,
-};
+use accept::{END_OF_TIME, Entry, Limits, Line, Meta, Outcome, StreamState, TrimRefusal};
 use anyhow::{Context, Result, bail};
 use rows::{Row, Said, split_pairs, text_times, word_of};
 use std::alloc::Global;
@@ -27,18 +22,14 @@ struct StreamFixture {
 
 /// Runs a row of calls on a stream. At first it is new, and has the profile's limits.
 ///
-/// - `limits NAME=NUMBER ..`: the profile's limits except these (`line`, `half_age`, `max_old`, `max_ahead`, and
-///   `layout`, the version of the layout), and whether they are lawful
+/// - `limits NAME=NUMBER ..`: the profile's limits except these (`line`, `half_age`, `max_old`, `max_ahead`), and
+///   whether they are lawful
 /// - `push NOW ENTRY ..`: judges the entries at this clock, stores those to store, and says what became of each
 /// - `judge NOW ENTRY ..`: the same without storing: what would become of each, and which entries are to store
 /// - `read FROM TO`: `found ..`, the entries with FROM <= time < TO
 /// - `buckets FROM TO`: how many buckets such a read looks into
 /// - `trim BOUND`: `removed N`, `above oldest` or `no such stream`
-/// - `take BOUND COUNT REMOVED`: `removed N`, or why nothing is: `no such stream`, `above highest`, `removed so far N`,
-///   `below the bound N`
-/// - `end NOW`: `ended`, and the stream is new again; or `no such stream`, `has entries`, `not old`
-/// - `state`: whether the stream is new, its highest time, how many entries were removed and counted unless none, the
-///   entry stored last, and the kept ones
+/// - `state`: whether the stream is new, its highest time, the entry stored last, and the kept ones
 /// - `reopen`: takes the stream apart, and makes it of its parts again
 /// - `labels {NAME=VALUE,..}`: the canonical text of a set of labels, or its fault. Of a text of more than 200 bytes
 ///   its length is said
@@ -85,8 +76,6 @@ impl StreamFixture {
             "read" => self.read(rest, said),
             "buckets" => self.say_buckets(rest, said),
             "trim" => self.trim(rest, said),
-            "take" => self.take(rest, said),
-            "end" => self.end(rest, said),
             "state" => self.say_state(said),
             "reopen" => self.reopen(said),
             _ => texts::take_word(self.alloc, word, rest, said),
@@ -149,59 +138,11 @@ impl StreamFixture {
         Ok(())
     }
 
-    /// `BOUND COUNT REMOVED`.
-    fn take(&mut self, words: &str, said: &mut Said) -> Result<()> {
-        let (bound, words) = word_of(words);
-        let (count, removed) = word_of(words);
-        if !are_small(&self.stream.kept(self.alloc)?) {
-            bail!("the stream has too many entries");
-        }
-        match self
-            .stream
-            .take(bound.parse()?, count.parse()?, removed.parse()?)
-        {
-            Ok(count) => said.tell(format_args!("removed {count}\n")),
-            Err(TakeRefusal::NoSuchStream) => said.put("no such stream\n"),
-            Err(TakeRefusal::AboveHighest) => said.put("above highest\n"),
-            Err(TakeRefusal::OtherRemoved(removed)) => {
-                said.tell(format_args!("removed so far {removed}\n"));
-            }
-            Err(TakeRefusal::OtherCount(count)) => {
-                said.tell(format_args!("below the bound {count}\n"));
-            }
-        }
-        Ok(())
-    }
-
-    fn end(&mut self, now: &str, said: &mut Said) -> Result<()> {
-        if !self.limits.are_lawful() {
-            bail!("a number is out of its bounds");
-        }
-        if !are_small(&self.stream.kept(self.alloc)?) {
-            bail!("the stream has too many entries");
-        }
-        match self.stream.may_end(now.parse()?, &self.limits) {
-            Ok(()) => {
-                self.stream = StreamState::new(self.alloc);
-                said.put("ended\n");
-            }
-            Err(EndRefusal::NoSuchStream) => said.put("no such stream\n"),
-            Err(EndRefusal::HasEntries) => said.put("has entries\n"),
-            Err(EndRefusal::NotOld) => said.put("not old\n"),
-        }
-        Ok(())
-    }
-
     fn say_state(&self, said: &mut Said) -> Result<()> {
         let stream = &self.stream;
         let age = if stream.is_new() { "new" } else { "not new" };
         let highest = stream.highest();
-        said.tell(format_args!("{age}, highest {highest}"));
-        match stream.removed() {
-            0 => {}
-            removed => said.tell(format_args!(", removed {removed}")),
-        }
-        said.put(", last");
+        said.tell(format_args!("{age}, highest {highest}, last"));
         match stream.last() {
             Some(entry) => say_entry(entry, said),
             None => said.put(" nothing"),
@@ -233,10 +174,6 @@ fn limits_of(words: &str) -> Result<Limits> {
 
 fn set_limit(limits: &mut Limits, word: &str) -> Result<()> {
     let (name, number) = word.split_once('=').unwrap_or((word, ""));
-    if name == "layout" {
-        limits.layout = layout_of(number)?;
-        return Ok(());
-    }
     match limit_of(limits, name) {
         Some(limit) => {
             *limit = number.parse()?;
@@ -282,20 +219,6 @@ fn are_times(entries: &[Entry]) -> bool
     ensures { IsTrue result ↔ AreTimes entries.now }
 {
     entries.iter().all(|entry| entry.time <= MOST)
-}
-
-/// Whether the entries are as few as a row can store, with lines and metadata that are stored: they take less than 2^63
-/// bytes.
-fn are_small(entries: &[&Entry]) -> bool
-    ensures { IsTrue result → sum_by line_room (map (λ e. e.now) entries.now) < 2 ^ 63 }
-{
-    entries.len() < 1 << 32 && entries.iter().all(|entry| is_small(entry))
-}
-
-fn is_small(entry: &Entry) -> bool
-    ensures { result ≡ is_small_entry entry.now }
-{
-    entry.line.as_str().len() as u64 <= Limits::LINE && entry.meta.is_short()
 }
 
 fn say_outcomes(outcomes: &[Outcome], said: &mut Said) {

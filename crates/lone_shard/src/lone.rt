@@ -40,7 +40,7 @@ pub(crate) fn opened<D: Disk + Drop>(
     if !limits.are_lawful() {
         bail!("a limit is out of its bounds");
     }
-    let (log, image) = match Wal::open(alloc, slots, 0, 1, capacity, limits.layout) {
+    let (log, image) = match Wal::open(alloc, slots, 0, 1, capacity) {
         Ok(opened) => opened,
         Err(refusal) => return Ok(Err(refusal)),
     };

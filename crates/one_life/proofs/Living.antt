@@ -47,7 +47,7 @@ finish sight follows closed left (Some h) opening passes after Q is match kept o
     then h (subst (λ (l : List Passed). IsHandedOut sight follows opening l 0 h) only second)
 
 module _ {D : Type 0} (sight : D → Sight) (follows : D → Type 0) (given : List (List D)) (one : length given ≡ 1) (opening : Opening D) (limits : Limits) (capacity : ℕ)
-    (found : AreOpenedFrom sight follows (length given) capacity limits.layout 0 given opening.logs opening.about.bases) (about : opening.about ≡ about_of opening.about.bases 1 limits capacity) (shards : opening.about.shards ≡ length given)
+    (found : AreOpenedFrom sight follows (length given) capacity 0 given opening.logs opening.about.bases) (about : opening.about ≡ about_of opening.about.bases 1 limits capacity) (shards : opening.about.shards ≡ length given)
     (before after : Passed) (fresh : before ≡ fresh_pass opening.table opening.about 0) (call : Call) (outcome : Result Reply CallFault) (is : IsGiven before call outcome after)
     (handed : List D × Bool) (out : IsHandedOut sight follows opening (after ∷ []) 0 handed) where
   abbrev thread : Thread

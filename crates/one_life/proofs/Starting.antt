@@ -36,7 +36,7 @@ module _ {D : Type 0} (sight : D → Sight) (follows : D → Type 0) (limits : L
   about = about_of (m ∷ n ∷ []) 2 limits capacity
 
   -- a log of a shard, and its fresh book
-  pub ground_two : (k : ℕ) (given : List D) (log : Wal D) (found : Streams) (table : TableId) (book : Booked) → IsOpenedFrom sight follows (place_of k 2) capacity limits.layout given log found → base_at about k ≡ found → AreLimits limits → book ≡ fresh_book table about k
+  pub ground_two : (k : ℕ) (given : List D) (log : Wal D) (found : Streams) (table : TableId) (book : Booked) → IsOpenedFrom sight follows (place_of k 2) capacity given log found → base_at about k ≡ found → AreLimits limits → book ≡ fresh_book table about k
       → IsGround sight follows limits log found book
   ground_two k given log found table book o base lawful is = subst (IsGround sight follows limits log found) (sym is) (record {
     fresh = refl;
@@ -48,13 +48,12 @@ module _ {D : Type 0} (sight : D → Sight) (follows : D → Type 0) (limits : L
     same_owner = o.same_owner;
     usable = o.usable;
     settled = o.settled;
-    fit = subst (λ w. FitStreams limits.layout w found) (sym o.same_owner) o.fit;
-    same_layout = o.same_layout;
-    small = o.small limits.layout;
+    fit = subst (λ w. FitStreams w found) (sym o.same_owner) o.fit;
+    small = o.small;
   })
 
   -- both shards over their logs, and both passes
-  pub opened_two : (given other : List D) (log next : Wal D) (table : TableId) (it : Two D) → IsOpenedFrom sight follows (place_of 0 2) capacity limits.layout given log m → IsOpenedFrom sight follows (place_of 1 2) capacity limits.layout other next n
+  pub opened_two : (given other : List D) (log next : Wal D) (table : TableId) (it : Two D) → IsOpenedFrom sight follows (place_of 0 2) capacity given log m → IsOpenedFrom sight follows (place_of 1 2) capacity other next n
       → it.first ≡ record { log = log; book = fresh_book table about 0; opened = log } → it.second ≡ record { log = next; book = fresh_book table about 1; opened = next } → it.one ≡ fresh_pass table about 0 → it.two ≡ fresh_pass table about 1
       → AreOpened sight follows limits capacity (given ∷ other ∷ []) (opening_with it) it
   opened_two given other log next table it o p first second one two =

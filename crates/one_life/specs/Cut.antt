@@ -65,8 +65,8 @@ module _ {D : Type 0} (sight : D → Sight) (follows : D → Type 0) where
       (it : Two D) : Type 0 where
     pub two_shards : length slots ≡ 2
     pub shards : opening.about.shards ≡ length slots
-    pub found : AreOpenedFrom sight follows (length slots) capacity limits.layout 0 slots
-        opening.logs opening.about.bases
+    pub found : AreOpenedFrom sight follows (length slots) capacity 0 slots opening.logs
+        opening.about.bases
     pub about : opening.about ≡ about_of opening.about.bases 2 limits capacity
     pub logs : opening.logs ≡ it.first.opened ∷ it.second.opened ∷ []
     pub first : it.first ≡ opened_shard opening 0 it.first.opened

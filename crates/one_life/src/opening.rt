@@ -7,7 +7,7 @@ ghost use Rattle.history.specs.Handles.{about_of};
 ghost use Rattle.shard.specs.Shards.{IsGround};
 ghost use Rattle.one_life.specs.Cut.{HaveBegun, AreOpened, opening_with};
 
-use accept::{Image, Layout, Limits};
+use accept::{Image, Limits};
 use disk::Disk;
 use history::{Book, History, Pass};
 use shard::Shard;
@@ -69,16 +69,15 @@ fn open_logs<D: Disk + Drop>(
     alloc: Global,
     slots: ([D; 2], [D; 2]),
     capacity: Capacity,
-    layout: Layout,
 ) -> Option<((Wal<D>, Image), (Wal<D>, Image))>
     ensures first { IfSome result (λ it.
-        IsOpenedFrom D.sight D.follows (place_of 0 2) capacity layout slots.0 it.0.0 it.0.1) }
+        IsOpenedFrom D.sight D.follows (place_of 0 2) capacity slots.0 it.0.0 it.0.1) }
     ensures second { IfSome result (λ it.
-        IsOpenedFrom D.sight D.follows (place_of 1 2) capacity layout slots.1 it.1.0 it.1.1) }
+        IsOpenedFrom D.sight D.follows (place_of 1 2) capacity slots.1 it.1.0 it.1.1) }
 {
     let (first, second) = slots;
-    match Wal::open(alloc, first, 0, 2, capacity, layout) {
-        Ok(one) => match Wal::open(alloc, second, 1, 2, capacity, layout) {
+    match Wal::open(alloc, first, 0, 2, capacity) {
+        Ok(one) => match Wal::open(alloc, second, 1, 2, capacity) {
             Ok(two) => Some((one, two)),
             Err(_) => None,
         },
@@ -122,7 +121,7 @@ pub fn open_two<D: Disk + Drop>(
         (slots.0 ∷ slots.1 ∷ []) (opening_with it.1) it.1) }
     ensures table { IfSome result (λ it. it.1.first.book.table ≡ it.0) }
 {
-    let (first, second) = open_logs(alloc, slots, capacity, limits.layout)?;
+    let (first, second) = open_logs(alloc, slots, capacity)?;
     let (log, image) = first;
     let (next_log, next_image) = second;
     let Ok(mut images) = vec![in alloc; image, next_image] else {

@@ -1,6 +1,5 @@
 -- What an opening finds in the slots of its shards, and what it gives back.
 use Rattle.std.specs.Prelude.{◌≡◌, ℕ, ◌+◌, List, [], ◌∷◌, ◌++◌, length}
-use Rattle.accept.specs.declared.limits.Layout.{Layout}
 use Rattle.accept.specs.Rooms.{Streams}
 use Rattle.disk.specs.Sight.{Sight}
 use Rattle.segment.specs.ShardPlaces.{place_of}
@@ -14,13 +13,12 @@ use Rattle.openings.specs.declared.fault.LogsFault.TheVariants as faults
 
 module _ {D : Type 0} (sight : D → Sight) (follows : D → Type 0) where
   -- the logs of the shards from k on were opened over these slots, and these streams stood in them
-  abbrev pub AreOpenedFrom : ℕ → ℕ → Layout → ℕ → List (List D) → List (Wal D) → List Streams
-      → Type 0
-  AreOpenedFrom count capacity layout k [] [] [] = Unit {0}
-  AreOpenedFrom count capacity layout k (given ∷ all) (log ∷ logs) (m ∷ ms) =
-      IsOpenedFrom sight follows (place_of k count) capacity layout given log m
-      × AreOpenedFrom count capacity layout (k + 1) all logs ms
-  AreOpenedFrom count capacity layout k all logs ms = ⊥
+  abbrev pub AreOpenedFrom : ℕ → ℕ → ℕ → List (List D) → List (Wal D) → List Streams → Type 0
+  AreOpenedFrom count capacity k [] [] [] = Unit {0}
+  AreOpenedFrom count capacity k (given ∷ all) (log ∷ logs) (m ∷ ms) =
+      IsOpenedFrom sight follows (place_of k count) capacity given log m
+      × AreOpenedFrom count capacity (k + 1) all logs ms
+  AreOpenedFrom count capacity k all logs ms = ⊥
 
   -- the slots of each shard come back, and nothing was written
   abbrev pub AreReturned : List (List D) → List (List D) → Type 0
@@ -41,7 +39,7 @@ module _ {D : Type 0} (sight : D → Sight) (follows : D → Type 0) where
 
   -- The shard of this number is the first that is refused. Those after it may have been opened or refused meanwhile:
   -- their slots come back, and nothing was written.
-  pub record IsFirstRefused (count : ℕ) (layout : Layout) (shard : ℕ) (fault : OpenFault)
+  pub record IsFirstRefused (count : ℕ) (shard : ℕ) (fault : OpenFault)
       (all backs : List (List D)) : Type 0 where
     pub front : List (List D)
     pub given : List D
@@ -54,11 +52,11 @@ module _ {D : Type 0} (sight : D → Sight) (follows : D → Type 0) where
     pub number : length front ≡ shard
     pub good : AreGood count 0 front front_back
     pub came_back : IsReturned sight follows given back
-    pub refusal : IsRefusal sight follows (place_of shard count) layout given back fault
+    pub refusal : IsRefusal sight follows (place_of shard count) given back fault
     pub returned : AreReturned behind behind_back
 
   -- All slots come back in their order, and this is why. Without memory they are untouched.
-  abbrev pub AreRefused : ℕ → Layout → List (List D) → List (List D) → LogsFault → Type 0
-  AreRefused count layout all backs (faults.Refused shard fault) =
-      IsFirstRefused count layout shard fault all backs
-  AreRefused count layout all backs faults.Memory = backs ≡ all
+  abbrev pub AreRefused : ℕ → List (List D) → List (List D) → LogsFault → Type 0
+  AreRefused count all backs (faults.Refused shard fault) =
+      IsFirstRefused count shard fault all backs
+  AreRefused count all backs faults.Memory = backs ≡ all

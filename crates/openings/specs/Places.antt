@@ -1,6 +1,5 @@
 -- What becomes of the slots of shards that are opened side by side.
 use Rattle.std.specs.Prelude.{ℕ, ◌+◌, List, [], ◌∷◌, Option, Some, None}
-use Rattle.accept.specs.declared.limits.Layout.{Layout}
 use Rattle.accept.specs.Rooms.{Streams}
 use Rattle.disk.specs.Sight.{Sight}
 use Rattle.segment.specs.ShardPlaces.{ShardPlace, place_of}
@@ -72,19 +71,18 @@ module _ {D : Type 0} where
 
 module _ {D : Type 0} (sight : D → Sight) (follows : D → Type 0) where
   -- the slots of a shard were opened, or refused
-  abbrev pub IsTried : ShardPlace → ℕ → Layout → List D → Place D → Type 0
-  IsTried whose capacity layout given (Given a b) = ⊥
-  IsTried whose capacity layout given Out = ⊥
-  IsTried whose capacity layout given (Opened log m) =
-      IsOpenedFrom sight follows whose capacity layout given log m
-  IsTried whose capacity layout given (Refused fault a b) =
+  abbrev pub IsTried : ShardPlace → ℕ → List D → Place D → Type 0
+  IsTried whose capacity given (Given a b) = ⊥
+  IsTried whose capacity given Out = ⊥
+  IsTried whose capacity given (Opened log m) =
+      IsOpenedFrom sight follows whose capacity given log m
+  IsTried whose capacity given (Refused fault a b) =
       IsReturned sight follows given (a ∷ b ∷ [])
-      × IsRefusal sight follows whose layout given (a ∷ b ∷ []) fault
+      × IsRefusal sight follows whose given (a ∷ b ∷ []) fault
 
   -- so were those of each shard from k on
-  abbrev pub AreTried : ℕ → ℕ → Layout → ℕ → List (List D) → List (Place D) → Type 0
-  AreTried count capacity layout k [] [] = Unit {0}
-  AreTried count capacity layout k (given ∷ all) (place ∷ places) =
-      IsTried (place_of k count) capacity layout given place
-      × AreTried count capacity layout (k + 1) all places
-  AreTried count capacity layout k all places = ⊥
+  abbrev pub AreTried : ℕ → ℕ → ℕ → List (List D) → List (Place D) → Type 0
+  AreTried count capacity k [] [] = Unit {0}
+  AreTried count capacity k (given ∷ all) (place ∷ places) =
+      IsTried (place_of k count) capacity given place × AreTried count capacity (k + 1) all places
+  AreTried count capacity k all places = ⊥

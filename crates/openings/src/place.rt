@@ -4,7 +4,7 @@ ghost use Rattle.std.specs.Mem.{type_size};
 ghost use Rattle.openings.specs.Places.{IsNotLookedAt, AreSlotsThere, IsTried, slots_in, refusal_in};
 
 use crate::observer::Observer;
-use accept::{Image, Layout};
+use accept::Image;
 use disk::Disk;
 use segment::ShardPlace;
 use segment_reader::ReadBlocks;
@@ -37,12 +37,11 @@ fn open_slots<D: Disk + Drop, B: ReadBlocks>(
     given: [D; 2],
     owner: ShardPlace,
     capacity: Capacity,
-    layout: Layout,
 ) -> Place<D>
     requires reader { B.can_read }
-    ensures { IsTried D.sight D.follows owner capacity layout given result }
+    ensures { IsTried D.sight D.follows owner capacity given result }
 {
-    match Wal::open_by(by, alloc, given, owner, capacity, layout) {
+    match Wal::open_by(by, alloc, given, owner, capacity) {
         Ok((log, image)) => Place::Opened(log, image),
         Err(refusal) => {
             let fault = refusal.0;
@@ -75,18 +74,17 @@ pub(crate) fn open_place<D: Disk + Drop, B: ReadBlocks, O: Observer>(
     place: &mut Place<D>,
     owner: ShardPlace,
     capacity: Capacity,
-    layout: Layout,
     observer: &O,
 )
     requires reader { B.can_read }
     requires fits { 2 * type_size D.row < 2 ^ 63 }
     requires given { IsNotLookedAt place.old }
-    ensures { IsTried D.sight D.follows owner capacity layout (slots_in place.old) place.new }
+    ensures { IsTried D.sight D.follows owner capacity (slots_in place.old) place.new }
 {
     let Place::Given(first, second) = mem::replace(place, Place::Out) else {
         unreachable!();
     };
-    let tried = open_slots(by, alloc, [first, second], owner, capacity, layout);
+    let tried = open_slots(by, alloc, [first, second], owner, capacity);
     tell_opened(observer, owner.shard(), &tried);
     *place = tried;
 }

@@ -13,7 +13,7 @@ ghost use Rattle.openings.specs.Places.{slots_in, logs_in, images_in, first_refu
 use crate::fault::LogsFault;
 use crate::observer::Observer;
 use crate::place::{Place, given_place, open_place, refusal_of, take_slots};
-use accept::{Image, Layout};
+use accept::Image;
 use disk::Disk;
 use segment::ShardPlace;
 use segment_reader::ReadAhead;
@@ -23,7 +23,7 @@ use std::thread::{Threads, available_parallelism, for_each_mut};
 use wal::{Capacity, OpenFault, Wal};
 
 /// Opens the logs of all shards, up to 64, and gives them with the streams that stood in them. `capacity` is how many
-/// bytes a segment may have, and `layout` which version of the layout is to be written. They are opened side by side, by as many threads as there are processors at most; where no
+/// bytes a segment may have. They are opened side by side, by as many threads as there are processors at most; where no
 /// thread can be made, the caller's own does its work. `observer` is told of each log as it is opened, also where
 /// another shard is refused. Nothing is written.
 ///
@@ -36,17 +36,15 @@ pub fn open_logs<D: Disk + Drop + Send, R: Threads + Sync, O: Observer + Sync>(
     alloc: Global,
     slots: &mut VecDeque<[D; 2]>,
     capacity: Capacity,
-    layout: Layout,
     observer: &O,
 ) -> Result<(Vec<Wal<D>>, Vec<Image>), LogsFault>
     requires few { deque_len slots.old ≤ max_shards }
     requires room { deque_len slots.old ≤ deque_capacity slots.old }
     ensures opened { IfOk result
-        (λ it. AreOpenedFrom D.sight D.follows (deque_len slots.old) capacity layout 0
-        slots.old.items it.0.items it.1.items × (slots.new.items ≡ [])) }
+        (λ it. AreOpenedFrom D.sight D.follows (deque_len slots.old) capacity 0 slots.old.items
+        it.0.items it.1.items × (slots.new.items ≡ [])) }
     ensures refused { IfErr result (λ fault.
-        AreRefused D.sight D.follows (deque_len slots.old) layout slots.old.items slots.new.items
-        fault) }
+        AreRefused D.sight D.follows (deque_len slots.old) slots.old.items slots.new.items fault) }
     ensures room { deque_capacity slots.new ≡ deque_capacity slots.old }
     ensures lens { IfOk result (λ it. (vec_len it.0 ≡ deque_len slots.old)
         × (vec_len it.1 ≡ deque_len slots.old)
@@ -57,7 +55,7 @@ pub fn open_logs<D: Disk + Drop + Send, R: Threads + Sync, O: Observer + Sync>(
     let mut images = Vec::with_capacity(alloc, count)?;
     let mut places = Vec::with_capacity(alloc, count)?;
     fill_places(slots, &mut places);
-    try_each(rt, alloc, &mut places, capacity, layout, observer);
+    try_each(rt, alloc, &mut places, capacity, observer);
     match find_refused(&places) {
         Some((shard, fault)) => {
             put_back(slots, places);
@@ -101,13 +99,12 @@ fn try_each<D: Disk + Drop + Send, R: Threads + Sync, O: Observer + Sync>(
     alloc: Global,
     places: &mut Vec<Place<D>>,
     capacity: Capacity,
-    layout: Layout,
     observer: &O,
 )
     requires fits { 2 * type_size D.row < 2 ^ 63 }
     requires given { All IsNotLookedAt places.old.items }
     requires few { vec_len places.old ≤ max_shards }
-    ensures tried { AreTried D.sight D.follows (vec_len places.old) capacity layout 0
+    ensures tried { AreTried D.sight D.follows (vec_len places.old) capacity 0
         (map slots_in places.old.items)
         places.new.items }
     ensures len { vec_len places.new ≡ vec_len places.old }
@@ -120,11 +117,11 @@ fn try_each<D: Disk + Drop + Send, R: Threads + Sync, O: Observer + Sync>(
         requires { IsSync R.row × (2 * type_size D.row < 2 ^ 63) × IsNotLookedAt place.old
             × (shard < count)
             × (count ≤ max_shards) }
-        ensures { IsTried D.sight D.follows (place_of shard count) capacity layout
+        ensures { IsTried D.sight D.follows (place_of shard count) capacity
             (slots_in place.old) place.new }
     {
         let owner = ShardPlace::of(shard as u32, count);
-        open_place(&by, alloc, place, owner, capacity, layout, observer)
+        open_place(&by, alloc, place, owner, capacity, observer)
     };
     for_each_mut(rt, places.as_mut_slice(), threads, &try_one);
 }

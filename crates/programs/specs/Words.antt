@@ -6,7 +6,7 @@ use Rattle.labels.specs.Shards.{max_shards}
 use Rattle.labels.specs.Tenants.{is_tenant}
 use Rattle.pushjson.specs.Times.{IsTime}
 use Rattle.requests.specs.declared.route.Route.{Route}
-use Rattle.requests.specs.declared.route.Route.TheVariants.{Push, Read, Trim, End}
+use Rattle.requests.specs.declared.route.Route.TheVariants.{Push, Read, Trim}
 use Rattle.programs.specs.declared.said.ShardWords.{ShardWords}
 use Rattle.programs.specs.declared.said.ServerWords.{ServerWords}
 use Rattle.programs.specs.declared.said.CallWords.{CallWords}
@@ -94,10 +94,9 @@ abbrev pub verb_of : Route → List ℕ
 verb_of Push = codes "push"
 verb_of Read = codes "read"
 verb_of Trim = codes "trim"
-verb_of End = codes "end"
 
 abbrev pub IsVerb : List ℕ → Type 0
-IsVerb verb = (route : Route) × (verb ≡ verb_of route)
+IsVerb verb = (verb ≡ codes "push") ⊎ ((verb ≡ codes "read") ⊎ (verb ≡ codes "trim"))
 
 -- what is asked for, of 1 to 64 shards, by a lawful tenant, at a time
 abbrev pub NameCall : List ℕ → List ℕ → List ℕ → List ℕ → Type 0

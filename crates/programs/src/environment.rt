@@ -1,11 +1,10 @@
 //! What the environment says of a server.
-ghost use Rattle.std.specs.Prelude.{◌≡◌, ◌<◌, Some, None, IfOk, MatchResult, option_map};
+ghost use Rattle.std.specs.Prelude.{◌≡◌, ◌≢◌, ◌≤◌, ◌<◌, Some, None, IfOk, IfSome, MatchResult, MatchOption, option_map, string_bytes};
 ghost use Rattle.accept.specs.OneStream.{AreLimits, end_of_time};
-ghost use Rattle.programs.specs.Environments.{limit_of, layout_given, limits_of, GivesNone};
-ghost use Rattle.programs.specs.declared.environment.LimitSetting.TheVariants.{Duration};
+ghost use Rattle.programs.specs.Environments.{least_of, unset_of, text_of, limit_of, limits_of};
 
 use crate::durations::duration_in;
-use accept::{Layout, Limits};
+use accept::Limits;
 
 /// The texts of the variables that programs read: `None` where a variable is not set. By default none is set.
 #[derive(Default, Drop)]
@@ -18,8 +17,6 @@ pub struct Environment {
     pub reject_old_samples_max_age: Option<String>,
     /// `NEEDLEAZURE_CREATION_GRACE_PERIOD`: how far after the clock a line may be.
     pub creation_grace_period: Option<String>,
-    /// `NEEDLEAZURE_LAYOUT`: which version of the log's layout is written.
-    pub layout: Option<String>,
     /// `NEEDLEAZURE_OPEN_CONNECTIONS`: how many connections may be open.
     pub open_connections: Option<String>,
     /// `NEEDLEAZURE_HALF_SENT`: how many bytes of requests that have not come whole may be held.
@@ -29,15 +26,6 @@ pub struct Environment {
 /// A variable that sets a limit.
 #[derive(Clone, Copy)]
 pub enum LimitSetting {
-    /// One that gives a duration.
-    Duration(DurationSetting),
-    /// `NEEDLEAZURE_LAYOUT`.
-    Layout,
-}
-
-/// A variable that gives a duration.
-#[derive(Clone, Copy)]
-pub enum DurationSetting {
     /// `NEEDLEAZURE_MAX_CHUNK_AGE`.
     MaxChunkAge,
     /// `NEEDLEAZURE_REJECT_OLD_SAMPLES_MAX_AGE`.
@@ -50,53 +38,38 @@ pub enum DurationSetting {
 ///
 /// # Errors
 ///
-/// A variable that gives no limit: the first in the order of `DurationSetting`, or `NEEDLEAZURE_LAYOUT`.
+/// A variable that gives no limit: the first in the order of `LimitSetting`.
 pub fn limits_in(environment: &Environment) -> Result<Limits, LimitSetting>
     ensures given { MatchResult result (λ limits. limits_of environment.now ≡ Some limits)
-        (λ setting. (limits_of environment.now ≡ None) × GivesNone environment.now setting) }
+        (λ setting. (limits_of environment.now ≡ None)
+        × (limit_of environment.now setting ≡ None)) }
     ensures lawful { IfOk result AreLimits }
 {
-    let max_chunk_age = limit_in(environment, DurationSetting::MaxChunkAge)?;
-    let max_old = limit_in(environment, DurationSetting::RejectOldSamplesMaxAge)?;
-    let max_ahead = limit_in(environment, DurationSetting::CreationGracePeriod)?;
-    let Some(layout) = layout_in(environment.layout.as_deref()) else {
-        return Err(LimitSetting::Layout);
-    };
+    let max_chunk_age = limit_in(environment, LimitSetting::MaxChunkAge)?;
+    let max_old = limit_in(environment, LimitSetting::RejectOldSamplesMaxAge)?;
+    let max_ahead = limit_in(environment, LimitSetting::CreationGracePeriod)?;
     Ok(Limits {
         line: Limits::LINE,
         half_age: max_chunk_age / 2,
         max_old,
         max_ahead,
-        layout,
     })
 }
 
-/// Which version of the log's layout is written by the environment: 2 or 3, and 2 where it says nothing. `None` where it
-/// says anything else.
-pub fn layout_in(text: Option<&str>) -> Option<Layout>
-    ensures { result ≡ layout_given (option_map (λ s. s.now) text.entry) }
-{
-    match text {
-        None | Some("2") => Some(Layout::Two),
-        Some("3") => Some(Layout::Three),
-        Some(_) => None,
-    }
-}
-
 // What a variable gives, in nanoseconds.
-fn limit_in(environment: &Environment, setting: DurationSetting) -> Result<u64, LimitSetting>
+fn limit_in(environment: &Environment, setting: LimitSetting) -> Result<u64, LimitSetting>
     ensures given { MatchResult result
         (λ nanos. (limit_of environment.now setting ≡ Some nanos) × (nanos < end_of_time))
-        (λ wrong. (wrong ≡ Duration setting) × (limit_of environment.now setting ≡ None)) }
+        (λ wrong. (wrong ≡ setting) × (limit_of environment.now setting ≡ None)) }
 {
     let (text, unset, least) = match setting {
-        DurationSetting::MaxChunkAge => (&environment.max_chunk_age, 2 * Limits::HALF_AGE, 0),
-        DurationSetting::RejectOldSamplesMaxAge => (
+        LimitSetting::MaxChunkAge => (&environment.max_chunk_age, 2 * Limits::HALF_AGE, 0),
+        LimitSetting::RejectOldSamplesMaxAge => (
             &environment.reject_old_samples_max_age,
             Limits::MAX_OLD,
             1,
         ),
-        DurationSetting::CreationGracePeriod => (
+        LimitSetting::CreationGracePeriod => (
             &environment.creation_grace_period,
             Limits::MAX_AHEAD,
             1,
@@ -107,6 +80,6 @@ fn limit_in(environment: &Environment, setting: DurationSetting) -> Result<u64, 
     };
     match duration_in(text.as_str()) {
         Some(nanos) if nanos >= least => Ok(nanos),
-        _ => Err(LimitSetting::Duration(setting)),
+        _ => Err(setting),
     }
 }

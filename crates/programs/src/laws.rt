@@ -6,12 +6,11 @@ ghost use Rattle.programs.specs.Environments.{limits_of};
 
 use crate::environment::Environment;
 
-/// Where no limit is set, the limits are the profile's, with version 2 of the layout.
+/// Where no limit is set, the limits are the profile's.
 pub fn unset_limits(_environment: &Environment)
     requires age { _environment.now.max_chunk_age ≡ None }
     requires old { _environment.now.reject_old_samples_max_age ≡ None }
     requires ahead { _environment.now.creation_grace_period ≡ None }
-    requires layout { _environment.now.layout ≡ None }
     ensures { limits_of _environment.now ≡ Some profile_limits }
 {}
 

@@ -20,7 +20,7 @@ ghost use Rattle.programs.specs.Words.{value, IsNumberIn, NameShard, GiveShard, 
 
 pub use about::{VERSION, tell_about};
 pub use durations::duration_in;
-pub use environment::{DurationSetting, Environment, LimitSetting, layout_in, limits_in};
+pub use environment::{Environment, LimitSetting, limits_in};
 use labels::{LabelFault, Tenant};
 pub use lacking::has_slot;
 pub use laws::{unset_limits, written_durations_are_read};
@@ -91,7 +91,6 @@ pub fn environment_of<R: Env + AllocGlobal>(rt: &R) -> Result<Environment, Alloc
     let max_chunk_age = variable_of(rt, "NEEDLEAZURE_MAX_CHUNK_AGE")?;
     let reject_old_samples_max_age = variable_of(rt, "NEEDLEAZURE_REJECT_OLD_SAMPLES_MAX_AGE")?;
     let creation_grace_period = variable_of(rt, "NEEDLEAZURE_CREATION_GRACE_PERIOD")?;
-    let layout = variable_of(rt, "NEEDLEAZURE_LAYOUT")?;
     let open_connections = variable_of(rt, "NEEDLEAZURE_OPEN_CONNECTIONS")?;
     let half_sent = variable_of(rt, "NEEDLEAZURE_HALF_SENT")?;
     Ok(Environment {
@@ -101,7 +100,6 @@ pub fn environment_of<R: Env + AllocGlobal>(rt: &R) -> Result<Environment, Alloc
         max_chunk_age,
         reject_old_samples_max_age,
         creation_grace_period,
-        layout,
     })
 }
 
@@ -346,7 +344,6 @@ fn route_of(verb: &str) -> Option<Route>
         "push" => Some(Route::Push),
         "read" => Some(Route::Read),
         "trim" => Some(Route::Trim),
-        "end" => Some(Route::End),
         _ => None,
     }
 }

@@ -38,7 +38,7 @@ pub struct ServerWords<'a> {
     ghost few_workers: { workers ≤ max_shards },
 }
 
-/// The words of `ingestctl push|read|trim|end DIR SHARDS TENANT NOW`.
+/// The words of `ingestctl push|read|trim DIR SHARDS TENANT NOW`.
 #[derive(Drop)]
 pub struct CallWords<'a> {
     /// What the body asks for.

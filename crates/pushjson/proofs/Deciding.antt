@@ -12,7 +12,7 @@ use Rattle.serde_json.specs.View.{items_of}
 use Rattle.pairs.specs.Labels.{Label}
 use Rattle.pushjson.specs.Times.{IsTime}
 use Rattle.pushjson.specs.Bodies.{Stream, TimedLine, labels_tree, third_tree, value_tree, stream_tree, body_tree, AreTimed, HaveTimes, IsFirstBad, IsFirstBadTime}
-use Rattle.pushjson.specs.Queries.{CountTexts, AreCounts, IsCount, bound_tree, query_tree, trim_tree, end_tree}
+use Rattle.pushjson.specs.Queries.{query_tree, trim_tree}
 
 -- the tree is that of something, or of nothing
 abbrev pub Decided : {X Y : Type 0} → (Y → X) → X → Type 0
@@ -158,41 +158,10 @@ query_decided d =
     restated _ query_tree d (object_decided _ (member_decided (codes "from") string _ text_decided (member_decided (codes "stream") labels_object _ labels_object_decided (member_decided (codes "to") string End text_decided end_decided))) d)
     (λ p. record { pairs = p.1.0; from = p.0; to = p.1.1.0 }) (λ q. (q.from, (q.pairs, (q.to, tt)))) (λ p. refl) (λ q. refl)
 
-abbrev PlainParts : Type 0
-PlainParts = List ℕ × (List Label × Unit {0})
-
-abbrev plain_tree : PlainParts → Data
-plain_tree p = bound_tree p.1.0 p.0 None
-
-plain_decided : (d : Data) → Decided plain_tree d
-plain_decided d = object_decided _ (member_decided (codes "bound") string _ text_decided (member_decided (codes "stream") labels_object End labels_object_decided end_decided)) d
-
-abbrev CountedParts : Type 0
-CountedParts = List ℕ × (List ℕ × (List ℕ × (List Label × Unit {0})))
-
-abbrev counted_tree : CountedParts → Data
-counted_tree p = bound_tree p.1.1.1.0 p.0 (Some (record { entries = p.1.0; removed = p.1.1.0 }))
-
-counted_decided : (d : Data) → Decided counted_tree d
-counted_decided d = object_decided _ (member_decided (codes "bound") string _ text_decided (member_decided (codes "entries") string _ text_decided (member_decided (codes "removed") string _ text_decided (member_decided (codes "stream") labels_object End labels_object_decided end_decided)))) d
-
--- a tree of neither kind is that of no trim
-of_neither : (d : Data) → ((p : PlainParts) → d ≢ plain_tree p) → ((p : CountedParts) → d ≢ counted_tree p) → (pairs : List Label) (bound : List ℕ) (counts : Option CountTexts) → d ≢ bound_tree pairs bound counts
-of_neither d plain counted pairs bound None = plain (bound, (pairs, tt))
-of_neither d plain counted pairs bound (Some c) = counted (bound, (c.entries, (c.removed, (pairs, tt))))
-
-trim_by : (d : Data) → Decided plain_tree d → Decided counted_tree d → Decided trim_tree d
-trim_by d (inl p) counted = inl (record { pairs = p.0.1.0; bound = p.0.0; counts = None }, p.1)
-trim_by d (inr h) (inl p) = inl (record { pairs = p.0.1.1.1.0; bound = p.0.0; counts = Some (record { entries = p.0.1.0; removed = p.0.1.1.0 }) }, p.1)
-trim_by d (inr h) (inr k) = inr (λ t. of_neither d h k t.pairs t.bound t.counts)
-
 pub trim_decided : (d : Data) → Decided trim_tree d
-trim_decided d = trim_by d (plain_decided d) (counted_decided d)
-
-pub ending_decided : (d : Data) → Decided end_tree d
-ending_decided d =
-    restated _ end_tree d (object_decided _ (member_decided (codes "stream") labels_object End labels_object_decided end_decided) d)
-    (λ p. p.0) (λ pairs. (pairs, tt)) (λ p. refl) (λ pairs. refl)
+trim_decided d =
+    restated _ trim_tree d (object_decided _ (member_decided (codes "bound") string _ text_decided (member_decided (codes "stream") labels_object End labels_object_decided end_decided)) d)
+    (λ p. record { pairs = p.1.0; bound = p.0 }) (λ t. (t.bound, (t.pairs, tt))) (λ p. refl) (λ t. refl)
 
 -- times
 pub order_decided : (a b : ℕ) → (a < b) ⊎ (b ≤ a)
@@ -223,15 +192,6 @@ pub time_decided : (text : List ℕ) → IsTime text ⊎ (¬ (IsTime text))
 unfolding IsTime
 time_decided text =
     three_decided (both_decided (below_decided 0 (length text)) (digits_decided text)) (short_decided (length text) 19) (below_decided (digits_value 10 text) (2 ^ 63))
-
-count_decided : (text : List ℕ) → IsCount text ⊎ (¬ (IsCount text))
-unfolding IsCount
-count_decided text =
-    three_decided (both_decided (below_decided 0 (length text)) (digits_decided text)) (short_decided (length text) 20) (below_decided (digits_value 10 text) (2 ^ 64))
-
-pub counts_decided : (counts : Option CountTexts) → AreCounts counts ⊎ (¬ (AreCounts counts))
-counts_decided None = inl tt
-counts_decided (Some c) = both_decided (count_decided c.entries) (count_decided c.removed)
 
 -- the first of a list that is not as it should be, and what is wrong with it
 abbrev Spoiled : {X J : Type 0} → (X → Type 0) → (J → X → Type 0) → List X → Type 0

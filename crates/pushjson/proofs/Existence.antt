@@ -1,4 +1,4 @@
--- Bytes have one answer as a push, one as a query, one as a trim and one as an end.
+-- Bytes have one answer as a push, one as a query and one as a trim.
 use Rattle.std.proofs.Common.{◌≡◌, ◌≢◌, ◌⊎◌, inl, inr, ℕ, ◌<◌, ◌≤◌, List, map, Result, Ok, Err, Option, Some, None, refl, sym, ◌∙◌, subst, arith, [], ◌∷◌, length, take, get_or, length-take, All, true}
 use Rattle.std.specs.Str.{IsUtf8, is_utf8}
 use Rattle.std.proofs.lemmas.Str.{IsUtf8-from_is_utf8, is_utf8-from_IsUtf8}
@@ -7,15 +7,14 @@ use Rattle.serde_json.specs.Read.{read}
 use Rattle.pushjson.specs.Times.{IsTime}
 use Rattle.pushjson.specs.Bodies.{Stream, body_tree, IsJson, HaveTimes, IsFirstBadTime, entry_count, batch_of, TimedLine, labels_tree, third_tree, value_tree, stream_tree, AreTimed, IsFirstBad}
 use Rattle.pushjson.specs.Parts.{has_too_many, HasTooManyParts, OfOthers}
-use Rattle.pushjson.specs.Queries.{Query, CountTexts, Trim, query_tree, bound_tree, trim_tree, end_tree, AreCounts, raw_read_of, raw_trim_of, raw_end_of, IsQueryOfTree, IsTrimOfTree, IsEndOfTree, ReadsQuery, ReadsTrim, ReadsEnd}
+use Rattle.pushjson.specs.Queries.{Query, Trim, query_tree, trim_tree, raw_read_of, raw_trim_of, IsQueryOfTree, IsTrimOfTree, ReadsQuery, ReadsTrim}
 use Rattle.pushjson.specs.Reads.{IsPushOfTree, IsPushAnswer, HasOne}
 use Rattle.pushjson.specs.declared.push.RawBatch.{RawBatch}
 use Rattle.pushjson.specs.declared.query.RawRead.{RawRead}
 use Rattle.pushjson.specs.declared.query.RawTrim.{RawTrim}
-use Rattle.pushjson.specs.declared.query.RawEnd.{RawEnd}
 use Rattle.pushjson.specs.declared.fault.PushFault.{PushFault}
 use Rattle.pushjson.specs.declared.fault.PushFault.TheVariants.{NotJson, WrongShape, BadTime, TooManyEntries, TooManyParts, Memory}
-use Rattle.pushjson.proofs.Deciding.{Decided, tested, body_decided, query_decided, trim_decided, ending_decided, order_decided, both_decided, time_decided, counts_decided, bad_time_in}
+use Rattle.pushjson.proofs.Deciding.{Decided, tested, body_decided, query_decided, trim_decided, order_decided, both_decided, time_decided, bad_time_in}
 use Rattle.std.proofs.lemmas.Bool.{cases_order}
 use Rattle.std.proofs.lemmas.List.{get_or-take}
 use Rattle.serde_json.specs.View.{items_of}
@@ -68,25 +67,11 @@ same_query q r e =
     let to : q.to ≡ r.to = cc in
     λ i. record { pairs = pairs i; from = from i; to = to i }
 
-same_bound : (ps qs : List Label) (b c : List ℕ) (k l : Option CountTexts) → bound_tree ps b k ≡ bound_tree qs c l → (ps ≡ qs) × (b ≡ c) × (k ≡ l)
-same_bound ps qs b c None None e =
-    let pairs : ps ≡ qs = same_labels ps qs cc in
-    (pairs, cc, refl)
-same_bound ps qs b c None (Some l) e = cc
-same_bound ps qs b c (Some k) None e = cc
-same_bound ps qs b c (Some k) (Some l) e =
-    let pairs : ps ≡ qs = same_labels ps qs cc in
-    let entries : k.entries ≡ l.entries = cc in
-    let removed : k.removed ≡ l.removed = cc in
-    (pairs, cc, λ i. Some (record { entries = entries i; removed = removed i }))
-
 pub same_trim : (t u : Trim) → trim_tree t ≡ trim_tree u → t ≡ u
 same_trim t u e =
-    let (pairs, bound, counts) = same_bound t.pairs u.pairs t.bound u.bound t.counts u.counts e in
-    λ i. record { pairs = pairs i; bound = bound i; counts = counts i }
-
-same_end : (ps qs : List Label) → end_tree ps ≡ end_tree qs → ps ≡ qs
-same_end ps qs e = same_labels ps qs cc
+    let pairs : t.pairs ≡ u.pairs = same_labels t.pairs u.pairs cc in
+    let bound : t.bound ≡ u.bound = cc in
+    λ i. record { pairs = pairs i; bound = bound i }
 
 pub same_tree : (bytes : List ℕ) (d e : Data) → IsJson bytes d → IsJson bytes e → d ≡ e
 same_tree bytes d e j k = let both : Some d ≡ Some e = sym j.1 ∙ k.1 in cc
@@ -250,7 +235,7 @@ one_answer_of_tree bytes = has_one body_tree AreJudged bytes (IsPushOfTree bytes
 pub one_answer : (bytes : List ℕ) → HasOne (IsPushAnswer bytes)
 one_answer bytes = one_of_all bytes (IsPushOfTree bytes) (λ never. never) (one_answer_of_tree bytes)
 
--- a query is judged by whether its times are times
+-- a query and a trim are judged by whether their times are times
 abbrev IsTimed : {X Y : Type 0} → (Y → Type 0) → (Y → X) → Y → Result X PushFault → Type 0
 IsTimed HasTimes raw y r = (HasTimes y × (r ≡ Ok (raw y))) ⊎ ((¬ (HasTimes y)) × (r ≡ Err (BadTime 0 0)))
 
@@ -281,67 +266,23 @@ one_query_of_tree bytes = has_one query_tree (IsTimed HasQueryTimes raw_read_of)
 pub one_query : (bytes : List ℕ) → HasOne (ReadsQuery bytes)
 one_query bytes = one_of_all bytes (IsQueryOfTree bytes) (λ never. never) (one_query_of_tree bytes)
 
--- a trim is judged by whether its numbers are numbers, and then by whether its bound is a time
-abbrev IsJudgedTrim : Trim → Result RawTrim PushFault → Type 0
-IsJudgedTrim t r =
-    (AreCounts t.counts × IsTime t.bound × (r ≡ Ok (raw_trim_of t)))
-    ⊎ ((AreCounts t.counts × (¬ (IsTime t.bound)) × (r ≡ Err (BadTime 0 0)))
-    ⊎ ((¬ (AreCounts t.counts)) × (r ≡ Err WrongShape)))
+abbrev HasTrimTime : Trim → Type 0
+HasTrimTime t = IsTime t.bound
 
-one_judged_trim : (t : Trim) (r s : Result RawTrim PushFault) → IsJudgedTrim t r → IsJudgedTrim t s → r ≡ s
-one_judged_trim t r s (inl p) (inl q) = p.2 ∙ sym q.2
-one_judged_trim t r s (inl p) (inr (inl q)) = absurd (q.1 p.1)
-one_judged_trim t r s (inl p) (inr (inr q)) = absurd (q.0 p.0)
-one_judged_trim t r s (inr (inl p)) (inl q) = absurd (p.1 q.1)
-one_judged_trim t r s (inr (inl p)) (inr (inl q)) = p.2 ∙ sym q.2
-one_judged_trim t r s (inr (inl p)) (inr (inr q)) = absurd (q.0 p.0)
-one_judged_trim t r s (inr (inr p)) (inl q) = absurd (p.0 q.0)
-one_judged_trim t r s (inr (inr p)) (inr (inl q)) = absurd (p.0 q.0)
-one_judged_trim t r s (inr (inr p)) (inr (inr q)) = p.1 ∙ sym q.1
-
--- a tree of another shape is that of no trim, or of one whose numbers are none
-misshapen : (bytes : List ℕ) (d : Data) → IsJson bytes d → ((t : Trim) → AreCounts t.counts → d ≢ trim_tree t) → ((t : Trim) × (d ≡ trim_tree t)) ⊎ ((t : Trim) → d ≢ trim_tree t) → Says trim_tree IsJudgedTrim bytes (Err WrongShape)
-misshapen bytes d json none (inl p) = inr (inr (p.0, subst (IsJson bytes) p.1 json, inr (inr (λ counts. none p.0 counts p.1, refl))))
-misshapen bytes d json none (inr h) = inr (inl (d, refl, json, h))
-
-trim_says : (bytes : List ℕ) (r : Result RawTrim PushFault) → IsTrimOfTree bytes r → r ≢ Err Memory → Says trim_tree IsJudgedTrim bytes r
-trim_says bytes (Ok b) a m = inr (inr (a.0, a.1, inl (a.2, a.3, λ i. Ok (a.4 i))))
+trim_says : (bytes : List ℕ) (r : Result RawTrim PushFault) → IsTrimOfTree bytes r → r ≢ Err Memory → Says trim_tree (IsTimed HasTrimTime raw_trim_of) bytes r
+trim_says bytes (Ok b) a m = inr (inr (a.0, a.1, inl (a.2, λ i. Ok (a.3 i))))
 trim_says bytes (Err NotJson) a m = inl (refl, a)
-trim_says bytes (Err WrongShape) a m = misshapen bytes a.0 a.1 a.2 (trim_decided a.0)
-trim_says bytes (Err (BadTime i j)) a m = inr (inr (a.0, a.1, inr (inl (a.2, a.3, λ k. Err (BadTime (a.4 k) (a.5 k))))))
+trim_says bytes (Err WrongShape) a m = inr (inl (a.0, refl, a.1, a.2))
+trim_says bytes (Err (BadTime i j)) a m = inr (inr (a.0, a.1, inr (a.2, λ k. Err (BadTime (a.3 k) (a.4 k)))))
 trim_says bytes (Err TooManyEntries) a m = absurd a
 trim_says bytes (Err TooManyParts) a m = absurd a
 trim_says bytes (Err Memory) a m = absurd (m refl)
 
 one_trim_of_tree : (bytes : List ℕ) → HasOne (IsTrimOfTree bytes)
-one_trim_of_tree bytes = has_one trim_tree IsJudgedTrim bytes (IsTrimOfTree bytes) same_trim one_judged_trim (trim_says bytes) trim_decided (λ h. h) (λ d json h. (d, json, λ t counts. h t)) right
+one_trim_of_tree bytes = has_one trim_tree (IsTimed HasTrimTime raw_trim_of) bytes (IsTrimOfTree bytes) same_trim (one_timed HasTrimTime raw_trim_of) (trim_says bytes) trim_decided (λ h. h) (λ d json h. (d, json, h)) right
   where
-    uncounted : (t : Trim) → IsJson bytes (trim_tree t) → ¬ (AreCounts t.counts) → (u : Trim) → AreCounts u.counts → trim_tree t ≢ trim_tree u
-    uncounted t json none u counts e = none (subst (λ (v : Trim). AreCounts v.counts) (sym (same_trim t u e)) counts)
-
     right : (t : Trim) → IsJson bytes (trim_tree t) → Has (IsTrimOfTree bytes)
-    right t json = elim (counts_decided t.counts) [
-      | inl counts ↦ elim (time_decided t.bound) [ inl time ↦ (Ok (raw_trim_of t), λ e. cc, (t, json, counts, time, refl)) | inr h ↦ (Err (BadTime 0 0), λ e. cc, (t, json, counts, h, refl, refl)) ]
-      | inr h ↦ (Err WrongShape, λ e. cc, (trim_tree t, json, uncounted t json h))
-    ]
+    right t json = elim (time_decided t.bound) [ inl time ↦ (Ok (raw_trim_of t), λ e. cc, (t, json, time, refl)) | inr h ↦ (Err (BadTime 0 0), λ e. cc, (t, json, h, refl, refl)) ]
 
 pub one_trim : (bytes : List ℕ) → HasOne (ReadsTrim bytes)
 one_trim bytes = one_of_all bytes (IsTrimOfTree bytes) (λ never. never) (one_trim_of_tree bytes)
-
-abbrev IsJudgedEnd : List Label → Result RawEnd PushFault → Type 0
-IsJudgedEnd pairs r = r ≡ Ok (raw_end_of pairs)
-
-end_says : (bytes : List ℕ) (r : Result RawEnd PushFault) → IsEndOfTree bytes r → r ≢ Err Memory → Says end_tree IsJudgedEnd bytes r
-end_says bytes (Ok b) a m = inr (inr (a.0, a.1, λ i. Ok (a.2 i)))
-end_says bytes (Err NotJson) a m = inl (refl, a)
-end_says bytes (Err WrongShape) a m = inr (inl (a.0, refl, a.1, a.2))
-end_says bytes (Err (BadTime i j)) a m = absurd a
-end_says bytes (Err TooManyEntries) a m = absurd a
-end_says bytes (Err TooManyParts) a m = absurd a
-end_says bytes (Err Memory) a m = absurd (m refl)
-
-one_end_of_tree : (bytes : List ℕ) → HasOne (IsEndOfTree bytes)
-one_end_of_tree bytes = has_one end_tree IsJudgedEnd bytes (IsEndOfTree bytes) same_end (λ y r s p q. p ∙ sym q) (end_says bytes) ending_decided (λ h. h) (λ d json h. (d, json, h)) (λ pairs json. (Ok (raw_end_of pairs), λ e. cc, (pairs, json, refl)))
-
-pub one_end : (bytes : List ℕ) → HasOne (ReadsEnd bytes)
-one_end bytes = one_of_all bytes (IsEndOfTree bytes) (λ never. never) (one_end_of_tree bytes)

@@ -1,5 +1,5 @@
 -- Trees whose front is known to be that of what was read, and members of an object, taken one after the other.
-use Rattle.std.proofs.Common.{◌≡◌, ◌≢◌, ℕ, List, [], ◌∷◌, ◌++◌, map, Less, String, Global, string_bytes, string_cmp, nat_cmp, refl, ap, sym, ◌∙◌, append_assoc, append-nil, length, codes, arith}
+use Rattle.std.proofs.Common.{◌≡◌, ◌≢◌, ℕ, List, [], ◌∷◌, ◌++◌, map, Less, String, Global, string_bytes, string_cmp, nat_cmp, refl, ap, sym, ◌∙◌, append_assoc, append-nil}
 use Rattle.std.proofs.lemmas.List.{map-append}
 use Rattle.std.specs.Cmp.Lexicographic.{slice_cmp}
 use Rattle.std.specs.List.{AllByRecursion}
@@ -11,8 +11,7 @@ use Rattle.serde_json.specs.View.{items_of, members_view}
 use Rattle.pairs.specs.Labels.{Label}
 use Rattle.pairs.specs.Names.{NamesRise}
 use Rattle.pushjson.specs.Bodies.{labels_tree, HaveRisingNames}
-use Rattle.pushjson.specs.Shape.{IsFaultOf, count_members, members_in}
-use Rattle.pushjson.specs.Queries.{CountTexts, bound_tree}
+use Rattle.pushjson.specs.Shape.{IsFaultOf}
 use Rattle.pushjson.specs.declared.fault.PushFault.{PushFault}
 use Rattle.pushjson.specs.declared.fault.PushFault.TheVariants.{WrongShape}
 use Rattle.std.specs.Prelude.{Option, Some, None, is_some, true, false}
@@ -107,20 +106,3 @@ none_came P Q (Some x) e h = cc
 pub more_came : (ms new : List (String Global × Value)) (P : Type 0) (o : Option (String Global × Value)) → true ≡ is_some o → MatchOption o P (λ x. ms ≡ x ∷ new) → members_view ms ≢ no_members
 more_came ms new P None e h = λ same. cc
 more_came ms new P (Some x) e h = λ same. let s : members_view (x ∷ new) ≡ no_members = ap members_view (sym h) ∙ same in cc
-
--- as many members are seen as there are
-pub members_count : (es : List (String Global × Value)) → length es ≡ count_members (members_view es)
-members_count [] = refl
-members_count (e ∷ es) = let same = members_count es in omega (arith, same)
-
--- a tree of four members is that of a trim that counts, or of none
-pub of_counted : (d : Data) → members_in d ≡ 4 → ((p : Data × Data × Data × Data) → d ≢ object (member (codes "bound") p.0 (member (codes "entries") p.1 (member (codes "removed") p.2 (member (codes "stream") p.3 no_members)))))
-    → (pairs : List Label) (bound : List ℕ) (counts : Option CountTexts) → d ≢ bound_tree pairs bound counts
-of_counted d four none pairs bound None = λ same. let two : 4 ≡ 2 = sym four ∙ ap members_in same in cc
-of_counted d four none pairs bound (Some c) = none (string bound, string c.entries, string c.removed, object (labels_tree pairs))
-
--- a tree of more or fewer is that of a plain one, or of none
-pub of_plain : (d : Data) → members_in d ≢ 4 → ((p : Data × Data) → d ≢ object (member (codes "bound") p.0 (member (codes "stream") p.1 no_members)))
-    → (pairs : List Label) (bound : List ℕ) (counts : Option CountTexts) → d ≢ bound_tree pairs bound counts
-of_plain d other none pairs bound None = none (string bound, object (labels_tree pairs))
-of_plain d other none pairs bound (Some c) = λ same. other (ap members_in same)

@@ -1,7 +1,7 @@
 -- What the readers of a tree's parts answer; for private clauses.
-use Rattle.std.specs.Prelude.{◌≡◌, ◌≢◌, ⊤, ℕ, ◌+◌, List, map, String, string_bytes, Result, Ok, Err, Option, Some, None, option_map}
+use Rattle.std.specs.Prelude.{◌≡◌, ◌≢◌, ⊤, ℕ, List, map, String, string_bytes, Result, Ok, Err, Option, Some, None}
 use Rattle.std.specs.declared.alloc.Global.{Global}
-use Rattle.serde_json.specs.Data.{Data, object, Members, no_members, member}
+use Rattle.serde_json.specs.Data.{Data, Members, member}
 use Rattle.serde_json.specs.View.{view, members_view}
 use Rattle.serde_json.specs.declared.value.Value.{Value}
 use Rattle.pairs.specs.Labels.{label_of}
@@ -9,8 +9,7 @@ use Rattle.pushjson.specs.Bodies.{Stream, TimedLine, IsJson}
 use Rattle.pushjson.specs.declared.fault.PushFault.{PushFault}
 use Rattle.pushjson.specs.declared.fault.PushFault.TheVariants.{NotJson, WrongShape, TooManyParts, Memory}
 use Rattle.pushjson.specs.Parts.{HasTooManyParts}
-use Rattle.pushjson.specs.Queries.{Query, Trim, CountTexts, AreCounts, counts_of}
-use Rattle.pushjson.specs.declared.query.Counts.{Counts}
+use Rattle.pushjson.specs.Queries.{Query, Trim}
 use Rattle.pushjson.specs.declared.shape.StreamTexts.{StreamTexts}
 use Rattle.pushjson.specs.declared.shape.ValueTexts.{ValueTexts}
 use Rattle.pushjson.specs.declared.shape.QueryTexts.{QueryTexts}
@@ -32,15 +31,6 @@ abbrev pub TakesValue : List ℕ → List (String Global × Value) → Option Va
 TakesValue key before (Some v) after = members_view before ≡ member key (view v) (members_view after)
 TakesValue key before None after = (d : Data) (ms : Members) → members_view before ≢ member key d ms
 
--- how many members an object has, 0 of no object
-abbrev pub count_members : Members → ℕ
-count_members no_members = 0
-count_members (member key d ms) = count_members ms + 1
-
-abbrev pub members_in : Data → ℕ
-members_in (object ms) = count_members ms
-members_in d = 0
-
 -- the tree of the bytes
 abbrev pub ReadsData : List ℕ → Result Value PushFault → Type 0
 ReadsData bytes (Ok tree) = (¬ HasTooManyParts bytes) × IsJson bytes (view tree)
@@ -59,19 +49,5 @@ stream_texts_of s = record { pairs = map label_of s.pairs.items; values = map va
 abbrev pub query_texts_of : QueryTexts → Query
 query_texts_of q = record { pairs = map label_of q.pairs.items; from = string_bytes q.from; to = string_bytes q.to }
 
-abbrev pub count_texts_of : String Global × String Global → CountTexts
-count_texts_of c = record { entries = string_bytes c.0; removed = string_bytes c.1 }
-
 abbrev pub trim_texts_of : TrimTexts → Trim
-trim_texts_of t =
-    record {
-      pairs = map label_of t.pairs.items;
-      bound = string_bytes t.bound;
-      counts = option_map count_texts_of t.counts;
-    }
-
--- the numbers that texts write, or one of these is no number
-abbrev pub GivesCounts : Option CountTexts → Result (Option Counts) PushFault → Type 0
-GivesCounts texts (Ok counts) = AreCounts texts × (counts ≡ option_map counts_of texts)
-GivesCounts texts (Err WrongShape) = ¬ AreCounts texts
-GivesCounts texts (Err fault) = ⊥
+trim_texts_of t = record { pairs = map label_of t.pairs.items; bound = string_bytes t.bound }

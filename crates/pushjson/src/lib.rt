@@ -1,4 +1,4 @@
-//! Bodies of requests to push, read, trim and end, from JSON bytes to batches.
+//! Bodies of push, query and trim requests, from JSON bytes to batches.
 #![tactic(auto)]
 
 mod fault;
@@ -12,5 +12,5 @@ mod time;
 pub use fault::PushFault;
 pub use laws::one_answer;
 pub use push::{RawBatch, read_push};
-pub use query::{Counts, RawEnd, RawRead, RawTrim, read_end, read_query, read_trim};
+pub use query::{RawRead, RawTrim, read_query, read_trim};
 pub use time::time_of;

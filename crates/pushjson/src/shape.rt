@@ -1,11 +1,11 @@
 // Takes a body's tree apart by value: the texts are those that the tree held.
-ghost use Rattle.std.specs.Prelude.{◌≡◌, ◌≢◌, map, string_bytes, IfOk, All};
+ghost use Rattle.std.specs.Prelude.{◌≡◌, map, string_bytes, IfOk, All};
 ghost use Rattle.pairs.specs.Labels.{label_of};
 ghost use Rattle.serde_json.specs.Data.{Data, string, array, object, no_members, member};
 ghost use Rattle.serde_json.specs.View.{view, items_of};
 ghost use Rattle.pushjson.specs.Bodies.{labels_tree, value_tree, stream_tree, body_tree, HaveRisingNames};
-ghost use Rattle.pushjson.specs.Queries.{query_tree, trim_tree, end_tree};
-ghost use Rattle.pushjson.specs.Shape.{ReadsTree, ReadsData, TakesValue, members_in};
+ghost use Rattle.pushjson.specs.Queries.{query_tree, trim_tree};
+ghost use Rattle.pushjson.specs.Shape.{ReadsTree, ReadsData, TakesValue};
 ghost use Rattle.pushjson.specs.Shape.{value_texts_of, stream_texts_of, query_texts_of, trim_texts_of};
 
 use crate::fault::PushFault;
@@ -46,8 +46,6 @@ pub(crate) struct QueryTexts {
 pub(crate) struct TrimTexts {
     pub(crate) pairs: Vec<(String, String)>,
     pub(crate) bound: String,
-    // How many entries, and how many were removed before, where the trim counts.
-    pub(crate) counts: Option<(String, String)>,
 }
 
 pub(crate) fn read_tree(alloc: Global, bytes: &[u8]) -> Result<Value, PushFault>
@@ -166,40 +164,6 @@ fn three_members(
     Ok((first, second, third))
 }
 
-// The values of an object with these four keys, which rise.
-fn four_members(
-    value: Value,
-    one: &str,
-    two: &str,
-    three: &str,
-    four: &str,
-) -> Result<(Value, Value, Value, Value), PushFault>
-    ensures { ReadsTree (λ p. (view p.0, view p.1, view p.2, view p.3))
-        (λ (p : Data × Data × Data × Data). object (member one.now p.0 (member two.now p.1
-        (member three.now p.2 (member four.now p.3 no_members))))) (view value) result }
-{
-    let Value::Object(members) = value else {
-        return Err(PushFault::WrongShape);
-    };
-    let mut members = members.into_iter();
-    let Some(one) = next_value(&mut members, one) else {
-        return Err(PushFault::WrongShape);
-    };
-    let Some(two) = next_value(&mut members, two) else {
-        return Err(PushFault::WrongShape);
-    };
-    let Some(three) = next_value(&mut members, three) else {
-        return Err(PushFault::WrongShape);
-    };
-    let Some(four) = next_value(&mut members, four) else {
-        return Err(PushFault::WrongShape);
-    };
-    if members.next().is_some() {
-        return Err(PushFault::WrongShape);
-    }
-    Ok((one, two, three, four))
-}
-
 // The names and values of an object of texts.
 fn label_texts(alloc: Global, value: Value) -> Result<Vec<(String, String)>, PushFault>
     ensures tree { ReadsTree (λ pairs. map label_of pairs.items) (λ ps. object (labels_tree ps)) (view value) result }
@@ -299,66 +263,12 @@ pub(crate) fn query_texts(alloc: Global, value: Value) -> Result<QueryTexts, Pus
     Ok(QueryTexts { pairs, from, to })
 }
 
-// How many members an object has.
-fn members_in(value: &Value) -> usize
-    ensures { result ≡ members_in (view value.now) }
-{
-    match value {
-        Value::Object(members) => members.len(),
-        _ => 0,
-    }
-}
-
-fn plain_trim_texts(alloc: Global, value: Value) -> Result<TrimTexts, PushFault>
-    requires plain { members_in (view value) ≢ 4 }
+pub(crate) fn trim_texts(alloc: Global, value: Value) -> Result<TrimTexts, PushFault>
     ensures tree { ReadsTree trim_texts_of trim_tree (view value) result }
     ensures sorted { IfOk result (λ t. HaveRisingNames (map label_of t.pairs.items)) }
 {
     let (bound, labels) = two_members(value, "bound", "stream")?;
     let bound = text_of(bound)?;
     let pairs = label_texts(alloc, labels)?;
-    Ok(TrimTexts {
-        pairs,
-        bound,
-        counts: None,
-    })
-}
-
-fn counted_trim_texts(alloc: Global, value: Value) -> Result<TrimTexts, PushFault>
-    requires counted { members_in (view value) ≡ 4 }
-    ensures tree { ReadsTree trim_texts_of trim_tree (view value) result }
-    ensures sorted { IfOk result (λ t. HaveRisingNames (map label_of t.pairs.items)) }
-{
-    let (bound, entries, removed, labels) = four_members(
-        value, "bound", "entries", "removed", "stream",
-    )?;
-    let bound = text_of(bound)?;
-    let entries = text_of(entries)?;
-    let removed = text_of(removed)?;
-    let pairs = label_texts(alloc, labels)?;
-    Ok(TrimTexts {
-        pairs,
-        bound,
-        counts: Some((entries, removed)),
-    })
-}
-
-// A trim that counts has two members more.
-pub(crate) fn trim_texts(alloc: Global, value: Value) -> Result<TrimTexts, PushFault>
-    ensures tree { ReadsTree trim_texts_of trim_tree (view value) result }
-    ensures sorted { IfOk result (λ t. HaveRisingNames (map label_of t.pairs.items)) }
-{
-    if members_in(&value) == 4 {
-        counted_trim_texts(alloc, value)
-    } else {
-        plain_trim_texts(alloc, value)
-    }
-}
-
-// The labels of an end.
-pub(crate) fn end_texts(alloc: Global, value: Value) -> Result<Vec<(String, String)>, PushFault>
-    ensures tree { ReadsTree (λ pairs. map label_of pairs.items) end_tree (view value) result }
-    ensures sorted { IfOk result (λ pairs. HaveRisingNames (map label_of pairs.items)) }
-{
-    label_texts(alloc, only_member(value, "stream")?)
+    Ok(TrimTexts { pairs, bound })
 }

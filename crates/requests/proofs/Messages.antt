@@ -1,66 +1,18 @@
 -- From the spans of a head to the request that stands in the buffer.
-use Rattle.std.proofs.Common.{◌≡◌, ◌⊎◌, ℕ, Bool, true, false, [], ◌∷◌, map, refl, ap₂, ◌+◌, ◌-◌, ◌<◌, ◌≤◌, max, List, ◌++◌, length, take, drop, slice_range, sym, ap, ◌∙◌, subst, arith, inl, inr, length-append, length-drop, take-append-drop}
+use Rattle.std.proofs.Common.{◌≡◌, ◌⊎◌, ℕ, ◌+◌, ◌-◌, ◌<◌, ◌≤◌, max, List, ◌++◌, length, take, drop, slice_range, sym, ap, ◌∙◌, subst, arith, inl, inr, length-append, length-drop, take-append-drop}
 use Rattle.std.proofs.lemmas.List.{length-map, length-take, length-take-le, drop-drop}
 use Rattle.httparse.specs.Grammar.{RequestHead}
-use Rattle.httparse.specs.Spans.{IsRequestAt, IsRequestWithin, AreFieldsAt, span_bytes, header_bytes, name_and_value}
+use Rattle.httparse.specs.Spans.{IsRequestAt, IsRequestWithin, AreFieldsAt, header_bytes, name_and_value}
 use Rattle.httparse.specs.declared.spans.HeaderSpan.{HeaderSpan}
 use Rattle.httparse.specs.declared.spans.RequestSpans.{RequestSpans}
-use Rattle.requests.specs.Fields.{fields_of, has_field, values_of}
-use Rattle.requests.specs.Framings.{framing_of, framing_of_values, is_length, max_body}
-use Rattle.requests.specs.Verdicts.{IsVerdict, asks_close}
-use Rattle.requests.specs.declared.verdict.Verdict.{Verdict}
+use Rattle.requests.specs.Fields.{fields_of}
+use Rattle.requests.specs.Framings.{framing_of}
 use Rattle.requests.specs.Judging.{SaysHead}
 use Rattle.requests.specs.Streams.{ReadsHead, ReadsMessage, IsCut, HoldsHead, IsNext, MayStand, MayGrow, body_length}
-use Rattle.requests.specs.declared.framing.Framing.{Framing}
-use Rattle.requests.specs.declared.framing.Framing.TheVariants.{Length, Refused}
-use Rattle.requests.specs.declared.fixed.FixedAnswer.TheVariants.{TransferEncoding, BadLength, LengthRequired, BodyTooLarge}
-use Rattle.std.specs.Str.Parse.{digits_value}
-use Rattle.std.specs.Prelude.{if◌then◌else◌, nat_le, codes}
+use Rattle.requests.specs.declared.framing.Framing.TheVariants.{Length}
 use Rattle.requests.specs.declared.incoming.Message.{Message}
 use Rattle.requests.specs.declared.incoming.Next.TheVariants.{Whole, Unfinished}
 use Rattle.requests.proofs.Unique.{head_kept, held}
-
--- a body that is read is no longer than it may be
-abbrev IsShort : Framing → Type 0
-IsShort (Length n) = n ≤ max_body
-IsShort (Refused why) = Unit {0}
-
-either : (b : Bool) (f g : Framing) → IsShort f → IsShort g → IsShort (if b then f else g)
-either true f g one other = one
-either false f g one other = other
-
-up_to : (n : ℕ) (b : Bool) → nat_le n max_body ≡ b → IsShort (if b then Length n else Refused BodyTooLarge)
-up_to n true is = grind (arith, is)
-up_to n false is = tt
-
-short_values : (method : List ℕ) (values : List (List ℕ)) → IsShort (framing_of_values method values)
-short_values method [] = either _ (Refused LengthRequired) (Length 0) tt (omega arith)
-short_values method (value ∷ []) = either (is_length value) _ (Refused BadLength) (up_to (digits_value 10 value) _ refl) tt
-short_values method (value ∷ second ∷ more) = tt
-
-short_body : (method : List ℕ) (fields : List (List ℕ × List ℕ)) (n : ℕ) → Length n ≡ framing_of method fields → n ≤ max_body
-short_body method fields n is = subst IsShort (sym is) (either (has_field (codes "transfer-encoding") fields) (Refused TransferEncoding) _ tt (short_values method (values_of (codes "content-length") fields)))
-
--- what is said of the bytes that spans cover is said of the head
-pub says_head : (bytes : List ℕ) (hs : List HeaderSpan) (spans : RequestSpans) (h : RequestHead) → IsRequestAt bytes hs spans h
-    → (method target : List ℕ) (fields : List HeaderSpan) (length : ℕ) (verdict : Verdict) (closes : Bool)
-    → method ≡ span_bytes bytes spans.method → target ≡ span_bytes bytes spans.path → fields ≡ take spans.headers hs
-    → IsVerdict method target (map (header_bytes bytes) fields) verdict → closes ≡ asks_close spans.version (map (header_bytes bytes) fields)
-    → framing_of method (map (header_bytes bytes) fields) ≡ Length length
-    → SaysHead h spans.len (record { verdict = verdict; closes = closes; start = spans.len; end = spans.len + length })
-says_head bytes hs spans h at method target fields length verdict closes of path few says asks frames =
-    let named : method ≡ h.method = of ∙ at.method in
-    let aimed : target ≡ h.target = path ∙ at.path in
-    let same : map (header_bytes bytes) fields ≡ fields_of h = ap (map (header_bytes bytes)) few ∙ at.fields in
-    let left : spans.len + length - spans.len ≡ length = omega arith in
-    record {
-      verdict = subst (λ m. IsVerdict m h.target (fields_of h) verdict) named (subst (λ t. IsVerdict method t (fields_of h) verdict) aimed (subst (λ fs. IsVerdict method target fs verdict) same says));
-      closes = asks ∙ ap₂ asks_close at.version same;
-      framing = ap₂ framing_of (sym named) (sym same) ∙ frames ∙ ap Length (sym left);
-      start_is = refl;
-      ordered = omega arith;
-      small = subst (λ n. n ≤ max_body) (sym left) (short_body method (map (header_bytes bytes) fields) length (sym frames));
-    }
 
 few_fields : (buffer : List ℕ) (hs : List HeaderSpan) (spans : RequestSpans) (h : RequestHead) → AreFieldsAt buffer hs spans.headers h.fields → length h.fields ≤ length hs
 few_fields buffer hs spans h are =

@@ -4,7 +4,7 @@ use Rattle.httparse.specs.Grammar.{trim_ows}
 use Rattle.labels.specs.Tenants.{is_tenant}
 use Rattle.requests.specs.Fields.{Field, is_same_word, values_of, has_field, has_word, before}
 use Rattle.requests.specs.declared.route.Route.{Route}
-use Rattle.requests.specs.declared.route.Route.TheVariants.{Push, Read, Trim, End}
+use Rattle.requests.specs.declared.route.Route.TheVariants.{Push, Read, Trim}
 use Rattle.requests.specs.declared.route.Endpoint.{Endpoint}
 use Rattle.requests.specs.declared.route.Endpoint.TheVariants as At
 use Rattle.requests.specs.declared.fixed.Method.{Method}
@@ -22,7 +22,6 @@ endpoint_of path =
     if bytes_eq path (codes "/loki/api/v1/push") then Some (At.Call Push)
     else if bytes_eq path (codes "/ingester/v1/read") then Some (At.Call Read)
     else if bytes_eq path (codes "/ingester/v1/trim") then Some (At.Call Trim)
-    else if bytes_eq path (codes "/ingester/v1/end") then Some (At.Call End)
     else if bytes_eq path (codes "/ready") then Some At.Ready
     else None
 

@@ -13,8 +13,6 @@ pub enum Route {
     Read,
     /// `POST /ingester/v1/trim`
     Trim,
-    /// `POST /ingester/v1/end`
-    End,
 }
 
 /// What a path names.
@@ -38,9 +36,6 @@ impl Endpoint {
         }
         if path == b"/ingester/v1/trim".as_slice() {
             return Some(Endpoint::Call(Route::Trim));
-        }
-        if path == b"/ingester/v1/end".as_slice() {
-            return Some(Endpoint::Call(Route::End));
         }
         if path == b"/ready".as_slice() {
             return Some(Endpoint::Ready);

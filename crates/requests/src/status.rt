@@ -16,8 +16,6 @@ pub enum Status {
     NotFound,
     /// 405
     MethodNotAllowed,
-    /// 409
-    Conflict,
     /// 411
     LengthRequired,
     /// 413
@@ -48,7 +46,6 @@ impl Status {
             Status::Unauthorized => 401,
             Status::NotFound => 404,
             Status::MethodNotAllowed => 405,
-            Status::Conflict => 409,
             Status::LengthRequired => 411,
             Status::ContentTooLarge => 413,
             Status::UnsupportedMediaType => 415,
@@ -71,7 +68,6 @@ impl Status {
             Status::Unauthorized => b"Unauthorized",
             Status::NotFound => b"Not Found",
             Status::MethodNotAllowed => b"Method Not Allowed",
-            Status::Conflict => b"Conflict",
             Status::LengthRequired => b"Length Required",
             Status::ContentTooLarge => b"Content Too Large",
             Status::UnsupportedMediaType => b"Unsupported Media Type",

@@ -157,7 +157,7 @@ module _ {D : Type 0} (sight : D → Sight) (follows : D → Type 0) (start : Pa
       → new ≡ record mid { states = new.states } → new.states ≡ record mid.states { change = None } → Some back.call ≡ call_given mid.states.change what → left ≡ back ∷ rest
       → HasGathered sight follows first (record { old = start; new = new; group = group; jobs = all; rest = left; ended = Full })
   full_back p mid new group j back jobs rest left reply what is popped full frame taken forgot given put =
-      let same_states : new.states ≡ p.states = forgot ∙ (λ i. record { layout = full.prepared.layout_is i; owner = full.prepared.owner_is i; streams = full.prepared.streams_are i; change = sym is.group_is.no_change i }) in
+      let same_states : new.states ≡ p.states = forgot ∙ (λ i. record { owner = full.prepared.owner_is i; streams = full.prepared.streams_are i; change = sym is.group_is.no_change i }) in
       let same_call : back.call ≡ j.call = same_some back.call j.call (given ∙ full.prepared.rest_is) in
       let same_job : back ≡ j = λ i. record { ticket = full.ticket_is i; call = same_call i } in
       let same_jobs : left ≡ jobs = put ∙ (ap (λ (x : Job). x ∷ rest) same_job ∙ sym popped) in

@@ -7,7 +7,6 @@ use Rattle.atomic_table.specs.Seated.{TableId}
 use Rattle.entries.specs.declared.entry.Entry.{Entry}
 use Rattle.accept.specs.declared.image.StreamImage.{StreamImage}
 use Rattle.accept.specs.declared.limits.Limits.{Limits}
-use Rattle.accept.specs.declared.limits.Layout.TheVariants.{Two}
 use Rattle.accept.specs.declared.outcome.Outcome.TheVariants.{Repeat, Stored}
 use Rattle.accept.specs.declared.call.Call.TheVariants.{Push, Read}
 use Rattle.accept.specs.declared.call.Reply.{Reply}
@@ -27,7 +26,7 @@ use Rattle.shard.specs.Calls.{answer_in, after_in, reply_in}
 use Rattle.shard.specs.Groups.{dues, changing_of, marked_by}
 
 abbrev limits : Limits
-limits = record { line = 262144; half_age = 3600000000000; max_old = 604800000000000; max_ahead = 600000000000; layout = Two }
+limits = record { line = 262144; half_age = 3600000000000; max_old = 604800000000000; max_ahead = 600000000000 }
 
 abbrev k : StreamKey
 k = record { tenant = codes "t"; labels = codes "{a=\"1\"}" }
@@ -37,7 +36,7 @@ x = record { time = 10; line = codes "x"; meta = [] }
 
 -- what the stream has after the push
 abbrev one : StreamImage
-one = record { highest = 10; last = x; kept = x ∷ []; removed = 0 }
+one = record { highest = 10; last = x; kept = x ∷ [] }
 
 -- a shard of this capacity, opened empty
 abbrev opened : ℕ → About
@@ -58,11 +57,11 @@ asks = push ∷ read ∷ again ∷ []
 no_base : finite.get (finite.empty {X = StreamImage} {R = key_cmp}) k ≡ None
 no_base = finite.get-empty key_cmp k
 
-room_of_one : room Two (finite.insert finite.empty k one) ≡ 82
+room_of_one : room (finite.insert finite.empty k one) ≡ 82
 room_of_one =
-    let put_in = room-insert Two finite.empty k one in
+    let put_in = room-insert finite.empty k one in
     let none : finite.get (finite.empty {X = StreamImage} {R = key_cmp}) k ≡ None = no_base in
-    done (room Two (finite.insert finite.empty k one)) (room Two finite.empty) _ put_in (room-empty Two) (ap (room_at Two k) none)
+    done (room (finite.insert finite.empty k one)) (room finite.empty) _ put_in room-empty (ap (room_at k) none)
   where
     done : (n e r : ℕ) → n + r ≡ e + 55 → e ≡ segment_bytes → r ≡ 0 → n ≡ 82
     done n e r p q z = omega arith
@@ -89,13 +88,13 @@ module _ (table : TableId) where
   due_to_push : reply_in empty push.call ≡ Verdict (Stored ∷ [])
   unfolding reply_of
   due_to_push =
-      (λ i. cond (changes (answer_to_push i) && nat_lt 4096 (room Two (after_push i))) NoRoom (answer_to_push i))
+      (λ i. cond (changes (answer_to_push i) && nat_lt 4096 (room (after_push i))) NoRoom (answer_to_push i))
       ∙ ap (λ n. cond (nat_lt 4096 n) NoRoom (Verdict (Stored ∷ []))) room_of_one
 
   no_room_for_push : reply_in short push.call ≡ NoRoom
   unfolding reply_of
   no_room_for_push =
-      (λ i. cond (changes (answer_to_push i) && nat_lt 81 (room Two (after_push i))) NoRoom (answer_to_push i))
+      (λ i. cond (changes (answer_to_push i) && nat_lt 81 (room (after_push i))) NoRoom (answer_to_push i))
       ∙ ap (λ n. cond (nat_lt 81 n) NoRoom (Verdict (Stored ∷ []))) room_of_one
 
   abbrev once : Booked
@@ -113,7 +112,7 @@ module _ (table : TableId) where
   due_to_again : reply_in twice again.call ≡ Verdict (Repeat ∷ [])
   unfolding reply_of
   due_to_again =
-      ap (λ s. cond (changes (Verdict (outcomes limits (image_of s (x ∷ []) 0) [] 20 (x ∷ []))) && nat_lt 4096 (room Two (after_in twice again.call))) NoRoom (Verdict (outcomes limits (image_of s (x ∷ []) 0) [] 20 (x ∷ [])))) no_base
+      ap (λ s. cond (changes (Verdict (outcomes limits (image_of s (x ∷ []) 0) [] 20 (x ∷ []))) && nat_lt 4096 (room (after_in twice again.call))) NoRoom (Verdict (outcomes limits (image_of s (x ∷ []) 0) [] 20 (x ∷ [])))) no_base
 
   -- each is judged after those before it
   replies : dues empty asks ≡ Verdict (Stored ∷ []) ∷ Entries (x ∷ []) ∷ Verdict (Repeat ∷ []) ∷ []

@@ -34,7 +34,7 @@ which false false r = inr (inr refl)
 
 which_due : (book : Booked) (call : Call) → (reply_in book call ≡ Unavailable) ⊎ ((reply_in book call ≡ NoRoom) ⊎ (reply_in book call ≡ answer_in book call))
 unfolding reply_of
-which_due book call = which (is_marked book.items) (changes (answer_in book call) && nat_lt book.about.capacity (room book.about.limits.layout (after_in book call))) (answer_in book call)
+which_due book call = which (is_marked book.items) (changes (answer_in book call) && nat_lt book.about.capacity (room (after_in book call))) (answer_in book call)
 
 changing_answer : (marked full : Bool) (r : Reply) → changes (cond marked Unavailable (cond full NoRoom r)) ≡ true → (marked ≡ false) × (full ≡ false) × (changes r ≡ true)
 changing_answer true full r e = absurd (cc)
@@ -50,8 +50,8 @@ pub changes_writes : (book : Booked) (call : Call) → changes (reply_in book ca
 unfolding reply_of
 changes_writes book call e =
     let changing = changes (answer_in book call) in
-    let w = changing_answer (is_marked book.items) (changing && nat_lt book.about.capacity (room book.about.limits.layout (after_in book call))) (answer_in book call) e in
-    record { unmarked = w.0; changing = w.2; has_room = has_room changing book.about.capacity (room book.about.limits.layout (after_in book call)) w.2 w.1 }
+    let w = changing_answer (is_marked book.items) (changing && nat_lt book.about.capacity (room (after_in book call))) (answer_in book call) e in
+    record { unmarked = w.0; changing = w.2; has_room = has_room changing book.about.capacity (room (after_in book call)) w.2 w.1 }
 
 pub writes_changes : (book : Booked) (call : Call) → NeedsWrite book call → changes (reply_in book call) ≡ true
 writes_changes book call w = ap changes (sym (due_written book call w)) ∙ w.changing

@@ -5,7 +5,7 @@ use Rattle.accept.specs.declared.call.Reply.{Reply}
 use Rattle.accept.specs.Histories.{key_of}
 use Rattle.disk.specs.Sight.{Sight}
 use Rattle.segment.specs.ShardPlaces.{ShardPlace}
-use Rattle.segment.specs.declared.version.Version.TheVariants.{Two}
+use Rattle.segment.specs.Versions.{latest}
 use Rattle.segment.specs.Spelling.{record_text, IsHere}
 use Rattle.wal.specs.Logs.{FitsInUse}
 use Rattle.history.specs.Handles.{Announced}
@@ -46,11 +46,10 @@ module _ {D : Type 0} (sight : D → Sight) (follows : D → Type 0) (p : Parts 
   may_judge lawful = record {
     idle = g.no_change;
     limits = g.shard.small_limits;
-    layout = g.layout_is ∙ g.shard.states_layout;
     numbers = lawful.2;
     here = subst (λ (o : ShardPlace). IsHere o (key_of j.call)) (sym (g.owner_is ∙ g.shard.states_owner)) (is_here p.book j.ticket.ask j.call lawful.0 lawful.1);
     capacity = g.shard.small_capacity;
-    is_open = record { layout = p.states.layout; before = []; records = g.records; is = g.block_is.is_open };
+    is_open = record { before = []; records = g.records; is = g.block_is.is_open };
   }
 
   -- what is shown of the first call of a group
@@ -72,8 +71,8 @@ module _ {D : Type 0} (sight : D → Sight) (follows : D → Type 0) (p : Parts 
       let no_ts = matched_none group.judged.items group.changing.items g.matched none in
       let stands = stands_in p.book p.limits p.states.streams j.call s.same_limits (s.means refl) in
       let its = its_change p.limits p.states.streams j.call joined.changing in
-      let sized : block_length (change_of j.call (answer_of p.limits p.states.streams j.call)) ≡ length p.buffer.items + length (record_text Two its.0) =
-      ap block_length its.1 ∙ one_long p.states.layout its.0 p.buffer.items g.records (g.as_many ∙ ap length no_ts) g.block_is.is_open in
+      let sized : block_length (change_of j.call (answer_of p.limits p.states.streams j.call)) ≡ length p.buffer.items + length (record_text latest its.0) =
+      ap block_length its.1 ∙ one_long its.0 p.buffer.items g.records (g.as_many ∙ ap length no_ts) g.block_is.is_open in
       subst (λ (q : Reply). FitsInUse p.log.wal (block_length (change_of j.call q))) stands.0
       (subst (λ (k : ℕ). FitsInUse p.log.wal k) (sym sized) (joined.fits its.0 (ap (λ (q : Reply). change_of j.call q) joined.replied ∙ its.1)))
 
@@ -93,5 +92,5 @@ module _ {D : Type 0} (sight : D → Sight) (follows : D → Type 0) (p : Parts 
         let ts = group.changing.items in
         let added = subst (λ (z : List Waiting × List Announced). IsGathering sight follows p.log.wal p.book p.opened.value p.limits new.states new.buffer.items z.0 z.1 × (waiting_in z.0 z.1 ≡ waiting_in js ts ++ (j.ticket, r) ∷ []))
         (λ i. (sym pushed i, sym (kept ∙ ap (λ (u : Announced). ts ++ u ∷ []) judged.0) i))
-        (gathering_changing sight follows p.log.wal p.book p.opened.value p.limits p.states new.states p.buffer.items new.buffer.items js ts j.ticket j.call r g same judged.1 judged.2 judged.3 judged.4) in
-        record { group_is = gathered_in sight follows p new frame behind added.0; reply = r; waiting = added.1; fits = λ none writes. first_fits new r judged.4 none }
+        (gathering_changing sight follows p.log.wal p.book p.opened.value p.limits p.states new.states p.buffer.items new.buffer.items js ts j.ticket j.call r g same judged.1 judged.2 judged.3) in
+        record { group_is = gathered_in sight follows p new frame behind added.0; reply = r; waiting = added.1; fits = λ none writes. first_fits new r judged.3 none }

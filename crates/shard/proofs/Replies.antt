@@ -46,15 +46,15 @@ is_full false cap n e h = absurd (cc)
 -- the answer is due where it changes nothing, and where there is room
 pub due_unchanged : (book : Booked) (call : Call) → is_marked book.items ≡ false → changes (answer_in book call) ≡ false → answer_in book call ≡ reply_in book call
 unfolding reply_of
-due_unchanged book call unmarked same = sym (chosen (is_marked book.items) _ (answer_in book call) unmarked (unchanged_not_full (changes (answer_in book call)) (nat_lt book.about.capacity (room book.about.limits.layout (after_in book call))) same))
+due_unchanged book call unmarked same = sym (chosen (is_marked book.items) _ (answer_in book call) unmarked (unchanged_not_full (changes (answer_in book call)) (nat_lt book.about.capacity (room (after_in book call))) same))
 
 pub due_written : (book : Booked) (call : Call) → NeedsWrite book call → answer_in book call ≡ reply_in book call
 unfolding reply_of
-due_written book call w = sym (chosen (is_marked book.items) _ (answer_in book call) w.unmarked (not_full (changes (answer_in book call)) book.about.capacity (room book.about.limits.layout (after_in book call)) w.has_room))
+due_written book call w = sym (chosen (is_marked book.items) _ (answer_in book call) w.unmarked (not_full (changes (answer_in book call)) book.about.capacity (room (after_in book call)) w.has_room))
 
-pub due_full : (book : Booked) (call : Call) → is_marked book.items ≡ false → changes (answer_in book call) ≡ true → book.about.capacity < room book.about.limits.layout (after_in book call) → NoRoom ≡ reply_in book call
+pub due_full : (book : Booked) (call : Call) → is_marked book.items ≡ false → changes (answer_in book call) ≡ true → book.about.capacity < room (after_in book call) → NoRoom ≡ reply_in book call
 unfolding reply_of
-due_full book call unmarked changing full = sym (refused (is_marked book.items) _ (answer_in book call) unmarked (is_full (changes (answer_in book call)) book.about.capacity (room book.about.limits.layout (after_in book call)) changing full))
+due_full book call unmarked changing full = sym (refused (is_marked book.items) _ (answer_in book call) unmarked (is_full (changes (answer_in book call)) book.about.capacity (room (after_in book call)) changing full))
 
 pub due_marked : (book : Booked) (call : Call) → is_marked book.items ≡ true → Unavailable ≡ reply_in book call
 due_marked book call marked = sym (refuses book.about book.shard book.items call marked)
@@ -104,9 +104,9 @@ no_change book limits m cap ask reply same means unmarked caps u =
           quiet = λ (w : NeedsWrite book ask.call). let h : changes (answer_in book ask.call) ≡ true = w.changing in absurd (cc);
         }
 
-    no_change-full : (answer_of limits m ask.call ≡ answer_in book ask.call) × (after_of limits m ask.call ≡ after_in book ask.call) → (changes (answer_of limits m ask.call) ≡ true) × (cap < room limits.layout (after_of limits m ask.call)) × (reply ≡ NoRoom) → IsNoChange book ask reply
+    no_change-full : (answer_of limits m ask.call ≡ answer_in book ask.call) × (after_of limits m ask.call ≡ after_in book ask.call) → (changes (answer_of limits m ask.call) ≡ true) × (cap < room (after_of limits m ask.call)) × (reply ≡ NoRoom) → IsNoChange book ask reply
     no_change-full s why =
-        let full : book.about.capacity < room book.about.limits.layout (after_in book ask.call) = subst (λ (n : ℕ). n < room book.about.limits.layout (after_in book ask.call)) caps (subst (λ (z : Limits × Streams). cap < room z.0.layout z.1) (λ i. (same i, s.1 i)) why.1) in
+        let full : book.about.capacity < room (after_in book ask.call) = subst (λ (n : ℕ). n < room (after_in book ask.call)) caps (subst (λ (n : Streams). cap < room n) s.1 why.1) in
         record {
           due = why.2 ∙ due_full book ask.call unmarked (ap changes (sym s.0) ∙ why.0) full;
           same = ap (λ (r : Reply). meaning (then_step (history_in book) ask r)) why.2 ∙ meaning-NoRoom (history_in book) ask;

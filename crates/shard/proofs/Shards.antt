@@ -40,8 +40,6 @@ shard_answered sight follows log book opened states flag limits ask reply s same
   same_capacity = s.same_capacity;
   small_capacity = s.small_capacity;
   same_owner = s.same_owner;
-  same_layout = s.same_layout;
-  states_layout = s.states_layout;
   states_owner = s.states_owner;
   no_change = s.no_change;
   means = λ u. same ∙ s.means u;

@@ -7,7 +7,7 @@ use Rattle.accept.specs.declared.history.Item.TheVariants.{Answered, Failed}
 use Rattle.accept.specs.Rooms.{Streams, room}
 use Rattle.accept.specs.Histories.{answer, after, meaning, changes, is_marked}
 use Rattle.segment.specs.declared.record.Record.{Record}
-use Rattle.segment.specs.declared.version.Version.TheVariants.{Two}
+use Rattle.segment.specs.Versions.{latest}
 use Rattle.segment.specs.Spelling.{frame}
 use Rattle.segment.specs.Segments.{max_generation}
 use Rattle.wal.specs.declared.log.Wal.{Wal}
@@ -35,17 +35,17 @@ reply_in book call = reply_of book.about book.shard book.items call
 pub record NeedsWrite (book : Booked) (call : Call) : Type 0 where
   pub unmarked : is_marked book.items ≡ false
   pub changing : changes (answer_in book call) ≡ true
-  pub has_room : room book.about.limits.layout (after_in book call) ≤ book.about.capacity
+  pub has_room : room (after_in book call) ≤ book.about.capacity
 
 -- the call is refused, or changes nothing
 abbrev pub IsQuiet : Booked → Call → Type 0
 IsQuiet book call = (reply_in book call ≡ Unavailable)
     ⊎ ((reply_in book call ≡ NoRoom) ⊎ (after_in book call ≡ meaning (history_in book)))
 
--- how many bytes a change takes as a block with its closing gate: the text of a record is the same in each layout
+-- how many bytes a change takes as a block with its closing gate
 abbrev pub block_length : Option Record → ℕ
 block_length None = 0
-block_length (Some record_of_change) = length (frame Two (record_of_change ∷ [])) + 1
+block_length (Some record_of_change) = length (frame latest (record_of_change ∷ [])) + 1
 
 -- the call's change, as a block, fits after the segment in use
 abbrev pub FitsBehind : {D : Type 0} → Wal D → Booked → Call → Type 0

@@ -8,7 +8,7 @@ use Rattle.accept.specs.declared.history.Item.{Item}
 use Rattle.accept.specs.declared.history.Item.TheVariants.{Answered, Failed}
 use Rattle.accept.specs.Histories.{meaning, changes, is_marked}
 use Rattle.segment.specs.declared.record.Record.{Record}
-use Rattle.segment.specs.declared.version.Version.TheVariants.{Two}
+use Rattle.segment.specs.Versions.{latest}
 use Rattle.segment.specs.Spelling.{frame}
 use Rattle.wal.specs.declared.log.Wal.{Wal}
 use Rattle.wal.specs.Recovery.{Recovers}
@@ -60,7 +60,7 @@ records_of book (a ∷ asks) = listed (change_of a.call (reply_in book a.call)) 
 -- the block of what these calls change, with what this one changes after it, fits after the segment in use
 abbrev pub FitsAfter : {D : Type 0} → Wal D → Booked → List Ask → Call → Type 0
 FitsAfter log book asks call = FitsInUse log
-    (length (frame Two (records_of book asks ++ listed
+    (length (frame latest (records_of book asks ++ listed
     (change_of call (reply_in (with_steps book asks) call)))) + 1)
 
 -- each of the calls has a step in these items, or is one of those in front

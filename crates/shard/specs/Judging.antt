@@ -9,8 +9,7 @@ use Rattle.accept.specs.Calls.{AreNumbers}
 use Rattle.accept.specs.Histories.{changes, key_of}
 use Rattle.segment.specs.ShardPlaces.{ShardPlace}
 use Rattle.segment.specs.declared.record.Record.{Record}
-use Rattle.segment.specs.declared.version.Version.TheVariants.{Two}
-use Rattle.segment.specs.Versions.{written}
+use Rattle.segment.specs.Versions.{latest}
 use Rattle.segment.specs.Spelling.{record_text, FitsRecord, IsHere}
 use Rattle.segment.specs.Images.{then_record}
 use Rattle.segment.specs.Segments.{allows}
@@ -35,27 +34,26 @@ pub record IsJoined {D : Type 0} (limits : Limits) (log : Wal D) (owner : ShardP
   pub changing : changes (answer_of limits m call) ≡ true
   pub replied : r ≡ answer_of limits m call
   pub next : n ≡ after_of limits m call
-  pub has_room : room limits.layout n ≤ log.cap
+  pub has_room : room n ≤ log.cap
   pub moved : (q : Record) → change_of call r ≡ Some q → then_record m q ≡ n
   pub added : (q : Record) → change_of call r ≡ Some q
-      → Adds q old new × FitsRecord (written limits.layout) owner q × (allows m q ≡ true)
+      → Adds q old new × FitsRecord latest owner q × (allows m q ≡ true)
   pub fits : (q : Record) → change_of call r ≡ Some q
-      → FitsInUse log (length old + length (record_text Two q))
+      → FitsInUse log (length old + length (record_text latest q))
 
 -- the answer changes something, and there is room for that, but the block with its record doesn't fit after the
 -- segment in use
 pub record IsTooLong {D : Type 0} (limits : Limits) (log : Wal D) (m : Streams) (call : Call)
     (old : List ℕ) : Type 0 where
   pub changing : changes (answer_of limits m call) ≡ true
-  pub has_room : room limits.layout (after_of limits m call) ≤ log.cap
+  pub has_room : room (after_of limits m call) ≤ log.cap
   pub full : (q : Record) → change_of call (answer_of limits m call) ≡ Some q
-      → ¬ FitsInUse log (length old + length (record_text Two q))
+      → ¬ FitsInUse log (length old + length (record_text latest q))
 
 -- A call may be judged: no change is prepared, its stream is of this shard, and a block is open for its record.
 pub record MayBeJudged {D : Type 0} (p : Parts D) (call : Call) : Type 0 where
   pub idle : p.states.change ≡ None
   pub limits : AreLimits p.limits
-  pub layout : p.states.layout ≡ p.limits.layout
   pub numbers : AreNumbers call
   pub here : IsHere p.states.owner (key_of call)
   pub capacity : p.log.wal.cap ≤ 2 ^ 30
@@ -77,9 +75,7 @@ IsUntouched old new = (new.states ≡ old.states) × (new.buffer.items ≡ old.b
 abbrev pub IsJudgedAs : {D : Type 0} → Parts D → Job → Parts D → Judged → Type 0
 IsJudgedAs old job new (Quiet t r) = (t ≡ job.ticket) × IsUntouched old new
     × IsUnchanged old.limits old.log.wal.cap old.states.streams job.call r
-IsJudgedAs old job new (Changing t r) = (t ≡ job.ticket)
-    × (new.states.layout ≡ old.states.layout)
-    × (new.states.owner ≡ old.states.owner)
+IsJudgedAs old job new (Changing t r) = (t ≡ job.ticket) × (new.states.owner ≡ old.states.owner)
     × (new.states.change ≡ None)
     × IsJoined old.limits old.log.wal old.states.owner old.states.streams job.call
     new.states.streams old.buffer.items new.buffer.items r

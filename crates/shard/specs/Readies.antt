@@ -8,7 +8,7 @@ use Rattle.accept.specs.declared.call.Reply.TheVariants.{NoRoom}
 use Rattle.accept.specs.Rooms.{Streams, room}
 use Rattle.accept.specs.Histories.{changes, key_of, set_stream}
 use Rattle.accept.specs.Calls.{answer_from, stream_after}
-use Rattle.segment.specs.Versions.{header_of}
+use Rattle.segment.specs.Versions.{latest_header}
 use Rattle.segment.specs.Segments.{max_generation}
 use Rattle.wal.specs.declared.log.Wal.{Wal}
 use Rattle.wal.specs.Recovery.{IsSegmentBehind}
@@ -28,28 +28,27 @@ after_of limits m call =
 pub record IsUnchanged (limits : Limits) (cap : ℕ) (m : Streams) (call : Call)
     (r : Reply) : Type 0 where
   pub why : ((changes (answer_of limits m call) ≡ false) × (r ≡ answer_of limits m call))
-      ⊎ ((changes (answer_of limits m call) ≡ true) × (cap < room limits.layout (after_of limits m call))
+      ⊎ ((changes (answer_of limits m call) ≡ true) × (cap < room (after_of limits m call))
       × (r ≡ NoRoom))
 
 -- the prepared change is stored in memory, and these bytes are to be written as the segment of the next generation
 pub record IsNextWritten {D : Type 0} (log : Wal D) (old new : Mapped)
     (written : List ℕ) : Type 0 where
-  pub stored : new ≡ record { layout = old.layout; owner = old.owner; streams = next_of old; change = None }
+  pub stored : new ≡ record { owner = old.owner; streams = next_of old; change = None }
   pub early : log.generation < max_generation
   pub has_place : 1 + length written ≤ log.cap
-  pub segment : IsSegmentBehind (owner log) written (header_of log.layout (log.generation + 1))
+  pub segment : IsSegmentBehind (owner log) written (latest_header (log.generation + 1))
       (length written) (next_of old)
 
 -- the change is stored in memory, and these bytes are to be written as the segment of the next generation
 pub record IsNextSegment {D : Type 0} (limits : Limits) (log : Wal D) (old : Mapped) (call : Call)
     (new : Mapped)
     (written : List ℕ) (r : Reply) : Type 0 where
-  pub layout_is : new.layout ≡ old.layout
   pub owner_is : new.owner ≡ old.owner
   pub no_change : new.change ≡ None
   pub replied : r ≡ answer_of limits old.streams call
   pub next : new.streams ≡ after_of limits old.streams call
   pub early : log.generation < max_generation
   pub has_place : 1 + length written ≤ log.cap
-  pub segment : IsSegmentBehind (owner log) written (header_of log.layout (log.generation + 1))
+  pub segment : IsSegmentBehind (owner log) written (latest_header (log.generation + 1))
       (length written) new.streams

@@ -33,9 +33,8 @@ pub record IsGround {D : Type 0} (sight : D → Sight) (follows : D → Type 0) 
   pub same_owner : owner log ≡ owner_in book
   pub usable : log.failed ≡ false
   pub settled : Follow follows log → IsOnDisk sight log m
-  pub same_layout : log.layout ≡ limits.layout
-  pub fit : FitStreams limits.layout (owner log) m
-  pub small : room limits.layout m ≤ 2 ^ 31 + segment_bytes
+  pub fit : FitStreams (owner log) m
+  pub small : room m ≤ 2 ^ 31 + segment_bytes
 
 -- The flag, the limits, the states and the log are those of the book's history. Of the states nothing is said once a
 -- device has failed.
@@ -48,8 +47,6 @@ pub record IsShard {D : Type 0} (sight : D → Sight) (follows : D → Type 0) (
   pub same_capacity : log.cap ≡ book.about.capacity
   pub small_capacity : log.cap ≤ 2 ^ 30
   pub same_owner : owner log ≡ owner_in book
-  pub same_layout : log.layout ≡ limits.layout
-  pub states_layout : states.layout ≡ limits.layout
   pub states_owner : states.owner ≡ owner_in book
   pub no_change : flag ≡ false → states.change ≡ None
   pub means : flag ≡ false → meaning (history_in book) ≡ states.streams

@@ -12,17 +12,15 @@ use Rattle.labels.specs.Keys.{key_cmp, same_key}
 use Rattle.labels.specs.Shards.{shard, max_shards}
 use Rattle.labels.specs.declared.key.StreamKey.{StreamKey}
 use Rattle.accept.specs.declared.image.StreamImage.{StreamImage}
-use Rattle.accept.specs.declared.limits.Layout.{Layout}
-use Rattle.accept.specs.declared.limits.Layout.TheVariants.{Three}
 use Rattle.accept.specs.Rooms.{Streams, segment_bytes, stream_room, room}
-use Rattle.accept.specs.StreamMaps.{set_stream}
+use Rattle.accept.specs.Histories.{set_stream}
 use Rattle.accept.proofs.KeyOrder.{same_key-is}
 use Rattle.accept.proofs.Meanings.{get-set_stream}
 use Rattle.accept.proofs.RoomLaws.{room-empty, room-set_stream}
 use Rattle.segment.specs.Segments.{state_record}
 use Rattle.segment.specs.ShardPlaces.{place_of}
 use Rattle.segment.specs.Images.{then_record}
-use Rattle.segment.specs.Fitting.{FitsStream, IsSaid, AreSaid}
+use Rattle.segment.specs.Fitting.{FitsStream}
 use Rattle.segment.proofs.More.{image-states_of}
 use Rattle.split.specs.Maps.{map_at, AreApart, IsSplit, put_in_map, dealt, all_dealt, AreFit, HaveRoomWithin}
 
@@ -121,23 +119,15 @@ put_over [] all base over k is = is k
 put_over (e ∷ es) all base over k is = put_over es (put all e) base (put over e) k
     (λ q. get-set_stream all e.0 (Some e.1) q ∙ ap (cond (same_key q e.0) (Some e.1)) (is q) ∙ or_by (same_key q e.0) (finite.get over q) (finite.get base q) e.1 ∙ ap (λ (o : Option StreamImage). option_or o (finite.get base q)) (sym (get-set_stream over e.0 (Some e.1) q)))
 
--- version 3 says all of each stream
-all_said : (m : Streams) → AreSaid Three m
-all_said m k = of (finite.get m k)
-  where
-    of : (o : Option StreamImage) → IfSome o (IsSaid Three)
-    of None = tt
-    of (Some s) = tt
-
 -- the streams of a map, put into none, are those of the map
-put_records : (es : Pairs) (m : Streams) → put_all m es ≡ fold then_record m (map (state_record Three) es)
+put_records : (es : Pairs) (m : Streams) → put_all m es ≡ fold then_record m (map state_record es)
 put_records [] m = refl
 put_records (e ∷ es) m = put_records es (put m e)
 
 pub one_merged : (all old : Streams) (k : StreamKey) → finite.get (put_all all (finite.entries old)) k ≡ option_or (finite.get old k) (finite.get all k)
 one_merged all old k =
     put_over (finite.entries old) all all finite.empty k (λ q. ap (λ (o : Option StreamImage). option_or o (finite.get all q)) (sym (finite.get-empty key_cmp q)))
-    ∙ ap (λ (x : Streams). option_or (finite.get x k) (finite.get all k)) (put_records (finite.entries old) finite.empty ∙ image-states_of Three old (all_said old))
+    ∙ ap (λ (x : Streams). option_or (finite.get x k) (finite.get all k)) (put_records (finite.entries old) finite.empty ∙ image-states_of old)
 
 none_of : (o : Option StreamImage) → (IsSome o → ⊥) → o ≡ None
 none_of None not = refl
@@ -180,48 +170,48 @@ is_split m olds news some apart is s k lt =
 
 -- ---- how much room
 
-module _ (layout : Layout) (m : ℕ) where
-  one_more : (maps : List Streams) (e : StreamKey × StreamImage) (s : ℕ) → 0 < m → length maps ≡ m → room layout (map_at (put_in_map m maps e) s) ≤ room layout (map_at maps s) + stream_room layout e
+module _ (m : ℕ) where
+  one_more : (maps : List Streams) (e : StreamKey × StreamImage) (s : ℕ) → 0 < m → length maps ≡ m → room (map_at (put_in_map m maps e) s) ≤ room (map_at maps s) + stream_room e
   one_more maps e s some len =
       let i = shard e.0 m in
       ⊎_elim
-      (λ (is : s ≡ i). subst (λ (j : ℕ). room layout (map_at (put_in_map m maps e) j) ≤ room layout (map_at maps j) + stream_room layout e) (sym is)
-      (subst (λ (x : Streams). room layout x ≤ room layout (map_at maps i) + stream_room layout e) (sym (get_or-set_same maps i (put (map_at maps i) e) finite.empty (omega (arith, shard_within e.0 m some, len))))
-      (omega (arith, room-set_stream layout (map_at maps i) e.0 (Some e.1)))))
-      (λ (not : s ≢ i). subst (λ (x : Streams). room layout x ≤ room layout (map_at maps s) + stream_room layout e) (sym (get_or-set_other maps i s (put (map_at maps i) e) finite.empty not)) (omega arith))
+      (λ (is : s ≡ i). subst (λ (j : ℕ). room (map_at (put_in_map m maps e) j) ≤ room (map_at maps j) + stream_room e) (sym is)
+      (subst (λ (x : Streams). room x ≤ room (map_at maps i) + stream_room e) (sym (get_or-set_same maps i (put (map_at maps i) e) finite.empty (omega (arith, shard_within e.0 m some, len))))
+      (omega (arith, room-set_stream (map_at maps i) e.0 (Some e.1)))))
+      (λ (not : s ≢ i). subst (λ (x : Streams). room x ≤ room (map_at maps s) + stream_room e) (sym (get_or-set_other maps i s (put (map_at maps i) e) finite.empty not)) (omega arith))
       (cases_eq s i)
 
-  some_more : (es : Pairs) (maps : List Streams) (s : ℕ) → 0 < m → length maps ≡ m → room layout (map_at (fold (put_in_map m) maps es) s) ≤ room layout (map_at maps s) + sum_by (stream_room layout) es
+  some_more : (es : Pairs) (maps : List Streams) (s : ℕ) → 0 < m → length maps ≡ m → room (map_at (fold (put_in_map m) maps es) s) ≤ room (map_at maps s) + sum_by stream_room es
   some_more [] maps s some len = omega arith
-  some_more (e ∷ es) maps s some len = omega (arith, some_more es (put_in_map m maps e) s some (length-given m maps e ∙ len), one_more maps e s some len, sum_by-cons (stream_room layout) e es)
+  some_more (e ∷ es) maps s some len = omega (arith, some_more es (put_in_map m maps e) s some (length-given m maps e ∙ len), one_more maps e s some len, sum_by-cons stream_room e es)
 
-  all_more : (olds : List Streams) (maps : List Streams) (s bound : ℕ) → 0 < m → length maps ≡ m → HaveRoomWithin layout bound (length olds) olds → room layout (map_at (all_dealt m maps olds) s) ≤ room layout (map_at maps s) + length olds * bound
+  all_more : (olds : List Streams) (maps : List Streams) (s bound : ℕ) → 0 < m → length maps ≡ m → HaveRoomWithin bound (length olds) olds → room (map_at (all_dealt m maps olds) s) ≤ room (map_at maps s) + length olds * bound
   all_more [] maps s bound some len small = omega arith
   all_more (old ∷ olds) maps s bound some len small =
       omega (arith, all_more olds (dealt m maps old) s bound some (length-given_all m (finite.entries old) maps ∙ len) (λ t lt. small (suc t) (omega (arith, lt))), some_more (finite.entries old) maps s some len, small 0 (omega arith))
 
-  pub rooms_within : (olds news : List Streams) → 0 < m → length olds ≤ max_shards → HaveRoomWithin layout (2 ^ 31 + segment_bytes) (length olds) olds → news ≡ all_dealt m (replicate m finite.empty) olds → HaveRoomWithin layout (2 ^ 40) m news
+  pub rooms_within : (olds news : List Streams) → 0 < m → length olds ≤ max_shards → HaveRoomWithin (2 ^ 31 + segment_bytes) (length olds) olds → news ≡ all_dealt m (replicate m finite.empty) olds → HaveRoomWithin (2 ^ 40) m news
   rooms_within olds news some few small is s lt =
       let more = all_more olds (replicate m finite.empty) s (2 ^ 31 + segment_bytes) some (length-replicate m finite.empty) small in
-      let none : room layout (map_at (replicate m finite.empty) s) ≡ segment_bytes = ap (room layout) (get_or-replicate m s finite.empty finite.empty lt) ∙ room-empty layout in
-      let here : room layout (map_at news s) ≡ room layout (map_at (all_dealt m (replicate m finite.empty) olds) s) = ap (λ (l : List Streams). room layout (map_at l s)) is in
+      let none : room (map_at (replicate m finite.empty) s) ≡ segment_bytes = ap room (get_or-replicate m s finite.empty finite.empty lt) ∙ room-empty in
+      let here : room (map_at news s) ≡ room (map_at (all_dealt m (replicate m finite.empty) olds) s) = ap (λ (l : List Streams). room (map_at l s)) is in
       omega (arith, more, none, here, few)
 
 -- ---- which streams
 
-pub apart_by_fit : (layout : Layout) (n : ℕ) (olds : List Streams) → AreFit layout n olds → AreApart n (map_at olds)
-apart_by_fit layout n olds fit s k lt there = here (finite.get (map_at olds s) k) (fit s lt k) there
+pub apart_by_fit : (n : ℕ) (olds : List Streams) → AreFit n olds → AreApart n (map_at olds)
+apart_by_fit n olds fit s k lt there = here (finite.get (map_at olds s) k) (fit s lt k) there
   where
-    here : (o : Option StreamImage) → IfSome o (FitsStream layout (place_of s n) k) → IsSome o → shard k n ≡ s
+    here : (o : Option StreamImage) → IfSome o (FitsStream (place_of s n) k) → IsSome o → shard k n ≡ s
     here None fits some = absurd (false≢true some)
     here (Some x) fits some = fits.here
 
-moved : (layout : Layout) (n m i s : ℕ) (k : StreamKey) (b : Bool) (o : Option StreamImage) → (shard k m == s) ≡ b → IfSome o (FitsStream layout (place_of i n) k) → IfSome (cond b o None) (FitsStream layout (place_of s m) k)
-moved layout n m i s k true None is fits = tt
-moved layout n m i s k true (Some x) is fits = record { here = eqb-true (shard k m) s is; last = fits.last; each = fits.each; whole = fits.whole }
-moved layout n m i s k false o is fits = tt
+moved : (n m i s : ℕ) (k : StreamKey) (b : Bool) (o : Option StreamImage) → (shard k m == s) ≡ b → IfSome o (FitsStream (place_of i n) k) → IfSome (cond b o None) (FitsStream (place_of s m) k)
+moved n m i s k true None is fits = tt
+moved n m i s k true (Some x) is fits = record { here = eqb-true (shard k m) s is; last = fits.last; each = fits.each; whole = fits.whole }
+moved n m i s k false o is fits = tt
 
-pub fit_by_split : (layout : Layout) (n m : ℕ) (olds news : List Streams) → 0 < n → AreFit layout n olds → IsSplit n m (map_at olds) (map_at news) → AreFit layout m news
-fit_by_split layout n m olds news some fit split s lt k =
-    subst (λ (o : Option StreamImage). IfSome o (FitsStream layout (place_of s m) k)) (sym (split s k lt))
-    (moved layout n m (shard k n) s k (shard k m == s) (finite.get (map_at olds (shard k n)) k) refl (fit (shard k n) (shard_within k n some) k))
+pub fit_by_split : (n m : ℕ) (olds news : List Streams) → 0 < n → AreFit n olds → IsSplit n m (map_at olds) (map_at news) → AreFit m news
+fit_by_split n m olds news some fit split s lt k =
+    subst (λ (o : Option StreamImage). IfSome o (FitsStream (place_of s m) k)) (sym (split s k lt))
+    (moved n m (shard k n) s k (shard k m == s) (finite.get (map_at olds (shard k n)) k) refl (fit (shard k n) (shard_within k n some) k))

@@ -1,7 +1,6 @@
 -- Slots that are measured.
 use Rattle.std.proofs.Common.{◌≡◌, ◌≢◌, ◌⊎◌, inl, inr, ℕ, ◌<◌, List, [], ◌∷◌, length, set, refl, sym, subst}
 use Rattle.std.specs.Prelude.{Result, Ok, Err, IfErr}
-use Rattle.accept.specs.declared.limits.Layout.{Layout}
 use Rattle.disk.specs.Sight.{Sight}
 use Rattle.split.specs.declared.fault.SplitFault.{SplitFault}
 use Rattle.split.specs.declared.fault.SplitFault.TheVariants.{NotEmpty, Device}
@@ -37,18 +36,18 @@ module _ {D : Type 0} (sight : D → Sight) (follows : D → Type 0) where
       stopped (λ _. IsTested sight follows) (λ s given back. s ≢ n → HasNotFailed sight follows given back) n xs ys zs (pair_at zs n) so_far is (λ s given back tested not. tested.not_failed) (λ not. absurd (not refl)) (λ s given not. (refl, refl))
 
   pub test_cause : KnowsNow sight follows → (n : ℕ) (xs ys zs : List (List D)) (fault : SplitFault) → n < length xs → AreDone (λ _. IsTested sight follows) n xs ys → zs ≡ set ys n (pair_at zs n)
-      → IsAtRest sight follows (pair_at ys n) (pair_at zs n) → IsTestFault sight follows n (pair_at ys n) (pair_at zs n) fault → (cap : ℕ) (layout : Layout) (old old_back : List (List D)) → AreOldRead sight follows old old_back → IsCause sight follows fault cap layout old old_back xs zs
-  test_cause now n xs ys zs fault lt so_far is one why cap layout old old_back read = cause (at_stop (λ _. IsTested sight follows) (λ given back. IsTestFault sight follows n given back fault) n xs ys (pair_at zs n) so_far why)
+      → IsAtRest sight follows (pair_at ys n) (pair_at zs n) → IsTestFault sight follows n (pair_at ys n) (pair_at zs n) fault → (cap : ℕ) (old old_back : List (List D)) → AreOldRead sight follows old old_back → IsCause sight follows fault cap old old_back xs zs
+  test_cause now n xs ys zs fault lt so_far is one why cap old old_back read = cause (at_stop (λ _. IsTested sight follows) (λ given back. IsTestFault sight follows n given back fault) n xs ys (pair_at zs n) so_far why)
     where
-      cause : IsTestFault sight follows n (pair_at xs n) (pair_at zs n) fault → IsCause sight follows fault cap layout old old_back xs zs
-      cause (filled slot is_full full) = subst (λ (e : SplitFault). IsCause sight follows e cap layout old old_back xs zs) (sym is_full) (record {
+      cause : IsTestFault sight follows n (pair_at xs n) (pair_at zs n) fault → IsCause sight follows fault cap old old_back xs zs
+      cause (filled slot is_full full) = subst (λ (e : SplitFault). IsCause sight follows e cap old old_back xs zs) (sym is_full) (record {
         read = read;
         within = lt;
         full = full;
         before = λ i under follow. (before_stop (λ _. IsTested sight follows) n xs ys zs (pair_at zs n) so_far is i under).empty follow;
         rests = λ follow. tests_stop now n xs ys zs so_far is one;
       })
-      cause (unmeasured is_broken failed) = subst (λ (e : SplitFault). IsCause sight follows e cap layout old old_back xs zs) (sym is_broken) (record {
+      cause (unmeasured is_broken failed) = subst (λ (e : SplitFault). IsCause sight follows e cap old old_back xs zs) (sym is_broken) (record {
         read = read;
         within = lt;
         failed = failed;

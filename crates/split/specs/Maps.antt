@@ -5,9 +5,8 @@ use Rattle.std.specs.FinMap as finite
 use Rattle.labels.specs.declared.key.StreamKey.{StreamKey}
 use Rattle.labels.specs.Shards.{shard}
 use Rattle.accept.specs.declared.image.StreamImage.{StreamImage}
-use Rattle.accept.specs.declared.limits.Layout.{Layout}
 use Rattle.accept.specs.Rooms.{Streams, room}
-use Rattle.accept.specs.StreamMaps.{set_stream}
+use Rattle.accept.specs.Histories.{set_stream}
 use Rattle.segment.specs.ShardPlaces.{place_of}
 use Rattle.segment.specs.Fitting.{FitStreams}
 
@@ -38,15 +37,15 @@ dealt m maps old = fold (put_in_map m) maps (finite.entries old)
 abbrev pub all_dealt : ℕ → List Streams → List Streams → List Streams
 all_dealt m maps olds = fold (dealt m) maps olds
 
--- each map has streams that its shard among n can hold in this layout, and so much room at most
-abbrev pub AreFit : Layout → ℕ → List Streams → Type 0
-AreFit layout n maps = (s : ℕ) → s < n → FitStreams layout (place_of s n) (map_at maps s)
+-- each map has streams that its shard among n can hold, and so much room at most
+abbrev pub AreFit : ℕ → List Streams → Type 0
+AreFit n maps = (s : ℕ) → s < n → FitStreams (place_of s n) (map_at maps s)
 
-abbrev pub HaveRoomWithin : Layout → ℕ → ℕ → List Streams → Type 0
-HaveRoomWithin layout bound n maps = (s : ℕ) → s < n → room layout (map_at maps s) ≤ bound
+abbrev pub HaveRoomWithin : ℕ → ℕ → List Streams → Type 0
+HaveRoomWithin bound n maps = (s : ℕ) → s < n → room (map_at maps s) ≤ bound
 
 -- this is the first map that takes more room
-pub record IsFirstAbove (layout : Layout) (cap s : ℕ) (maps : List Streams) : Type 0 where
+pub record IsFirstAbove (cap s : ℕ) (maps : List Streams) : Type 0 where
   pub within : s < length maps
-  pub full : cap < room layout (map_at maps s)
-  pub before : (i : ℕ) → i < s → room layout (map_at maps i) ≤ cap
+  pub full : cap < room (map_at maps s)
+  pub before : (i : ℕ) → i < s → room (map_at maps i) ≤ cap

@@ -1,15 +1,14 @@
 -- What comes of the slots of old shards and of new ones, and why shards are not split.
 use Rattle.std.specs.Prelude.{◌≡◌, ◌≢◌, ◌⊎◌, ◌≤◌, ◌<◌, ℕ, List, [], length, slice_index_or, Result, Ok, Err}
-use Rattle.accept.specs.declared.limits.Layout.{Layout}
 use Rattle.accept.specs.Rooms.{Streams, room}
 use Rattle.disk.specs.Sight.{Sight}
 use Rattle.segment.specs.ShardPlaces.{ShardPlace, place_of}
-use Rattle.segment.specs.Versions.{header_of}
+use Rattle.segment.specs.Versions.{latest_header}
 use Rattle.wal.specs.declared.fault.OpenFault.{OpenFault}
 use Rattle.wal.specs.Slots.{IsClosed}
 use Rattle.wal.specs.Recovery.{Stands, Recovers}
 use Rattle.wal.specs.Moments.{Pair, HasFailed, HasNoFailure}
-use Rattle.wal.specs.Opening.{slots_of, AllFollow, PairRests, CountsCause, IsOfDeviceOrMemory, IsOpenFault, IsLater}
+use Rattle.wal.specs.Opening.{slots_of, AllFollow, PairRests, CountsCause, IsOfDeviceOrMemory, IsOpenFault}
 use Rattle.split.specs.declared.fault.SplitFault.{SplitFault}
 use Rattle.split.specs.declared.fault.SplitFault.TheVariants.{Old, NotEmpty, NoRoom, Device, Memory}
 use Rattle.split.specs.declared.splitting.Slots.{Slots}
@@ -34,11 +33,10 @@ abbrev pub KeepsStreams : ShardPlace → Pair → Streams → Type 0
 KeepsStreams owner slots m = (a b : List ℕ) → slots.first.may_leave a → slots.second.may_leave b
     → Recovers owner a b m
 
--- slot 1 holds generation 1 of the version of this layout with these streams, and slot 0 is closed
-pub record IsFirstSegment (layout : Layout) (owner : ShardPlace) (a b : List ℕ)
-    (m : Streams) : Type 0 where
+-- slot 1 holds generation 1 of the latest version with these streams, and slot 0 is closed
+pub record IsFirstSegment (owner : ShardPlace) (a b : List ℕ) (m : Streams) : Type 0 where
   pub end : ℕ
-  pub stands : Stands owner b (header_of layout 1) end m
+  pub stands : Stands owner b (latest_header 1) end m
   pub closed : IsClosed a
 
 -- neither slot holds a byte
@@ -73,13 +71,12 @@ module _ {D : Type 0} (sight : D → Sight) (follows : D → Type 0) where
     pub not_failed : HasNotFailed given back
 
   -- a new shard's slots were empty, and slot 1 has generation 1 with these streams, which no crash takes
-  pub record IsStarted (owner : ShardPlace) (cap : ℕ) (layout : Layout) (given back : List D)
-      (m : Streams) : Type 0 where
+  pub record IsStarted (owner : ShardPlace) (cap : ℕ) (given back : List D) (m : Streams) : Type 0 where
     pub empty : AllFollow follows back → IsEmptyPair (slots_of sight given)
     pub keeps : AllFollow follows back → KeepsStreams owner (slots_of sight back) m
     pub first : AllFollow follows back → (a b : List ℕ) → (slots_of sight back).first.may_leave a
-        → (slots_of sight back).second.may_leave b → IsFirstSegment layout owner a b m
-    pub small : room layout m ≤ cap
+        → (slots_of sight back).second.may_leave b → IsFirstSegment owner a b m
+    pub small : room m ≤ cap
     pub not_failed : HasNotFailed given back
 
   -- the streams that the old slots hold, shard by shard, and those of m new shards
@@ -92,27 +89,25 @@ module _ {D : Type 0} (sight : D → Sight) (follows : D → Type 0) where
     pub split : IsSplit (length givens) m olds news
 
   -- all that the old slots hold stands in the new ones, under the new number of shards
-  pub record AreSplit (cap : ℕ) (layout : Layout)
-      (old old_back new new_back : List (List D)) : Type 0 where
+  pub record AreSplit (cap : ℕ) (old old_back new new_back : List (List D)) : Type 0 where
     pub division : Division (length new) old old_back
-    pub started : EachPair (λ s given back. IsStarted (place_of s (length new)) cap layout given
-        back (division.news s)) new new_back
+    pub started : EachPair (λ s given back. IsStarted (place_of s (length new)) cap given back
+        (division.news s)) new
+        new_back
 
   -- why the slots of an old shard are refused, as the log says it
-  pub record IsOldShardRefused (owner : ShardPlace) (layout : Layout) (given back : List D)
+  pub record IsOldShardRefused (owner : ShardPlace) (given back : List D)
       (fault : OpenFault) : Type 0 where
     pub why : IsOfDeviceOrMemory fault ⊎ (AllFollow follows back
         → IsOpenFault owner (slots_of sight given).first.seen
-        (slots_of sight given).second.seen fault
-        ⊎ IsLater layout owner (slots_of sight given).first.seen
         (slots_of sight given).second.seen fault)
     pub counted : CountsCause fault (slots_of sight given) (slots_of sight back)
 
   -- This old shard is the first whose slots are refused. No new slot was touched.
-  pub record IsOldRefused (layout : Layout) (s : ℕ) (fault : OpenFault)
+  pub record IsOldRefused (s : ℕ) (fault : OpenFault)
       (old old_back new new_back : List (List D)) : Type 0 where
     pub within : s < length old
-    pub refused : IsOldShardRefused (place_of s (length old)) layout (pair_at old s)
+    pub refused : IsOldShardRefused (place_of s (length old)) (pair_at old s)
         (pair_at old_back s) fault
     pub before : (i : ℕ) → i < s → (m : Streams)
         × IsOldShardRead (place_of i (length old)) (pair_at old i) (pair_at old_back i) m
@@ -137,12 +132,11 @@ module _ {D : Type 0} (sight : D → Sight) (follows : D → Type 0) where
 
   -- This new shard is the first whose streams need more room than there is. If the new slots follow the disk model, all
   -- of them are empty, and nothing was written.
-  pub record HasNoRoom (cap : ℕ) (layout : Layout) (s : ℕ)
-      (old old_back new new_back : List (List D)) : Type 0 where
+  pub record HasNoRoom (cap s : ℕ) (old old_back new new_back : List (List D)) : Type 0 where
     pub division : Division (length new) old old_back
     pub within : s < length new
-    pub full : cap < room layout (division.news s)
-    pub before : (i : ℕ) → i < s → room layout (division.news i) ≤ cap
+    pub full : cap < room (division.news s)
+    pub before : (i : ℕ) → i < s → room (division.news i) ≤ cap
     pub empty : EachPair (λ _ given back. AllFollow follows back
         → IsEmptyPair (slots_of sight given)) new new_back
     pub rests : EachPair (λ _. IsAtRest) new new_back
@@ -157,14 +151,13 @@ module _ {D : Type 0} (sight : D → Sight) (follows : D → Type 0) where
     pub others : EachPair (λ i given back. i ≢ s → HasNotFailed given back) new new_back
 
   -- why shards are not split
-  abbrev pub IsCause : SplitFault → ℕ → Layout → List (List D) → List (List D) → List (List D)
+  abbrev pub IsCause : SplitFault → ℕ → List (List D) → List (List D) → List (List D)
       → List (List D) → Type 0
-  IsCause (Old s fault) cap layout old old_back new new_back =
-      IsOldRefused layout s fault old old_back new new_back
-  IsCause (NotEmpty s slot) cap layout old old_back new new_back =
+  IsCause (Old s fault) cap old old_back new new_back =
+      IsOldRefused s fault old old_back new new_back
+  IsCause (NotEmpty s slot) cap old old_back new new_back =
       IsNotEmpty s slot old old_back new new_back
-  IsCause (NoRoom s) cap layout old old_back new new_back =
-      HasNoRoom cap layout s old old_back new new_back
-  IsCause (Device s) cap layout old old_back new new_back = IsBroken s old old_back new new_back
-  IsCause Memory cap layout old old_back new new_back = EachPair (λ _. HasNotFailed) old old_back
+  IsCause (NoRoom s) cap old old_back new new_back = HasNoRoom cap s old old_back new new_back
+  IsCause (Device s) cap old old_back new new_back = IsBroken s old old_back new new_back
+  IsCause Memory cap old old_back new new_back = EachPair (λ _. HasNotFailed) old old_back
       × EachPair (λ _. HasNotFailed) new new_back

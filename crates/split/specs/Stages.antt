@@ -1,10 +1,9 @@
 -- What the stages of a split make of the slots, pair by pair.
 use Rattle.std.specs.Prelude.{◌≡◌, ◌≢◌, ◌≤◌, ◌<◌, ◌+◌, ◌^◌, ℕ, List, length}
-use Rattle.accept.specs.declared.limits.Layout.{Layout}
 use Rattle.accept.specs.Rooms.{Streams, segment_bytes, room}
 use Rattle.disk.specs.Sight.{Sight}
 use Rattle.segment.specs.ShardPlaces.{ShardPlace}
-use Rattle.segment.specs.Versions.{written}
+use Rattle.segment.specs.Versions.{latest}
 use Rattle.segment.specs.Fitting.{FitStreams}
 use Rattle.wal.specs.declared.log.Wal.{Wal}
 use Rattle.wal.specs.Moments.{HasFailed, HasNoFailure}
@@ -23,12 +22,11 @@ pub record AreDone {D : Type 0} (P : ℕ → List D → List D → Type 0) (n : 
 
 module _ {D : Type 0} (sight : D → Sight) (follows : D → Type 0) where
   -- an old shard's slots were read, and held these streams, which its segments can hold
-  pub record IsOldShardOpened (owner : ShardPlace) (layout : Layout) (given back : List D)
-      (m : Streams) : Type 0 where
+  pub record IsOldShardOpened (owner : ShardPlace) (given back : List D) (m : Streams) : Type 0 where
     pub rests : IsAtRest sight follows given back
     pub read : IsOldShardRead sight follows owner given back m
-    pub fit : FitStreams layout owner m
-    pub small : room layout m ≤ 2 ^ 31 + segment_bytes
+    pub fit : FitStreams owner m
+    pub small : room m ≤ 2 ^ 31 + segment_bytes
 
   -- a new shard's slots were measured, and are empty
   pub record IsTested (given back : List D) : Type 0 where
@@ -45,12 +43,11 @@ module _ {D : Type 0} (sight : D → Sight) (follows : D → Type 0) where
         → IsTestFault s given back fault
 
   -- generation 1 stands in slot 1 with these streams
-  pub record IsShardBegun (owner : ShardPlace) (layout : Layout) (given back : List D)
-      (m : Streams) : Type 0 where
+  pub record IsShardBegun (owner : ShardPlace) (given back : List D) (m : Streams) : Type 0 where
     pub before : HaveFollowed sight follows given back
     pub keeps : AllFollow follows back → KeepsStreams owner (slots_of sight back) m
     pub first : AllFollow follows back → (a b : List ℕ) → (slots_of sight back).first.may_leave a
-        → (slots_of sight back).second.may_leave b → IsFirstSegment layout owner a b m
+        → (slots_of sight back).second.may_leave b → IsFirstSegment owner a b m
     pub not_failed : HasNoFailure (slots_of sight given) (slots_of sight back)
 
   -- or it is not there, and why
@@ -73,13 +70,13 @@ module _ {D : Type 0} (sight : D → Sight) (follows : D → Type 0) where
         givens backs
     pub memory : fault ≡ Memory → EachPair (λ _. HasNotFailed sight follows) givens backs
 
--- a log that had no generation has the first, of the version that it writes, with these streams
+-- a log that had no generation has the first, of the latest version, with these streams
 pub record HasBegun {D : Type 0} (sight : D → Sight) (follows : D → Type 0) (old new : Wal D)
     (m : Streams) : Type 0 where
   pub settled : Follow follows new → (n : Streams) → IsOnDisk sight old n
       → IsOnDisk sight new m
   pub generation : new.generation ≡ 1
-  pub version : new.version ≡ written old.layout
+  pub version : new.version ≡ latest
   pub not_failed : HasNoFailure (slots sight old) (slots sight new)
 
 -- why a log has no first generation of these streams

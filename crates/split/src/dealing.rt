@@ -2,13 +2,12 @@
 ghost use Rattle.std.specs.Prelude.{◌≡◌, ◌≤◌, ◌<◌, ◌+◌, ◌^◌, ℕ, IsSome, IfOk, OnOk, IfErr, length, replicate, set, vec_len};
 ghost use Rattle.std.specs.FinMap as finite;
 ghost use Rattle.labels.specs.Shards.{max_shards, shard};
-ghost use Rattle.accept.specs.declared.limits.Layout.{Layout};
 ghost use Rattle.accept.specs.Rooms.{segment_bytes, room};
-ghost use Rattle.accept.specs.StreamMaps.{set_stream};
-ghost use Rattle.split.specs.Maps.{map_at, AreApart, IsSplit, dealt, AreFit, HaveRoomWithin, IsFirstAbove};
+ghost use Rattle.accept.specs.Histories.{set_stream};
+ghost use Rattle.split.specs.Maps.{map_at, IsSplit, dealt, AreFit, HaveRoomWithin, IsFirstAbove};
 
 use crate::fault::SplitFault;
-use accept::{Image, Layout, StreamState};
+use accept::{Image, StreamState};
 use labels::{StreamKey, shard_of};
 use segment::state_size;
 use std::alloc::{AllocError, Global};
@@ -57,8 +56,7 @@ fn deal(old: Image, news: &mut Vec<Image>, count: u32) -> Result<(), AllocError>
     Ok(())
 }
 
-/// The streams of old shards, moved to the maps of `count` new shards. No entry is copied. What a layout can hold of
-/// the old ones, it can hold of the new ones.
+/// The streams of old shards, moved to the maps of `count` new shards. No entry is copied.
 pub(crate) fn deal_all(
     alloc: Global,
     olds: Vec<Image>,
@@ -66,15 +64,13 @@ pub(crate) fn deal_all(
 ) -> Result<Vec<Image>, AllocError>
     requires olds { (0 < vec_len olds) × (vec_len olds ≤ max_shards) }
     requires count { (1 ≤ count) × (count ≤ max_shards) }
-    requires apart { AreApart (vec_len olds) (map_at olds.items) }
+    requires fit { AreFit (vec_len olds) olds.items }
+    requires small { HaveRoomWithin (2 ^ 31 + segment_bytes) (vec_len olds) olds.items }
     ensures len { IfOk result (λ news. vec_len news ≡ count) }
     ensures split { IfOk result
         (λ news. IsSplit (vec_len olds) count (map_at olds.items) (map_at news.items)) }
-    ensures fit { IfOk result (λ news. (layout : Layout) → AreFit layout (vec_len olds) olds.items
-        → AreFit layout count news.items) }
-    ensures small { IfOk result (λ news. (layout : Layout)
-        → HaveRoomWithin layout (2 ^ 31 + segment_bytes) (vec_len olds) olds.items
-        → HaveRoomWithin layout (2 ^ 40) count news.items) }
+    ensures fit { IfOk result (λ news. AreFit count news.items) }
+    ensures small { IfOk result (λ news. HaveRoomWithin (2 ^ 40) count news.items) }
 {
     let mut news = empty_maps(alloc, count)?;
     for old in olds {
@@ -83,20 +79,20 @@ pub(crate) fn deal_all(
     Ok(news)
 }
 
-/// Whether each map has room in this layout.
+/// Whether each map has room.
 ///
 /// # Errors
 ///
 /// `NoRoom`: the first map that needs more.
-pub(crate) fn test_rooms(news: &[Image], cap: Capacity, layout: Layout) -> Result<(), SplitFault>
+pub(crate) fn test_rooms(news: &[Image], cap: Capacity) -> Result<(), SplitFault>
     requires few { length news.now ≤ max_shards }
-    requires small { HaveRoomWithin layout (2 ^ 40) (length news.now) news.now }
-    ensures ok { OnOk result (HaveRoomWithin layout cap (length news.now) news.now) }
+    requires small { HaveRoomWithin (2 ^ 40) (length news.now) news.now }
+    ensures ok { OnOk result (HaveRoomWithin cap (length news.now) news.now) }
     ensures full { IfErr result (λ fault. (s : ℕ) × (fault ≡ SplitFault.NoRoom s)
-        × IsFirstAbove layout cap s news.now) }
+        × IsFirstAbove cap s news.now) }
 {
     for shard in 0..news.len() {
-        if state_size(layout, &news[shard]) > cap.bytes() {
+        if state_size(&news[shard]) > cap.bytes() {
             return Err(SplitFault::NoRoom {
                 shard: shard as u32,
             });

@@ -9,7 +9,7 @@ ghost use Rattle.split.specs.Stages.{IsOldShardOpened};
 
 use crate::fault::SplitFault;
 use crate::moving::{put, take};
-use accept::{Image, Layout};
+use accept::Image;
 use disk::Disk;
 use segment::ShardPlace;
 use std::alloc::Global;
@@ -21,15 +21,14 @@ fn read_pair<D: Disk>(
     given: [D; 2],
     owner: ShardPlace,
     cap: Capacity,
-    layout: Layout,
 ) -> (Result<Image, OpenFault>, [D; 2])
     ensures rests { IsAtRest D.sight D.follows given result.1 }
     ensures read { IfOk result.0
-        (λ m. IsOldShardOpened D.sight D.follows owner layout given result.1 m) }
+        (λ m. IsOldShardOpened D.sight D.follows owner given result.1 m) }
     ensures refused { IfErr result.0 (λ fault.
-        IsOldShardRefused D.sight D.follows owner layout given result.1 fault) }
+        IsOldShardRefused D.sight D.follows owner given result.1 fault) }
 {
-    match Wal::open_at(alloc, given, owner, cap, layout) {
+    match Wal::open_at(alloc, given, owner, cap) {
         Ok((log, image)) => {
             let back = log.into_slots();
             (Ok(image), back)
@@ -47,7 +46,6 @@ fn read_at<D: Disk>(
     old: &mut Vec<[D; 2]>,
     shard: u32,
     cap: Capacity,
-    layout: Layout,
 ) -> Result<Image, OpenFault>
     requires shard { (shard < vec_len old.old) × (vec_len old.old ≤ max_shards) }
     ensures set { old.new.items ≡ set old.old.items shard (pair_at old.new.items shard) }
@@ -55,17 +53,17 @@ fn read_at<D: Disk>(
     ensures rests { IsAtRest D.sight D.follows (pair_at old.old.items shard)
         (pair_at old.new.items shard) }
     ensures read { IfOk result (λ m.
-        IsOldShardOpened D.sight D.follows (place_of shard (vec_len old.old)) layout
+        IsOldShardOpened D.sight D.follows (place_of shard (vec_len old.old))
         (pair_at old.old.items shard)
         (pair_at old.new.items shard) m) }
     ensures refused { IfErr result (λ fault.
-        IsOldShardRefused D.sight D.follows (place_of shard (vec_len old.old)) layout
+        IsOldShardRefused D.sight D.follows (place_of shard (vec_len old.old))
         (pair_at old.old.items shard)
         (pair_at old.new.items shard) fault) }
 {
     let owner = ShardPlace::of(shard, old.len() as u32);
     let given = take(old, shard as usize);
-    let (read, back) = read_pair(alloc, given, owner, cap, layout);
+    let (read, back) = read_pair(alloc, given, owner, cap);
     put(old, shard as usize, back);
     read
 }
@@ -79,7 +77,6 @@ pub(crate) fn read_all<D: Disk>(
     alloc: Global,
     old: &mut Vec<[D; 2]>,
     cap: Capacity,
-    layout: Layout,
 ) -> Result<Vec<Image>, SplitFault>
     requires few { vec_len old.old ≤ max_shards }
     ensures len { vec_len old.new ≡ vec_len old.old }
@@ -89,16 +86,16 @@ pub(crate) fn read_all<D: Disk>(
         (λ s given back. IsOldShardRead D.sight D.follows (place_of s (vec_len old.old)) given back
         (map_at maps.items s))
         old.old.items old.new.items) }
-    ensures fit { IfOk result (λ maps. AreFit layout (vec_len old.old) maps.items) }
+    ensures fit { IfOk result (λ maps. AreFit (vec_len old.old) maps.items) }
     ensures small { IfOk result
-        (λ maps. HaveRoomWithin layout (2 ^ 31 + segment_bytes) (vec_len old.old) maps.items) }
+        (λ maps. HaveRoomWithin (2 ^ 31 + segment_bytes) (vec_len old.old) maps.items) }
     ensures refused { IfErr result (λ fault. (new : List (List D))
-        → IsCause D.sight D.follows fault cap layout old.old.items old.new.items new new) }
+        → IsCause D.sight D.follows fault cap old.old.items old.new.items new new) }
 {
     let count = old.len();
     let mut images = Vec::with_capacity(alloc, count)?;
     for shard in 0..count as u32 {
-        match read_at(alloc, old, shard, cap, layout) {
+        match read_at(alloc, old, shard, cap) {
             Ok(image) => images.push_reserved(image),
             Err(fault) => return Err(SplitFault::Old { shard, fault }),
         }

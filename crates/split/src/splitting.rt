@@ -8,7 +8,6 @@ use crate::fault::SplitFault;
 use crate::reading::read_all;
 use crate::starting::start_all;
 use crate::testing::test_all;
-use accept::Layout;
 use disk::Disk;
 use std::alloc::Global;
 use wal::Capacity;
@@ -23,8 +22,7 @@ pub struct Slots<D> {
 }
 
 /// Splits the streams of old shards among new shards: each goes to the shard of its key under the new number. There are
-/// 1 to `MAX_SHARDS` of `labels` old shards, and 1 to as many new ones. A segment may have `cap` bytes. `layout` says
-/// which version of the layout is written; an old segment of a later one is refused.
+/// 1 to `MAX_SHARDS` of `labels` old shards, and 1 to as many new ones. A segment may have `cap` bytes.
 ///
 /// The old slots are synced and read, shard 0 first, and never written. The new slots have to be empty. Once the
 /// streams of each new shard are known to have room, generation 1 is started in slot 1 of each, shard 0 first, even for
@@ -43,7 +41,6 @@ pub fn split<D: Disk>(
     old: Vec<[D; 2]>,
     new: Vec<[D; 2]>,
     cap: Capacity,
-    layout: Layout,
 ) -> Result<Slots<D>, (SplitFault, Slots<D>)>
     requires old { (0 < vec_len old) × (vec_len old ≤ max_shards) }
     requires new { (0 < vec_len new) × (vec_len new ≤ max_shards) }
@@ -55,14 +52,13 @@ pub fn split<D: Disk>(
     ensures new_before { EachPair (λ _. HaveFollowed D.sight D.follows) new.items
         (back result).new.items }
     ensures split { IfOk result (λ it.
-        AreSplit D.sight D.follows cap layout old.items it.old.items new.items it.new.items) }
+        AreSplit D.sight D.follows cap old.items it.old.items new.items it.new.items) }
     ensures cause { IfErr result (λ e.
-        IsCause D.sight D.follows e.0 cap layout old.items e.1.old.items new.items
-        e.1.new.items) }
+        IsCause D.sight D.follows e.0 cap old.items e.1.old.items new.items e.1.new.items) }
 {
     let mut old = old;
     let mut new = new;
-    let made = split_over(alloc, &mut old, &mut new, cap, layout);
+    let made = split_over(alloc, &mut old, &mut new, cap);
     let slots = Slots { old, new };
     match made {
         Ok(()) => Ok(slots),
@@ -75,7 +71,6 @@ fn split_over<D: Disk>(
     old: &mut Vec<[D; 2]>,
     new: &mut Vec<[D; 2]>,
     cap: Capacity,
-    layout: Layout,
 ) -> Result<(), SplitFault>
     requires old { (0 < vec_len old.old) × (vec_len old.old ≤ max_shards) }
     requires new { (0 < vec_len new.old) × (vec_len new.old ≤ max_shards) }
@@ -84,16 +79,15 @@ fn split_over<D: Disk>(
     ensures new_before { EachPair
         (λ _. HaveFollowed D.sight D.follows) new.old.items new.new.items }
     ensures split { OnOk result
-        (AreSplit D.sight D.follows cap layout old.old.items old.new.items new.old.items
-        new.new.items) }
+        (AreSplit D.sight D.follows cap old.old.items old.new.items new.old.items new.new.items) }
     ensures cause { IfErr result (λ fault.
-        IsCause D.sight D.follows fault cap layout old.old.items old.new.items new.old.items
+        IsCause D.sight D.follows fault cap old.old.items old.new.items new.old.items
         new.new.items) }
 {
     let count = new.len() as u32;
-    let olds = read_all(alloc, old, cap, layout)?;
+    let olds = read_all(alloc, old, cap)?;
     test_all(new)?;
     let news = deal_all(alloc, olds, count)?;
-    test_rooms(&news, cap, layout)?;
-    start_all(alloc, new, &news, cap, layout)
+    test_rooms(&news, cap)?;
+    start_all(alloc, new, &news, cap)
 }

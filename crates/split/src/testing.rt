@@ -1,7 +1,6 @@
 //! Whether the slots of new shards are empty.
 ghost use Rattle.std.specs.Prelude.{◌≡◌, ◌≢◌, ◌⊎◌, ◌<◌, ◌≤◌, ℕ, List, [], ◌∷◌, set, OnOk, IfErr, vec_len};
 ghost use Rattle.labels.specs.Shards.{max_shards};
-ghost use Rattle.accept.specs.declared.limits.Layout.{Layout};
 ghost use Rattle.wal.specs.Opening.{IsRestedDisk};
 ghost use Rattle.split.specs.Splits.{pair_at, EachPair, IsAtRest, AreOldRead, IsCause};
 ghost use Rattle.split.specs.Stages.{IsTested, IsTestFault};
@@ -80,9 +79,9 @@ pub(crate) fn test_all<D: Disk>(new: &mut Vec<[D; 2]>) -> Result<(), SplitFault>
     ensures rests { EachPair (λ _. IsAtRest D.sight D.follows) new.old.items new.new.items }
     ensures tested { OnOk result
         (EachPair (λ _. IsTested D.sight D.follows) new.old.items new.new.items) }
-    ensures cause { IfErr result (λ fault. (cap : ℕ) (layout : Layout) (old old_back : List (List D))
+    ensures cause { IfErr result (λ fault. (cap : ℕ) (old old_back : List (List D))
         → AreOldRead D.sight D.follows old old_back
-        → IsCause D.sight D.follows fault cap layout old old_back new.old.items new.new.items) }
+        → IsCause D.sight D.follows fault cap old old_back new.old.items new.new.items) }
 {
     for shard in 0..new.len() as u32 {
         test_at(new, shard)?;

@@ -2,7 +2,6 @@
 use Rattle.std.proofs.Common.{◌≡◌, ◌∙◌, ℕ, zero, suc, List, [], ◌∷◌, take, ap, subst, inl, arith}
 use Rattle.std.specs.FinMap as finite
 use Rattle.accept.specs.declared.history.History.{History}
-use Rattle.accept.specs.declared.limits.Layout.{Layout}
 use Rattle.accept.specs.OneStream.{profile_limits}
 use Rattle.accept.specs.Rooms.{Streams}
 use Rattle.accept.specs.Histories.{meaning, answered_to}
@@ -32,18 +31,18 @@ module _ {D : Type 0} (sight : D → Sight) (follows : D → Type 0) (always : (
       let is_y : y ≡ [] = second.synced y q ∙ second.none in
       (0, omega arith, inl (record { first = ap is_closed is_x; second = ap is_closed is_y; none = still_nothing 0 }))
 
-  none_there : (whose : ShardPlace) (capacity : ℕ) (layout : Layout) (a b : D) (log : Wal D) (m : Streams) → IsEmptyDisk (sight a) → IsEmptyDisk (sight b) → IsOpenedFrom sight follows whose capacity layout (a ∷ b ∷ []) log m → m ≡ finite.empty
-  none_there whose capacity layout a b log m first second is =
+  none_there : (whose : ShardPlace) (capacity : ℕ) (a b : D) (log : Wal D) (m : Streams) → IsEmptyDisk (sight a) → IsEmptyDisk (sight b) → IsOpenedFrom sight follows whose capacity (a ∷ b ∷ []) log m → m ≡ finite.empty
+  none_there whose capacity a b log m first second is =
       let found = is.covered (always log.active, always log.spare) profile_limits no_past [] (covered whose a b first second) in
       found.2 ∙ still_nothing found.0
 
-  pub none_found : (count capacity : ℕ) (layout : Layout) (slots : List (List D)) (logs : List (Wal D)) (ms : List Streams) → AreEmptySlots sight slots → AreOpenedFrom sight follows count capacity layout 0 slots logs ms → ms ≡ finite.empty ∷ []
-  none_found count capacity layout slots logs ms empty found = here logs ms (subst (λ (all : List (List D)). AreOpenedFrom sight follows count capacity layout 0 all logs ms) empty.slots_are found)
+  pub none_found : (count capacity : ℕ) (slots : List (List D)) (logs : List (Wal D)) (ms : List Streams) → AreEmptySlots sight slots → AreOpenedFrom sight follows count capacity 0 slots logs ms → ms ≡ finite.empty ∷ []
+  none_found count capacity slots logs ms empty found = here logs ms (subst (λ (all : List (List D)). AreOpenedFrom sight follows count capacity 0 all logs ms) empty.slots_are found)
     where
-      here : (logs : List (Wal D)) (ms : List Streams) → AreOpenedFrom sight follows count capacity layout 0 ((empty.first ∷ empty.second ∷ []) ∷ []) logs ms → ms ≡ finite.empty ∷ []
+      here : (logs : List (Wal D)) (ms : List Streams) → AreOpenedFrom sight follows count capacity 0 ((empty.first ∷ empty.second ∷ []) ∷ []) logs ms → ms ≡ finite.empty ∷ []
       here [] [] h = absurd h
       here [] (m ∷ ms) h = absurd h
       here (log ∷ logs) [] h = absurd h
-      here (log ∷ []) (m ∷ []) h = ap (λ (x : Streams). x ∷ []) (none_there _ capacity layout empty.first empty.second log m empty.first_empty empty.second_empty h.0)
+      here (log ∷ []) (m ∷ []) h = ap (λ (x : Streams). x ∷ []) (none_there _ capacity empty.first empty.second log m empty.first_empty empty.second_empty h.0)
       here (log ∷ []) (m ∷ n ∷ ms) h = absurd h.1
       here (log ∷ other ∷ logs) (m ∷ ms) h = absurd h.1

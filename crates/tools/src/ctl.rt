@@ -22,7 +22,7 @@ use std::sync::Wait;
 use std::thread::Threads;
 use wal::Capacity;
 
-/// Runs `ingestctl push|read|trim|end DIR SHARDS TENANT NOW` on the body that is read from `input`, and gives its exit
+/// Runs `ingestctl push|read|trim DIR SHARDS TENANT NOW` on the body that is read from `input`, and gives its exit
 /// status.
 ///
 /// Opens the slots of DIR, which no server may have open meanwhile, and writes the answer's status, a line feed and its
@@ -49,7 +49,7 @@ where
     let Some(words) = call_in(alloc, words) else {
         let _ = writeln!(
             errors,
-            "usage: ingestctl push|read|trim|end DIR SHARDS TENANT NOW"
+            "usage: ingestctl push|read|trim DIR SHARDS TENANT NOW"
         );
         return 2;
     };

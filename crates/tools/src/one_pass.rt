@@ -35,10 +35,10 @@ where
         (λ it. IsOpenedUnder limits (vec_len slots) 1 capacity it.0 (it.1 ∷ [])) }
     ensures found { IfOk result (λ it.
         AreOpenedFrom D.sight D.follows
-        (vec_len slots) capacity limits.layout 0 slots.items it.0.logs it.0.about.bases) }
+        (vec_len slots) capacity 0 slots.items it.0.logs it.0.about.bases) }
     ensures refused { IfErr result (λ stop. (fault : OpenFault) × (backs : List (List D))
         × (stop ≡ ProgramFault.Opening fault)
-        × IsUnmade D.sight D.follows (vec_len slots) limits.layout slots.items backs fault) }
+        × IsUnmade D.sight D.follows (vec_len slots) slots.items backs fault) }
     ensures pass { IfOk result (λ it. IsPassOf it.0 it.1) }
 {
     let (ingester, mut passes) = open_shards(rt, alloc, slots, 1, limits, capacity, &Unobserved)?;

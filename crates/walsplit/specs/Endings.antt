@@ -1,14 +1,11 @@
 -- How `walsplit` ends, and with which exit status.
-use Rattle.std.specs.Prelude.{◌≡◌, ◌⊎◌, ◌≤◌, ℕ, List, length, ◌++◌, codes, decimal, Option, Some, option_map, String, string_bytes}
+use Rattle.std.specs.Prelude.{◌≡◌, ◌⊎◌, ◌≤◌, ℕ, List, length, ◌++◌, codes, decimal, Option, String}
 use Rattle.std.specs.Io.KnownBytes.{Appends}
 use Rattle.std.specs.declared.alloc.Global.{Global}
 use Rattle.labels.specs.Shards.{max_shards}
-use Rattle.accept.specs.declared.limits.Layout.{Layout}
 use Rattle.disk.specs.Sight.{Sight}
 use Rattle.split.specs.Splits.{AreSplit}
 use Rattle.split.specs.declared.fault.SplitFault.TheVariants as faults
-use Rattle.programs.specs.declared.environment.Environment.{Environment}
-use Rattle.programs.specs.Environments.{layout_set}
 use Rattle.programs.specs.Words.{capacity_of}
 use Rattle.walsplit.specs.Words.{SaysSplit}
 use Rattle.walsplit.specs.declared.said.SplitWords.{SplitWords}
@@ -29,31 +26,29 @@ split_status Output = 1
 abbrev pub split_line : ℕ → ℕ → List ℕ
 split_line old new = codes "split " ++ decimal old ++ codes " to " ++ decimal new ++ codes "\n"
 
--- There are slots of m shards that were split into slots of n shards under this capacity and layout, each as it was
--- given and as it came back.
+-- There are slots of m shards that were split into slots of n shards under this capacity, each as it was given and as
+-- it came back.
 pub record IsDivided {D : Type 0} (sight : D → Sight) (follows : D → Type 0)
-    (capacity : ℕ) (layout : Layout) (m n : ℕ) : Type 0 where
+    (capacity m n : ℕ) : Type 0 where
   pub old : List (List D)
   pub old_back : List (List D)
   pub new : List (List D)
   pub new_back : List (List D)
   pub old_count : length old ≡ m
   pub new_count : length new ≡ n
-  pub split : AreSplit sight follows capacity layout old old_back new new_back
+  pub split : AreSplit sight follows capacity old old_back new new_back
 
--- How it ended, by its settings and by what its output held before and after: its words or its settings were wrong; or
--- slots were split as the words and the settings say, and the line has the numbers of the old shards and of the new
+-- How it ended, by its setting and by what its output held before and after: its words or its setting were wrong; or
+-- slots were split as the words and the setting say, and the line has the numbers of the old shards and of the new
 -- ones; or it stopped, and where that is not for its output, it said nothing.
 pub data SplitEnds {D : Type 0} (sight : D → Sight) (follows : D → Type 0)
-    (words : List (String Global)) (environment : Environment) (before after : Option (List ℕ))
+    (words : List (String Global)) (setting before after : Option (List ℕ))
     (status : ℕ) : Type 0 where
   unasked_split : status ≡ 2 → after ≡ before
-      → SplitEnds sight follows words environment before after status
+      → SplitEnds sight follows words setting before after status
   divided_split : (said : SplitWords) → SaysSplit words said → (shards : ℕ) → 1 ≤ shards
-      → shards ≤ max_shards → (layout : Layout) → layout_set environment ≡ Some layout
-      → IsDivided sight follows (capacity_of (option_map string_bytes environment.capacity)) layout
-      shards said.shards
+      → shards ≤ max_shards → IsDivided sight follows (capacity_of setting) shards said.shards
       → Appends before after (split_line shards said.shards) → status ≡ 0
-      → SplitEnds sight follows words environment before after status
+      → SplitEnds sight follows words setting before after status
   stopped_split : (stop : WalsplitFault) → (stop ≡ Output) ⊎ (after ≡ before) → status ≡ split_status stop
-      → SplitEnds sight follows words environment before after status
+      → SplitEnds sight follows words setting before after status

@@ -1,10 +1,8 @@
 -- The words that `walsplit` is given.
-use Rattle.std.specs.Prelude.{ℕ, ◌≡◌, List, [], ◌∷◌, IsSome, option_map, String, string_bytes}
+use Rattle.std.specs.Prelude.{ℕ, ◌≡◌, List, [], ◌∷◌, String, string_bytes}
 use Rattle.std.specs.declared.alloc.Global.{Global}
 use Rattle.labels.specs.Shards.{max_shards}
-use Rattle.programs.specs.declared.environment.Environment.{Environment}
-use Rattle.programs.specs.Environments.{layout_set}
-use Rattle.programs.specs.Words.{value, IsNumberIn, GivesCapacity}
+use Rattle.programs.specs.Words.{value, IsNumberIn}
 use Rattle.walsplit.specs.declared.said.SplitWords.{SplitWords}
 
 -- three words: the folder of the old slots, that of the new ones, and how many shards are wanted
@@ -26,8 +24,3 @@ pub record SaysSplit (words : List (String Global)) (split : SplitWords) : Type 
   pub given : GiveSplit words
   pub says : SaysOfSplit (string_bytes given.old) (string_bytes given.new)
       (string_bytes given.count) split
-
--- the environment gives a capacity, and a version of the layout
-pub record GivesSettings (environment : Environment) : Type 0 where
-  pub capacity : GivesCapacity (option_map string_bytes environment.capacity)
-  pub layout : IsSome (layout_set environment)

@@ -10,7 +10,7 @@ mod said;
 mod walsplit_fault;
 
 use crate::program::run_walsplit;
-use programs::{environment_of, tell_about, words_of};
+use programs::{setting_of, tell_about, words_of};
 use std::process::ExitCode;
 
 /// What `--help` prints.
@@ -18,30 +18,22 @@ const HELP: &str = "\
 usage: walsplit OLD NEW COUNT
 
 Writes the streams of the slots in the folder OLD into slots of COUNT shards, 1 to 64, in the folder NEW.
-No server may have OLD open. NEEDLEAZURE_CAPACITY in the environment says the bytes of a new slot, and
-NEEDLEAZURE_LAYOUT which version of the layout is written, 2 or 3. Where OLD has version 3, it has to be 3.
+No server may have OLD open. NEEDLEAZURE_CAPACITY in the environment says the bytes of a new slot.
 
 man walsplit has the rest.
 ";
 
 fn main(rt: HostRuntime) -> ExitCode {
-    let (Ok(words), Ok(environment)) = (words_of(&rt), environment_of(&rt)) else {
+    let (Ok(words), Ok(setting)) = (words_of(&rt), setting_of(&rt)) else {
         let _ = rt.eprintln("out of memory");
         return ExitCode::FAILURE;
     };
-    let (alloc, mut output, mut errors) = (rt.alloc(), rt.stdout(), rt.stderr());
+    let (alloc, setting) = (rt.alloc(), setting.as_deref());
+    let (mut output, mut errors) = (rt.stdout(), rt.stderr());
     if let Some(status) = tell_about(&words, "walsplit", HELP, &mut output, &mut errors) {
         return ExitCode::from(status);
     }
     let marks = Some(rt.stderr());
-    let status = run_walsplit(
-        &rt,
-        alloc,
-        &words,
-        &environment,
-        &mut output,
-        &mut errors,
-        marks,
-    );
+    let status = run_walsplit(&rt, alloc, &words, setting, &mut output, &mut errors, marks);
     ExitCode::from(status)
 }

@@ -1,14 +1,14 @@
 //! The program `walsplit`: the slots of a folder under another number of shards.
-ghost use Rattle.std.specs.Prelude.{◌≡◌, ◌⊎◌, ◌↔◌, ◌<◌, ◌≤◌, ℕ, List, IfOk, IfErr, OnOk, MatchOption, option_map, string_bytes, vec_len, Some, None};
+ghost use Rattle.std.specs.Prelude.{◌≡◌, ◌⊎◌, ◌↔◌, ◌<◌, ◌≤◌, ℕ, List, IfOk, IfErr, OnOk, option_map, vec_len};
 ghost use Rattle.std.specs.Io.KnownBytes.{Appends};
 ghost use Rattle.labels.specs.Shards.{max_shards};
 ghost use Rattle.disk.specs.declared.file.FileDisk.{FileDisk};
 ghost use Rattle.programs.specs.declared.watched.Watched.{Watched};
-ghost use Rattle.programs.specs.Environments.{layout_set};
+ghost use Rattle.programs.specs.Words.{GivesCapacity};
 ghost use Rattle.split.specs.declared.fault.SplitFault.{SplitFault};
 ghost use Rattle.split.specs.declared.splitting.Slots.{Slots};
 ghost use Rattle.split.specs.Splits.{AreSplit, IsCause};
-ghost use Rattle.walsplit.specs.Words.{GiveSplit, GivesSettings};
+ghost use Rattle.walsplit.specs.Words.{GiveSplit};
 ghost use Rattle.walsplit.specs.Endings.{IsDivided, SplitEnds, split_line};
 
 use crate::announced::{Side, announce};
@@ -17,9 +17,8 @@ use crate::beside::{give_name, unfinished, unopened};
 use crate::found::{has_slots, shards_in};
 use crate::said::SplitWords;
 use crate::walsplit_fault::WalsplitFault;
-use accept::Layout;
 use disk::{Disk, FileDisk};
-use programs::{Environment, Watched, capacity_in, layout_in, open_slots, terminal_in};
+use programs::{Watched, capacity_in, open_slots, terminal_in};
 use split::split;
 use std::alloc::Global;
 use std::fs::{File, Files};
@@ -29,8 +28,7 @@ use wal::Capacity;
 /// A slot of a folder.
 type Slot = Watched<FileDisk>;
 
-/// Runs `walsplit OLD NEW COUNT`, and gives its exit status. The environment says the capacity of a slot, and which
-/// version of the layout is written.
+/// Runs `walsplit OLD NEW COUNT`, and gives its exit status. `setting` is the capacity of a slot by the environment.
 ///
 /// Writes the streams of the slots of OLD into slots of COUNT shards in NEW, each to the shard of its key among COUNT.
 /// No server may have OLD open meanwhile. Then it writes `split <m> to <n>`, where m is the number of shards of which
@@ -41,42 +39,38 @@ type Slot = Watched<FileDisk>;
 /// refused, and so is OLD itself, by any path.
 ///
 /// Status 0: the split is on the disk. 1: no shards, a missing slot, a NEW with slots, no room in a new shard, or a
-/// fault while running. 2: wrong words, or a wrong setting. 3: the content of the old slots is refused, also where it
-/// is of a later version than the one to be written. After any status but 0 what was made must be given up. A fault is
-/// one line of `errors`. Where `marks` are a terminal, lines there say which shard is read or written. Before them
-/// comes a line for a NEW that exists: it may have to be given up.
+/// fault while running. 2: wrong words, or a wrong setting. 3: the content of the old slots is refused. After any
+/// status but 0 what was made must be given up. A fault is one line of `errors`. Where `marks` are a terminal, lines
+/// there say which shard is read or written. Before them comes a line for a NEW that exists: it may have to be given
+/// up.
 pub fn run_walsplit<R: Files<File = File>, W: Write, E: Write>(
     rt: &R,
     alloc: Global,
     words: &[String],
-    environment: &Environment,
+    setting: Option<&str>,
     output: &mut W,
     errors: &mut E,
     marks: Option<Stderr>,
 ) -> u8
     ensures status { result ≤ 3 }
     ensures usage { (result ≡ 2)
-        ↔ (¬ (GiveSplit words.now × GivesSettings environment.now)) }
+        ↔ (¬ (GiveSplit words.now × GivesCapacity (option_map (λ s. s.now) setting.entry))) }
     ensures ends { SplitEnds ⟦<Slot as Disk>⟧.sight ⟦<Slot as Disk>⟧.follows words.now
-        environment.now
+        (option_map (λ s. s.now) setting.entry)
         (W.contents output.old) (W.contents output.new) result }
 {
     let Some(words) = split_in(words) else {
         let _ = writeln!(errors, "usage: walsplit OLD NEW COUNT");
         return 2;
     };
-    let Some(capacity) = capacity_in(environment.capacity.as_deref()) else {
+    let Some(capacity) = capacity_in(setting) else {
         let _ = writeln!(
             errors,
             "NEEDLEAZURE_CAPACITY is not a number of bytes from 4096 to 1073741824"
         );
         return 2;
     };
-    let Some(layout) = layout_in(environment.layout.as_deref()) else {
-        let _ = writeln!(errors, "NEEDLEAZURE_LAYOUT is not 2 or 3");
-        return 2;
-    };
-    if let Err(stopped) = split_and_print(rt, alloc, words, capacity, layout, output, marks) {
+    if let Err(stopped) = split_and_print(rt, alloc, words, capacity, output, marks) {
         let _ = writeln!(errors, "{stopped}");
         return stopped.status();
     }
@@ -88,19 +82,18 @@ fn split_and_print<R: Files<File = File>, W: Write>(
     alloc: Global,
     words: SplitWords<'_>,
     capacity: Capacity,
-    layout: Layout,
     output: &mut W,
     marks: Option<Stderr>,
 ) -> Result<(), WalsplitFault>
     ensures said { OnOk result ((shards : ℕ) × (1 ≤ shards) × (shards ≤ max_shards)
-        × IsDivided ⟦<Slot as Disk>⟧.sight ⟦<Slot as Disk>⟧.follows capacity layout
-        shards words.entry.shards
+        × IsDivided ⟦<Slot as Disk>⟧.sight ⟦<Slot as Disk>⟧.follows capacity shards
+        words.entry.shards
         × Appends (W.contents output.old) (W.contents output.new)
         (split_line shards words.entry.shards)) }
     ensures stopped { IfErr result (λ stop. (stop ≡ WalsplitFault.Output)
         ⊎ (W.contents output.new ≡ W.contents output.old)) }
 {
-    let old_shards = split_folder(rt, alloc, words, capacity, layout, marks)?;
+    let old_shards = split_folder(rt, alloc, words, capacity, marks)?;
     let new_shards = words.shards;
     let Ok(()) = writeln!(output, "split {old_shards} to {new_shards}") else {
         return Err(WalsplitFault::Output);
@@ -117,12 +110,11 @@ fn split_folder<R: Files<File = File>>(
     alloc: Global,
     words: SplitWords<'_>,
     capacity: Capacity,
-    layout: Layout,
     marks: Option<Stderr>,
 ) -> Result<u32, WalsplitFault>
     ensures some { IfOk result (λ shards. (1 ≤ shards) × (shards ≤ max_shards)) }
     ensures divided { IfOk result (λ shards. IsDivided ⟦<Slot as Disk>⟧.sight
-        ⟦<Slot as Disk>⟧.follows capacity layout shards words.entry.shards) }
+        ⟦<Slot as Disk>⟧.follows capacity shards words.entry.shards) }
 {
     let SplitWords {
         old_folder,
@@ -147,7 +139,7 @@ fn split_folder<R: Files<File = File>>(
         Ok(new) => new,
         Err(fault) => return Err(unopened(alloc, fault, folder, new_folder)?),
     };
-    split_opened(alloc, old, new, capacity, layout, terminal)?;
+    split_opened(alloc, old, new, capacity, terminal)?;
     if let Some(path) = &unfinished {
         give_name(rt, alloc, path.as_str(), new_folder)?;
     }
@@ -160,19 +152,18 @@ fn split_opened(
     old: Vec<[Slot; 2]>,
     new: Vec<[Slot; 2]>,
     capacity: Capacity,
-    layout: Layout,
     terminal: Option<Stderr>,
 ) -> Result<(), WalsplitFault>
     requires old { (0 < vec_len old) × (vec_len old ≤ max_shards) }
     requires new { (0 < vec_len new) × (vec_len new ≤ max_shards) }
     ensures { OnOk result ((old_back : List (List (Watched FileDisk)))
         × (new_back : List (List (Watched FileDisk)))
-        × AreSplit ⟦<Slot as Disk>⟧.sight ⟦<Slot as Disk>⟧.follows capacity layout old.items
-        old_back new.items new_back) }
+        × AreSplit ⟦<Slot as Disk>⟧.sight ⟦<Slot as Disk>⟧.follows capacity old.items old_back
+        new.items new_back) }
 {
     let old = announce(alloc, old, Side::Old, terminal)?;
     let new = announce(alloc, new, Side::New, terminal)?;
-    split_slots(alloc, old, new, capacity, layout)
+    split_slots(alloc, old, new, capacity)
 }
 
 // Splits what these slots hold, and drops them.
@@ -181,19 +172,17 @@ fn split_slots<D: Disk + Drop>(
     old: Vec<[D; 2]>,
     new: Vec<[D; 2]>,
     capacity: Capacity,
-    layout: Layout,
 ) -> Result<(), WalsplitFault>
     requires old { (0 < vec_len old) × (vec_len old ≤ max_shards) }
     requires new { (0 < vec_len new) × (vec_len new ≤ max_shards) }
     ensures done { OnOk result ((backs : Slots D)
-        × AreSplit D.sight D.follows capacity layout old.items backs.old.items new.items
-        backs.new.items) }
+        × AreSplit D.sight D.follows capacity old.items backs.old.items new.items backs.new.items) }
     ensures cause { IfErr result (λ stop. (fault : SplitFault) × (backs : Slots D)
         × (stop ≡ WalsplitFault.Split fault)
-        × IsCause D.sight D.follows fault capacity layout old.items backs.old.items new.items
+        × IsCause D.sight D.follows fault capacity old.items backs.old.items new.items
         backs.new.items) }
 {
-    match split(alloc, old, new, capacity, layout) {
+    match split(alloc, old, new, capacity) {
         Ok(_slots) => Ok(()),
         Err((fault, _slots)) => Err(WalsplitFault::Split(fault)),
     }

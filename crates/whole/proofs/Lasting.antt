@@ -3,7 +3,7 @@ use Rattle.std.proofs.Common.{◌≡◌, ◌⊎◌, ℕ, ◌<◌, Bool, true, fa
 use Rattle.std.specs.FinMap as finite
 use Rattle.std.specs.List.{list_any}
 use Rattle.labels.specs.Keys.{same_key}
-use Rattle.headline.proofs.Common.{StreamKey, Limits, Call, Push, Trim, Take, Reply, Verdict, Trimmed, Removed, Ask, Step, Item, Answered, Failed, History, About, stored_of, last_or, base_last, base_kept, highest_of, last_of, same_entry, outcome, outcomes, stored_by, bound_by, stored_in, bound_in, stored, stream_of, answer, then_step, answered_to, MayFollow, IsLegalAt, base_at, terms_of, history_of, IsOneOf, is_refusal, false≢true, ltb-true, cases_Bool, or_parts, legal_front, among_left, among_right}
+use Rattle.headline.proofs.Common.{StreamKey, Limits, Call, Push, Trim, Reply, Verdict, Trimmed, Ask, Step, Item, Answered, Failed, History, About, stored_of, last_or, base_last, highest_of, last_of, same_entry, outcome, outcomes, stored_by, bound_by, stored_in, bound_in, stored, stream_of, answer, then_step, answered_to, MayFollow, IsLegalAt, base_at, terms_of, history_of, IsOneOf, is_refusal, false≢true, ltb-true, cases_Bool, legal_front, among_left, among_right}
 use Rattle.entries.specs.declared.entry.Entry.{Entry}
 use Rattle.accept.specs.Lasting.{WasStored, takes}
 use Rattle.accept.specs.declared.outcome.Outcome.{Outcome}
@@ -14,8 +14,7 @@ use Rattle.accept.proofs.Lasting.{last-stored}
 use Rattle.accept.proofs.Legal.{legal-last}
 use Rattle.accept.proofs.Outcomes.{outcome_at-Repeat}
 use Rattle.headline.proofs.Saying.{not_refused}
-use Rattle.whole.specs.Whole.{IsTrimAbove, IsRemoval, WasStoredFor, IsSameLine}
-use Rattle.whole.proofs.Answered.{answer_keeps}
+use Rattle.whole.specs.Whole.{IsTrimAbove, WasStoredFor, IsSameLine}
 
 -- Of one stream.
 
@@ -70,28 +69,20 @@ module _ (limits : Limits) (base : Option StreamImage) (now : ℕ) where
 -- Of a history.
 
 module _ (key : StreamKey) (n : ℕ) where
-  by_key : (k : StreamKey) (bound : ℕ) (b : Bool) → same_key key k ≡ b → n < cond b bound 0 → (key ≡ k) × (n < bound)
-  by_key k bound true e l = (same_key-is key k e, l)
+  by_key : (k : StreamKey) (bound : ℕ) (b : Bool) → same_key key k ≡ b → n < cond b bound 0 → IsTrimAbove key n (Trim k bound)
+  by_key k bound true e l = (bound, ap (λ q. Trim q bound) (sym (same_key-is key k e)), l)
   by_key k bound false e l = absurd (omega arith)
 
-  plain : (k : StreamKey) (bound : ℕ) → n < cond (same_key key k) bound 0 → IsTrimAbove key n (Trim k bound)
-  plain k bound l = let own = by_key k bound (same_key key k) refl l in (bound, inl (ap (λ q. Trim q bound) (sym own.0)), own.1)
-
-  counted : (k : StreamKey) (bound count removed : ℕ) → n < cond (same_key key k) bound 0 → IsTrimAbove key n (Take k bound count removed)
-  counted k bound count removed l = let own = by_key k bound (same_key key k) refl l in (bound, inr (count, removed, ap (λ q. Take q bound count removed) (sym own.0)), own.1)
-
-  by_call : (call : Call) (r : Reply) → n < bound_by key call r → IsTrimAbove key n call × IsRemoval r
-  by_call (Trim k bound) (Trimmed m) l = (plain k bound l, (m, inl refl))
-  by_call (Trim k bound) (Removed m) l = (plain k bound l, (m, inr refl))
-  by_call (Take k bound count removed) (Removed m) l = (counted k bound count removed l, (m, inr refl))
+  by_call : (call : Call) (r : Reply) → n < bound_by key call r → IsTrimAbove key n call × ((removed : ℕ) × (r ≡ Trimmed removed))
+  by_call (Trim k bound) (Trimmed m) l = (by_key k bound (same_key key k) refl l, (m, refl))
   by_call call r l = absurd (omega arith)
 
-  by_item : (i : Item) → n < bound_in key i → (s : Step) × (Answered s ≡ i) × IsTrimAbove key n s.ask.call × IsRemoval s.reply
+  by_item : (i : Item) → n < bound_in key i → (s : Step) × (Answered s ≡ i) × IsTrimAbove key n s.ask.call × ((removed : ℕ) × (s.reply ≡ Trimmed removed))
   by_item (Failed doubt) l = absurd (omega arith)
   by_item (Answered s) l = let t = by_call s.ask.call s.reply l in (s, refl, t.0, t.1)
 
   -- where items take an entry, there is a trim that was answered so
-  pub trimmed_in : (items : List Item) → list_any (takes key n) items ≡ true → (s : Step) × IsOneOf (Answered s) items × IsTrimAbove key n s.ask.call × IsRemoval s.reply
+  pub trimmed_in : (items : List Item) → list_any (takes key n) items ≡ true → (s : Step) × IsOneOf (Answered s) items × IsTrimAbove key n s.ask.call × ((removed : ℕ) × (s.reply ≡ Trimmed removed))
   trimmed_in [] e = absurd (false≢true e)
   trimmed_in (i ∷ items) e = ⊎_elim
       (λ (a : takes key n i ≡ true). let t = by_item i (ltb-true n (bound_in key i) a) in (t.0, inl t.1, t.2, t.3))
@@ -104,10 +95,9 @@ pub record IsLonger (h : History) (asks : List Ask) (new : History) : Type 0 whe
   pub items : new.items ≡ h.items ++ more
   pub asked : (s : Step) → IsOneOf (Answered s) more → IsOneOf s.ask asks
   pub base : new.base ≡ h.base
-  pub keeps : (key : StreamKey) (y : Entry) → list_any (takes key y.time) more ≡ false → IsOneOf y (base_kept (stream_of h key)) → IsOneOf y (base_kept (stream_of new key))
 
 pub answered_longer : (limits : Limits) (h : History) (asks : List Ask) → IsLonger h asks (answered_to limits h asks)
-answered_longer limits h [] = record { more = []; items = sym (append-nil h.items); asked = λ s one. absurd one; base = refl; keeps = λ key y e here. here }
+answered_longer limits h [] = record { more = []; items = sym (append-nil h.items); asked = λ s one. absurd one; base = refl }
 answered_longer limits h (a ∷ asks) =
     let first : Step = record { ask = a; reply = answer limits h a.call } in
     let rest = answered_longer limits (then_step h a (answer limits h a.call)) asks in
@@ -119,9 +109,6 @@ answered_longer limits h (a ∷ asks) =
           (λ (t : IsOneOf (Answered s) rest.more). inr (rest.asked s t))
           one;
       base = rest.base;
-      keeps = λ key y e here.
-          let p = or_parts (takes key y.time (Answered first)) (list_any (takes key y.time) rest.more) e in
-          rest.keeps key y p.1 (answer_keeps limits h a y key p.0 here);
     }
 
 split_at : (i : Item) (items : List Item) → IsOneOf i items → (front : List Item) × (back : List Item) × (items ≡ front ++ i ∷ back)

@@ -4,7 +4,6 @@ pub mod Visiting
 pub mod Joining
 pub mod Working
 pub mod Standing
-pub mod Answered
 pub mod Lasting
 pub mod Saving
 pub mod Wholes

@@ -1,11 +1,11 @@
 -- The lines of a push that is answered with 204 are in what is replayed.
-use Rattle.std.proofs.Common.{◌≡◌, ◌⊎◌, ℕ, ◌<◌, Bool, true, false, cond, nat_lt, ◌||◌, List, [], ◌∷◌, map, None, Some, Result, Ok, Err, Vec, refl, sym, ap, ◌∙◌, subst, inl, inr, ⊎_elim, arith, ◌++◌, append_assoc}
+use Rattle.std.proofs.Common.{◌≡◌, ◌⊎◌, ℕ, ◌<◌, Bool, true, false, cond, nat_lt, List, [], ◌∷◌, map, None, Some, Result, Ok, Err, Vec, refl, sym, ap, ◌∙◌, subst, inl, inr, ⊎_elim, arith, ◌++◌, append_assoc}
 use Rattle.std.specs.declared.alloc.Global.{Global}
 use Rattle.std.specs.FinMap as finite
 use Rattle.std.specs.List.{fold, list_all, list_any}
-use Rattle.std.proofs.lemmas.Bool.{false≢true, ltb-true, ltb-false, or_parts}
+use Rattle.std.proofs.lemmas.Bool.{false≢true, ltb-true, ltb-false}
 use Rattle.labels.specs.Canonical.{IsTextOf}
-use Rattle.headline.proofs.Common.{StreamKey, Streams, Call, Reply, NoRoom, Unavailable, Ask, Step, Item, Answered, History, About, base_last, base_kept, key_of, stored, stream_of, answered_to, IsBeginning, IsLegal, IsLegalAt, base_at, terms_of, history_of, shard_in, shard_of, Thread, happened_to, IsOneOf, IsHeadline, IsReplay, RefusedShard, is_refusal, cases_Bool, legal_front, shard_below, among_left, among_split, and_parts}
+use Rattle.headline.proofs.Common.{StreamKey, Streams, Call, Reply, NoRoom, Unavailable, Ask, Step, Item, Answered, History, About, base_last, base_kept, key_of, stored, stream_of, answered_to, IsBeginning, IsLegalAt, base_at, history_of, shard_in, shard_of, Thread, happened_to, IsOneOf, IsHeadline, IsReplay, RefusedShard, is_refusal, cases_Bool, legal_front, shard_below, among_left, among_split, and_parts}
 use Rattle.entries.specs.declared.entry.Entry.{Entry}
 use Rattle.accept.specs.declared.call.Call.TheVariants as calls
 use Rattle.accept.specs.declared.outcome.Outcome.{Outcome}
@@ -125,13 +125,6 @@ acknowledged steps e tenant batches c ack b one =
 
 -- In what is replayed.
 
-any_parts : {A : Type 0} (p : A → Bool) (xs ys : List A) → list_any p (xs ++ ys) ≡ false → (list_any p xs ≡ false) × (list_any p ys ≡ false)
-any_parts p [] ys e = (refl, e)
-any_parts p (x ∷ xs) ys e =
-    let first = or_parts (p x) (list_any p (xs ++ ys)) e in
-    let rest = any_parts p xs ys first.1 in
-    (λ i. first.0 i || rest.0 i, rest.1)
-
 one_of_front : {A : Type 0} (x : A) (front all : List A) → IsBeginning front all → IsOneOf x front → IsOneOf x all
 one_of_front x front all h one = subst (IsOneOf x) (sym h.is) (among_left x front h.rest one)
 
@@ -164,25 +157,19 @@ module _ (about : About) (threads : List Thread) (k : ℕ) (history : List Item)
   abbrev Kept : StreamKey → Step → Entry → Type 0
   Kept key s y = IsOneOf y (base_kept (finite.get state key)) ⊎ ((w : WasStoredFor history key s y) × MayBeTrimmed w.later writing key y.time) ⊎ (base_last (finite.get (base_at about k) key) ≡ Some y)
 
-  -- what was stored is in the stream after what was found of the history, where nothing took it there
-  kept_then : (key : StreamKey) (s : Step) (y : Entry) (w : WasStoredFor r.beginning key s y) → list_any (takes key y.time) w.later ≡ false → IsOneOf y (base_kept (stream_of (history_of about k r.beginning) key))
-  kept_then key s y w e =
-      let front : IsLegalAt about k r.beginning = legal_front about k r.beginning history r.a_beginning_of_that_history legal in
-      subst (λ (l : List Item). IsOneOf y (base_kept (stream_of (history_of about k l) key))) (sym w.parts)
-      (stored-stays (terms_of about k) (base_at about k) w.before w.item w.later key y (subst (λ (l : List Item). IsLegal (terms_of about k) (history_of about k l)) w.parts front.is) w.there e)
-
   -- what was stored is in the state, or trimmed since
   kept_for : (key : StreamKey) (s : Step) (y : Entry) → WasStoredFor r.beginning key s y → Kept key s y
   kept_for key s y w =
       let h : History = answered_to about.limits (history_of about k r.beginning) r.more in
       let longer : IsLonger (history_of about k r.beginning) r.more h = answered_longer about.limits (history_of about k r.beginning) r.more in
       let items : List Item = w.later ++ longer.more in
-      let here : finite.get state key ≡ stream_of h key = ap (λ m. finite.get m key) r.the_state_after ∙ get-meaning h key in
+      let all : h.items ≡ w.before ++ w.item ∷ items = longer.items ∙ ap (λ l. l ++ longer.more) w.parts ∙ append_assoc w.before (w.item ∷ w.later) longer.more in
+      let here : finite.get state key ≡ stream_of (history_of about k (w.before ++ w.item ∷ items)) key =
+      ap (λ m. finite.get m key) r.the_state_after ∙ get-meaning h key ∙ (λ j. stream_of (record { base = longer.base j; items = all j }) key) in
       ⊎_elim
       (λ (e : list_any (takes key y.time) items ≡ true). inr (inl (in_history key s y w, trimmed key y.time w.later longer.more longer.asked e)))
       (λ (e : list_any (takes key y.time) items ≡ false).
-      let parts = any_parts (takes key y.time) w.later longer.more e in
-      inl (subst (λ o. IsOneOf y (base_kept o)) (sym here) (longer.keeps key y parts.1 (kept_then key s y w parts.0))))
+      inl (subst (λ o. IsOneOf y (base_kept o)) (sym here) (stored-stays (base_at about k) w.before w.item items key y w.there e)))
       (cases_Bool (list_any (takes key y.time) items))
 
   pub line_kept : (s : Step) (key : StreamKey) (now : ℕ) (entries : List Entry) → IsOneOf (Answered s) r.beginning → s.ask.call ≡ calls.Push key now entries → came_status (Replied s.reply) ≡ NoContent → (x : Entry) → IsOneOf x entries → IsLineKept about k history writing state key s x

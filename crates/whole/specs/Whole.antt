@@ -4,12 +4,12 @@ use Rattle.std.specs.declared.alloc.Global.{Global}
 use Rattle.std.specs.List.{flat_map}
 use Rattle.std.specs.FinMap as finite
 use Rattle.labels.specs.Canonical.{IsTextOf}
-use Rattle.headline.specs.Types.{StreamKey, Streams, Call, Reply, Ask, Step, Item, Answered, About, Sight, Passed}
+use Rattle.headline.specs.Types.{StreamKey, Streams, Call, Ask, Step, Item, Answered, About, Sight, Passed}
 use Rattle.entries.specs.declared.entry.Entry.{Entry}
 use Rattle.accept.specs.OneStream.{same_entry, base_last, base_kept}
 use Rattle.accept.specs.Histories.{is_step_of, reply_to, stored, stored_in}
 use Rattle.accept.specs.declared.call.Call.TheVariants as calls
-use Rattle.accept.specs.declared.call.Reply.TheVariants.{Trimmed, Removed}
+use Rattle.accept.specs.declared.call.Reply.TheVariants.{Trimmed}
 use Rattle.pushjson.specs.Reads.{ReadsPush}
 use Rattle.pushjson.specs.declared.push.RawBatch.{RawBatch}
 use Rattle.history.specs.Histories.{IsAmong, IsBeginning, base_at, terms_of, history_of, shard_in}
@@ -62,20 +62,15 @@ pub record IsAcknowledged (e : Exchange) (tenant : List ℕ) (batches : List Raw
   pub went : e.course ≡ Whole cames
   pub no_content : push_status cames ≡ NoContent
 
--- a trim of the stream with a bound above this time: a plain one, or one that says how many entries it removes
+-- a trim of the stream, above this time
 abbrev pub IsTrimAbove : StreamKey → ℕ → Call → Type 0
-IsTrimAbove key time call = (bound : ℕ) × ((call ≡ calls.Trim key bound)
-    ⊎ ((count : ℕ) × (removed : ℕ) × (call ≡ calls.Take key bound count removed)))
-    × (time < bound)
-
--- it says that so many entries were removed
-abbrev pub IsRemoval : Reply → Type 0
-IsRemoval reply = (n : ℕ) × ((reply ≡ Trimmed n) ⊎ (reply ≡ Removed n))
+IsTrimAbove key time call = (bound : ℕ) × (call ≡ calls.Trim key bound) × (time < bound)
 
 -- a trim above it was answered so in these items, or is being written
 abbrev pub MayBeTrimmed : List Item → List Ask → StreamKey → ℕ → Type 0
 MayBeTrimmed items writing key time =
-    ((s : Step) × IsOneOf (Answered s) items × IsTrimAbove key time s.ask.call × IsRemoval s.reply)
+    ((s : Step) × IsOneOf (Answered s) items × IsTrimAbove key time s.ask.call
+    × ((removed : ℕ) × (s.reply ≡ Trimmed removed)))
     ⊎ ((a : Ask) × IsOneOf a writing × IsTrimAbove key time a.call)
 
 -- the item that stored an entry for a step: the step itself, or the latest one before it that stored on the stream
@@ -92,7 +87,7 @@ pub record WasStoredFor (history : List Item) (key : StreamKey) (s : Step) (y : 
 abbrev pub IsSameLine : Entry → Entry → Type 0
 IsSameLine x y = (x ≡ y) ⊎ (same_entry x (Some y) ≡ true)
 
--- The line of this step is in the stream. Or a trim above its time removed lines since it was stored, by the step or as
+-- The line of this step is in the stream. Or a trim above its time was answered since it was stored, by the step or as
 -- the last line, which it repeats; or is being written. Or it repeats the last line that its stream had when the shard
 -- was opened, which an earlier opening may have trimmed.
 abbrev pub IsLineKept : About → ℕ → List Item → List Ask → Streams → StreamKey → Step → Entry → Type 0

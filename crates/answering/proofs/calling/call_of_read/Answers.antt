@@ -10,11 +10,11 @@ pub returns-in_err-key-clause-asks : goal.returns-in_err-key-clause-asks
 returns-in_err-key-clause-asks c =
     let p = err_from_is_err_and c.from_residual-in_err-key.result c.from_residual-in_err-key.ensures.1 in
     let raw = c.in_ok-pairs.field-0 in
-    λ now. rw (p.1, p.2) (uncalled Read now c.args.tenant.now c.args.body.now (asked_read raw) c.in_err-key.field-0.0 (Ok raw, c.in_ok-pairs.ensures.reads, refl) c.in_err-key.ensures.cause)
+    rw (p.1, p.2) (uncalled Read c.args.tenant.now c.args.body.now (asked_read raw) c.in_err-key.field-0.0 (λ now. (Ok raw, c.in_ok-pairs.ensures.reads, refl)) c.in_err-key.ensures.cause)
 
 pub returns-clause-asks : goal.returns-clause-asks
 returns-clause-asks c =
     let raw = c.in_ok-pairs.field-0 in
     let key = c.in_ok-key.key in
     let (lawful, text, whose) = c.in_ok-key.ensures.ok in
-    λ now. (asked_read raw, (Ok raw, c.in_ok-pairs.ensures.reads, refl), record { labels = key.labels; lawful = lawful; text = text; is = ap (λ t. calls.Read (record { tenant = t; labels = key.labels }) raw.from raw.to) whose })
+    (asked_read raw, (λ now. (Ok raw, c.in_ok-pairs.ensures.reads, refl)), record { labels = key.labels; lawful = lawful; text = text; is = ap (λ t. calls.Read (record { tenant = t; labels = key.labels }) raw.from raw.to) whose })

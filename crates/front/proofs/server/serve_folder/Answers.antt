@@ -19,5 +19,5 @@ serve_port-passes-requires-clause-over g c κs within =
       untouched = c.in-Ok.ensures.untouched;
       count = let e = c.in-Ok.slots.ok.0 in omega (arith, e, count);
       logs = opening.logs;
-      found = subst (λ (n : ℕ). AreOpenedFrom slot_sight SlotFollows n c.args.asked.now.capacity c.args.asked.now.limits.layout 0 slots.items opening.logs opening.about.bases) count c.in_ok-ingester.ensures.found;
+      found = subst (λ (n : ℕ). AreOpenedFrom slot_sight SlotFollows n c.args.asked.now.capacity 0 slots.items opening.logs opening.about.bases) count c.in_ok-ingester.ensures.found;
     }

@@ -20,7 +20,7 @@ room_for made logs slots count room all same counted much = omega arith
 pub returns-in_default-clause-unmade : goal.returns-in_default-clause-unmade
 returns-in_default-clause-unmade g c =
     let opened = c.in_ok-logs.ensures.opened in
-    inr (returned_all g.D.Disk.sight g.D.Disk.follows (deque_len c.args.slots.now) c.args.settings.now.capacity c.args.settings.now.limits.layout c.args.slots.now.items _ _ c.in_ok-logs.logs.items c.in_ok-logs.images.items opened.0 opened.1 c.give_back.ensures.items)
+    inr (returned_all g.D.Disk.sight g.D.Disk.follows (deque_len c.args.slots.now) c.args.settings.now.capacity c.args.slots.now.items _ _ c.in_ok-logs.logs.items c.in_ok-logs.images.items opened.0 opened.1 c.give_back.ensures.items)
 
 pub plan_opening-requires : goal.plan_opening-requires
 plan_opening-requires g c =
@@ -57,7 +57,7 @@ make_shards-requires g c =
 pub returns-in_default-make_shards-clause-unmade : goal.returns-in_default-make_shards-clause-unmade
 returns-in_default-make_shards-clause-unmade g c =
     let opened = c.in_ok-logs.ensures.opened in
-    inr (returned_all g.D.Disk.sight g.D.Disk.follows (deque_len c.args.slots.now) c.args.settings.now.capacity c.args.settings.now.limits.layout c.args.slots.now.items _ _ c.in_ok-logs.logs.items c.in_ok-logs.images.items opened.0 opened.1 c.in_default-make_shards.ensures.unmade)
+    inr (returned_all g.D.Disk.sight g.D.Disk.follows (deque_len c.args.slots.now) c.args.settings.now.capacity c.args.slots.now.items _ _ c.in_ok-logs.logs.items c.in_ok-logs.images.items opened.0 opened.1 c.in_default-make_shards.ensures.unmade)
 
 pub sizes_of-requires : goal.sizes_of-requires
 sizes_of-requires g c =

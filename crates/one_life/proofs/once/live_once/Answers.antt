@@ -20,7 +20,7 @@ returns-in-Some g c =
     let before = c.index_mut.result.now in
     let one : length given ≡ 1 = let asked = c.requires.slots in omega (arith, c.args.slots.ok.0) in
     let counted : vec_len c.args.slots ≡ length given = omega (arith, c.args.slots.ok.0) in
-    let found = subst (λ (n : ℕ). AreOpenedFrom g.D.Disk.sight g.D.Disk.follows n c.args.capacity c.args.limits.layout 0 given opening.logs opening.about.bases) counted c.in-Ok.ensures.opened.found in
+    let found = subst (λ (n : ℕ). AreOpenedFrom g.D.Disk.sight g.D.Disk.follows n c.args.capacity 0 given opening.logs opening.about.bases) counted c.in-Ok.ensures.opened.found in
     finish g.D.Disk.sight g.D.Disk.follows c.close-closed.result c.take.new.self (Some c.in-Some.handed) opening _ c.call-outcome.new.pass
     (IsLivedOnce g.D.Disk.sight g.D.Disk.follows given c.args.call c.call-outcome.result)
     c.close-closed.ensures c.in-Some.ensures.left c.in-Some.ensures.kept (c.in-Ok.ensures.opened.shards ∙ c.requires.slots)

@@ -15,11 +15,11 @@ returns-clause-tried g c =
     let count = c.len.result in
     let same : lent ≡ old = c.as_mut_slice.ensures.value in
     let long : length new ≡ length lent = search rules in
-    let tried = tried_each g.D.Disk.sight g.D.Disk.follows count c.args.capacity c.args.layout 0 lent new long
+    let tried = tried_each g.D.Disk.sight g.D.Disk.follows count c.args.capacity 0 lent new long
     (λ i d lt.
     let at = (c.for_each_mut.ensures i d lt).1 in
     let number : i ≡ 0 + i = omega arith in
-    subst (λ (z : ℕ × Place g.row.D.Denot × Place g.row.D.Denot). IsTried g.D.Disk.sight g.D.Disk.follows (place_of z.0 count) c.args.capacity c.args.layout (slots_in z.1) z.2) (λ j. (number j, at.argument_is j, at.left j)) at.call) in
+    subst (λ (z : ℕ × Place g.row.D.Denot × Place g.row.D.Denot). IsTried g.D.Disk.sight g.D.Disk.follows (place_of z.0 count) c.args.capacity (slots_in z.1) z.2) (λ j. (number j, at.argument_is j, at.left j)) at.call) in
     let all : length new ≡ vec_len c.args.places.now = let n = c.as_mut_slice.ensures.len in omega arith in
-    subst (λ (z : ℕ × List (Place g.row.D.Denot) × List (Place g.row.D.Denot)). AreTried g.D.Disk.sight g.D.Disk.follows z.0 c.args.capacity c.args.layout 0 (map slots_in z.1) z.2)
+    subst (λ (z : ℕ × List (Place g.row.D.Denot) × List (Place g.row.D.Denot)). AreTried g.D.Disk.sight g.D.Disk.follows z.0 c.args.capacity 0 (map slots_in z.1) z.2)
     (λ j. (c.len.ensures j, same j, sym (written_all old new c.args.places.now.len (sym all)) j)) tried

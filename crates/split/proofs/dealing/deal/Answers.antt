@@ -6,7 +6,8 @@ use Rattle.std.specs.FinMap as finite
 use Rattle.labels.specs.Keys.{key_cmp}
 use Rattle.labels.specs.Shards.{shard}
 use Rattle.accept.specs.Rooms.{Streams}
-use Rattle.accept.specs.StreamMaps.{set_stream, images_of, AllHoldBut}
+use Rattle.accept.specs.Histories.{set_stream}
+use Rattle.accept.specs.StreamMaps.{images_of, AllHoldBut}
 use Rattle.accept.proofs.Maps.{States}
 use Rattle.accept.proofs.ImageMaps.{Entries, held_in_order, first_held}
 use Rattle.split.specs.Maps.{map_at, put_in_map}

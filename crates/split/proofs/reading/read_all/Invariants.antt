@@ -11,5 +11,5 @@ invariant-loop-shard g l = record {
   len : vec_len l.old ≡ vec_len l.initial.old;
   images : vec_len l.images ≡ l.shard;
   room : vec_capacity l.images ≡ vec_len l.initial.old;
-  done : AreDone (λ s given back. IsOldShardOpened g.D.Disk.sight g.D.Disk.follows (place_of s (vec_len l.initial.old)) l.layout given back (map_at l.images.items s)) l.shard l.initial.old.items l.old.items;
+  done : AreDone (λ s given back. IsOldShardOpened g.D.Disk.sight g.D.Disk.follows (place_of s (vec_len l.initial.old)) given back (map_at l.images.items s)) l.shard l.initial.old.items l.old.items;
 }

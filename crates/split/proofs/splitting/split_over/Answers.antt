@@ -1,14 +1,12 @@
-use Rattle.std.proofs.Common.{rules, ◌≡◌, ℕ, ◌+◌, ◌^◌, ◌≤◌, List, length, sym, ap, ◌∙◌, subst, arith}
+use Rattle.std.proofs.Common.{◌≡◌, ℕ, List, length, sym, ap, ◌∙◌, subst}
 use Rattle.std.specs.Prelude.{vec_len, OnOk}
 use Rattle.std.proofs.lemmas.Result.{err_from_is_err_and}
-use Rattle.labels.specs.Shards.{max_shards}
-use Rattle.accept.specs.Rooms.{Streams, segment_bytes}
+use Rattle.accept.specs.Rooms.{Streams}
 use Rattle.segment.specs.ShardPlaces.{place_of}
 use Rattle.split.specs.declared.fault.SplitFault.{SplitFault}
-use Rattle.split.specs.Maps.{map_at, IsSplit, AreFit, HaveRoomWithin, IsFirstAbove}
+use Rattle.split.specs.Maps.{map_at, IsSplit, HaveRoomWithin, IsFirstAbove}
 use Rattle.split.specs.Splits.{EachPair, IsCause}
 use Rattle.split.specs.Stages.{IsShardBegun}
-use Rattle.split.proofs.Dealt.{apart_by_fit}
 use Rattle.split.proofs.Wholes.{old_read, no_room, finished_if_ok, cause_if_err}
 use Rattle.split.proofs.splitting.split_over.Goals as goal
 
@@ -19,7 +17,7 @@ split_at n m k l olds news e f is = subst (λ (i : ℕ). IsSplit i l (map_at old
 pub returns-in_err-test_all-clause-cause : goal.returns-in_err-test_all-clause-cause
 returns-in_err-test_all-clause-cause g c =
     let p = err_from_is_err_and c.from_residual-in_err-test_all.result c.from_residual-in_err-test_all.ensures.1 in
-    rw (p.1, p.2) (c.in_err-test_all.ensures.cause c.args.cap c.args.layout c.args.old.now.items c.read_all.new.old.items
+    rw (p.1, p.2) (c.in_err-test_all.ensures.cause c.args.cap c.args.old.now.items c.read_all.new.old.items
     (old_read g.D.Disk.sight g.D.Disk.follows (vec_len c.args.old.now) c.in_ok-olds.olds.items c.args.old.now.items c.read_all.new.old.items c.args.old.now.ok.0 c.in_ok-olds.ensures.read))
 
 pub returns-in_err-test_rooms-clause-cause : goal.returns-in_err-test_rooms-clause-cause
@@ -32,9 +30,9 @@ returns-in_err-test_rooms-clause-cause g c =
     let many : c.len-count.result ≡ length new.items = c.len-count.ensures ∙ new.ok.0 in
     let len : length news ≡ length new.items = sym c.in_ok-news.news.ok.0 ∙ (c.in_ok-news.ensures.len ∙ many) in
     let split = split_at (vec_len c.in_ok-olds.olds) c.len-count.result (vec_len c.args.old.now) (length new.items) olds news c.in_ok-olds.ensures.images many c.in_ok-news.ensures.split in
-    let cause = no_room g.D.Disk.sight g.D.Disk.follows (vec_len c.args.old.now) c.args.cap c.args.layout full.0 olds news c.args.old.now.items c.read_all.new.old.items new.items c.test_all.new.new.items c.args.old.now.ok.0 len
-    (c.in_ok-olds.ensures.read, c.in_ok-olds.ensures.fit, split) c.in_ok-test_all.ensures.tested (subst (λ (l : List Streams). IsFirstAbove c.args.layout c.args.cap full.0 l) c.deref.ensures.value full.2) in
-    rw (p.1, p.2) (subst (λ (e : SplitFault). IsCause g.D.Disk.sight g.D.Disk.follows e c.args.cap c.args.layout c.args.old.now.items c.read_all.new.old.items new.items c.test_all.new.new.items) (sym full.1) cause)
+    let cause = no_room g.D.Disk.sight g.D.Disk.follows (vec_len c.args.old.now) c.args.cap full.0 olds news c.args.old.now.items c.read_all.new.old.items new.items c.test_all.new.new.items c.args.old.now.ok.0 len
+    (c.in_ok-olds.ensures.read, c.in_ok-olds.ensures.fit, split) c.in_ok-test_all.ensures.tested (subst (λ (l : List Streams). IsFirstAbove c.args.cap full.0 l) c.deref.ensures.value full.2) in
+    rw (p.1, p.2) (subst (λ (e : SplitFault). IsCause g.D.Disk.sight g.D.Disk.follows e c.args.cap c.args.old.now.items c.read_all.new.old.items new.items c.test_all.new.new.items) (sym full.1) cause)
 
 pub returns-clause-split : goal.returns-clause-split
 returns-clause-split g c =
@@ -46,9 +44,9 @@ returns-clause-split g c =
     let many : c.len-count.result ≡ m = c.len-count.ensures ∙ sym c.test_all.ensures.len in
     let split = split_at (vec_len c.in_ok-olds.olds) c.len-count.result (vec_len c.args.old.now) m olds news c.in_ok-olds.ensures.images many c.in_ok-news.ensures.split in
     let long : length c.deref.result.now ≡ m = ap (λ (l : List Streams). length l) c.deref.ensures.value ∙ (sym c.in_ok-news.news.ok.0 ∙ (c.in_ok-news.ensures.len ∙ many)) in
-    let small = subst (λ (l : List Streams). HaveRoomWithin c.args.layout c.args.cap m l) c.deref.ensures.value (subst (λ (k : ℕ). HaveRoomWithin c.args.layout c.args.cap k c.deref.result.now) long c.in_ok-test_rooms.ensures.ok) in
-    let begun = subst (λ (l : List Streams). OnOk c.start_all.result (EachPair (λ s given made. IsShardBegun g.D.Disk.sight g.D.Disk.follows (place_of s m) c.args.layout given made (map_at l s)) mid.items c.start_all.new.new.items)) c.deref-2.ensures.value c.start_all.ensures.begun in
-    finished_if_ok g.D.Disk.sight g.D.Disk.follows c.start_all.result (vec_len c.args.old.now) m c.args.cap c.args.layout olds news c.args.old.now.items c.read_all.new.old.items new.items mid.items c.start_all.new.new.items c.args.old.now.ok.0
+    let small = subst (λ (l : List Streams). HaveRoomWithin c.args.cap m l) c.deref.ensures.value (subst (λ (k : ℕ). HaveRoomWithin c.args.cap k c.deref.result.now) long c.in_ok-test_rooms.ensures.ok) in
+    let begun = subst (λ (l : List Streams). OnOk c.start_all.result (EachPair (λ s given made. IsShardBegun g.D.Disk.sight g.D.Disk.follows (place_of s m) given made (map_at l s)) mid.items c.start_all.new.new.items)) c.deref-2.ensures.value c.start_all.ensures.begun in
+    finished_if_ok g.D.Disk.sight g.D.Disk.follows c.start_all.result (vec_len c.args.old.now) m c.args.cap olds news c.args.old.now.items c.read_all.new.old.items new.items mid.items c.start_all.new.new.items c.args.old.now.ok.0
     (c.test_all.ensures.len ∙ new.ok.0) (sym mid.ok.0 ∙ (c.test_all.ensures.len ∙ new.ok.0)) (c.in_ok-olds.ensures.read, c.in_ok-olds.ensures.fit, split) small c.in_ok-test_all.ensures.tested begun
 
 pub returns-in_err-news-clause-cause : goal.returns-in_err-news-clause-cause
@@ -60,46 +58,5 @@ pub returns-clause-cause : goal.returns-clause-cause
 returns-clause-cause g c =
     let new = c.args.new.now in
     let mid = c.test_all.new.new in
-    cause_if_err g.D.Disk.sight g.D.Disk.follows c.start_all.result (vec_len mid) c.args.cap c.args.layout c.args.old.now.items c.read_all.new.old.items new.items mid.items c.start_all.new.new.items
+    cause_if_err g.D.Disk.sight g.D.Disk.follows c.start_all.result (vec_len mid) c.args.cap c.args.old.now.items c.read_all.new.old.items new.items mid.items c.start_all.new.new.items
     (c.test_all.ensures.len ∙ new.ok.0) (sym mid.ok.0 ∙ (c.test_all.ensures.len ∙ new.ok.0)) (old_read g.D.Disk.sight g.D.Disk.follows (vec_len c.args.old.now) c.in_ok-olds.olds.items c.args.old.now.items c.read_all.new.old.items c.args.old.now.ok.0 c.in_ok-olds.ensures.read) c.in_ok-test_all.ensures.tested c.start_all.ensures.before c.start_all.ensures.fault
-
-pub deal_all-requires-clause-apart : goal.deal_all-requires-clause-apart
-deal_all-requires-clause-apart g c =
-    let olds = c.in_ok-olds.olds in
-    apart_by_fit c.args.layout (vec_len olds) olds.items (subst (λ (n : ℕ). AreFit c.args.layout n olds.items) (sym c.in_ok-olds.ensures.images) c.in_ok-olds.ensures.fit)
-
-pub test_rooms-requires-clause-small : goal.test_rooms-requires-clause-small
-test_rooms-requires-clause-small g c =
-    let layout = c.args.layout in
-    let olds = c.in_ok-olds.olds in
-    let news = c.in_ok-news.news in
-    let within = subst (λ (n : ℕ). HaveRoomWithin layout (2 ^ 31 + segment_bytes) n olds.items) (sym c.in_ok-olds.ensures.images) c.in_ok-olds.ensures.small in
-    let small = c.in_ok-news.ensures.small layout within in
-    let long : length c.deref.result.now ≡ c.len-count.result = ap (λ (l : List Streams). length l) c.deref.ensures.value ∙ (sym news.ok.0 ∙ c.in_ok-news.ensures.len) in
-    subst (λ (z : ℕ × List Streams). HaveRoomWithin layout (2 ^ 40) z.0 z.1) (λ i. (sym long i, sym c.deref.ensures.value i)) small
-
-pub start_all-requires : goal.start_all-requires
-start_all-requires g c =
-    let layout = c.args.layout in
-    let olds = c.in_ok-olds.olds in
-    let news = c.in_ok-news.news in
-    let mid = c.test_all.new.new in
-    let fits = subst (λ (n : ℕ). AreFit layout n olds.items) (sym c.in_ok-olds.ensures.images) c.in_ok-olds.ensures.fit in
-    let fit = c.in_ok-news.ensures.fit layout fits in
-    let many : c.len-count.result ≡ vec_len mid = c.len-count.ensures ∙ sym c.test_all.ensures.len in
-    let again : c.deref-2.result.now ≡ news.items = c.deref-2.ensures.value in
-    let same : c.deref.result.now ≡ c.deref-2.result.now = c.deref.ensures.value ∙ sym again in
-    let long : length c.deref-2.result.now ≡ vec_len mid = ap (λ (l : List Streams). length l) again ∙ (sym news.ok.0 ∙ (c.in_ok-news.ensures.len ∙ many)) in
-    let few : vec_len mid ≤ max_shards = omega (arith, c.requires.new, c.test_all.ensures.len) in (
-      search rules,
-      (
-        long,
-        (
-          few,
-          (
-            subst (λ (z : ℕ × List Streams). HaveRoomWithin layout c.args.cap z.0 z.1) (λ i. ((ap (λ (l : List Streams). length l) same ∙ long) i, same i)) c.in_ok-test_rooms.ensures.ok,
-            subst (λ (z : ℕ × List Streams). AreFit layout z.0 z.1) (λ i. (many i, sym again i)) fit,
-          ),
-        ),
-      ),
-    )

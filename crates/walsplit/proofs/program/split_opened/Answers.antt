@@ -7,4 +7,4 @@ use Rattle.walsplit.proofs.program.split_opened.Goals as goal
 
 pub returns : goal.returns
 returns c =
-    split_of_these (λ (slot : Announced (Watched FileDisk)). slot.inner) (λ (w : Watched FileDisk). file_sight w.inner) (λ (w : Watched FileDisk). FileFollows w.inner) c.split_slots.result c.args.capacity c.args.layout c.in_ok-old.old.items c.in_ok-new.new.items _ _ c.in_ok-old.ensures.slots c.in_ok-new.ensures.slots c.split_slots.ensures.done
+    split_of_these (λ (slot : Announced (Watched FileDisk)). slot.inner) (λ (w : Watched FileDisk). file_sight w.inner) (λ (w : Watched FileDisk). FileFollows w.inner) c.split_slots.result c.args.capacity c.in_ok-old.old.items c.in_ok-new.new.items _ _ c.in_ok-old.ensures.slots c.in_ok-new.ensures.slots c.split_slots.ensures.done

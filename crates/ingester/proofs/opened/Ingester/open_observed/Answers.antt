@@ -1,6 +1,5 @@
 use Rattle.std.proofs.Common.{rules, ℕ, ◌<◌, ◌≤◌, List, refl, inl, sym, subst, vec_len}
 use Rattle.disk.specs.Sight.{Sight}
-use Rattle.accept.specs.declared.limits.Layout.{Layout}
 use Rattle.labels.specs.Shards.{max_shards}
 use Rattle.history.specs.Handles.{Passed}
 use Rattle.owners.specs.declared.team.StartFault.{StartFault}
@@ -12,16 +11,16 @@ use Rattle.ingester.specs.Findings.{IsUnmade}
 use Rattle.ingester.specs.Openings.{IsOpenedAs}
 use Rattle.ingester.proofs.opened.Ingester.open_observed.Goals as goal
 
-none_opened : {D : Type 0} (sight : D → Sight) (follows : D → Type 0) (count : ℕ) (layout : Layout) (all : List (List D)) (cause : StartFault) → IsUnmade sight follows count layout all all (cause_of cause)
-none_opened sight follows count layout all starts.Memory = inl refl
-none_opened sight follows count layout all starts.Thread = refl
+none_opened : {D : Type 0} (sight : D → Sight) (follows : D → Type 0) (count : ℕ) (all : List (List D)) (cause : StartFault) → IsUnmade sight follows count all all (cause_of cause)
+none_opened sight follows count all starts.Memory = inl refl
+none_opened sight follows count all starts.Thread = refl
 
 pub returns-in-Err-open_all-clause-unmade : goal.returns-in-Err-open_all-clause-unmade
 returns-in-Err-open_all-clause-unmade g c =
     let made = c.from_vec-slots.ensures in
-    subst (λ back. IsUnmade g.D.Disk.sight g.D.Disk.follows (vec_len c.args.slots) c.args.settings.limits.layout c.args.slots.items back c.in-Err-open_all.fault) (sym c.into_vec.ensures.items)
-    (subst (λ all. IsUnmade g.D.Disk.sight g.D.Disk.follows (vec_len c.args.slots) c.args.settings.limits.layout all c.open_all.new.slots.items c.in-Err-open_all.fault) made.items
-    (subst (λ n. IsUnmade g.D.Disk.sight g.D.Disk.follows n c.args.settings.limits.layout c.from_vec-slots.result.items c.open_all.new.slots.items c.in-Err-open_all.fault) made.len c.in-Err-open_all.ensures.unmade))
+    subst (λ back. IsUnmade g.D.Disk.sight g.D.Disk.follows (vec_len c.args.slots) c.args.slots.items back c.in-Err-open_all.fault) (sym c.into_vec.ensures.items)
+    (subst (λ all. IsUnmade g.D.Disk.sight g.D.Disk.follows (vec_len c.args.slots) all c.open_all.new.slots.items c.in-Err-open_all.fault) made.items
+    (subst (λ n. IsUnmade g.D.Disk.sight g.D.Disk.follows n c.from_vec-slots.result.items c.open_all.new.slots.items c.in-Err-open_all.fault) made.len c.in-Err-open_all.ensures.unmade))
 
 pub returns-in-Ok-open_all-clause-opened : goal.returns-in-Ok-open_all-clause-opened
 returns-in-Ok-open_all-clause-opened g c =
@@ -36,7 +35,7 @@ returns-in-Err-clause-opened g c = tt
 pub returns-in-Err-clause-unmade : goal.returns-in-Err-clause-unmade
 returns-in-Err-clause-unmade g c =
     let slots = c.args.slots in
-    subst (λ (f : OpenFault). IsUnmade g.D.Disk.sight g.D.Disk.follows (vec_len slots) c.args.settings.limits.layout slots.items slots.items f) (sym c.from.ensures) (none_opened g.D.Disk.sight g.D.Disk.follows (vec_len slots) c.args.settings.limits.layout slots.items c.in-Err.fault)
+    subst (λ (f : OpenFault). IsUnmade g.D.Disk.sight g.D.Disk.follows (vec_len slots) slots.items slots.items f) (sym c.from.ensures) (none_opened g.D.Disk.sight g.D.Disk.follows (vec_len slots) slots.items c.in-Err.fault)
 
 pub open_all-requires-after_bounds : goal.open_all-requires-after_bounds
 open_all-requires-after_bounds g c = λ κs lives.
